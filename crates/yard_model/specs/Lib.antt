@@ -1,0 +1,15 @@
+pub mod Behaviour
+pub mod Charter
+pub mod Entry
+pub mod Events
+pub mod Follow
+pub mod Items
+pub mod Loads
+pub mod Members
+pub mod Name
+pub mod Padded
+pub mod Script
+pub mod Shard
+pub mod ShardSet
+pub mod SlotLists
+pub mod Spared

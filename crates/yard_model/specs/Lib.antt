@@ -9,7 +9,11 @@ pub mod Members
 pub mod Name
 pub mod Padded
 pub mod Script
+pub mod Setting
 pub mod Shard
 pub mod ShardSet
 pub mod SlotLists
+pub mod SlotReads
 pub mod Spared
+pub mod Text
+pub mod Words

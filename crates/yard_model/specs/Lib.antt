@@ -1,13 +1,19 @@
 pub mod Behaviour
 pub mod Charter
+pub mod Coordinator
+pub mod Entities
 pub mod Entry
 pub mod Events
 pub mod Follow
 pub mod Items
 pub mod Loads
 pub mod Members
+pub mod Move
 pub mod Name
+pub mod Node
 pub mod Padded
+pub mod Producer
+pub mod Region
 pub mod Script
 pub mod Setting
 pub mod Shard
@@ -16,4 +22,7 @@ pub mod SlotLists
 pub mod SlotReads
 pub mod Spared
 pub mod Text
+pub mod Trace
+pub mod Turns
 pub mod Words
+pub mod World

@@ -16,6 +16,7 @@ pub mod Name
 pub mod Node
 pub mod Padded
 pub mod Producer
+pub mod Queries
 pub mod Region
 pub mod Replay
 pub mod Safe

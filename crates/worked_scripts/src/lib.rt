@@ -37,6 +37,12 @@ ghost use Rattle.worked_scripts.specs.StashOfStopped as stash_of_stopped_lines;
 ghost use Rattle.worked_scripts.specs.TickInARound as tick_in_a_round_lines;
 ghost use Rattle.worked_scripts.specs.AwaitedRegionIsLost as awaited_region_is_lost_lines;
 ghost use Rattle.worked_scripts.specs.WireFull as wire_full_lines;
+ghost use Rattle.worked_scripts.specs.SecondHandoff as second_handoff_lines;
+ghost use Rattle.worked_scripts.specs.HandoffWhilePassivating as handoff_while_passivating_lines;
+ghost use Rattle.worked_scripts.specs.AskedAgainInARound as asked_again_in_a_round_lines;
+ghost use Rattle.worked_scripts.specs.AcknowledgedByALostCoordinator as acknowledged_by_a_lost_coordinator_lines;
+ghost use Rattle.worked_scripts.specs.HostedAlready as hosted_already_lines;
+ghost use Rattle.worked_scripts.specs.DroppedAndAsked as dropped_and_asked_lines;
 
 use yard_model::{Reply, State};
 
@@ -289,6 +295,52 @@ pub fn awaited_region_is_lost()
 /// Room for seven packets: the trace stops within an input, after all other facts of it.
 pub fn wire_full()
     ensures { PrintsWithin 7 wire_full_lines.script wire_full_lines.printed }
+{}
+
+/// A shard that is stopping is handed off again, by the next coordinator: stamp and addressee are the new ones.
+pub fn second_handoff()
+    ensures prints { Prints second_handoff_lines.script second_handoff_lines.printed }
+    ensures agrees { Agrees second_handoff_lines.script }
+    ensures safe { IsSafe second_handoff_lines.script }
+    ensures guarded { IsGuarded second_handoff_lines.script }
+{}
+
+/// An entity that passivates when its shard is handed off is forgotten all the same.
+pub fn handoff_while_passivating()
+    ensures prints { Prints handoff_while_passivating_lines.script handoff_while_passivating_lines.printed }
+    ensures agrees { Agrees handoff_while_passivating_lines.script }
+    ensures safe { IsSafe handoff_while_passivating_lines.script }
+    ensures guarded { IsGuarded handoff_while_passivating_lines.script }
+{}
+
+/// A handoff that begins lets a region ask again for the home.
+pub fn asked_again_in_a_round()
+    ensures prints { Prints asked_again_in_a_round_lines.script asked_again_in_a_round_lines.printed }
+    ensures agrees { Agrees asked_again_in_a_round_lines.script }
+{}
+
+/// An acknowledgement is taken from any sender, and a tick registers with the oldest.
+pub fn acknowledged_by_a_lost_coordinator()
+    ensures prints { Prints acknowledged_by_a_lost_coordinator_lines.script acknowledged_by_a_lost_coordinator_lines.printed }
+    ensures agrees { Agrees acknowledged_by_a_lost_coordinator_lines.script }
+    ensures safe { IsSafe acknowledged_by_a_lost_coordinator_lines.script }
+    ensures guarded { IsGuarded acknowledged_by_a_lost_coordinator_lines.script }
+{}
+
+/// A home that hosts its shard already says so again.
+pub fn hosted_already()
+    ensures prints { Prints hosted_already_lines.script hosted_already_lines.printed }
+    ensures agrees { Agrees hosted_already_lines.script }
+    ensures safe { IsSafe hosted_already_lines.script }
+    ensures guarded { IsGuarded hosted_already_lines.script }
+{}
+
+/// A message that is dropped asks for its shard's home.
+pub fn dropped_and_asked()
+    ensures prints { Prints dropped_and_asked_lines.script dropped_and_asked_lines.printed }
+    ensures agrees { Agrees dropped_and_asked_lines.script }
+    ensures safe { IsSafe dropped_and_asked_lines.script }
+    ensures guarded { IsGuarded dropped_and_asked_lines.script }
 {}
 
 /// Hashes of five names, and their shards of ten. The fourth and fifth hash are negative in Java: -1367590710 and -2147483648.

@@ -15,7 +15,6 @@ use Rattle.yard_model.specs.declared.charter.Order.TheVariants as order
 use Rattle.yard_model.specs.declared.incarnation.Incarnation.{Incarnation}
 use Rattle.yard_model.specs.declared.incarnation.Slot.{Slot}
 use Rattle.yard_model.specs.declared.incarnation.Slot.TheVariants as slot
-use Rattle.yard_model.specs.Script.{Script}
 use Rattle.yard_model.specs.Setting.{producers}
 use Rattle.yard_model.specs.Words.{is_same, is_at, is_among, is_below}
 use Rattle.yard_model.specs.SlotReads.{holder}
@@ -27,7 +26,7 @@ use Rattle.yard_model.specs.Producer as producer
 use Rattle.yard_model.specs.Coordinator as coordinator
 use Rattle.yard_model.specs.Node.{Node, Act, Rule, by_region, by_entities, by_producer, by_coordinator, after, of_region, of_entities, of_producer, of_coordinator, is_running}
 use Rattle.yard_model.specs.Trace.{slot_of, list_at}
-use Rattle.yard_model.specs.World.{World, new_world, world_after, node_at, active_node, with_order}
+use Rattle.yard_model.specs.World.{World, world_after, node_at, active_node, with_order}
 
 pub record Known : Type 0 where
   pub orders : List Line
@@ -36,8 +35,8 @@ pub record Known : Type 0 where
   pub packet : Option Packet  -- the packet whose delivery is the last input that a fact opened
 
 -- before the first fact
-abbrev pub nothing_known : Script → ℕ → Known
-nothing_known c limit = record { orders = c.orders; world = new_world c limit; views = [] ∷ []; packet = None }
+abbrev pub nothing_known : List Line → World → Known
+nothing_known orders w = record { orders = orders; world = w; views = [] ∷ []; packet = None }
 
 -- the order of a line
 abbrev pub order_at : List Line → ℕ → Option Order
@@ -184,6 +183,6 @@ know k f = let w : World = world_after (ordered_by k f (know_world k f)) f in re
   packet = packet_step k.world k.packet f;
 }
 
--- State: what the queries answer of a trace
-abbrev pub known : Script → ℕ → List Fact → Known
-known c limit trace = fold know (nothing_known c limit) trace
+-- State: what the queries answer of a trace that began in this world
+abbrev pub known : List Line → World → List Fact → Known
+known orders w trace = fold know (nothing_known orders w) trace

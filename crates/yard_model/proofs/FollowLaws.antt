@@ -1,6 +1,6 @@
 -- Each item may follow those before it: one item more.
-use Rattle.std.proofs.Common.{◌≡◌, sym, ap, ◌∙◌, refl}
-use Rattle.std.specs.Prelude.{Bool, true, ◌&&◌, List, [], ◌∷◌, ◌++◌, IsTrue}
+use Rattle.std.proofs.Common.{◌≡◌, sym, ap, ◌∙◌}
+use Rattle.std.specs.Prelude.{Bool, ◌&&◌, List, [], ◌∷◌, ◌++◌}
 use Rattle.std.proofs.Math.Bool.{and-true, and_assoc}
 use Rattle.std.proofs.lemmas.List.{append-nil, append_assoc}
 use Rattle.yard_model.specs.Follow.{each_follows}

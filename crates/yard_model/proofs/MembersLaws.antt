@@ -1,11 +1,10 @@
 -- Members with one more.
-use Rattle.std.proofs.Common.{◌≡◌, ◌<◌, ℕ, ◌+◌, sym, ap, ◌∙◌, subst, arith, length-take-le}
-use Rattle.std.specs.Prelude.{Bool, true, false, not, ◌&&◌, IsTrue, List, [], ◌∷◌, ◌++◌, take, length, slice_set}
+use Rattle.std.proofs.Common.{◌≡◌, ◌<◌, ℕ, ◌+◌, sym, ap, ◌∙◌, arith}
+use Rattle.std.specs.Prelude.{true, false, not, ◌&&◌, List, [], ◌∷◌, ◌++◌, take, length, slice_set}
 use Rattle.std.proofs.lemmas.List.{take_more_set}
 use Rattle.yard_model.specs.declared.incarnation.Incarnation.{Incarnation}
-use Rattle.yard_model.specs.Padded.{IsPadded, padded_more, padded_length}
-use Rattle.yard_model.specs.Follow.{each_follows}
-use Rattle.yard_model.specs.Members.{no_member, AreMembers, has_node, is_other_node, are_of_different_nodes}
+use Rattle.yard_model.specs.Padded.{padded_more, padded_length}
+use Rattle.yard_model.specs.Members.{AreMembers, has_node, is_other_node, are_of_different_nodes}
 use Rattle.yard_model.proofs.FollowLaws.{follows_more}
 
 -- of different nodes, where the new one's node is not among them

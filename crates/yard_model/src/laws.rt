@@ -4,6 +4,8 @@ ghost use Rattle.std.specs.Prelude.{◌≡◌, ◌↔◌, ℕ, List, IsTrue};
 ghost use Rattle.yard_model.specs.declared.incarnation.Incarnation.{Incarnation};
 ghost use Rattle.yard_model.specs.declared.incarnation.Stamp.{Stamp};
 ghost use Rattle.yard_model.specs.declared.incarnation.Slot.{Slot};
+ghost use Rattle.yard_model.specs.declared.incarnation.Cause.{Cause};
+ghost use Rattle.yard_model.specs.declared.incarnation.Keep.{Keep};
 ghost use Rattle.yard_model.specs.declared.event.Command.{Command};
 ghost use Rattle.yard_model.specs.declared.event.Event.{Event};
 ghost use Rattle.yard_model.specs.declared.event.Reply.{Reply};
@@ -14,7 +16,6 @@ ghost use Rattle.yard_model.specs.declared.packet.Record.{Record};
 ghost use Rattle.yard_model.specs.declared.packet.Message.{Message};
 ghost use Rattle.yard_model.specs.declared.packet.Packet.{Packet};
 ghost use Rattle.yard_model.specs.declared.packet.Body.{Body};
-ghost use Rattle.yard_model.specs.declared.fact.Fact.{Fact};
 ghost use Rattle.yard_model.specs.declared.charter.Sending.{Sending};
 ghost use Rattle.yard_model.specs.declared.charter.Order.{Order};
 ghost use Rattle.yard_model.specs.declared.charter.Line.{Line};
@@ -26,8 +27,7 @@ use crate::charter::{Line, Order, Sending};
 use crate::entry::{CoordEntry, QueueEntry, ShardEntry};
 use crate::event::{Command, Event, Reply};
 use crate::events::Events;
-use crate::fact::Fact;
-use crate::incarnation::{Incarnation, Slot, Stamp};
+use crate::incarnation::{Cause, Incarnation, Keep, Slot, Stamp};
 use crate::items::Items;
 use crate::load::{Load, Loads};
 use crate::members::Members;
@@ -152,20 +152,15 @@ pub fn packet_law()
     body_law();
 }
 
-/// `==` of facts.
-pub fn fact_law()
-    ensures { (a b : Fact) → IsTrue (⟦<Fact as PartialEq>⟧.eq a b) ↔ (a ≡ b) }
-{
-    name_law();
-    incarnation_law();
-    stamp_law();
-    slot_law();
-    command_law();
-    state_law();
-    record_law();
-    message_law();
-    packet_law();
-}
+/// `==` of causes.
+pub fn cause_law()
+    ensures { (a b : Cause) → IsTrue (⟦<Cause as PartialEq>⟧.eq a b) ↔ (a ≡ b) }
+{}
+
+/// `==` of what a failed write leaves.
+pub fn keep_law()
+    ensures { (a b : Keep) → IsTrue (⟦<Keep as PartialEq>⟧.eq a b) ↔ (a ≡ b) }
+{}
 
 /// `==` of sendings.
 pub fn sending_law()

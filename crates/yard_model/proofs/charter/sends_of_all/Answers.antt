@@ -1,4 +1,4 @@
-use Rattle.std.proofs.Common.{ℕ, ◌<◌, ◌+◌, arith, Vec, Global}
+use Rattle.std.proofs.Common.{arith, Vec, Global}
 use Rattle.yard_model.specs.declared.charter.Sending.{Sending}
 use Rattle.yard_model.specs.Script.{sends_in}
 use Rattle.yard_model.proofs.CharterLaws.{row_more}

@@ -1,4 +1,4 @@
-use Rattle.std.proofs.Common.{◌≡◌, ◌≤◌, ◌+◌, ◌-◌, ◌++◌, length}
+use Rattle.std.proofs.Common.{◌≡◌, ◌≤◌, ◌+◌, ◌-◌, ◌++◌}
 use Rattle.std.specs.Prelude.{map}
 use Rattle.yard_model.specs.Script.{sends_in}
 use Rattle.yard_model.specs.Charter.{numbers}

@@ -1,10 +1,9 @@
-use Rattle.std.proofs.Common.{◌≡◌, ◌<◌, ℕ, ◌-◌, ◌+◌, sym, ap, ◌∙◌, arith, refl, Vec, Global}
-use Rattle.std.specs.Prelude.{List, [], map, slice_index_or, length}
+use Rattle.std.proofs.Common.{◌≡◌, ◌<◌, ◌-◌, ◌+◌, sym, ap, ◌∙◌, arith, Vec, Global}
+use Rattle.std.specs.Prelude.{slice_index_or}
 use Rattle.std.proofs.Math.ListN.{get_or-map}
 use Rattle.yard_model.specs.declared.charter.Sending.{Sending}
 use Rattle.yard_model.specs.Script.{sends, sends_in}
-use Rattle.yard_model.specs.Charter.{numbers}
-use Rattle.yard_model.proofs.CharterLaws.{numbers_at, numbers_length, sends_at}
+use Rattle.yard_model.proofs.CharterLaws.{sends_at}
 use Rattle.yard_model.proofs.charter.Charter.sends.Goals as goal
 
 pub returns : goal.returns

@@ -1,4 +1,4 @@
-use Rattle.std.proofs.Common.{◌≡◌, ◌+◌, ◌≤◌, ◌<◌, ◌++◌, length, drop}
+use Rattle.std.proofs.Common.{◌≡◌, ◌+◌, ◌++◌, length, drop}
 use Rattle.std.specs.Prelude.{if◌then◌else◌}
 use Rattle.yard_model.specs.Behaviour.{item_among}
 use Rattle.yard_model.proofs.items.Items.with_item.Given as goal

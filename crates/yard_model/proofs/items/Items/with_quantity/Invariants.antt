@@ -1,4 +1,4 @@
-use Rattle.std.proofs.Common.{◌≡◌, ◌+◌, ◌≤◌, ◌<◌, ◌++◌, length, drop}
+use Rattle.std.proofs.Common.{◌≡◌, ◌++◌, length, drop}
 use Rattle.yard_model.specs.Behaviour.{items_adjusted}
 use Rattle.yard_model.proofs.items.Items.with_quantity.Given as goal
 

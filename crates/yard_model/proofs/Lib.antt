@@ -1,1 +1,4 @@
+mod CharterLaws
+mod FollowLaws
+mod MembersLaws
 mod ShardSetLaws

@@ -1,6 +1,10 @@
 //! What a script says: its settings and its orders.
-ghost use Rattle.std.specs.Prelude.{◌≡◌, ◌<◌, ◌≤◌, ℕ, IfOk, IfSome, IfNone, OnOk, length, fold, take};
-ghost use Rattle.yard_model.specs.Script.{names_in, sends_in, sends, IsScript, brought};
+ghost use Rattle.std.specs.Prelude.{◌≡◌, ◌+◌, ◌<◌, ◌≤◌, IfOk, OnOk, length, map};
+ghost use Rattle.std.specs.Ordering.{nat_cmp};
+ghost use Rattle.std.specs.Cmp.Lexicographic.{slice_cmp};
+ghost use Rattle.std.specs.List.Sorted.{IsStrictlySortedBy};
+ghost use Rattle.yard_model.specs.Script.{names_in, sends_in, sends, with_send, brought, IsScript};
+ghost use Rattle.yard_model.specs.Charter.{numbers, counted, CountsSends};
 
 use crate::event::{Command, Kind};
 use crate::incarnation::Keep;
@@ -97,8 +101,8 @@ pub struct Charter {
 }
 
 impl Model for Charter {
-    ghost use Rattle.std.specs.Prelude.{◌≡◌, ◌+◌, ◌<◌, ℕ, vec_len, slice_index_or, map};
-    ghost use Rattle.yard_model.specs.Script.{Script, IsScript, names_in};
+    ghost use Rattle.std.specs.Prelude.{map};
+    ghost use Rattle.yard_model.specs.Script.{Script};
     ghost use Rattle.yard_model.specs.Charter.{IsCharter};
 
     ghost Value = { Script };
@@ -106,4 +110,147 @@ impl Model for Charter {
     ghost view = { λ c. record { config = c.config; orders = c.orders.items } };
 
     ghost invariant = { λ c. IsCharter (record { config = c.config; orders = c.orders.items }) c.names.items (map (λ v. v.items) c.sends.items) };
+}
+
+impl Charter {
+    /// The charter of these settings and orders. The only error is want of memory.
+    pub fn new(alloc: Global, config: Config, orders: Vec<Line>) -> Result<Charter, AllocError>
+        requires { IsScript (record { config = config; orders = orders.items }) }
+        ensures { IfOk result (λ c. c ≡ record { config = config; orders = orders.items }) }
+    {
+        let names = names_of(alloc, orders.as_slice())?;
+        let sends = sends_of_all(alloc, orders.as_slice())?;
+        Ok(Charter {
+            config,
+            orders,
+            names,
+            sends,
+            holds: PhantomData,
+        })
+    }
+
+    /// An equal charter. The only error is want of memory.
+    pub fn copy(&self, alloc: Global) -> Result<Charter, AllocError>
+        ensures { IfOk result (λ c. c ≡ self.now) }
+    {
+        let orders = Vec::from_slice(alloc, self.orders.as_slice())?;
+        Charter::new(alloc, self.config, orders)
+    }
+
+    /// The settings.
+    pub fn config(&self) -> &Config
+        ensures value { result.now ≡ self.now.config }
+        ensures script { IsScript self.now }
+    {
+        &self.config
+    }
+
+    /// The orders, in script order.
+    pub fn orders(&self) -> &[Line]
+        ensures value { result.now ≡ self.now.orders }
+        ensures script { IsScript self.now }
+    {
+        self.orders.as_slice()
+    }
+
+    /// The names that the orders bring, each once, in the order of their bytes.
+    pub fn names(&self) -> &[EntityName]
+        ensures value { result.now ≡ names_in self.now.orders }
+        ensures sorted { IsStrictlySortedBy (slice_cmp nat_cmp) result.now }
+    {
+        self.names.as_slice()
+    }
+
+    /// The sends of a producer, in script order; none of a producer that isn't there.
+    pub fn sends(&self, p: ProducerNo) -> &[Sending]
+        ensures { result.now ≡ sends self.now p }
+    {
+        let place = p.get() as usize - 1;
+        self.sends[place].as_slice()
+    }
+}
+
+/// The names that these orders bring, in order.
+fn names_of(alloc: Global, orders: &[Line]) -> Result<Vec<EntityName>, AllocError>
+    ensures value { IfOk result (λ names. names.items ≡ names_in orders.now) }
+    ensures sorted { IfOk result (λ names. IsStrictlySortedBy (slice_cmp nat_cmp) names.items) }
+{
+    let mut set = BTreeSet::new(alloc);
+    for line in orders {
+        if let Some(name) = brought_by(&line.order) {
+            set.insert(name)?;
+        }
+    }
+    set.into_iter().collect(alloc)
+}
+
+/// The name that an order brings.
+fn brought_by(order: &Order) -> Option<EntityName>
+    ensures { result ≡ brought order.now }
+{
+    match order {
+        Order::Send(_, entity, _) => Some(*entity),
+        Order::Passivate(entity) => Some(*entity),
+        Order::FailWrite(entity, _) => Some(*entity),
+        _ => None,
+    }
+}
+
+/// The sends of each producer that there can be.
+fn sends_of_all(alloc: Global, orders: &[Line]) -> Result<Vec<Vec<Sending>>, AllocError>
+    requires { length orders.now ≤ 200000 }
+    ensures { IfOk result (λ all. map (λ v. v.items) all.items ≡ map (λ p. sends_in p orders.now) (numbers 1 32)) }
+{
+    let mut all = Vec::new(alloc);
+    for i in 0..32 {
+        all.push(sends_of(alloc, i + 1, orders)?)?;
+    }
+    Ok(all)
+}
+
+/// The sends of one producer.
+fn sends_of(alloc: Global, p: u8, orders: &[Line]) -> Result<Vec<Sending>, AllocError>
+    requires { length orders.now ≤ 200000 }
+    ensures { IfOk result (λ v. v.items ≡ sends_in p orders.now) }
+{
+    let mut sends = Vec::new(alloc);
+    let mut counts = BTreeMap::new(alloc);
+    for line in orders {
+        if let Order::Send(producer, entity, command) = &line.order {
+            if producer.get() == p {
+                add_send(&mut sends, &mut counts, entity, command)?;
+            }
+        }
+    }
+    Ok(sends)
+}
+
+/// One send more, numbered by the counts of its producer's sends to each name.
+fn add_send(
+    sends: &mut Vec<Sending>,
+    counts: &mut BTreeMap<EntityName, u32>,
+    entity: &EntityName,
+    command: &Command,
+) -> Result<(), AllocError>
+    requires counts { CountsSends counts.old sends.old.items }
+    requires room { length sends.old.items < 200000 }
+    ensures sends { OnOk result (sends.new.items ≡ with_send sends.old.items entity.now command.now) }
+    ensures counts { OnOk result (CountsSends counts.new sends.new.items) }
+{
+    let number = next_number(counts, entity);
+    counts.insert(*entity, number)?;
+    sends.push(Sending {
+        entity: *entity,
+        number,
+        command: *command,
+    })?;
+    Ok(())
+}
+
+/// The number of the next send to this name.
+fn next_number(counts: &BTreeMap<EntityName, u32>, entity: &EntityName) -> u32
+    requires { counted counts.now entity.now < 200000 }
+    ensures { result ≡ counted counts.now entity.now + 1 }
+{
+    counts.get(entity).copied().unwrap_or(0) + 1
 }

@@ -11,8 +11,9 @@ mod events;
 mod fact;
 mod facts;
 mod incarnation;
-mod items;
 mod input;
+mod items;
+pub mod laws;
 mod load;
 mod members;
 mod name;
@@ -39,3 +40,6 @@ pub use out::{Item, Out};
 pub use packet::{Body, Message, Packet, Record};
 pub use shard_set::ShardSet;
 pub use state::{CartItem, State};
+
+#[cfg(test)]
+mod tests;

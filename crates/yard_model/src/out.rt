@@ -82,9 +82,8 @@ impl Out {
 
     /// Takes the oldest item out; None exactly where there is none.
     pub fn take(&mut self) -> Option<Item>
-        ensures item { MatchOption result (self.old.items ≡ []) (λ item. self.old.items ≡ item ∷ self.new.items) }
-        ensures empty { self.old.items ≡ [] → self.new ≡ self.old }
-        ensures spare { self.old.spare ≤ self.new.spare }
+        ensures item { MatchOption result ((self.old.items ≡ []) × (self.new.items ≡ [])) (λ item. self.old.items ≡ item ∷ self.new.items) }
+        ensures spare { self.new.spare ≡ self.old.spare }
     {
         self.list.pop_front()
     }

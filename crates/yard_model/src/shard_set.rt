@@ -68,6 +68,7 @@ impl ShardSet {
         self.bits.count_ones()
     }
 
+    #[tactic(auto, using(crate::proofs::ShardSetLaws::lowest_in, crate::proofs::ShardSetLaws::none_below))]
     /// The lowest shard in it, where all are below `shards`; None where it is empty.
     pub fn lowest(&self, shards: u8) -> Option<ShardNo>
         requires all { (t : ℕ) → has self.now t ≡ true → t < shards }

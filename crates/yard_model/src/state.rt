@@ -89,9 +89,6 @@ fn after_in_cart(out: bool, items: &Items, event: &Event) -> State
             out: true,
             items: *items,
         },
-        _ => State::Cart {
-            out,
-            items: *items,
-        },
+        _ => State::Cart { out, items: *items },
     }
 }

@@ -1,0 +1,6 @@
+use Rattle.std.proofs.Common.{refl}
+use Rattle.std.proofs.lemmas.Slice.Eq.{slice_eq-Decides}
+use Rattle.yard_model.proofs.laws.members_law.Goals as goal
+
+pub returns : goal.returns
+returns c a b = slice_eq-Decides c.incarnation_law.ensures a b _ refl

@@ -89,4 +89,4 @@ agree_from [] w k = is_agreed w k
 agree_from (l ∷ ls) w k = let m : Made = play_line l w in is_agreed w k && agree_from ls m.world (fold know k m.facts)
 
 abbrev pub agree : Script → Bool
-agree c = agree_from c.orders (new_world c wire_limit) (nothing_known c wire_limit)
+agree c = let w : World = new_world c wire_limit in agree_from c.orders w (nothing_known c.orders w)

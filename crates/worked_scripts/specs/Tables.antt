@@ -4,7 +4,6 @@ use Rattle.std.specs.List.{scan}
 use Rattle.std.specs.Option.{option_map}
 use Rattle.yard_model.specs.declared.event.Command.{Command}
 use Rattle.yard_model.specs.declared.event.Command.TheVariants as command
-use Rattle.yard_model.specs.declared.event.Decision.{Decision}
 use Rattle.yard_model.specs.declared.event.Reply.{Reply}
 use Rattle.yard_model.specs.declared.state.State.{State}
 use Rattle.yard_model.specs.declared.state.State.TheVariants as state

@@ -13,7 +13,7 @@ use Rattle.yard_model.specs.declared.input.Phase.TheVariants as phase
 use Rattle.yard_model.specs.Script.{Script, is_name}
 use Rattle.yard_model.specs.Region.{Region}
 use Rattle.yard_model.specs.Entities.{Cell, Hosted, Stopping}
-use Rattle.yard_model.specs.Producer.{Producer, Demand}
+use Rattle.yard_model.specs.Producer.{Producer, Progress}
 use Rattle.yard_model.specs.Coordinator.{Coordinator, Moving}
 use Rattle.yard_model.specs.Node.{Node}
 use Rattle.yard_model.specs.World.{World, Made, new_world, play_line, wire_limit}
@@ -63,7 +63,7 @@ abbrev pub of_hosted : Hosted → List ℕ
 of_hosted h = length h.entries ∷ of_option (λ (s : Stopping). of_stamp s.stamp ++ of_incarnation s.to) h.stopping
 
 abbrev pub of_producer : Producer → List ℕ
-of_producer p = p.number ∷ length p.entries ∷ of_list (λ (x : Demand). x.up_to ∷ x.sent ∷ []) p.demands
+of_producer p = p.number ∷ length p.entries ∷ of_list (λ (x : Progress). x.demand ∷ x.sent ∷ []) p.pairs
 
 abbrev pub of_moving : Moving → List ℕ
 of_moving x = x.shard ∷ of_option of_incarnation x.owner ++ of_list of_incarnation x.awaited

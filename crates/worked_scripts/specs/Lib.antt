@@ -34,6 +34,7 @@ pub mod SettleAlone
 pub mod SettleInThreeTicks
 pub mod SnapshotCrashRepeat
 pub mod StashOfStopped
+pub mod Steady
 pub mod Tables
 pub mod TickInARound
 pub mod TickSendsAgain

@@ -1,15 +1,20 @@
 -- How worked scripts are written down.
-use Rattle.std.specs.Prelude.{◌≡◌, ℕ, ◌+◌, ◌||◌, true, false, remove, List, [], ◌∷◌, ◌++◌}
-use Rattle.std.specs.List.{flat_map, list_any}
+use Rattle.std.specs.Prelude.{◌≡◌, ℕ, ◌+◌, ◌||◌, ◌&&◌, true, false, remove, List, [], ◌∷◌, ◌++◌}
+use Rattle.std.specs.List.{flat_map, list_any, list_all}
 use Rattle.yard_model.specs.declared.charter.Config.{Config}
 use Rattle.yard_model.specs.declared.charter.Line.{Line}
 use Rattle.yard_model.specs.declared.charter.Order.{Order}
 use Rattle.yard_model.specs.Script.{Script, setting}
 use Rattle.yard_model.specs.Text.{Bytes}
 use Rattle.yard_model.specs.Replay.{replay_within, replay_text}
-use Rattle.yard_model.specs.World.{trace_of, all_sends}
+use Rattle.yard_model.specs.declared.packet.Record.{Record}
+use Rattle.yard_model.specs.Setting.{shard_of}
+use Rattle.yard_model.specs.SlotLists.{shard_list}
+use Rattle.yard_model.specs.SlotReads.{journal}
+use Rattle.yard_model.specs.Genuine.{is_genuine_packet}
+use Rattle.yard_model.specs.World.{played, wire_limit, trace_of, all_sends}
 use Rattle.yard_model.specs.Trace.{lists_of}
-use Rattle.yard_model.specs.Lawful.{settled}
+use Rattle.yard_model.specs.Lawful.{is_folded, is_merged, settled}
 use Rattle.yard_model.specs.Safe.{safe, guarded}
 use Rattle.worked_scripts.specs.Digest.{agree}
 
@@ -45,6 +50,17 @@ IsSafe c = safe c (trace_of c) ≡ true
 -- each fact of its trace is guarded
 abbrev pub IsGuarded : Script → Type 0
 IsGuarded c = guarded c (trace_of c) ≡ true
+
+-- each packet that is posted is genuine
+abbrev pub IsGenuine : Script → Type 0
+IsGenuine c = list_all (is_genuine_packet c) (played c wire_limit).world.wire ≡ true
+
+-- at its end each journal is folded and merged
+abbrev pub HasJournals : Script → Type 0
+HasJournals c = list_all (λ e. is_folded c (journal_at c e) && is_merged c e (journal_at c e)) (setting c).names ≡ true
+  where
+    journal_at : Script → List ℕ → List Record
+    journal_at c e = journal e (shard_list (lists_of (setting c) (trace_of c)) (shard_of (setting c) e))
 
 -- at its end all sends are queued, recorded and confirmed
 abbrev pub IsSettled : Script → Type 0

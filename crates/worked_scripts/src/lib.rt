@@ -1,9 +1,10 @@
 //! Worked scripts: what the definitions compute is what is printed.
 #![tactic(auto)]
 
-ghost use Rattle.std.specs.Prelude.{◌≡◌, [], ◌∷◌};
-ghost use Rattle.worked_scripts.specs.Worked.{Agrees, IsGuarded, IsSafe, IsSettled, IsUnsafeWithout, Prints, PrintsWithin};
+ghost use Rattle.std.specs.Prelude.{◌≡◌, true, false, [], ◌∷◌};
+ghost use Rattle.worked_scripts.specs.Worked.{Agrees, HasJournals, IsGenuine, IsGuarded, IsSafe, IsSettled, IsUnsafeWithout, Prints, PrintsWithin};
 ghost use Rattle.worked_scripts.specs.Tables.{hashes, shards, first_picks, no_picks, smallest_shares, account_replies, account_state};
+ghost use Rattle.worked_scripts.specs.Steady.{counts, steady, worked_where, settled_where};
 ghost use Rattle.worked_scripts.specs.FirstDelivery as first_delivery_lines;
 ghost use Rattle.worked_scripts.specs.RemoteDelivery as remote_delivery_lines;
 ghost use Rattle.worked_scripts.specs.ReorderedDelivery as reordered_delivery_lines;
@@ -50,6 +51,8 @@ use yard_model::{Reply, State};
 pub fn first_delivery()
     ensures prints { Prints first_delivery_lines.script first_delivery_lines.printed }
     ensures agrees { Agrees first_delivery_lines.script }
+    ensures genuine { IsGenuine first_delivery_lines.script }
+    ensures journals { HasJournals first_delivery_lines.script }
     ensures safe { IsSafe first_delivery_lines.script }
     ensures guarded { IsGuarded first_delivery_lines.script }
 {}
@@ -58,6 +61,8 @@ pub fn first_delivery()
 pub fn remote_delivery()
     ensures prints { Prints remote_delivery_lines.script remote_delivery_lines.printed }
     ensures agrees { Agrees remote_delivery_lines.script }
+    ensures genuine { IsGenuine remote_delivery_lines.script }
+    ensures journals { HasJournals remote_delivery_lines.script }
     ensures safe { IsSafe remote_delivery_lines.script }
     ensures guarded { IsGuarded remote_delivery_lines.script }
     ensures settled { IsSettled remote_delivery_lines.script }
@@ -67,6 +72,8 @@ pub fn remote_delivery()
 pub fn reordered_delivery()
     ensures prints { Prints reordered_delivery_lines.script reordered_delivery_lines.printed }
     ensures agrees { Agrees reordered_delivery_lines.script }
+    ensures genuine { IsGenuine reordered_delivery_lines.script }
+    ensures journals { HasJournals reordered_delivery_lines.script }
     ensures safe { IsSafe reordered_delivery_lines.script }
     ensures guarded { IsGuarded reordered_delivery_lines.script }
 {}
@@ -75,18 +82,24 @@ pub fn reordered_delivery()
 pub fn repeated_delivery()
     ensures prints { Prints repeated_delivery_lines.script repeated_delivery_lines.printed }
     ensures agrees { Agrees repeated_delivery_lines.script }
+    ensures genuine { IsGenuine repeated_delivery_lines.script }
+    ensures journals { HasJournals repeated_delivery_lines.script }
 {}
 
 /// A packet that was never posted cannot be delivered.
 pub fn packet_never_posted()
     ensures prints { Prints packet_never_posted_lines.script packet_never_posted_lines.printed }
     ensures agrees { Agrees packet_never_posted_lines.script }
+    ensures genuine { IsGenuine packet_never_posted_lines.script }
+    ensures journals { HasJournals packet_never_posted_lines.script }
 {}
 
 /// A snapshot is taken, the node crashes, and the entity recovers elsewhere from snapshot and journal; the repeat is recognised.
 pub fn snapshot_crash_repeat()
     ensures prints { Prints snapshot_crash_repeat_lines.script snapshot_crash_repeat_lines.printed }
     ensures agrees { Agrees snapshot_crash_repeat_lines.script }
+    ensures genuine { IsGenuine snapshot_crash_repeat_lines.script }
+    ensures journals { HasJournals snapshot_crash_repeat_lines.script }
     ensures safe { IsSafe snapshot_crash_repeat_lines.script }
     ensures guarded { IsGuarded snapshot_crash_repeat_lines.script }
 {}
@@ -95,12 +108,16 @@ pub fn snapshot_crash_repeat()
 pub fn full_buffer()
     ensures prints { Prints full_buffer_lines.script full_buffer_lines.printed }
     ensures agrees { Agrees full_buffer_lines.script }
+    ensures genuine { IsGenuine full_buffer_lines.script }
+    ensures journals { HasJournals full_buffer_lines.script }
 {}
 
 /// A region leaves while a command is on its way: the shard is handed off, and the command reaches its new home.
 pub fn handoff_under_traffic()
     ensures prints { Prints handoff_under_traffic_lines.script handoff_under_traffic_lines.printed }
     ensures agrees { Agrees handoff_under_traffic_lines.script }
+    ensures genuine { IsGenuine handoff_under_traffic_lines.script }
+    ensures journals { HasJournals handoff_under_traffic_lines.script }
     ensures safe { IsSafe handoff_under_traffic_lines.script }
     ensures guarded { IsGuarded handoff_under_traffic_lines.script }
     ensures needs_each { IsUnsafeWithout handoff_under_traffic_lines.script (6 ∷ 9 ∷ 23 ∷ 27 ∷ 29 ∷ 34 ∷ 39 ∷ 46 ∷ 51 ∷ 65 ∷ 87 ∷ 88 ∷ 91 ∷ 96 ∷ 108 ∷ 113 ∷ []) }
@@ -110,6 +127,8 @@ pub fn handoff_under_traffic()
 pub fn handoff_of_remembered()
     ensures prints { Prints handoff_of_remembered_lines.script handoff_of_remembered_lines.printed }
     ensures agrees { Agrees handoff_of_remembered_lines.script }
+    ensures genuine { IsGenuine handoff_of_remembered_lines.script }
+    ensures journals { HasJournals handoff_of_remembered_lines.script }
     ensures safe { IsSafe handoff_of_remembered_lines.script }
     ensures guarded { IsGuarded handoff_of_remembered_lines.script }
 {}
@@ -118,12 +137,16 @@ pub fn handoff_of_remembered()
 pub fn word_after_the_round()
     ensures prints { Prints word_after_the_round_lines.script word_after_the_round_lines.printed }
     ensures agrees { Agrees word_after_the_round_lines.script }
+    ensures genuine { IsGenuine word_after_the_round_lines.script }
+    ensures journals { HasJournals word_after_the_round_lines.script }
 {}
 
 /// A write is reported as failed, and its record stands: after recovery the command is a repeat.
 pub fn failed_write_kept()
     ensures prints { Prints failed_write_kept_lines.script failed_write_kept_lines.printed }
     ensures agrees { Agrees failed_write_kept_lines.script }
+    ensures genuine { IsGenuine failed_write_kept_lines.script }
+    ensures journals { HasJournals failed_write_kept_lines.script }
     ensures safe { IsSafe failed_write_kept_lines.script }
     ensures guarded { IsGuarded failed_write_kept_lines.script }
 {}
@@ -132,6 +155,8 @@ pub fn failed_write_kept()
 pub fn failed_write_lost()
     ensures prints { Prints failed_write_lost_lines.script failed_write_lost_lines.printed }
     ensures agrees { Agrees failed_write_lost_lines.script }
+    ensures genuine { IsGenuine failed_write_lost_lines.script }
+    ensures journals { HasJournals failed_write_lost_lines.script }
     ensures safe { IsSafe failed_write_lost_lines.script }
     ensures guarded { IsGuarded failed_write_lost_lines.script }
 {}
@@ -140,6 +165,8 @@ pub fn failed_write_lost()
 pub fn coordinator_lost_in_round()
     ensures prints { Prints coordinator_lost_in_round_lines.script coordinator_lost_in_round_lines.printed }
     ensures agrees { Agrees coordinator_lost_in_round_lines.script }
+    ensures genuine { IsGenuine coordinator_lost_in_round_lines.script }
+    ensures journals { HasJournals coordinator_lost_in_round_lines.script }
     ensures safe { IsSafe coordinator_lost_in_round_lines.script }
     ensures guarded { IsGuarded coordinator_lost_in_round_lines.script }
 {}
@@ -148,12 +175,16 @@ pub fn coordinator_lost_in_round()
 pub fn packet_to_gone_node()
     ensures prints { Prints packet_to_gone_node_lines.script packet_to_gone_node_lines.printed }
     ensures agrees { Agrees packet_to_gone_node_lines.script }
+    ensures genuine { IsGenuine packet_to_gone_node_lines.script }
+    ensures journals { HasJournals packet_to_gone_node_lines.script }
 {}
 
 /// A command that comes while an entity passivates is stashed, and the entity starts again.
 pub fn passivation()
     ensures prints { Prints passivation_lines.script passivation_lines.printed }
     ensures agrees { Agrees passivation_lines.script }
+    ensures genuine { IsGenuine passivation_lines.script }
+    ensures journals { HasJournals passivation_lines.script }
     ensures safe { IsSafe passivation_lines.script }
     ensures guarded { IsGuarded passivation_lines.script }
 {}
@@ -162,6 +193,8 @@ pub fn passivation()
 pub fn passivation_remembered()
     ensures prints { Prints passivation_remembered_lines.script passivation_remembered_lines.printed }
     ensures agrees { Agrees passivation_remembered_lines.script }
+    ensures genuine { IsGenuine passivation_remembered_lines.script }
+    ensures journals { HasJournals passivation_remembered_lines.script }
     ensures safe { IsSafe passivation_remembered_lines.script }
     ensures guarded { IsGuarded passivation_remembered_lines.script }
 {}
@@ -170,6 +203,8 @@ pub fn passivation_remembered()
 pub fn carts_and_leaving()
     ensures prints { Prints carts_and_leaving_lines.script carts_and_leaving_lines.printed }
     ensures agrees { Agrees carts_and_leaving_lines.script }
+    ensures genuine { IsGenuine carts_and_leaving_lines.script }
+    ensures journals { HasJournals carts_and_leaving_lines.script }
     ensures settled { IsSettled carts_and_leaving_lines.script }
 {}
 
@@ -177,6 +212,8 @@ pub fn carts_and_leaving()
 pub fn settle_alone()
     ensures prints { Prints settle_alone_lines.script settle_alone_lines.printed }
     ensures agrees { Agrees settle_alone_lines.script }
+    ensures genuine { IsGenuine settle_alone_lines.script }
+    ensures journals { HasJournals settle_alone_lines.script }
     ensures safe { IsSafe settle_alone_lines.script }
     ensures guarded { IsGuarded settle_alone_lines.script }
     ensures settled { IsSettled settle_alone_lines.script }
@@ -186,6 +223,8 @@ pub fn settle_alone()
 pub fn queue_held()
     ensures prints { Prints queue_held_lines.script queue_held_lines.printed }
     ensures agrees { Agrees queue_held_lines.script }
+    ensures genuine { IsGenuine queue_held_lines.script }
+    ensures journals { HasJournals queue_held_lines.script }
     ensures safe { IsSafe queue_held_lines.script }
     ensures guarded { IsGuarded queue_held_lines.script }
 {}
@@ -194,6 +233,8 @@ pub fn queue_held()
 pub fn queue_taken_again()
     ensures prints { Prints queue_taken_again_lines.script queue_taken_again_lines.printed }
     ensures agrees { Agrees queue_taken_again_lines.script }
+    ensures genuine { IsGenuine queue_taken_again_lines.script }
+    ensures journals { HasJournals queue_taken_again_lines.script }
     ensures safe { IsSafe queue_taken_again_lines.script }
     ensures guarded { IsGuarded queue_taken_again_lines.script }
 {}
@@ -202,6 +243,8 @@ pub fn queue_taken_again()
 pub fn oldest_crashes()
     ensures prints { Prints oldest_crashes_lines.script oldest_crashes_lines.printed }
     ensures agrees { Agrees oldest_crashes_lines.script }
+    ensures genuine { IsGenuine oldest_crashes_lines.script }
+    ensures journals { HasJournals oldest_crashes_lines.script }
     ensures safe { IsSafe oldest_crashes_lines.script }
     ensures guarded { IsGuarded oldest_crashes_lines.script }
 {}
@@ -210,6 +253,8 @@ pub fn oldest_crashes()
 pub fn rebalancing()
     ensures prints { Prints rebalancing_lines.script rebalancing_lines.printed }
     ensures agrees { Agrees rebalancing_lines.script }
+    ensures genuine { IsGenuine rebalancing_lines.script }
+    ensures journals { HasJournals rebalancing_lines.script }
     ensures safe { IsSafe rebalancing_lines.script }
     ensures guarded { IsGuarded rebalancing_lines.script }
 {}
@@ -218,6 +263,8 @@ pub fn rebalancing()
 pub fn last_region_leaves()
     ensures prints { Prints last_region_leaves_lines.script last_region_leaves_lines.printed }
     ensures agrees { Agrees last_region_leaves_lines.script }
+    ensures genuine { IsGenuine last_region_leaves_lines.script }
+    ensures journals { HasJournals last_region_leaves_lines.script }
     ensures safe { IsSafe last_region_leaves_lines.script }
     ensures guarded { IsGuarded last_region_leaves_lines.script }
 {}
@@ -226,6 +273,8 @@ pub fn last_region_leaves()
 pub fn crash_before_a_send()
     ensures prints { Prints crash_before_a_send_lines.script crash_before_a_send_lines.printed }
     ensures agrees { Agrees crash_before_a_send_lines.script }
+    ensures genuine { IsGenuine crash_before_a_send_lines.script }
+    ensures journals { HasJournals crash_before_a_send_lines.script }
     ensures settled { IsSettled crash_before_a_send_lines.script }
 {}
 
@@ -233,6 +282,8 @@ pub fn crash_before_a_send()
 pub fn crash_in_a_handoff()
     ensures prints { Prints crash_in_a_handoff_lines.script crash_in_a_handoff_lines.printed }
     ensures agrees { Agrees crash_in_a_handoff_lines.script }
+    ensures genuine { IsGenuine crash_in_a_handoff_lines.script }
+    ensures journals { HasJournals crash_in_a_handoff_lines.script }
     ensures settled { IsSettled crash_in_a_handoff_lines.script }
 {}
 
@@ -240,6 +291,8 @@ pub fn crash_in_a_handoff()
 pub fn settle_in_three_ticks()
     ensures prints { Prints settle_in_three_ticks_lines.script settle_in_three_ticks_lines.printed }
     ensures agrees { Agrees settle_in_three_ticks_lines.script }
+    ensures genuine { IsGenuine settle_in_three_ticks_lines.script }
+    ensures journals { HasJournals settle_in_three_ticks_lines.script }
     ensures safe { IsSafe settle_in_three_ticks_lines.script }
     ensures guarded { IsGuarded settle_in_three_ticks_lines.script }
     ensures settled { IsSettled settle_in_three_ticks_lines.script }
@@ -249,6 +302,8 @@ pub fn settle_in_three_ticks()
 pub fn settle_after_a_send_in_flight()
     ensures prints { Prints settle_after_a_send_in_flight_lines.script settle_after_a_send_in_flight_lines.printed }
     ensures agrees { Agrees settle_after_a_send_in_flight_lines.script }
+    ensures genuine { IsGenuine settle_after_a_send_in_flight_lines.script }
+    ensures journals { HasJournals settle_after_a_send_in_flight_lines.script }
     ensures safe { IsSafe settle_after_a_send_in_flight_lines.script }
     ensures guarded { IsGuarded settle_after_a_send_in_flight_lines.script }
     ensures settled { IsSettled settle_after_a_send_in_flight_lines.script }
@@ -258,6 +313,8 @@ pub fn settle_after_a_send_in_flight()
 pub fn tick_sends_again()
     ensures prints { Prints tick_sends_again_lines.script tick_sends_again_lines.printed }
     ensures agrees { Agrees tick_sends_again_lines.script }
+    ensures genuine { IsGenuine tick_sends_again_lines.script }
+    ensures journals { HasJournals tick_sends_again_lines.script }
     ensures safe { IsSafe tick_sends_again_lines.script }
     ensures guarded { IsGuarded tick_sends_again_lines.script }
 {}
@@ -266,6 +323,8 @@ pub fn tick_sends_again()
 pub fn origin_of_released()
     ensures prints { Prints origin_of_released_lines.script origin_of_released_lines.printed }
     ensures agrees { Agrees origin_of_released_lines.script }
+    ensures genuine { IsGenuine origin_of_released_lines.script }
+    ensures journals { HasJournals origin_of_released_lines.script }
     ensures safe { IsSafe origin_of_released_lines.script }
     ensures guarded { IsGuarded origin_of_released_lines.script }
 {}
@@ -274,6 +333,8 @@ pub fn origin_of_released()
 pub fn stash_of_stopped()
     ensures prints { Prints stash_of_stopped_lines.script stash_of_stopped_lines.printed }
     ensures agrees { Agrees stash_of_stopped_lines.script }
+    ensures genuine { IsGenuine stash_of_stopped_lines.script }
+    ensures journals { HasJournals stash_of_stopped_lines.script }
     ensures safe { IsSafe stash_of_stopped_lines.script }
     ensures guarded { IsGuarded stash_of_stopped_lines.script }
 {}
@@ -282,6 +343,8 @@ pub fn stash_of_stopped()
 pub fn tick_in_a_round()
     ensures prints { Prints tick_in_a_round_lines.script tick_in_a_round_lines.printed }
     ensures agrees { Agrees tick_in_a_round_lines.script }
+    ensures genuine { IsGenuine tick_in_a_round_lines.script }
+    ensures journals { HasJournals tick_in_a_round_lines.script }
     ensures safe { IsSafe tick_in_a_round_lines.script }
     ensures guarded { IsGuarded tick_in_a_round_lines.script }
 {}
@@ -290,6 +353,8 @@ pub fn tick_in_a_round()
 pub fn awaited_region_is_lost()
     ensures prints { Prints awaited_region_is_lost_lines.script awaited_region_is_lost_lines.printed }
     ensures agrees { Agrees awaited_region_is_lost_lines.script }
+    ensures genuine { IsGenuine awaited_region_is_lost_lines.script }
+    ensures journals { HasJournals awaited_region_is_lost_lines.script }
 {}
 
 /// Room for seven packets: the trace stops within an input, after all other facts of it.
@@ -301,6 +366,8 @@ pub fn wire_full()
 pub fn second_handoff()
     ensures prints { Prints second_handoff_lines.script second_handoff_lines.printed }
     ensures agrees { Agrees second_handoff_lines.script }
+    ensures genuine { IsGenuine second_handoff_lines.script }
+    ensures journals { HasJournals second_handoff_lines.script }
     ensures safe { IsSafe second_handoff_lines.script }
     ensures guarded { IsGuarded second_handoff_lines.script }
 {}
@@ -309,6 +376,8 @@ pub fn second_handoff()
 pub fn handoff_while_passivating()
     ensures prints { Prints handoff_while_passivating_lines.script handoff_while_passivating_lines.printed }
     ensures agrees { Agrees handoff_while_passivating_lines.script }
+    ensures genuine { IsGenuine handoff_while_passivating_lines.script }
+    ensures journals { HasJournals handoff_while_passivating_lines.script }
     ensures safe { IsSafe handoff_while_passivating_lines.script }
     ensures guarded { IsGuarded handoff_while_passivating_lines.script }
 {}
@@ -317,12 +386,16 @@ pub fn handoff_while_passivating()
 pub fn asked_again_in_a_round()
     ensures prints { Prints asked_again_in_a_round_lines.script asked_again_in_a_round_lines.printed }
     ensures agrees { Agrees asked_again_in_a_round_lines.script }
+    ensures genuine { IsGenuine asked_again_in_a_round_lines.script }
+    ensures journals { HasJournals asked_again_in_a_round_lines.script }
 {}
 
 /// An acknowledgement is taken from any sender, and a tick registers with the oldest.
 pub fn acknowledged_by_a_lost_coordinator()
     ensures prints { Prints acknowledged_by_a_lost_coordinator_lines.script acknowledged_by_a_lost_coordinator_lines.printed }
     ensures agrees { Agrees acknowledged_by_a_lost_coordinator_lines.script }
+    ensures genuine { IsGenuine acknowledged_by_a_lost_coordinator_lines.script }
+    ensures journals { HasJournals acknowledged_by_a_lost_coordinator_lines.script }
     ensures safe { IsSafe acknowledged_by_a_lost_coordinator_lines.script }
     ensures guarded { IsGuarded acknowledged_by_a_lost_coordinator_lines.script }
 {}
@@ -331,6 +404,8 @@ pub fn acknowledged_by_a_lost_coordinator()
 pub fn hosted_already()
     ensures prints { Prints hosted_already_lines.script hosted_already_lines.printed }
     ensures agrees { Agrees hosted_already_lines.script }
+    ensures genuine { IsGenuine hosted_already_lines.script }
+    ensures journals { HasJournals hosted_already_lines.script }
     ensures safe { IsSafe hosted_already_lines.script }
     ensures guarded { IsGuarded hosted_already_lines.script }
 {}
@@ -339,6 +414,8 @@ pub fn hosted_already()
 pub fn dropped_and_asked()
     ensures prints { Prints dropped_and_asked_lines.script dropped_and_asked_lines.printed }
     ensures agrees { Agrees dropped_and_asked_lines.script }
+    ensures genuine { IsGenuine dropped_and_asked_lines.script }
+    ensures journals { HasJournals dropped_and_asked_lines.script }
     ensures safe { IsSafe dropped_and_asked_lines.script }
     ensures guarded { IsGuarded dropped_and_asked_lines.script }
 {}
@@ -360,4 +437,12 @@ pub fn picks_of_a_round()
 pub fn an_account()
     ensures replies { account_replies ≡ Reply.Rejected 1 ∷ Reply.Value 0 ∷ Reply.Value 100 ∷ Reply.Rejected 3 ∷ Reply.Rejected 4 ∷ Reply.Value 0 ∷ Reply.Value 0 ∷ Reply.Rejected 1 ∷ Reply.Rejected 2 ∷ [] }
     ensures state { account_state ≡ State.Closed }
+{}
+
+/// Two nodes with a producer each, of which one gives its queue back. The first node's worker has three orders, the second's four; the first producer is steady in a run of twelve turns and not of eleven, the second in none. The lists of the replay are worked and not settled; empty lists are worked only where no producer is steady.
+pub fn steady_producers()
+    ensures orders { counts ≡ 3 ∷ 4 ∷ [] }
+    ensures steady { steady ≡ true ∷ false ∷ false ∷ false ∷ [] }
+    ensures worked { worked_where ≡ true ∷ false ∷ true ∷ [] }
+    ensures settled { settled_where ≡ false ∷ false ∷ [] }
 {}

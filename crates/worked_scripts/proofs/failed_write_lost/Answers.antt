@@ -9,6 +9,12 @@ returns-clause-prints c = refl
 pub returns-clause-agrees : goal.returns-clause-agrees
 returns-clause-agrees c = refl
 
+pub returns-clause-genuine : goal.returns-clause-genuine
+returns-clause-genuine c = refl
+
+pub returns-clause-journals : goal.returns-clause-journals
+returns-clause-journals c = refl
+
 pub returns-clause-safe : goal.returns-clause-safe
 returns-clause-safe c = refl
 

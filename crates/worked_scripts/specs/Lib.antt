@@ -11,6 +11,7 @@ pub mod FailedWriteKept
 pub mod FailedWriteLost
 pub mod FirstDelivery
 pub mod FullBuffer
+pub mod GivenLists
 pub mod HandoffOfRemembered
 pub mod HandoffUnderTraffic
 pub mod HandoffWhilePassivating

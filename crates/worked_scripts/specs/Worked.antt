@@ -5,14 +5,14 @@ use Rattle.yard_model.specs.declared.charter.Config.{Config}
 use Rattle.yard_model.specs.declared.charter.Line.{Line}
 use Rattle.yard_model.specs.declared.charter.Order.{Order}
 use Rattle.yard_model.specs.Script.{Script, setting}
-use Rattle.yard_model.specs.Text.{Bytes}
+use Rattle.yard_model.specs.Text.{Bytes, fact_line}
 use Rattle.yard_model.specs.Replay.{replay_within, replay_text}
 use Rattle.yard_model.specs.declared.packet.Record.{Record}
 use Rattle.yard_model.specs.Setting.{shard_of}
 use Rattle.yard_model.specs.SlotLists.{shard_list}
 use Rattle.yard_model.specs.SlotReads.{journal}
 use Rattle.yard_model.specs.Genuine.{is_genuine_packet}
-use Rattle.yard_model.specs.World.{played, wire_limit, trace_of, all_sends}
+use Rattle.yard_model.specs.World.{played, wire_limit, trace_of, all_sends, settled_from}
 use Rattle.yard_model.specs.Trace.{lists_of}
 use Rattle.yard_model.specs.Lawful.{is_folded, is_merged, settled}
 use Rattle.yard_model.specs.Safe.{safe, guarded}
@@ -61,6 +61,10 @@ HasJournals c = list_all (λ e. is_folded c (journal_at c e) && is_merged c e (j
   where
     journal_at : Script → List ℕ → List Record
     journal_at c e = journal e (shard_list (lists_of (setting c) (trace_of c)) (shard_of (setting c) e))
+
+-- a world that is given its lists settles with these lines
+abbrev pub SettlesFrom : Script → List Bytes → Type 0
+SettlesFrom c lines = flat_map fact_line (settled_from c (lists_of (setting c) (trace_of c))).facts ≡ text_of lines
 
 -- at its end all sends are queued, recorded and confirmed
 abbrev pub IsSettled : Script → Type 0

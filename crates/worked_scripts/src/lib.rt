@@ -2,7 +2,7 @@
 #![tactic(auto)]
 
 ghost use Rattle.std.specs.Prelude.{◌≡◌, true, false, [], ◌∷◌};
-ghost use Rattle.worked_scripts.specs.Worked.{Agrees, HasJournals, IsGenuine, IsGuarded, IsSafe, IsSettled, IsUnsafeWithout, Prints, PrintsWithin};
+ghost use Rattle.worked_scripts.specs.Worked.{Agrees, HasJournals, IsGenuine, IsGuarded, IsSafe, IsSettled, IsUnsafeWithout, Prints, PrintsWithin, SettlesFrom};
 ghost use Rattle.worked_scripts.specs.Tables.{hashes, shards, first_picks, no_picks, smallest_shares, account_replies, account_state};
 ghost use Rattle.worked_scripts.specs.Steady.{counts, steady, worked_where, settled_where};
 ghost use Rattle.worked_scripts.specs.FirstDelivery as first_delivery_lines;
@@ -44,6 +44,7 @@ ghost use Rattle.worked_scripts.specs.AskedAgainInARound as asked_again_in_a_rou
 ghost use Rattle.worked_scripts.specs.AcknowledgedByALostCoordinator as acknowledged_by_a_lost_coordinator_lines;
 ghost use Rattle.worked_scripts.specs.HostedAlready as hosted_already_lines;
 ghost use Rattle.worked_scripts.specs.DroppedAndAsked as dropped_and_asked_lines;
+ghost use Rattle.worked_scripts.specs.GivenLists as given_lists_lines;
 
 use yard_model::{Reply, State};
 
@@ -418,6 +419,17 @@ pub fn dropped_and_asked()
     ensures journals { HasJournals dropped_and_asked_lines.script }
     ensures safe { IsSafe dropped_and_asked_lines.script }
     ensures guarded { IsGuarded dropped_and_asked_lines.script }
+{}
+
+/// Both nodes crash in a handoff; a world that is given the lists they leave settles.
+pub fn given_lists()
+    ensures prints { Prints given_lists_lines.script given_lists_lines.printed }
+    ensures agrees { Agrees given_lists_lines.script }
+    ensures genuine { IsGenuine given_lists_lines.script }
+    ensures journals { HasJournals given_lists_lines.script }
+    ensures safe { IsSafe given_lists_lines.script }
+    ensures guarded { IsGuarded given_lists_lines.script }
+    ensures settles { SettlesFrom given_lists_lines.script given_lists_lines.settled }
 {}
 
 /// Hashes of five names, and their shards of ten. The fourth and fifth hash are negative in Java: -1367590710 and -2147483648.

@@ -3,9 +3,12 @@ pub mod Charter
 pub mod Coordinator
 pub mod Entities
 pub mod Entry
+pub mod Equal
 pub mod Events
 pub mod Follow
+pub mod Genuine
 pub mod Items
+pub mod Lawful
 pub mod Loads
 pub mod Members
 pub mod Move
@@ -13,7 +16,10 @@ pub mod Name
 pub mod Node
 pub mod Padded
 pub mod Producer
+pub mod Queries
 pub mod Region
+pub mod Replay
+pub mod Safe
 pub mod Script
 pub mod Setting
 pub mod Shard
@@ -25,4 +31,5 @@ pub mod Text
 pub mod Trace
 pub mod Turns
 pub mod Words
+pub mod Workers
 pub mod World

@@ -225,7 +225,7 @@ produce p n w = if is_none (node_at w n) || is_of_node n (queue_holder w p) then
 
 -- where the queue of p has a holder: Send there. Else it `waits`
 abbrev pub send : ℕ → List ℕ → Command → Step
-send p e c w = give_or (input.Send p) (node_of w (queue_holder w p)) (tell (fact.Waits p e c ∷ [])) (record w { ordered = slice_set w.ordered (p - 1) (ordered_of w p + 1) })
+send p e c w = give_or (input.Send p) (node_of w (queue_holder w p)) (tell (fact.Waits p e c ∷ [])) w
 
 -- Entities.
 
@@ -311,9 +311,14 @@ play (order.Pump n) w = pump n w
 play (order.Rebalance n) w = give_or (input.Rebalance n) (node_of w (holder w.lists.coordinator)) nothing w
 play order.Settle w = settle w
 
+-- a send is ordered
+abbrev pub with_order : Option Order → World → World
+with_order (Some (order.Send p e c)) w = record w { ordered = slice_set w.ordered (p - 1) (ordered_of w p + 1) }
+with_order o w = w
+
 -- `at LINE`, and what the order gives
 abbrev pub play_line : Line → Step
-play_line l w = then_step (tell (fact.At l.number ∷ []) w) (play l.order)
+play_line l w = then_step (tell (fact.At l.number ∷ []) (with_order (Some l.order) w)) (play l.order)
 
 -- a world that begins
 abbrev pub new_world : Script → ℕ → World

@@ -1,5 +1,5 @@
 -- What `solo` does: one incarnation numbers the sends and posts them in script order, and records what is delivered to it (own).
-use Rattle.std.specs.Prelude.{ℕ, ◌+◌, ◌-◌, ◌==◌, ◌&&◌, List, [], ◌∷◌, ◌++◌, length, count_by, fold, Option, Some, None, codes, if◌then◌else◌}
+use Rattle.std.specs.Prelude.{ℕ, ◌+◌, ◌-◌, ◌==◌, ◌&&◌, List, [], ◌∷◌, ◌++◌, length, count_by, fold, map, slice_set, Option, Some, None, if◌then◌else◌}
 use Rattle.std.specs.List.{slice_get}
 use Rattle.yard_model.specs.declared.fact.Fact.{Fact}
 use Rattle.yard_model.specs.declared.fact.Fact.TheVariants as fact
@@ -9,22 +9,36 @@ use Rattle.yard_model.specs.declared.event.Kind.{Kind}
 use Rattle.yard_model.specs.declared.event.Command.{Command}
 use Rattle.yard_model.specs.declared.event.Decision.{Decision}
 use Rattle.yard_model.specs.declared.incarnation.Incarnation.{Incarnation}
+use Rattle.yard_model.specs.declared.incarnation.Slot.TheVariants as slot
 use Rattle.yard_model.specs.declared.charter.Line.{Line}
 use Rattle.yard_model.specs.declared.charter.Order.{Order}
 use Rattle.yard_model.specs.declared.charter.Order.TheVariants as order
-use Rattle.yard_model.specs.Script.{Script, setting, is_name}
+use Rattle.yard_model.specs.Script.{Script, Setting, setting, is_name}
+use Rattle.yard_model.specs.Setting.{shards, producers, shard_of}
 use Rattle.yard_model.specs.Behaviour.{decide, folded}
+use Rattle.yard_model.specs.SlotLists.{SlotLists, shard_list}
 use Rattle.yard_model.specs.SlotReads.{journal, position}
-use Rattle.yard_model.specs.Text.{Bytes, line, entities_text}
+use Rattle.yard_model.specs.Text.{Bytes, report}
 
--- the messages that were posted, and the records that were written, each as its fact
+-- the messages that were posted, and the lists of all slots
 pub record Solo : Type 0 where
   pub posted : List Message
-  pub written : List Fact
+  pub lists : SlotLists
 
 -- the one incarnation
 abbrev pub alone : Incarnation
 alone = record { node = 1; number = 1 }
+
+-- it holds every shard in epoch 1; nothing is posted or recorded, and nothing is ever queued
+abbrev pub start : Setting → Solo
+start set = record {
+  posted = [];
+  lists = record {
+    shards = map (λ s. fact.Granted (slot.Shard s) 1 alone ∷ []) (shards set);
+    coordinator = [];
+    queues = map (λ p. []) (producers set);
+  };
+}
 
 -- how many of the messages are of this pair
 abbrev pub count_of_pair : ℕ → List ℕ → List Message → ℕ
@@ -40,29 +54,33 @@ next_record kind before m =
     let d : Decision = decide (folded kind before) m.command in
     record { number = length before + 1; epoch = 1; producer = m.producer; place = m.number; command = m.command; events = d.events; reply = d.reply }
 
--- a message that is delivered is recorded exactly where its number is its pair's records plus one
-abbrev pub with_delivered : Kind → List Fact → Message → List Fact
-with_delivered kind written m =
-    let before : List Record = journal m.entity written in
-    if m.number == position m.producer before + 1 then written ++ fact.Wrote m.entity (next_record kind before m) ∷ [] else written
+-- one entry more in the list of a shard
+abbrev pub with_entry : ℕ → Fact → SlotLists → SlotLists
+with_entry s f lists = record { shards = slice_set lists.shards s (shard_list lists s ++ f ∷ []); coordinator = lists.coordinator; queues = lists.queues }
 
-abbrev pub with_delivery : Kind → List Fact → Option Message → List Fact
-with_delivery kind written None = written
-with_delivery kind written (Some m) = with_delivered kind written m
+-- a message that is delivered is recorded exactly where its number is its pair's records plus one
+abbrev pub with_delivered : Setting → SlotLists → Message → SlotLists
+with_delivered set lists m =
+    let before : List Record = journal m.entity (shard_list lists (shard_of set m.entity)) in
+    if m.number == position m.producer before + 1 then with_entry (shard_of set m.entity) (fact.Wrote m.entity (next_record set.config.kind before m)) lists else lists
+
+abbrev pub with_delivery : Setting → SlotLists → Option Message → SlotLists
+with_delivery set lists None = lists
+with_delivery set lists (Some m) = with_delivered set lists m
 
 -- after one order: a send is posted, and the posted message of a number, from 1, is delivered
-abbrev pub after_order : Kind → Solo → Order → Solo
-after_order kind st (order.Send p e k) = record { posted = st.posted ++ next_message st.posted p e k ∷ []; written = st.written }
-after_order kind st (order.Deliver n) = record { posted = st.posted; written = with_delivery kind st.written (slice_get st.posted (n - 1)) }
-after_order kind st o = st
+abbrev pub after_order : Setting → Solo → Order → Solo
+after_order set st (order.Send p e k) = record { posted = st.posted ++ next_message st.posted p e k ∷ []; lists = st.lists }
+after_order set st (order.Deliver n) = record { posted = st.posted; lists = with_delivery set st.lists (slice_get st.posted (n - 1)) }
+after_order set st o = st
+
+abbrev pub after_line : Setting → Solo → Line → Solo
+after_line set st l = after_order set st l.order
 
 -- after the orders of a script
-abbrev pub solo_of : Kind → Solo → List Line → Solo
-solo_of kind st lines = fold (λ (s : Solo) (l : Line). after_order kind s l.order) st lines
-
 abbrev pub solo : Script → Solo
-solo c = solo_of c.config.kind (record { posted = []; written = [] }) c.orders
+solo c = fold (after_line (setting c)) (start (setting c)) c.orders
 
--- SoloText: the report of these journals, with no queues
+-- SoloText: the report of the lists
 abbrev pub solo_text : Script → Bytes
-solo_text c = line (codes "report" ∷ []) ++ entities_text (setting c) (λ e. journal e (solo c).written) ++ line (codes "end" ∷ [])
+solo_text c = report (setting c) (solo c).lists

@@ -1,4 +1,5 @@
 //! That a read, a write or a flush failed.
+ghost use Rattle.std.specs.Prelude.{codes, Some};
 
 use std::error::Error;
 use std::fmt;
@@ -8,6 +9,8 @@ use std::fmt;
 pub struct Failed;
 
 impl fmt::Display for Failed {
+    ghost output = { λ _. Some (codes "a read or a write failed") };
+
     fn fmt<W: fmt::Write>(&self, f: &mut fmt::Formatter<W>) -> fmt::Result {
         f.write_str("a read or a write failed")
     }

@@ -1,14 +1,13 @@
 //! A source over a reader of std's.
-ghost use Rattle.std.specs.Prelude.{◌≡◌, ℕ, ◌-◌, ◌^◌, ◌≤◌, min, length, IfSome, None};
+ghost use Rattle.std.specs.Prelude.{◌≡◌, ℕ, ◌+◌, ◌-◌, ◌^◌, ◌<◌, ◌≤◌, min, length, take, IfOk, OnErr, IfSome, IfNone, None};
+ghost use Rattle.std.specs.Io.KnownBytes.{Consumes, IsAtEnd, Keeps, ReadConsumes};
 
 use crate::failed::Failed;
 use crate::fault_count::FaultCount;
 use crate::source::Source;
 use std::io::{ErrorKind, Read};
-use std::marker::Model;
 
-/// A source over a reader, such as standard input. It tells nothing of the bytes, and counts each read that fails:
-/// contracts see that count.
+/// A source over a reader, such as standard input. It tells nothing of the bytes, and counts each read that fails.
 ///
 /// A read that a signal interrupted is made again.
 #[derive(Drop)]
@@ -17,16 +16,11 @@ pub struct StdSource<R> {
     faults: FaultCount,
 }
 
-impl<R> Model for StdSource<R> {
-    ghost Value = { ℕ };
-
-    ghost view = { λ s. s.faults };
-}
-
 impl<R: Read> StdSource<R> {
     /// A source of what the reader gives.
     pub fn new(reader: R) -> StdSource<R>
-        ensures { result ≡ 0 }
+        ensures reader { result.reader ≡ reader }
+        ensures faults { result.faults ≡ 0 }
     {
         StdSource {
             reader,
@@ -36,7 +30,7 @@ impl<R: Read> StdSource<R> {
 
     /// How many reads have failed, or the greatest `u64` where they are more.
     pub fn faults(&self) -> u64
-        ensures { result ≡ min self.now (2 ^ 64 - 1) }
+        ensures { result ≡ min self.now.faults (2 ^ 64 - 1) }
     {
         self.faults.get()
     }
@@ -45,9 +39,22 @@ impl<R: Read> StdSource<R> {
 impl<R: Read> Source for StdSource<R> {
     ghost left = { λ _. None };
 
-    ghost faults = { λ s. s };
+    ghost faults = { λ s. s.faults };
 
-    fn read(&mut self, buf: &mut [u8]) -> Result<usize, Failed> {
+    fn read(&mut self, buf: &mut [u8]) -> Result<usize, Failed>
+        // As of every source.
+        ensures within { IfOk result (λ n. n ≤ length buf.new) }
+        ensures cause { OnErr result (self.old.faults < self.new.faults) }
+        ensures never_falls { self.old.faults ≤ self.new.faults }
+
+        // Where the reader's bytes are known.
+        ensures bytes { ReadConsumes (R.remaining self.old.reader) (R.remaining self.new.reader)
+            result buf.new }
+
+        // Of this source alone.
+        ensures once { OnErr result (self.new.faults ≡ self.old.faults + 1) }
+        ensures no_other { IfOk result (λ _. self.new.faults ≡ self.old.faults) }
+    {
         match read_retrying(&mut self.reader, buf) {
             Some(count) => Ok(count),
             None => {
@@ -60,7 +67,11 @@ impl<R: Read> Source for StdSource<R> {
 
 /// Reads once, and again where a signal interrupted the read. `None` where the reader failed.
 fn read_retrying<R: Read>(reader: &mut R, buf: &mut [u8]) -> Option<usize>
-    ensures { IfSome result (λ n. n ≤ length buf.new) }
+    ensures within { IfSome result (λ n. n ≤ length buf.new) }
+    ensures bytes { IfSome result (λ n. Consumes (R.remaining reader.old) (R.remaining reader.new)
+        (take n buf.new)) }
+    ensures end { IfSome result (λ n. n ≡ 0 → 0 < length buf.new → IsAtEnd (R.remaining reader.new)) }
+    ensures kept { IfNone result (Keeps (R.remaining reader.old) (R.remaining reader.new)) }
 {
     for _ in 0..u64::MAX {
         match reader.read(buf) {

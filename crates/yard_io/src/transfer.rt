@@ -1,6 +1,7 @@
 //! Reading a whole input, and writing a whole text.
-ghost use Rattle.std.specs.Prelude.{◌≡◌, ℕ, ◌+◌, ◌<◌, ◌≤◌, List, [], length, take, ◌++◌, Option, IfOk, IfErr, OnOk, OnErr, IfSome, vec_len};
+ghost use Rattle.std.specs.Prelude.{◌≡◌, ℕ, ◌+◌, ◌<◌, ◌≤◌, List, [], length, take, ◌++◌, Option, Some, IfOk, IfErr, OnOk, OnErr, IfSome, vec_len};
 ghost use Rattle.yard_io.specs.Told.{followed_by, without_first, TakesFront, LosesUpTo};
+ghost use Rattle.yard_io.specs.ReadErrorWords.{words_of};
 ghost use Rattle.yard_io.specs.declared.transfer.ReadError.TheVariants as read_error;
 
 use crate::failed::Failed;
@@ -23,6 +24,8 @@ pub enum ReadError {
 }
 
 impl fmt::Display for ReadError {
+    ghost output = { λ e. Some (words_of e) };
+
     fn fmt<W: fmt::Write>(&self, f: &mut fmt::Formatter<W>) -> fmt::Result {
         match self {
             ReadError::Failed => f.write_str("a read failed"),

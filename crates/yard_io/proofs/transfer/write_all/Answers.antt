@@ -1,4 +1,4 @@
-use Rattle.std.proofs.Common.{◌≡◌, ◌+◌, ◌-◌, ◌<◌, ◌≤◌, length, ap, ◌∙◌, arith, take, drop}
+use Rattle.std.proofs.Common.{◌≡◌, ◌-◌, ◌<◌, ◌≤◌, length, ap, ◌∙◌, arith, take, drop}
 use Rattle.std.proofs.lemmas.List.{length-drop}
 use Rattle.yard_io.specs.Told.{followed_by}
 use Rattle.yard_io.proofs.ToldLemmas.{followed_more, rest_is}

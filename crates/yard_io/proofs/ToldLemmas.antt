@@ -1,6 +1,6 @@
 use Rattle.std.proofs.Common.{◌≡◌, ◌≤◌, ℕ, zero, suc, ◌+◌, ◌-◌, List, [], ◌∷◌, ◌++◌, length, take, drop, refl, sym, ap, ◌∙◌, arith, zero-add, append_assoc, length-append}
 use Rattle.std.proofs.lemmas.List.{append-nil, drop-drop, take_all, drop_all, length-drop, take-append-le}
-use Rattle.std.proofs.Math.Seq.{take-nil, take-append-add}
+use Rattle.std.proofs.Math.Seq.{take-length, take-nil, take-append-add}
 use Rattle.std.proofs.Math.Nat.{suc-add}
 use Rattle.std.specs.Prelude.{Option, Some, None, IfSome}
 use Rattle.yard_io.specs.Told.{followed_by, without_first, TakesFront, LosesUpTo}
@@ -28,6 +28,9 @@ followed_nil (Some zs) = ap Some (append-nil zs)
 pub followed_both : (told : Option (List ℕ)) (xs ys : List ℕ) → followed_by (followed_by told xs) ys ≡ followed_by told (xs ++ ys)
 followed_both None xs ys = refl
 followed_both (Some zs) xs ys = ap Some (append_assoc zs xs ys)
+
+pub front_whole : (old new : Option (List ℕ)) (xs : List ℕ) → new ≡ followed_by old xs → TakesFront old new xs
+front_whole old new xs is = (length xs, omega arith, is ∙ ap (followed_by old) (sym (take-length xs)))
 
 pub front_first : (old new : Option (List ℕ)) (xs ys : List ℕ) → TakesFront old new xs → TakesFront old new (xs ++ ys)
 front_first old new xs ys p =

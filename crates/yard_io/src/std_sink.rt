@@ -1,6 +1,6 @@
 //! A sink over a writer of std's.
 ghost use Rattle.std.specs.Prelude.{◌≡◌, ℕ, ◌+◌, ◌-◌, ◌<◌, ◌≤◌, ◌^◌, min, [], length, take, IfOk, OnOk, OnErr, IfSome, IfNone, IsTrue, None};
-ghost use Rattle.std.specs.Io.Buffered.{writer_buffer, writer_contents, writer_inner};
+ghost use Rattle.std.specs.Io.Buffered.{writer_buffer, writer_capacity, writer_contents, writer_inner};
 ghost use Rattle.std.specs.Io.KnownBytes.{Appends, Keeps, WriteAppends};
 
 use crate::failed::Failed;
@@ -27,6 +27,7 @@ impl<W: Write + Drop> StdSink<W> {
     pub fn new(alloc: Global, writer: W) -> Result<StdSink<W>, AllocError>
         ensures writer { IfOk result (λ s. writer_inner s.writer ≡ writer) }
         ensures empty { IfOk result (λ s. writer_buffer s.writer ≡ []) }
+        ensures capacity { IfOk result (λ s. writer_capacity s.writer ≡ 65536) }
         ensures faults { IfOk result (λ s. s.faults ≡ 0) }
     {
         match BufWriter::with_capacity(alloc, CAPACITY, writer) {

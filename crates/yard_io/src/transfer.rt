@@ -160,6 +160,8 @@ pub fn writes_add_up()
     ensures none { (told : Option (List ℕ)) → followed_by told [] ≡ told }
     ensures both { (told : Option (List ℕ)) (xs ys : List ℕ) →
         followed_by (followed_by told xs) ys ≡ followed_by told (xs ++ ys) }
+    ensures whole { (old new : Option (List ℕ)) (xs : List ℕ) →
+        new ≡ followed_by old xs → TakesFront old new xs }
     ensures first { (old new : Option (List ℕ)) (xs ys : List ℕ) →
         TakesFront old new xs → TakesFront old new (xs ++ ys) }
     ensures second { (old new : Option (List ℕ)) (xs ys : List ℕ) →

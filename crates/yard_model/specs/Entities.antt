@@ -200,8 +200,8 @@ abbrev pub is_running : Entities → ℕ → Bool
 is_running st s = is_running_in (hosted st s)
 
 -- the entities of a shard that exist, by name
-abbrev pub live : Entities → ℕ → List (List ℕ)
-live st s = filter (λ e. not (is_in_phase phase.Absent st e)) (names_of st.set s)
+abbrev pub entities_of : Entities → ℕ → List (List ℕ)
+entities_of st s = filter (λ e. not (is_in_phase phase.Absent st e)) (names_of st.set s)
 
 -- Starting.
 
@@ -216,8 +216,8 @@ start_remembered s st = if st.set.config.remember then flat_map (λ e. start_ent
 -- Deliver.
 
 -- it is stashed, or dropped where the stash is full
-abbrev pub stash : Message → Entities → List Move
-stash m st = if nat_lt (length (cell st m.entity).stash) st.set.config.window then told (fact.Stashed st.who m) ∷ [] else told (fact.Dropped st.who m) ∷ []
+abbrev pub stash_message : Message → Entities → List Move
+stash_message m st = if nat_lt (length (cell st m.entity).stash) st.set.config.window then told (fact.Stashed st.who m) ∷ [] else told (fact.Dropped st.who m) ∷ []
 
 -- the record that a message gives: the next of the journal, under the lease's epoch, as Decide answers at the journal's Fold
 abbrev pub record_of : Message → Entities → List Record → Record
@@ -252,7 +252,7 @@ deliver_at m pos records st =
 abbrev pub deliver_by : Message → Entities → Phase → List Move
 deliver_by m st phase.Absent = start_entity m.entity st ++ told (fact.Stashed st.who m) ∷ []
 deliver_by m st phase.Active = let records : List Record = journal m.entity (entries st m.entity) in deliver_at m (position m.producer records) records st
-deliver_by m st p = stash m st
+deliver_by m st p = stash_message m st
 
 -- Deliver. An entity that doesn't exist is started, and the message stashed; one that is Loading or Stopping stashes it
 abbrev pub deliver : Message → Entities → List Move
@@ -281,12 +281,12 @@ passivate e st = if is_in_phase phase.Active st e then passivates e ∷ post st.
 -- where the shard is Stopping and no entity of it is left: `freed`, and post ShardStopped with the kept stamp to the kept addressee
 abbrev pub free_if_left : ℕ → Entities → List Move
 free_if_left s st = where_some
-    (λ k. if is_empty (live st s) then told (fact.Freed (slot.Shard s) (epoch (entries_in (hosted st s))) cause.Released) ∷ post st.who k.to (body.ShardStopped s k.stamp) ∷ [] else [])
+    (λ k. if is_empty (entities_of st s) then told (fact.Freed (slot.Shard s) (epoch (entries_in (hosted st s))) cause.Released) ∷ post st.who k.to (body.ShardStopped s k.stamp) ∷ [] else [])
     (option_and_then (λ h. h.stopping) (hosted st s))
 
 -- HandOff of a hosted shard: it is Stopping, with stamp and sender kept; StopEntity is posted for each of its entities, by name, and each becomes Stopping; where it has none it is freed
 abbrev pub hand_off : ℕ → Stamp → Incarnation → Entities → List Move
-hand_off s stamp from = in_turn entities_after (λ st. handed_off s stamp from ∷ map (λ e. post st.who st.who (body.StopEntity e)) (live st s)) (free_if_left s)
+hand_off s stamp from = in_turn entities_after (λ st. handed_off s stamp from ∷ map (λ e. post st.who st.who (body.StopEntity e)) (entities_of st s)) (free_if_left s)
 
 -- where it was passivating and is remembered: `forgotten`
 abbrev pub forget_passivated : List ℕ → Entities → List Move
@@ -315,4 +315,4 @@ remind_by e st p = []
 
 -- the entities' part of the tick: for each entity, by shard and name, Recovered again where it is Loading, and StopEntity again where it is Stopping
 abbrev pub tick_entities : Entities → List Move
-tick_entities st = flat_map (λ s. flat_map (λ e. remind_by e st (cell st e).phase) (live st s)) (shards st.set)
+tick_entities st = flat_map (λ s. flat_map (λ e. remind_by e st (cell st e).phase) (entities_of st s)) (shards st.set)

@@ -1,5 +1,5 @@
 -- Which lists are lawful: each entry may follow those before it.
-use Rattle.std.specs.Prelude.{ℕ, ◌+◌, ◌-◌, Bool, true, false, ◌==◌, ◌&&◌, ◌||◌, nat_lt, nat_le, not, List, [], ◌∷◌, length, is_some, is_none, slice_index_or}
+use Rattle.std.specs.Prelude.{ℕ, ◌+◌, ◌-◌, Bool, true, false, ◌==◌, ◌&&◌, nat_lt, nat_le, not, List, [], length, is_some, is_none, slice_index_or}
 use Rattle.std.specs.List.{list_any, list_all, slice_get}
 use Rattle.std.specs.Option.{option_map_or}
 use Rattle.yard_model.specs.declared.fact.Fact.{Fact}

@@ -17,8 +17,8 @@ use Rattle.yard_model.specs.SlotReads.{epoch, commands, queued, confirmed, queue
 use Rattle.yard_model.specs.Move.{Move, made, demanded, pushed, told}
 
 -- of a pair of producer and entity
-pub record Demand : Type 0 where
-  pub up_to : ℕ  -- the number that was demanded up to
+pub record Progress : Type 0 where
+  pub demand : ℕ  -- the number that was demanded up to
   pub sent : ℕ  -- the number that was sent up to
 
 pub record Producer : Type 0 where
@@ -26,14 +26,14 @@ pub record Producer : Type 0 where
   pub set : Setting
   pub number : ℕ
   pub entries : List Fact
-  pub demands : List Demand  -- per name
+  pub pairs : List Progress  -- per name
 
-abbrev pub no_demand : Demand
-no_demand = record { up_to = 0; sent = 0 }
+abbrev pub no_progress : Progress
+no_progress = record { demand = 0; sent = 0 }
 
 -- once the queue is granted
 abbrev pub new_producer : Setting → Incarnation → ℕ → List Fact → Producer
-new_producer set who p list = record { who = who; set = set; number = p; entries = list; demands = replicate (length set.names) no_demand }
+new_producer set who p list = record { who = who; set = set; number = p; entries = list; pairs = replicate (length set.names) no_progress }
 
 -- What a move changes, word by word.
 
@@ -42,29 +42,29 @@ queue_step old (made (item.Fact (fact.Queued p e n k))) = old ++ fact.Queued p e
 queue_step old (made (item.Fact (fact.Confirmed p e n))) = old ++ fact.Confirmed p e n ∷ []
 queue_step old m = old
 
-abbrev pub demand_in : Setting → List Demand → List ℕ → Demand
-demand_in set demands e = slice_index_or demands (place set e) no_demand
+abbrev pub progress_in : Setting → List Progress → List ℕ → Progress
+progress_in set pairs e = slice_index_or pairs (place set e) no_progress
 
-abbrev pub demands_step : Setting → List Demand → Move → List Demand
-demands_step set old (demanded e u) = let d : Demand = demand_in set old e in slice_set old (place set e) (record { up_to = max d.up_to u; sent = d.sent })
-demands_step set old (pushed e n) = let d : Demand = demand_in set old e in slice_set old (place set e) (record { up_to = d.up_to; sent = max d.sent n })
-demands_step set old m = old
+abbrev pub pairs_step : Setting → List Progress → Move → List Progress
+pairs_step set old (demanded e u) = let k : Progress = progress_in set old e in slice_set old (place set e) (record { demand = max k.demand u; sent = k.sent })
+pairs_step set old (pushed e n) = let k : Progress = progress_in set old e in slice_set old (place set e) (record { demand = k.demand; sent = max k.sent n })
+pairs_step set old m = old
 
 abbrev pub producer_after : Producer → Move → Producer
-producer_after st m = record { who = st.who; set = st.set; number = st.number; entries = queue_step st.entries m; demands = demands_step st.set st.demands m }
+producer_after st m = record { who = st.who; set = st.set; number = st.number; entries = queue_step st.entries m; pairs = pairs_step st.set st.pairs m }
 
 -- What is read.
 
-abbrev pub demand : Producer → List ℕ → Demand
-demand st e = demand_in st.set st.demands e
+abbrev pub progress : Producer → List ℕ → Progress
+progress st e = progress_in st.set st.pairs e
 
 -- the number that may be sent up to: what is queued, up to what was demanded, or to the first that isn't confirmed
 abbrev pub allowed : List ℕ → Producer → ℕ
-allowed e st = min (queued e st.entries) (max (demand st e).up_to (confirmed e st.entries + 1))
+allowed e st = min (queued e st.entries) (max (progress st e).demand (confirmed e st.entries + 1))
 
 -- the numbers that Push routes: those allowed that are above what was sent and what is confirmed
 abbrev pub to_push : List ℕ → Producer → List ℕ
-to_push e st = from_to (max (demand st e).sent (confirmed e st.entries) + 1) (allowed e st)
+to_push e st = from_to (max (progress st e).sent (confirmed e st.entries) + 1) (allowed e st)
 
 -- the numbers that Resend from f routes: those allowed that are at least f and not confirmed
 abbrev pub to_resend : List ℕ → ℕ → Producer → List ℕ

@@ -1,5 +1,5 @@
 -- The queries of a trace: every word of the world and of each node, read off the facts alone, by a fold of one-fact steps. A fact is an item of the node that acts by it; it may show silent moves besides; the packet that a node got, and the order that begins, show the others.
-use Rattle.std.specs.Prelude.{ℕ, suc, ◌+◌, ◌-◌, Bool, true, false, ◌==◌, List, [], ◌∷◌, ◌++◌, map, find, fold, Option, Some, None, slice_index_or, slice_set, if◌then◌else◌}
+use Rattle.std.specs.Prelude.{ℕ, ◌-◌, Bool, true, false, ◌==◌, List, [], ◌∷◌, ◌++◌, map, find, fold, Option, Some, None, slice_index_or, if◌then◌else◌}
 use Rattle.std.specs.List.{flat_map, slice_get}
 use Rattle.std.specs.Option.{option_map, option_and_then}
 use Rattle.yard_model.specs.declared.fact.Fact.{Fact}
@@ -15,19 +15,17 @@ use Rattle.yard_model.specs.declared.charter.Order.TheVariants as order
 use Rattle.yard_model.specs.declared.incarnation.Incarnation.{Incarnation}
 use Rattle.yard_model.specs.declared.incarnation.Slot.{Slot}
 use Rattle.yard_model.specs.declared.incarnation.Slot.TheVariants as slot
-use Rattle.yard_model.specs.Script.{Script}
 use Rattle.yard_model.specs.Setting.{producers}
-use Rattle.yard_model.specs.Words.{is_same, is_at, is_among, is_below}
+use Rattle.yard_model.specs.Words.{is_at, is_among, is_below}
 use Rattle.yard_model.specs.SlotReads.{holder}
 use Rattle.yard_model.specs.Turns.{in_turn, where_some}
-use Rattle.yard_model.specs.Move.{made, took, viewed, registered_with, leaves, marked, released, handed_off, passivates, demanded, pushed, quits, acknowledged}
+use Rattle.yard_model.specs.Move.{made, took, viewed, leaves, marked, released, handed_off, passivates, demanded, pushed, quits, acknowledged}
 use Rattle.yard_model.specs.Region as region
-use Rattle.yard_model.specs.Entities as entities
 use Rattle.yard_model.specs.Producer as producer
 use Rattle.yard_model.specs.Coordinator as coordinator
-use Rattle.yard_model.specs.Node.{Node, Act, Rule, by_region, by_entities, by_producer, by_coordinator, after, of_region, of_entities, of_producer, of_coordinator, is_running}
+use Rattle.yard_model.specs.Node.{Node, Act, Rule, by_region, by_entities, by_producer, by_coordinator, after, of_region, of_producer, of_coordinator, is_running}
 use Rattle.yard_model.specs.Trace.{slot_of, list_at}
-use Rattle.yard_model.specs.World.{World, new_world, world_after, node_at, active_node, with_order}
+use Rattle.yard_model.specs.World.{World, world_after, node_at, active_node, with_order}
 
 pub record Known : Type 0 where
   pub orders : List Line
@@ -36,8 +34,8 @@ pub record Known : Type 0 where
   pub packet : Option Packet  -- the packet whose delivery is the last input that a fact opened
 
 -- before the first fact
-abbrev pub nothing_known : Script → ℕ → Known
-nothing_known c limit = record { orders = c.orders; world = new_world c limit; views = [] ∷ []; packet = None }
+abbrev pub nothing_known : List Line → World → Known
+nothing_known orders w = record { orders = orders; world = w; views = [] ∷ []; packet = None }
 
 -- the order of a line
 abbrev pub order_at : List Line → ℕ → Option Order
@@ -184,6 +182,6 @@ know k f = let w : World = world_after (ordered_by k f (know_world k f)) f in re
   packet = packet_step k.world k.packet f;
 }
 
--- State: what the queries answer of a trace
-abbrev pub known : Script → ℕ → List Fact → Known
-known c limit trace = fold know (nothing_known c limit) trace
+-- State: what the queries answer of a trace that began in this world
+abbrev pub known : List Line → World → List Fact → Known
+known orders w trace = fold know (nothing_known orders w) trace

@@ -1,5 +1,5 @@
 -- A trace is a list of facts. What it says of the slots: List(T, slot) is the facts of T that belong to that slot.
-use Rattle.std.specs.Prelude.{ℕ, ◌-◌, List, [], ◌∷◌, ◌++◌, fold, replicate, Option, Some, None, slice_set}
+use Rattle.std.specs.Prelude.{◌-◌, List, [], ◌∷◌, ◌++◌, fold, replicate, Option, Some, None, slice_set}
 use Rattle.yard_model.specs.declared.fact.Fact.{Fact}
 use Rattle.yard_model.specs.declared.fact.Fact.TheVariants as fact
 use Rattle.yard_model.specs.declared.incarnation.Slot.{Slot}

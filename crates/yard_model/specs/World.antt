@@ -284,15 +284,15 @@ settle w =
     let from : ℕ = length w.wire in
     let bound : ℕ = settle_bound w in
     in_order (
-        in_order (map go_down (numbers 1 w.set.config.nodes))
-        ∷ come_up 1
-        ∷ drain from bound
-        ∷ in_order (map (λ p. produce p 1) (producers w.set))
-        ∷ drain from bound
-        ∷ tick_while_left from bound bound
-        ∷ go_down 1
-        ∷ tell (fact.Settled ∷ [])
-        ∷ []) w
+    in_order (map go_down (numbers 1 w.set.config.nodes))
+    ∷ come_up 1
+    ∷ drain from bound
+    ∷ in_order (map (λ p. produce p 1) (producers w.set))
+    ∷ drain from bound
+    ∷ tick_while_left from bound bound
+    ∷ go_down 1
+    ∷ tell (fact.Settled ∷ [])
+    ∷ []) w
 
 -- Orders.
 

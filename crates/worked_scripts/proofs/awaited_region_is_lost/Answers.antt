@@ -1,0 +1,10 @@
+use Rattle.std.proofs.Common.{refl}
+use Rattle.std.specs.Fmt.{digits}
+use Rattle.worked_scripts.proofs.awaited_region_is_lost.Goals as goal
+
+pub returns-clause-prints : goal.returns-clause-prints
+unfolding digits
+returns-clause-prints c = refl
+
+pub returns-clause-agrees : goal.returns-clause-agrees
+returns-clause-agrees c = refl

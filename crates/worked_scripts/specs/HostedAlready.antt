@@ -1,0 +1,70 @@
+use Rattle.std.specs.Prelude.{false, codes, List, [], ◌∷◌}
+use Rattle.yard_model.specs.declared.event.Command.TheVariants as command
+use Rattle.yard_model.specs.declared.event.Kind.TheVariants as kind
+use Rattle.yard_model.specs.declared.charter.Order.TheVariants as order
+use Rattle.yard_model.specs.Script.{Script}
+use Rattle.yard_model.specs.Text.{Bytes}
+use Rattle.worked_scripts.specs.Worked.{script_of}
+
+-- A home that hosts its shard already says so again.
+abbrev pub script : Script
+script = script_of (record { nodes = 3; shards = 10; producers = 2; buffer = 100; window = 50; snapshot = 100; keep = 2; remember = false; kind = kind.Account }) (
+    (order.Up 1) ∷
+    (order.Pump 200) ∷
+    (order.Produce 1 1) ∷
+    (order.Send 1 (codes "e_2") (command.Deposit 2)) ∷
+    (order.Pump 300) ∷
+    (order.Deliver 5) ∷
+    [])
+
+abbrev pub printed : List Bytes
+printed =
+    codes "at 2" ∷
+    codes "up 1.1" ∷
+    codes "sent 1 1.1 1.1 view 1 1.1" ∷
+    codes "at 3" ∷
+    codes "got 1" ∷
+    codes "view 1.1 1" ∷
+    codes "granted coordinator 1 1.1" ∷
+    codes "sent 2 1.1 1.1 register" ∷
+    codes "got 2" ∷
+    codes "registered 1.1" ∷
+    codes "sent 3 1.1 1.1 registerack" ∷
+    codes "got 3" ∷
+    codes "at 4" ∷
+    codes "granted queue:1 1 1.1" ∷
+    codes "at 5" ∷
+    codes "queued 1 e_2 1 deposit 2" ∷
+    codes "kept 1.1 1 e_2 1" ∷
+    codes "sent 4 1.1 1.1 getshardhome 6" ∷
+    codes "at 6" ∷
+    codes "got 4" ∷
+    codes "allocated 6 1.1" ∷
+    codes "sent 5 1.1 1.1 hostshard 6 1/0" ∷
+    codes "sent 6 1.1 1.1 shardhome 6 1.1 1/0" ∷
+    codes "got 5" ∷
+    codes "home 1.1 6 1.1" ∷
+    codes "granted shard:6 1 1.1" ∷
+    codes "sent 7 1.1 1.1 shardstarted 6" ∷
+    codes "start 1.1 e_2" ∷
+    codes "sent 8 1.1 1.1 recovered e_2" ∷
+    codes "stashed 1.1 1 e_2 1" ∷
+    codes "got 6" ∷
+    codes "got 7" ∷
+    codes "got 8" ∷
+    codes "active 1.1 e_2 0 none" ∷
+    codes "wrote e_2 1 epoch 1 by 1:1 deposit 2 / - / no 1" ∷
+    codes "sent 9 1.1 1.1 ack 1 e_2 1" ∷
+    codes "sent 10 1.1 1.1 request 1 e_2 1 51" ∷
+    codes "got 9" ∷
+    codes "confirmed 1 e_2 1" ∷
+    codes "got 10" ∷
+    codes "at 7" ∷
+    codes "got 5" ∷
+    codes "sent 11 1.1 1.1 shardstarted 6" ∷
+    codes "report" ∷
+    codes "entity e_2 shard 6 records 1 state none" ∷
+    codes "record 1 epoch 1 by 1:1 deposit 2 / - / no 1" ∷
+    codes "queue 1 e_2 queued 1 confirmed 1" ∷
+    codes "end" ∷
+    []

@@ -11,7 +11,8 @@ use Rattle.std.proofs.lemmas.Slice.Eq.{slice_eq-Decides}
 use Rattle.std.proofs.lemmas.List.{get_or-map, append_assoc, map-append}
 use Rattle.yard_model.specs.declared.charter.Line.{Line}
 use Rattle.yard_model.specs.declared.charter.Sending.{Sending}
-use Rattle.yard_model.specs.Charter.{numbers, CountsSends}
+use Rattle.yard_model.specs.Charter.{CountsSends}
+use Rattle.yard_model.specs.Words.{numbers}
 use Rattle.yard_model.specs.Script.{count_to, is_name, sends_in}
 
 -- the first of what is left of them

@@ -1,16 +1,12 @@
 -- What a charter keeps at hand.
-use Rattle.std.specs.Prelude.{◌≡◌, ℕ, zero, suc, ◌+◌, List, [], ◌∷◌, map, unwrap_or}
+use Rattle.std.specs.Prelude.{◌≡◌, ℕ, List, map, unwrap_or}
 use Rattle.std.specs.Ordering.{nat_cmp}
 use Rattle.std.specs.Cmp.Lexicographic.{slice_cmp}
 use Rattle.std.specs.BTreeMap.{BTreeMap, get}
 use Rattle.std.specs.List.Sorted.{IsStrictlySortedBy}
 use Rattle.yard_model.specs.declared.charter.Sending.{Sending}
+use Rattle.yard_model.specs.Words.{numbers}
 use Rattle.yard_model.specs.Script.{Script, IsScript, names_in, sends_in, count_to}
-
--- n numbers from a on, rising
-abbrev pub numbers : ℕ → ℕ → List ℕ
-numbers a zero = []
-numbers a (suc n) = a ∷ numbers (a + 1) n
 
 pub record IsCharter (c : Script) (kept : List (List ℕ)) (sent : List (List Sending)) : Type 0 where
   pub script : IsScript c

@@ -26,6 +26,7 @@ pub mod Shard
 pub mod ShardSet
 pub mod SlotLists
 pub mod SlotReads
+pub mod Solo
 pub mod Spared
 pub mod Text
 pub mod Trace

@@ -1,9 +1,13 @@
 -- Small words that the other modules share.
-use Rattle.std.specs.Prelude.{ℕ, ◌+◌, ◌-◌, Bool, true, false, ◌==◌, ◌&&◌, ◌||◌, nat_lt, not, List, [], ◌∷◌, filter, Option, Some, None, slice_index_or}
+use Rattle.std.specs.Prelude.{ℕ, zero, suc, ◌+◌, ◌-◌, Bool, true, false, ◌==◌, ◌&&◌, ◌||◌, nat_lt, not, List, [], ◌∷◌, filter, Option, Some, None, slice_index_or}
 use Rattle.std.specs.List.{list_any}
-pub use Rattle.yard_model.specs.Charter.{numbers}
 use Rattle.yard_model.specs.declared.incarnation.Incarnation.{Incarnation}
 use Rattle.yard_model.specs.declared.incarnation.Stamp.{Stamp}
+
+-- n numbers from a on, rising
+abbrev pub numbers : ℕ → ℕ → List ℕ
+numbers a zero = []
+numbers a (suc n) = a ∷ numbers (a + 1) n
 
 -- the numbers from a to b, rising
 abbrev pub from_to : ℕ → ℕ → List ℕ

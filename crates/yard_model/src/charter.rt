@@ -4,7 +4,8 @@ ghost use Rattle.std.specs.Ordering.{nat_cmp};
 ghost use Rattle.std.specs.Cmp.Lexicographic.{slice_cmp};
 ghost use Rattle.std.specs.List.Sorted.{IsStrictlySortedBy};
 ghost use Rattle.yard_model.specs.Script.{names_in, sends_in, sends, with_send, brought, IsScript};
-ghost use Rattle.yard_model.specs.Charter.{numbers, counted, CountsSends};
+ghost use Rattle.yard_model.specs.Charter.{counted, CountsSends};
+ghost use Rattle.yard_model.specs.Words.{numbers};
 
 use crate::event::{Command, Kind};
 use crate::incarnation::Keep;

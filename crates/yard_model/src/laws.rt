@@ -7,6 +7,7 @@ ghost use Rattle.yard_model.specs.declared.incarnation.Slot.{Slot};
 ghost use Rattle.yard_model.specs.declared.incarnation.Cause.{Cause};
 ghost use Rattle.yard_model.specs.declared.incarnation.Keep.{Keep};
 ghost use Rattle.yard_model.specs.declared.event.Command.{Command};
+ghost use Rattle.yard_model.specs.declared.event.Decision.{Decision};
 ghost use Rattle.yard_model.specs.declared.event.Event.{Event};
 ghost use Rattle.yard_model.specs.declared.event.Reply.{Reply};
 ghost use Rattle.yard_model.specs.declared.state.CartItem.{CartItem};
@@ -25,7 +26,7 @@ ghost use Rattle.yard_model.specs.declared.entry.QueueEntry.{QueueEntry};
 
 use crate::charter::{Line, Order, Sending};
 use crate::entry::{CoordEntry, QueueEntry, ShardEntry};
-use crate::event::{Command, Event, Reply};
+use crate::event::{Command, Decision, Event, Reply};
 use crate::events::Events;
 use crate::incarnation::{Cause, Incarnation, Keep, Slot, Stamp};
 use crate::items::Items;
@@ -106,6 +107,14 @@ pub fn loads_law()
     ensures { (a b : List Load) → IsTrue (⟦<Loads as PartialEq>⟧.eq a b) ↔ (a ≡ b) }
 {
     load_law();
+}
+
+/// `==` of decisions.
+pub fn decision_law()
+    ensures { (a b : Decision) → IsTrue (⟦<Decision as PartialEq>⟧.eq a b) ↔ (a ≡ b) }
+{
+    events_law();
+    reply_law();
 }
 
 /// `==` of states.

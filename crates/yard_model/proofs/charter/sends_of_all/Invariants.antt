@@ -1,7 +1,7 @@
 use Rattle.std.proofs.Common.{◌≡◌, ◌≤◌, ◌+◌, ◌-◌, ◌++◌}
 use Rattle.std.specs.Prelude.{map}
 use Rattle.yard_model.specs.Script.{sends_in}
-use Rattle.yard_model.specs.Charter.{numbers}
+use Rattle.yard_model.specs.Words.{numbers}
 use Rattle.yard_model.proofs.charter.sends_of_all.Given as goal
 
 abbrev pub invariant-loop-i : goal.invariant-loop-i

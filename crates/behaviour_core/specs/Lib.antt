@@ -1,0 +1,3 @@
+pub mod CartLaws
+pub mod Laws
+pub mod Tests

@@ -1,0 +1,15 @@
+//! The three kinds of entity: counters, accounts and carts (Akka 2.6, Event Sourcing: one command
+//! handler and one event handler each; the shopping cart is Akka's own example).
+#![tactic(auto)]
+
+mod account;
+mod cart;
+mod counter;
+mod decisions;
+
+pub use account::Account;
+pub use cart::Cart;
+pub use counter::Counter;
+
+#[cfg(test)]
+mod tests;

@@ -1,0 +1,5 @@
+pub mod Cuts
+pub mod Names
+pub mod Parts
+pub mod Pairs
+pub mod Steps

@@ -1,0 +1,21 @@
+use Rattle.std.proofs.Common.{◌≡◌, ◌<◌, ◌≤◌, ◌+◌, ◌*◌, ◌^◌, arith}
+use Rattle.std.specs.Prelude.{slice_index_or}
+use Rattle.script_text.proofs.Names.{digit_at, power_more, power_within}
+use Rattle.script_text.proofs.grammar.value_of.Goals as goal
+
+pub overflow_mul-value : goal.overflow_mul-value
+overflow_mul-value c =
+    let within : 10 ^ c.loop-b.b-index ≤ 10 ^ 18 = power_within c.loop-b.b-index (omega arith) in
+    let small : c.loop-b.value < 10 ^ c.loop-b.b-index = c.loop-b.invariant.small in
+    let more : 10 ^ (c.loop-b.b-index + 1) ≡ 10 ^ c.loop-b.b-index * 10 = power_more c.loop-b.b-index in
+    let next : 10 ^ (c.loop-b.b-index + 1) ≤ 10 ^ 18 = power_within (c.loop-b.b-index + 1) (omega arith) in
+    omega arith
+
+pub overflow_add-value : goal.overflow_add-value
+overflow_add-value c =
+    let digit = digit_at c.args.word.now c.loop-b.b-index c.requires.digits (omega arith) in
+    let top : slice_index_or c.args.word.now c.loop-b.b-index 0 ≤ 57 = digit.1 in
+    let small : c.loop-b.value < 10 ^ c.loop-b.b-index = c.loop-b.invariant.small in
+    let more : 10 ^ (c.loop-b.b-index + 1) ≡ 10 ^ c.loop-b.b-index * 10 = power_more c.loop-b.b-index in
+    let next : 10 ^ (c.loop-b.b-index + 1) ≤ 10 ^ 18 = power_within (c.loop-b.b-index + 1) (omega arith) in
+    omega arith

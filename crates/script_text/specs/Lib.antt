@@ -1,0 +1,5 @@
+pub mod Drafts
+pub mod Faults
+pub mod Orders
+pub mod Reading
+pub mod Words

@@ -1,0 +1,10 @@
+//! The wire: every packet that was posted, in the order of posting, and which of them are marked as
+//! handed on.
+#![tactic(auto)]
+
+mod wire;
+
+pub use wire::{Wire, WireFault};
+
+#[cfg(test)]
+mod tests;

@@ -1,4 +1,7 @@
 pub mod AcknowledgedByALostCoordinator
+pub mod AloneAccount
+pub mod AloneCollisionGapRepeat
+pub mod AloneFirst
 pub mod AskedAgainInARound
 pub mod AwaitedRegionIsLost
 pub mod CartsAndLeaving

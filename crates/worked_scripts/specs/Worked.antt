@@ -7,6 +7,7 @@ use Rattle.yard_model.specs.declared.charter.Order.{Order}
 use Rattle.yard_model.specs.Script.{Script, setting}
 use Rattle.yard_model.specs.Text.{Bytes, fact_line}
 use Rattle.yard_model.specs.Replay.{replay_within, replay_text}
+use Rattle.yard_model.specs.Solo.{solo_text}
 use Rattle.yard_model.specs.declared.packet.Record.{Record}
 use Rattle.yard_model.specs.Setting.{shard_of}
 use Rattle.yard_model.specs.SlotLists.{shard_list}
@@ -34,6 +35,10 @@ text_of lines = flat_map (λ l. l ++ 10 ∷ []) lines
 -- the replay of a script prints these lines
 abbrev pub Prints : Script → List Bytes → Type 0
 Prints c lines = replay_text c ≡ text_of lines
+
+-- alone, a script prints these lines
+abbrev pub PrintsAlone : Script → List Bytes → Type 0
+PrintsAlone c lines = solo_text c ≡ text_of lines
 
 -- it prints these lines where so many packets can be posted
 abbrev pub PrintsWithin : ℕ → Script → List Bytes → Type 0

@@ -2,7 +2,7 @@
 #![tactic(auto)]
 
 ghost use Rattle.std.specs.Prelude.{◌≡◌, true, false, [], ◌∷◌};
-ghost use Rattle.worked_scripts.specs.Worked.{Agrees, HasJournals, IsGenuine, IsGuarded, IsSafe, IsSettled, IsUnsafeWithout, Prints, PrintsWithin, SettlesFrom};
+ghost use Rattle.worked_scripts.specs.Worked.{Agrees, HasJournals, IsGenuine, IsGuarded, IsSafe, IsSettled, IsUnsafeWithout, Prints, PrintsAlone, PrintsWithin, SettlesFrom};
 ghost use Rattle.worked_scripts.specs.Tables.{hashes, shards, first_picks, no_picks, smallest_shares, account_replies, account_state};
 ghost use Rattle.worked_scripts.specs.Steady.{counts, steady, worked_where, settled_where};
 ghost use Rattle.worked_scripts.specs.FirstDelivery as first_delivery_lines;
@@ -45,6 +45,9 @@ ghost use Rattle.worked_scripts.specs.AcknowledgedByALostCoordinator as acknowle
 ghost use Rattle.worked_scripts.specs.HostedAlready as hosted_already_lines;
 ghost use Rattle.worked_scripts.specs.DroppedAndAsked as dropped_and_asked_lines;
 ghost use Rattle.worked_scripts.specs.GivenLists as given_lists_lines;
+ghost use Rattle.worked_scripts.specs.AloneFirst as alone_first_lines;
+ghost use Rattle.worked_scripts.specs.AloneCollisionGapRepeat as alone_collision_gap_repeat_lines;
+ghost use Rattle.worked_scripts.specs.AloneAccount as alone_account_lines;
 
 use yard_model::{Reply, State};
 
@@ -430,6 +433,21 @@ pub fn given_lists()
     ensures safe { IsSafe given_lists_lines.script }
     ensures guarded { IsGuarded given_lists_lines.script }
     ensures settles { SettlesFrom given_lists_lines.script given_lists_lines.settled }
+{}
+
+/// Alone, one send that is delivered is recorded.
+pub fn alone_first()
+    ensures { PrintsAlone alone_first_lines.script alone_first_lines.printed }
+{}
+
+/// Alone, with two names of one hash: a gap and a repeat are not recorded.
+pub fn alone_collision_gap_repeat()
+    ensures { PrintsAlone alone_collision_gap_repeat_lines.script alone_collision_gap_repeat_lines.printed }
+{}
+
+/// Alone, nine commands to an account.
+pub fn alone_account()
+    ensures { PrintsAlone alone_account_lines.script alone_account_lines.printed }
 {}
 
 /// Hashes of five names, and their shards of ten. The fourth and fifth hash are negative in Java: -1367590710 and -2147483648.

@@ -1,0 +1,12 @@
+//! What is printed: facts and the report, appended to a text byte by byte as `yard_model` defines it.
+#![tactic(auto)]
+
+mod basics;
+mod entities;
+mod journals;
+mod queues;
+mod records;
+mod report;
+mod values;
+
+pub use report::push_report;

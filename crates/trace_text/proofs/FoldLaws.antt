@@ -33,15 +33,17 @@ pub events_step : (st new start : State) (events : List Event) (i : ℕ) (d : Ev
     → fold apply st (drop i events) ≡ fold apply start events → new ≡ apply st (slice_index_or events i d)
     → IsTrue (are_applicable new (drop (i + 1) events)) × (fold apply new (drop (i + 1) events) ≡ fold apply start events)
 events_step st new start events i d h a v e =
-    let more : drop i events ≡ slice_index_or events i d ∷ drop (i + 1) events = drop_more events i d h in
-    (subst (λ s. IsTrue (are_applicable s (drop (i + 1) events))) (sym e) (applicable_next st (slice_index_or events i d) (drop (i + 1) events) (subst (λ l. IsTrue (are_applicable st l)) more a)),
-     ap (λ s. fold apply s (drop (i + 1) events)) e ∙ (sym (ap (λ l. fold apply st l) more) ∙ v))
+    let more : drop i events ≡ slice_index_or events i d ∷ drop (i + 1) events = drop_more events i d h in (
+      subst (λ s. IsTrue (are_applicable s (drop (i + 1) events))) (sym e) (applicable_next st (slice_index_or events i d) (drop (i + 1) events) (subst (λ l. IsTrue (are_applicable st l)) more a)),
+      ap (λ s. fold apply s (drop (i + 1) events)) e ∙ (sym (ap (λ l. fold apply st l) more) ∙ v),
+    )
 
 -- one record more is folded
 pub records_step : (st new start : State) (records : List Record) (i : ℕ) (d : Record) → i < length records → IsTrue (are_foldable st (drop i records))
     → fold after_record st (drop i records) ≡ fold after_record start records → new ≡ fold apply st (slice_index_or records i d).events
     → IsTrue (are_foldable new (drop (i + 1) records)) × (fold after_record new (drop (i + 1) records) ≡ fold after_record start records)
 records_step st new start records i d h a v e =
-    let more : drop i records ≡ slice_index_or records i d ∷ drop (i + 1) records = drop_more records i d h in
-    (subst (λ s. IsTrue (are_foldable s (drop (i + 1) records))) (sym e) (foldable_next st (slice_index_or records i d) (drop (i + 1) records) (subst (λ l. IsTrue (are_foldable st l)) more a)),
-     ap (λ s. fold after_record s (drop (i + 1) records)) e ∙ (sym (ap (λ l. fold after_record st l) more) ∙ v))
+    let more : drop i records ≡ slice_index_or records i d ∷ drop (i + 1) records = drop_more records i d h in (
+      subst (λ s. IsTrue (are_foldable s (drop (i + 1) records))) (sym e) (foldable_next st (slice_index_or records i d) (drop (i + 1) records) (subst (λ l. IsTrue (are_foldable st l)) more a)),
+      ap (λ s. fold after_record s (drop (i + 1) records)) e ∙ (sym (ap (λ l. fold after_record st l) more) ∙ v),
+    )

@@ -1,6 +1,6 @@
 -- What is kept at the places of names in order.
-use Rattle.std.proofs.Common.{◌≡◌, ◌≢◌, ℕ, ◌<◌, ◌≤◌, ◌+◌, zero, suc, List, [], ◌∷◌, ◌++◌, length, sym, ap, ◌∙◌, refl, subst, arith, add-one}
-use Rattle.std.specs.Prelude.{Bool, true, false, nat_lt, map, slice_index_or, slice_set, IsSorted}
+use Rattle.std.proofs.Common.{◌≡◌, ◌≢◌, ℕ, ◌<◌, ◌≤◌, zero, suc, List, [], ◌∷◌, ◌++◌, length, sym, ap, ◌∙◌, refl, subst, arith, add-one}
+use Rattle.std.specs.Prelude.{true, false, nat_lt, map, slice_index_or, slice_set, IsSorted}
 use Rattle.std.specs.declared.cmp.Ordering.{Ordering}
 use Rattle.std.specs.declared.cmp.Ordering.TheVariants.{Less, Equal, Greater}
 use Rattle.std.specs.Ordering.{nat_cmp, ordering_index, ordering_reverse, is_eq, is_lt}
@@ -28,9 +28,9 @@ same_name a b e = (slice_eq-Decides Decides-eqb a b (is_name a b) refl).0 e
 -- another name is found another
 off : (e x : List ℕ) → x ≢ e → is_name e x ≡ false
 off e x ne = elim (is_name e x) as (λ b. is_name e x ≡ b → is_name e x ≡ false) [
-    | true ↦ λ t. absurd (ne (sym (same_name e x t)))
-    | false ↦ λ t. t
-  ] refl
+  | true ↦ λ t. absurd (ne (sym (same_name e x t)))
+  | false ↦ λ t. t
+] refl
 
 not_below : (x e : List ℕ) → slice_cmp nat_cmp x e ≡ Less → x ≢ e
 not_below x e less same =

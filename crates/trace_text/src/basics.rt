@@ -30,11 +30,7 @@ pub(crate) fn push_pair(text: &mut Vec<u8>, a: u64, between: u8, b: u64) -> Resu
 }
 
 /// Appends a word and a number.
-pub(crate) fn push_with_number(
-    text: &mut Vec<u8>,
-    word: &[u8],
-    n: u64,
-) -> Result<(), AllocError>
+pub(crate) fn push_with_number(text: &mut Vec<u8>, word: &[u8], n: u64) -> Result<(), AllocError>
     ensures { OnOk result (text.new.items ≡ text.old.items ++ words (word.now ∷ decimal n ∷ [])) }
 {
     push(text, word)?;

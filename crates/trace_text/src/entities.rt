@@ -49,11 +49,7 @@ fn push_entity_line(
     push(text, b"\n")
 }
 
-fn push_entity_head(
-    text: &mut Vec<u8>,
-    s: ShardNo,
-    name: &EntityName,
-) -> Result<(), AllocError>
+fn push_entity_head(text: &mut Vec<u8>, s: ShardNo, name: &EntityName) -> Result<(), AllocError>
     ensures { OnOk result (text.new.items ≡ text.old.items ++ words (codes "entity" ∷ name.now ∷ codes "shard" ∷ decimal s ∷ [])) }
 {
     push(text, b"entity ")?;
@@ -64,17 +60,17 @@ fn push_entity_head(
 fn push_records(text: &mut Vec<u8>, records: &[Record]) -> Result<(), AllocError>
     ensures { OnOk result (text.new.items ≡ text.old.items ++ flat_map (λ x. line (codes "record" ∷ record_words x)) records.now) }
 {
-    for record in records {
-        push_record_line(text, record)?;
+    for written in records {
+        push_record_line(text, written)?;
     }
     Ok(())
 }
 
-fn push_record_line(text: &mut Vec<u8>, record: &Record) -> Result<(), AllocError>
-    ensures { OnOk result (text.new.items ≡ text.old.items ++ line (codes "record" ∷ record_words record.now)) }
+fn push_record_line(text: &mut Vec<u8>, written: &Record) -> Result<(), AllocError>
+    ensures { OnOk result (text.new.items ≡ text.old.items ++ line (codes "record" ∷ record_words written.now)) }
 {
     push(text, b"record ")?;
-    push_record(text, record)?;
+    push_record(text, written)?;
     push(text, b"\n")
 }
 
@@ -85,8 +81,8 @@ fn state_after(kind: Kind, records: &[Record]) -> State
     ensures { result ≡ folded kind records.now }
 {
     let mut state = State::empty(kind);
-    for record in records {
-        state = after_events(&state, record.events.as_slice());
+    for written in records {
+        state = after_events(&state, written.events.as_slice());
     }
     state
 }

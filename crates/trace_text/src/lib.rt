@@ -2,11 +2,14 @@
 #![tactic(auto)]
 
 mod basics;
+mod bodies;
 mod entities;
+mod facts;
 mod journals;
 mod queues;
 mod records;
 mod report;
 mod values;
 
+pub use facts::push_fact;
 pub use report::push_report;

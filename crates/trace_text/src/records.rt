@@ -7,37 +7,37 @@ use crate::values::{push_command, push_events, push_reply};
 use std::alloc::AllocError;
 use yard_model::{Message, Record};
 
-pub(crate) fn push_record(text: &mut Vec<u8>, record: &Record) -> Result<(), AllocError>
-    ensures { OnOk result (text.new.items ≡ text.old.items ++ words (record_words record.now)) }
+pub(crate) fn push_record(text: &mut Vec<u8>, written: &Record) -> Result<(), AllocError>
+    ensures { OnOk result (text.new.items ≡ text.old.items ++ words (record_words written.now)) }
 {
-    push_record_head(text, record)?;
+    push_record_head(text, written)?;
     push(text, b" ")?;
-    push_command(text, &record.command)?;
-    push_outcome(text, record)
+    push_command(text, &written.command)?;
+    push_outcome(text, written)
 }
 
 /// What its command led to, and what was answered.
-fn push_outcome(text: &mut Vec<u8>, record: &Record) -> Result<(), AllocError>
-    ensures { OnOk result (text.new.items ≡ text.old.items ++ words ([] ∷ codes "/" ∷ events_text record.now.events ∷ codes "/" ∷ reply_text record.now.reply ∷ [])) }
+fn push_outcome(text: &mut Vec<u8>, written: &Record) -> Result<(), AllocError>
+    ensures { OnOk result (text.new.items ≡ text.old.items ++ words ([] ∷ codes "/" ∷ events_text written.now.events ∷ codes "/" ∷ reply_text written.now.reply ∷ [])) }
 {
     push(text, b" / ")?;
-    push_events(text, record.events.as_slice())?;
+    push_events(text, written.events.as_slice())?;
     push(text, b" / ")?;
-    push_reply(text, &record.reply)
+    push_reply(text, &written.reply)
 }
 
 /// Its number, its epoch, and whose command it answers.
-fn push_record_head(text: &mut Vec<u8>, record: &Record) -> Result<(), AllocError>
-    ensures { OnOk result (text.new.items ≡ text.old.items ++ words (decimal record.now.number ∷ codes "epoch" ∷ decimal record.now.epoch ∷ codes "by" ∷ (decimal record.now.producer ++ 58 ∷ decimal record.now.place) ∷ [])) }
+fn push_record_head(text: &mut Vec<u8>, written: &Record) -> Result<(), AllocError>
+    ensures { OnOk result (text.new.items ≡ text.old.items ++ words (decimal written.now.number ∷ codes "epoch" ∷ decimal written.now.epoch ∷ codes "by" ∷ (decimal written.now.producer ++ 58 ∷ decimal written.now.place) ∷ [])) }
 {
-    push_number(text, u64::from(record.number))?;
-    push_with_number(text, b" epoch", u64::from(record.epoch))?;
+    push_number(text, u64::from(written.number))?;
+    push_with_number(text, b" epoch", u64::from(written.epoch))?;
     push(text, b" by ")?;
     push_pair(
         text,
-        u64::from(record.producer.get()),
+        u64::from(written.producer.get()),
         b':',
-        u64::from(record.place),
+        u64::from(written.place),
     )
 }
 

@@ -138,7 +138,11 @@ fn push_items(text: &mut Vec<u8>, items: &[CartItem]) -> Result<(), AllocError>
     }
 }
 
-fn push_joined_items(text: &mut Vec<u8>, first: &CartItem, others: &[CartItem]) -> Result<(), AllocError>
+fn push_joined_items(
+    text: &mut Vec<u8>,
+    first: &CartItem,
+    others: &[CartItem],
+) -> Result<(), AllocError>
     ensures { OnOk result (text.new.items ≡ text.old.items ++ (item_text first.now ++ behind (44 ∷ []) item_text others.now)) }
 {
     push_item(text, first)?;

@@ -4,8 +4,8 @@ use Rattle.yard_model.specs.Behaviour.{after_record, folded}
 use Rattle.trace_text.specs.Foldable.{are_foldable}
 use Rattle.trace_text.proofs.entities.state_after.Given as goal
 
-abbrev pub invariant-loop-record : goal.invariant-loop-record
-invariant-loop-record l = record {
-  foldable : IsTrue (are_foldable l.state (drop l.record-index l.records));
-  value : fold after_record l.state (drop l.record-index l.records) ≡ folded l.fn.kind l.records;
+abbrev pub invariant-loop-written : goal.invariant-loop-written
+invariant-loop-written l = record {
+  foldable : IsTrue (are_foldable l.state (drop l.written-index l.records));
+  value : fold after_record l.state (drop l.written-index l.records) ≡ folded l.fn.kind l.records;
 }

@@ -11,10 +11,10 @@ pub returns-in_ok-add_record-clause-journals : goal.returns-in_ok-add_record-cla
 returns-in_ok-add_record-clause-journals c = λ s list was.
     subst (λ (x : ShardEntry). map (λ v. v.items) c.add_record.new.journals.items ≡ journals_of c.args.names.now (list ++ shard_fact s x ∷ [])) (sym c.in-Wrote.is)
     (journals_put c.args.names.now c.in-Wrote.name c.in-Wrote.written list c.in-Ok.place _ _ c.requires.sorted c.in-Ok.ensures.bound
-        (found_at c.args.names.now c.in-Wrote.name c.in-Ok.place c.in-Ok.ensures.ok) c.in_ok-add_record.ensures.journals was)
+    (found_at c.args.names.now c.in-Wrote.name c.in-Ok.place c.in-Ok.ensures.ok) c.in_ok-add_record.ensures.journals was)
 
 pub returns-in_default-binary_search-clause-journals : goal.returns-in_default-binary_search-clause-journals
 returns-in_default-binary_search-clause-journals c = λ s list was.
     subst (λ (x : ShardEntry). map (λ v. v.items) c.args.journals.now.items ≡ journals_of c.args.names.now (list ++ shard_fact s x ∷ [])) (sym c.in-Wrote.is)
     (journals_pass c.args.names.now c.in-Wrote.name c.in-Wrote.written list _
-        (not_there c.args.names.now c.in-Wrote.name c.in_default-binary_search.field-0 c.requires.sorted c.in_default-binary_search.ensures.position) was)
+    (not_there c.args.names.now c.in-Wrote.name c.in_default-binary_search.field-0 c.requires.sorted c.in_default-binary_search.ensures.position) was)

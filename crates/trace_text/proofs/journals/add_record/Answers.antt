@@ -1,4 +1,4 @@
-use Rattle.std.proofs.Common.{◌≡◌, ◌++◌, ◌∷◌, [], Vec, Global, ap, ◌∙◌}
+use Rattle.std.proofs.Common.{◌++◌, ◌∷◌, [], Vec, Global, ap, ◌∙◌}
 use Rattle.yard_model.specs.declared.packet.Record.{Record}
 use Rattle.trace_text.proofs.PlaceLaws.{row_set}
 use Rattle.trace_text.proofs.journals.add_record.Goals as goal

@@ -1,4 +1,4 @@
-use Rattle.std.proofs.Common.{◌≡◌, ◌≤◌, ap, ◌∙◌, arith, take}
+use Rattle.std.proofs.Common.{◌≤◌, ap, ◌∙◌, arith, take}
 use Rattle.std.specs.Prelude.{map, slice_index_or}
 use Rattle.std.proofs.lemmas.List.{take_all}
 use Rattle.yard_model.specs.Entry.{queue_fact}

@@ -1,4 +1,4 @@
-use Rattle.std.proofs.Common.{◌≡◌, arith, Vec, Global, []}
+use Rattle.std.proofs.Common.{arith, Vec, Global, []}
 use Rattle.yard_model.specs.declared.packet.Record.{Record}
 use Rattle.yard_model.specs.Script.{setting}
 use Rattle.trace_text.specs.Rows.{row_text}

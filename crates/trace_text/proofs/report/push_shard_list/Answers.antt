@@ -20,4 +20,4 @@ push_journals-requires-clause-foldable c = λ k h.
 pub returns : goal.returns
 returns c = subst (λ (l : List ℕ). OnOk c.push_journals.result (c.push_journals.new.text.items ≡ c.args.text.now.items ++ l))
     (rows_are (setting c.args.charter.now) c.args.s (map (shard_fact c.args.s) c.args.list.now) c.names-names.result.now (map (λ (v : Vec Record Global). v.items) c.as_slice.result.now) c.names-names.ensures.value
-        (ap (map (λ (v : Vec Record Global). v.items)) c.as_slice.ensures.value ∙ c.in_ok-journals.ensures c.args.s)) c.push_journals.ensures
+    (ap (map (λ (v : Vec Record Global). v.items)) c.as_slice.ensures.value ∙ c.in_ok-journals.ensures c.args.s)) c.push_journals.ensures

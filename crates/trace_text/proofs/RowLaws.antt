@@ -155,3 +155,11 @@ tallies_are p list all names kept same is = ap (rows (tally_text p) names) is �
 -- four parts, one behind the other
 pub four_parts : (start r f q e one two three : Bytes) → one ≡ start ++ r → two ≡ one ++ f → three ≡ two ++ q → three ++ e ≡ start ++ (r ++ f ++ q ++ e)
 four_parts start r f q e one two three first second third = rw (third, second, first) (simp append_assoc)
+
+-- a name without a record has no lines
+pub no_row : (set : Setting) (s : ℕ) (e : List ℕ) → row_text set s e [] ≡ []
+no_row set s e = one (shard_of set e == s)
+  where
+    one : (b : Bool) → cond b (entity_lines set e []) [] ≡ []
+    one true = refl
+    one false = refl

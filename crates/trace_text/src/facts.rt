@@ -14,8 +14,7 @@ use yard_model::{
     Record, ShardNo, Slot, State,
 };
 
-/// Appends the line of a fact. The only error is want of memory; the text then ends in some part of
-/// the line.
+/// Appends the line of a fact. The only error is want of memory; what the text then is stays open.
 pub fn push_fact(text: &mut Vec<u8>, fact: &Fact) -> Result<(), AllocError>
     ensures { OnOk result (text.new.items ≡ text.old.items ++ fact_line fact.now) }
 {

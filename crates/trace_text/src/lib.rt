@@ -13,3 +13,6 @@ mod values;
 
 pub use facts::push_fact;
 pub use report::push_report;
+
+#[cfg(test)]
+mod tests;

@@ -21,7 +21,7 @@ use yard_model::{Charter, EntityName, Lists, Record, ShardEntry, ShardNo};
 
 /// Appends the report: by shard and name each entity that has a record, with its records; by
 /// producer and name each queue that has a command; nothing of names that aren't the charter's. The
-/// only error is want of memory; the text then ends in some part of the report.
+/// only error is want of memory; what the text then is stays open.
 pub fn push_report<T: Lists>(
     text: &mut Vec<u8>,
     charter: &Charter,
@@ -99,7 +99,8 @@ fn push_journals(
     Ok(())
 }
 
-/// The journal of this name, where it is of this shard.
+/// The journal of this name, where it has a record and is of this shard.
+#[tactic(auto, using(crate::proofs::RowLaws::no_row))]
 fn push_journal(
     text: &mut Vec<u8>,
     charter: &Charter,
@@ -110,6 +111,9 @@ fn push_journal(
     requires { IsTrue (is_foldable_row (setting charter.now) s name.now journal.now) }
     ensures { OnOk result (text.new.items ≡ text.old.items ++ row_text (setting charter.now) s name.now journal.now) }
 {
+    if journal.is_empty() {
+        return Ok(());
+    }
     if shard_of(name, charter.config().shards) == s {
         push_entity(text, charter, s, name, journal)
     } else {

@@ -1,0 +1,6 @@
+pub mod Joined
+pub mod FoldLaws
+pub mod PlaceLaws
+pub mod JournalLaws
+pub mod RowLaws
+pub mod TallyLaws

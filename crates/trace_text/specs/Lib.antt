@@ -1,0 +1,4 @@
+pub mod Behind
+pub mod Foldable
+pub mod Places
+pub mod Rows

@@ -1,0 +1,173 @@
+//! The queues' lines in the report.
+ghost use Rattle.std.specs.Prelude.{◌≡◌, ℕ, ◌+◌, ◌<◌, ◌^◌, ◌++◌, ◌∷◌, [], List, OnOk, IfOk, codes, decimal, length, map, slice_index_or};
+ghost use Rattle.std.specs.List.{flat_map};
+ghost use Rattle.std.specs.List.Sorted.{IsStrictlySortedBy};
+ghost use Rattle.std.specs.Ordering.{nat_cmp};
+ghost use Rattle.std.specs.Cmp.Lexicographic.{slice_cmp};
+ghost use Rattle.yard_model.specs.declared.fact.Fact.{Fact};
+ghost use Rattle.yard_model.specs.Entry.{queue_fact};
+ghost use Rattle.yard_model.specs.Script.{setting};
+ghost use Rattle.yard_model.specs.SlotLists.{queue_list};
+ghost use Rattle.yard_model.specs.Text.{words, queue_line, queues_text};
+ghost use Rattle.trace_text.specs.Places.{tallies_of};
+ghost use Rattle.trace_text.specs.Rows.{rows, tally_text};
+
+use crate::basics::{push, push_number, push_with_number};
+use std::alloc::{AllocError, Global};
+use yard_model::{Charter, EntityName, Lists, ProducerNo, QueueEntry};
+
+/// What a queue has of one name.
+#[derive(Clone, Copy, Debug, PartialEq, Eq)]
+pub(crate) struct Tally {
+    /// How many commands are queued.
+    pub queued: u64,
+    /// The last confirmed number.
+    pub confirmed: u32,
+}
+
+impl Tally {
+    const NONE: Tally = Tally {
+        queued: 0,
+        confirmed: 0,
+    };
+}
+
+/// The lines of all queues, by producer and name.
+pub(crate) fn push_queues<T: Lists>(
+    text: &mut Vec<u8>,
+    charter: &Charter,
+    stores: &T,
+) -> Result<(), AllocError>
+    ensures { OnOk result (text.new.items ≡ text.old.items ++ queues_text (setting charter.now) (T.lists stores.now)) }
+{
+    for i in 0..charter.config().producers {
+        push_queue(text, charter, stores, i + 1)?;
+    }
+    Ok(())
+}
+
+/// The lines of the queue of this number.
+fn push_queue<T: Lists>(
+    text: &mut Vec<u8>,
+    charter: &Charter,
+    stores: &T,
+    i: u8,
+) -> Result<(), AllocError>
+    requires low { 0 < i }
+    requires high { i < 33 }
+    ensures { OnOk result (text.new.items ≡ text.old.items ++ flat_map (queue_line i (queue_list (T.lists stores.now) i)) (setting charter.now).names) }
+{
+    match ProducerNo::new(i) {
+        Some(p) => push_queue_list(text, charter, p, stores.queue(p)),
+        None => unreachable!(),
+    }
+}
+
+fn push_queue_list(
+    text: &mut Vec<u8>,
+    charter: &Charter,
+    p: ProducerNo,
+    list: &[QueueEntry],
+) -> Result<(), AllocError>
+    ensures { OnOk result (text.new.items ≡ text.old.items ++ flat_map (queue_line p (map (queue_fact p) list.now)) (setting charter.now).names) }
+{
+    let names = charter.names();
+    let tallies = tallies_of_list(*text.allocator(), names, list)?;
+    push_tallies(text, p, names, tallies.as_slice())
+}
+
+/// A line for each name with a command, where the counts stand at the places of the names.
+fn push_tallies(
+    text: &mut Vec<u8>,
+    p: ProducerNo,
+    names: &[EntityName],
+    tallies: &[Tally],
+) -> Result<(), AllocError>
+    requires { length tallies.now ≡ length names.now }
+    ensures { OnOk result (text.new.items ≡ text.old.items ++ rows (tally_text p) names.now tallies.now) }
+{
+    for i in 0..names.len() {
+        push_tally(text, p, &names[i], &tallies[i])?;
+    }
+    Ok(())
+}
+
+fn push_tally(
+    text: &mut Vec<u8>,
+    p: ProducerNo,
+    name: &EntityName,
+    tally: &Tally,
+) -> Result<(), AllocError>
+    ensures { OnOk result (text.new.items ≡ text.old.items ++ tally_text p name.now tally.now) }
+{
+    if tally.queued == 0 {
+        return Ok(());
+    }
+    push_pair_of_queue(text, p, name)?;
+    push_with_number(text, b" queued", tally.queued)?;
+    push_with_number(text, b" confirmed", u64::from(tally.confirmed))?;
+    push(text, b"\n")
+}
+
+fn push_pair_of_queue(
+    text: &mut Vec<u8>,
+    p: ProducerNo,
+    name: &EntityName,
+) -> Result<(), AllocError>
+    ensures { OnOk result (text.new.items ≡ text.old.items ++ words (codes "queue" ∷ decimal p ∷ name.now ∷ [])) }
+{
+    push(text, b"queue ")?;
+    push_number(text, u64::from(p.get()))?;
+    push(text, b" ")?;
+    push(text, name.bytes())
+}
+
+/// The counts of these names, each at the place of its name.
+fn tallies_of_list(
+    alloc: Global,
+    names: &[EntityName],
+    list: &[QueueEntry],
+) -> Result<Vec<Tally>, AllocError>
+    requires { IsStrictlySortedBy (slice_cmp nat_cmp) names.now }
+    ensures { IfOk result (λ all. (p : ℕ) → all.items ≡ tallies_of names.now (map (queue_fact p) list.now)) }
+{
+    let mut tallies = no_tallies(alloc, names)?;
+    for entry in list {
+        count_entry(&mut tallies, names, entry);
+    }
+    Ok(tallies)
+}
+
+/// Of each name no command, and nothing confirmed.
+fn no_tallies(alloc: Global, names: &[EntityName]) -> Result<Vec<Tally>, AllocError>
+    ensures { IfOk result (λ all. all.items ≡ tallies_of names.now []) }
+{
+    let mut tallies = Vec::new(alloc);
+    for _ in names {
+        tallies.push(Tally::NONE)?;
+    }
+    Ok(tallies)
+}
+
+/// One entry more, where its name is among them.
+fn count_entry(tallies: &mut Vec<Tally>, names: &[EntityName], entry: &QueueEntry)
+    requires sorted { IsStrictlySortedBy (slice_cmp nat_cmp) names.now }
+    requires length { length tallies.old.items ≡ length names.now }
+    requires room { (k : ℕ) (d : Tally) → k < length names.now → (slice_index_or tallies.old.items k d).queued + 1 < 2 ^ 64 }
+    ensures length { length tallies.new.items ≡ length names.now }
+    ensures tallies { (p : ℕ) (list : List Fact) → tallies.old.items ≡ tallies_of names.now list → tallies.new.items ≡ tallies_of names.now (list ++ queue_fact p entry.now ∷ []) }
+{
+    match entry {
+        QueueEntry::Queued(name, _, _) => {
+            if let Ok(place) = names.binary_search(name) {
+                tallies[place].queued += 1;
+            }
+        }
+        QueueEntry::Confirmed(name, number) => {
+            if let Ok(place) = names.binary_search(name) {
+                tallies[place].confirmed = *number;
+            }
+        }
+        _ => {}
+    }
+}

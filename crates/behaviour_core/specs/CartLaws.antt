@@ -4,7 +4,7 @@ use Rattle.std.specs.List.{list_all}
 use Rattle.std.proofs.Common.{arith, sym}
 use Rattle.yard_model.specs.declared.state.CartItem.{CartItem}
 use Rattle.yard_model.specs.Behaviour.{has_item, item_among, items_adjusted, adjusted, is_below_all, are_rising}
-use Rattle.behaviour_core.specs.Tests.{both, first, second, first_false, second_false, lt_trans, lt_of_neither, same_of}
+use Rattle.behaviour_core.specs.Booleans.{both, first, second, first_false, second_false, lt_trans, lt_of_neither, same_of}
 
 -- below the lower of two, below all that follow
 below_all_less : (x y : CartItem) (ys : List CartItem) → IsTrue (nat_lt x.item y.item) → IsTrue (is_below_all y ys) → IsTrue (is_below_all x ys)

@@ -13,7 +13,7 @@ use Rattle.yard_model.specs.declared.state.State.{State}
 use Rattle.yard_model.specs.declared.state.State.TheVariants as state
 use Rattle.yard_model.specs.declared.state.CartItem.{CartItem}
 use Rattle.yard_model.specs.Behaviour.{is_in, is_amount, is_item_number, is_item, is_of_kind, is_valid, is_applicable, are_applicable, are_rising, has_item, item_among, items_without, items_adjusted, empty_state, decide, apply, no, gives, most, most_items}
-use Rattle.behaviour_core.specs.Tests.{both, first, second, false_of_not, not_of_false, le_of_not_lt, le_of_sub, le_of, le_from, le_of_lt, lt_from_nonzero}
+use Rattle.behaviour_core.specs.Booleans.{both, first, second, false_of_not, not_of_false, le_of_not_lt, le_of_sub, le_of, le_from, le_of_lt, lt_from_nonzero}
 use Rattle.behaviour_core.specs.CartLaws.{all_among, length_among, rising_among, all_filtered, length_filtered, rising_filtered, all_adjusted, length_adjusted, rising_adjusted}
 
 pub empty_is_valid : (k : Kind) → IsTrue (is_valid k (empty_state k))

@@ -1,3 +1,3 @@
+pub mod Booleans
 pub mod CartLaws
 pub mod Laws
-pub mod Tests

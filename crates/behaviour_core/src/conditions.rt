@@ -68,11 +68,12 @@ fn is_applicable_in_cart(items: &Items, event: &Event) -> bool
     }
 }
 
+/// Whether the items stand by rising number, each in range. There are never more than 16.
 fn is_valid_cart(items: &Items) -> bool
     ensures { result ≡ is_valid Kind.Cart (State.Cart false items.now) }
 {
     let items = items.as_slice();
-    are_rising(items) && are_items(items) && items.len() <= 16
+    are_rising(items) && are_items(items)
 }
 
 fn are_rising(items: &[CartItem]) -> bool

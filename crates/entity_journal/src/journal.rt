@@ -1,0 +1,100 @@
+//! Records in the order of writing, and how many each producer has among them.
+ghost use Rattle.std.specs.Prelude.{◌≡◌, ℕ, ◌+◌, ◌-◌, ◌<◌, ◌≤◌, [], ◌∷◌, ◌++◌, length, drop, OnOk, OnErr};
+ghost use Rattle.entity_journal.specs.Journal.{AreNumbered, of_producer};
+
+use std::alloc::{AllocError, Global};
+use std::marker::Model;
+use yard_model::{ProducerNo, Record};
+
+/// How many producers there are.
+const PRODUCERS: usize = 32;
+
+/// The records of one entity, of which record i has number i; seen as their list, with a spare: so
+/// many more are appended with no memory taken.
+#[derive(Drop)]
+pub struct Journal {
+    records: Vec<Record>,
+    counts: [u32; PRODUCERS],
+    free: usize,
+}
+
+impl Model for Journal {
+    ghost use Rattle.std.specs.Prelude.{vec_capacity};
+    ghost use Rattle.yard_model.specs.declared.packet.Record.{Record};
+    ghost use Rattle.yard_model.specs.Spared.{Spared};
+    ghost use Rattle.entity_journal.specs.Kept.{IsKept};
+
+    ghost Value = { Spared Record };
+
+    ghost view = { λ j. record { items = j.records.items; spare = j.free } };
+
+    ghost invariant = { λ j. IsKept j.records.items j.counts j.free (vec_capacity j.records) };
+}
+
+impl Journal {
+    /// No records and no spare. It takes no memory.
+    pub fn new(alloc: Global) -> Journal
+        ensures items { result.items ≡ [] }
+        ensures spare { result.spare ≡ 0 }
+    {
+        Journal {
+            records: Vec::new(alloc),
+            counts: [0; PRODUCERS],
+            free: 0,
+        }
+    }
+
+    /// Makes the spare at least `n`. The only error is want of memory, and then nothing changes.
+    pub fn reserve(&mut self, n: u32) -> Result<(), AllocError>
+        ensures items { self.new.items ≡ self.old.items }
+        ensures ok { OnOk result (n ≤ self.new.spare) }
+        ensures spare { self.old.spare ≤ self.new.spare }
+        ensures err { OnErr result (self.new ≡ self.old) }
+    {
+        let wanted = n as usize;
+        if wanted > self.free {
+            self.records.reserve(wanted)?;
+            self.free = wanted;
+        }
+        Ok(())
+    }
+
+    /// One record more, from the spare. Its number is one more than those of the last.
+    pub fn append(&mut self, entry: Record)
+        requires spare { 0 < self.old.spare }
+        requires number { entry.number ≡ length self.old.items + 1 }
+        ensures items { self.new.items ≡ self.old.items ++ entry ∷ [] }
+        ensures spare { self.new.spare + 1 ≡ self.old.spare }
+    {
+        let place = (entry.producer.get() - 1) as usize;
+        match self.records.push(entry) {
+            Ok(()) => {}
+            Err(_) => unreachable!(),
+        }
+        self.counts[place] += 1;
+        self.free -= 1;
+    }
+
+    /// How many records there are; the last one's number.
+    pub fn len(&self) -> u32
+        ensures count { result ≡ length self.now.items }
+        ensures numbered { AreNumbered self.now.items }
+    {
+        self.records.len() as u32
+    }
+
+    /// The records after that of number `after`, which is at most the length.
+    pub fn tail(&self, after: u32) -> &[Record]
+        requires { after ≤ length self.now.items }
+        ensures { result.now ≡ drop after self.now.items }
+    {
+        &self.records.as_slice()[after as usize..]
+    }
+
+    /// How many records are of this producer, without a look at the records.
+    pub fn position(&self, producer: ProducerNo) -> u32
+        ensures { result ≡ of_producer producer self.now.items }
+    {
+        self.counts[(producer.get() - 1) as usize]
+    }
+}

@@ -1,0 +1,9 @@
+//! The journal of one entity (Akka 2.6, Persistence): its records, of which none is ever changed.
+#![tactic(auto)]
+
+mod journal;
+
+pub use journal::Journal;
+
+#[cfg(test)]
+mod tests;

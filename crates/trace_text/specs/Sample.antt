@@ -1,5 +1,5 @@
 -- A counter that was told to add 5: what the report's test prints.
-use Rattle.std.specs.Prelude.{ℕ, false, List, [], ◌∷◌, map, codes}
+use Rattle.std.specs.Prelude.{false, List, [], ◌∷◌, codes}
 use Rattle.yard_model.specs.declared.charter.Config.{Config}
 use Rattle.yard_model.specs.declared.charter.Line.{Line}
 use Rattle.yard_model.specs.declared.charter.Order.TheVariants as order

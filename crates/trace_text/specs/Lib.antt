@@ -2,3 +2,4 @@ pub mod Behind
 pub mod Foldable
 pub mod Places
 pub mod Rows
+pub mod Sample

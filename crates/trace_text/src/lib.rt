@@ -15,4 +15,6 @@ pub use facts::push_fact;
 pub use report::push_report;
 
 #[cfg(test)]
+mod report_tests;
+#[cfg(test)]
 mod tests;

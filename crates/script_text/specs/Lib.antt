@@ -2,4 +2,5 @@ pub mod Drafts
 pub mod Faults
 pub mod Orders
 pub mod Reading
+pub mod Settings
 pub mod Words

@@ -1,5 +1,6 @@
--- The orders of a script and the words that spell them.
-use Rattle.std.specs.Prelude.{ℕ, false, if◌then◌else◌, List, [], ◌∷◌, Result, Ok, Err, codes}
+-- The orders of a script and the words that spell them. A word is missed where it would stand. Two words that are
+-- read side by side (`&`) are refused for the one of their reasons that is tried first.
+use Rattle.std.specs.Prelude.{ℕ, if◌then◌else◌, List, [], ◌∷◌, Result, Ok, Err, codes}
 use Rattle.yard_model.specs.declared.charter.Config.{Config}
 use Rattle.yard_model.specs.declared.charter.Order.{Order}
 use Rattle.yard_model.specs.declared.charter.Order.TheVariants as order
@@ -7,9 +8,14 @@ use Rattle.yard_model.specs.declared.event.Kind.{Kind}
 use Rattle.yard_model.specs.declared.event.Kind.TheVariants as kind
 use Rattle.yard_model.specs.declared.event.Command.{Command}
 use Rattle.yard_model.specs.declared.event.Command.TheVariants as command
+use Rattle.yard_model.specs.declared.incarnation.Keep.{Keep}
+use Rattle.yard_model.specs.declared.incarnation.Keep.TheVariants as keep
+use Rattle.yard_model.specs.declared.state.CartItem.{CartItem}
 use Rattle.yard_model.specs.Behaviour.{is_in}
 use Rattle.script_text.specs.declared.fault.Why.{Why}
 use Rattle.script_text.specs.declared.fault.Why.TheVariants as why
+use Rattle.script_text.specs.declared.orders.Verb.{Verb}
+use Rattle.script_text.specs.declared.orders.Verb.TheVariants as verb
 use Rattle.script_text.specs.Faults.{◌>>=◌, ◌&◌}
 use Rattle.script_text.specs.Words.{is_text, is_number, value_of, is_name_text}
 
@@ -23,6 +29,13 @@ abbrev pub no_more : List (List ℕ) → Result (Unit {0}) Why
 no_more [] = Ok tt
 no_more (w ∷ ws) = Err why.ExtraWord
 
+-- one word alone
+unfoldable pub only : List (List ℕ) → Result (List ℕ) Why
+only ws = do
+  w ← first ws
+  end ← no_more w.1
+  Ok w.0
+
 -- a number from a to b
 unfoldable pub number : ℕ → ℕ → List ℕ → Result ℕ Why
 number a b w = if is_number w then (if is_in a b (value_of w) then Ok (value_of w) else Err why.OutOfRange) else Err why.BadNumber
@@ -30,22 +43,49 @@ number a b w = if is_number w then (if is_in a b (value_of w) then Ok (value_of 
 unfoldable pub name : List ℕ → Result (List ℕ) Why
 name w = if is_name_text w then Ok w else Err why.BadName
 
--- the words of a command
-abbrev pub add : List (List ℕ) → Result Command Why
-add ws = do
-  k ← first ws
-  end ← no_more k.1
-  n ← number 1 1000 k.0
-  Ok (command.Add n)
+-- a number alone
+unfoldable pub only_number : ℕ → ℕ → List (List ℕ) → Result ℕ Why
+only_number a b ws = only ws >>= λ w. number a b w
+
+-- an item's number and a quantity
+unfoldable pub item : List (List ℕ) → Result CartItem Why
+item ws = do
+  i ← first ws
+  q ← first i.1
+  end ← no_more q.1
+  x ← number 1 9999 i.0 & number 1 1000 q.0
+  Ok (record { item = x.0; quantity = x.1 })
 
 unfoldable pub counter_command : List ℕ → List (List ℕ) → Result Command Why
-counter_command w ws = if is_text w (codes "add") then add ws else Err why.UnknownWord
+counter_command w ws =
+    if is_text w (codes "add") then (only_number 1 1000 ws >>= λ k. Ok (command.Add k))
+    else if is_text w (codes "read") then (no_more ws >>= λ end. Ok command.Read)
+    else Err why.UnknownWord
 
--- the command of a kind
+unfoldable pub account_command : List ℕ → List (List ℕ) → Result Command Why
+account_command w ws =
+    if is_text w (codes "create") then (no_more ws >>= λ end. Ok command.Create)
+    else if is_text w (codes "deposit") then (only_number 1 1000000 ws >>= λ k. Ok (command.Deposit k))
+    else if is_text w (codes "withdraw") then (only_number 1 1000000 ws >>= λ k. Ok (command.Withdraw k))
+    else if is_text w (codes "balance") then (no_more ws >>= λ end. Ok command.Balance)
+    else if is_text w (codes "close") then (no_more ws >>= λ end. Ok command.Close)
+    else Err why.UnknownWord
+
+unfoldable pub cart_command : List ℕ → List (List ℕ) → Result Command Why
+cart_command w ws =
+    if is_text w (codes "add") then (item ws >>= λ x. Ok (command.AddItem x))
+    else if is_text w (codes "remove") then (only_number 1 9999 ws >>= λ i. Ok (command.RemoveItem i))
+    else if is_text w (codes "adjust") then (item ws >>= λ x. Ok (command.AdjustItem x))
+    else if is_text w (codes "checkout") then (no_more ws >>= λ end. Ok command.Checkout)
+    else Err why.UnknownWord
+
+-- a command of this kind: its first word, and the words after it
 unfoldable pub command_of : Kind → List ℕ → List (List ℕ) → Result Command Why
 command_of kind.Counter w ws = counter_command w ws
-command_of k w ws = Err why.UnknownWord
+command_of kind.Account w ws = account_command w ws
+command_of kind.Cart w ws = cart_command w ws
 
+-- send P E COMMAND
 unfoldable pub send : Config → List (List ℕ) → Result Order Why
 send c ws = do
   p ← first ws
@@ -54,25 +94,65 @@ send c ws = do
   x ← number 1 c.producers p.0 & name e.0 & command_of c.kind k.0 k.1
   Ok (order.Send x.0.0 x.0.1 x.1)
 
-unfoldable pub deliver : List (List ℕ) → Result Order Why
-deliver ws = do
-  k ← first ws
-  end ← no_more k.1
-  n ← number 1 1000000 k.0
-  Ok (order.Deliver n)
+-- produce P N
+unfoldable pub produce : Config → List (List ℕ) → Result Order Why
+produce c ws = do
+  p ← first ws
+  n ← first p.1
+  end ← no_more n.1
+  x ← number 1 c.producers p.0 & number 1 c.nodes n.0
+  Ok (order.Produce x.0 x.1)
 
-abbrev pub said : Config → List ℕ → List (List ℕ) → Result Order Why
-said c w ws = if is_text w (codes "send") then send c ws else if is_text w (codes "deliver") then deliver ws else Err why.UnknownWord
+unfoldable pub kept_or_lost : List ℕ → Result Keep Why
+kept_or_lost w = if is_text w (codes "kept") then Ok keep.Kept else if is_text w (codes "lost") then Ok keep.Lost else Err why.UnknownWord
+
+-- failwrite E kept, failwrite E lost
+unfoldable pub fail_write : List (List ℕ) → Result Order Why
+fail_write ws = do
+  e ← first ws
+  k ← first e.1
+  keep ← kept_or_lost k.0
+  end ← no_more k.1
+  n ← name e.0
+  Ok (order.FailWrite n keep)
+
+-- the first word of an order
+unfoldable pub verb_of : List ℕ → Result Verb Why
+verb_of w =
+    if is_text w (codes "send") then Ok verb.Send
+    else if is_text w (codes "deliver") then Ok verb.Deliver
+    else if is_text w (codes "pump") then Ok verb.Pump
+    else if is_text w (codes "tick") then Ok verb.Tick
+    else if is_text w (codes "up") then Ok verb.Up
+    else if is_text w (codes "crash") then Ok verb.Crash
+    else if is_text w (codes "leave") then Ok verb.Leave
+    else if is_text w (codes "produce") then Ok verb.Produce
+    else if is_text w (codes "rest") then Ok verb.Rest
+    else if is_text w (codes "passivate") then Ok verb.Passivate
+    else if is_text w (codes "failwrite") then Ok verb.FailWrite
+    else if is_text w (codes "rebalance") then Ok verb.Rebalance
+    else if is_text w (codes "settle") then Ok verb.Settle
+    else Err why.UnknownWord
+
+-- the words after it
+unfoldable pub said : Config → Verb → List (List ℕ) → Result Order Why
+said c verb.Up ws = only_number 1 c.nodes ws >>= λ n. Ok (order.Up n)
+said c verb.Crash ws = only_number 1 c.nodes ws >>= λ n. Ok (order.Crash n)
+said c verb.Leave ws = only_number 1 c.nodes ws >>= λ n. Ok (order.Leave n)
+said c verb.Tick ws = only_number 1 c.nodes ws >>= λ n. Ok (order.Tick n)
+said c verb.Produce ws = produce c ws
+said c verb.Rest ws = only_number 1 c.producers ws >>= λ p. Ok (order.Rest p)
+said c verb.Send ws = send c ws
+said c verb.Passivate ws = only ws >>= λ w. name w >>= λ e. Ok (order.Passivate e)
+said c verb.FailWrite ws = fail_write ws
+said c verb.Deliver ws = only_number 1 1000000 ws >>= λ k. Ok (order.Deliver k)
+said c verb.Pump ws = only_number 1 10000 ws >>= λ k. Ok (order.Pump k)
+said c verb.Rebalance ws = only_number 1 128 ws >>= λ l. Ok (order.Rebalance l)
+said c verb.Settle ws = no_more ws >>= λ end. Ok order.Settle
 
 -- the words of an order
 unfoldable pub order_of : Config → List (List ℕ) → Result Order Why
-order_of c ws = first ws >>= λ w. said c w.0 w.1
-
--- the settings that aren't given
-abbrev pub defaults : Config
-defaults = record { nodes = 3; shards = 10; producers = 2; buffer = 100; window = 50; snapshot = 100; keep = 2; remember = false; kind = kind.Counter }
-
--- the words after `config`
-unfoldable pub settings : List (List ℕ) → Result Config Why
-settings [] = Err why.NotBuilt
-settings (w ∷ ws) = no_more ws >>= λ end. if is_text w (codes "shards=1") then Ok (record defaults { shards = 1 }) else Err why.NotBuilt
+order_of c ws = do
+  w ← first ws
+  v ← verb_of w.0
+  said c v w.1

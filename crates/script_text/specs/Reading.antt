@@ -1,8 +1,12 @@
--- What a script says: the charter that its bytes spell, or the first fault.
-use Rattle.std.specs.Prelude.{◌≡◌, ◌≤◌, ℕ, ◌+◌, Bool, true, false, ◌==◌, ◌||◌, not, nat_lt, if◌then◌else◌, List, [], ◌∷◌, ◌++◌, length, Option, Some, None, Result, Ok, Err, codes}
+-- What a script says: the charter that its bytes spell, or the first fault. The lines are read in turn, and the
+-- first that is refused ends the reading. On one line the tests stand here in the order of their reasons.
+use Rattle.std.specs.Prelude.{◌≡◌, ◌≤◌, ℕ, ◌+◌, Bool, true, false, ◌==◌, ◌||◌, ◌&&◌, not, nat_lt, if◌then◌else◌, List, [], ◌∷◌, ◌++◌, length, Option, Some, None, Result, Ok, Err, codes}
+use Rattle.std.specs.List.{list_all}
 use Rattle.std.specs.Str.Lines.{lines}
 use Rattle.yard_model.specs.declared.charter.Order.{Order}
 use Rattle.yard_model.specs.declared.charter.Order.TheVariants as order
+use Rattle.yard_model.specs.declared.event.Kind.{Kind}
+use Rattle.yard_model.specs.declared.event.Kind.TheVariants as kind
 use Rattle.yard_model.specs.Script.{Script, names_in, pairs_in}
 use Rattle.script_text.specs.declared.fault.Mode.{Mode}
 use Rattle.script_text.specs.declared.fault.Mode.TheVariants as mode
@@ -13,19 +17,36 @@ use Rattle.script_text.specs.declared.fault.Stop.TheVariants as stop
 use Rattle.script_text.specs.declared.fault.Why.{Why}
 use Rattle.script_text.specs.declared.fault.Why.TheVariants as why
 use Rattle.script_text.specs.Faults.{◌>>=◌, refuse}
-use Rattle.script_text.specs.Words.{words, is_text, is_blank}
-use Rattle.script_text.specs.Orders.{order_of, settings}
+use Rattle.script_text.specs.Words.{words, is_text, is_blank, is_comment, is_plain}
+use Rattle.script_text.specs.Orders.{order_of}
+use Rattle.script_text.specs.Settings.{settings}
 
 -- the charter that the bytes spell, or the line that is refused and why
 pub data Reading : Type 0 where
   Spelled : Script → Reading
   Refused : ℕ → Why → Reading
 
+-- whether the command takes this order
+abbrev pub takes : Mode → Order → Bool
+takes mode.Solo (order.Send p e c) = true
+takes mode.Solo (order.Deliver k) = true
+takes mode.Solo o = false
+takes mode.Replay o = true
+takes mode.Live (order.Deliver k) = false
+takes mode.Live (order.Pump k) = false
+takes mode.Live (order.FailWrite e k) = false
+takes mode.Live o = true
+
 -- whether the command does this order yet
 abbrev pub is_built : Mode → Order → Bool
-is_built mode.Solo (order.Send p e c) = true
-is_built mode.Solo (order.Deliver k) = true
+is_built mode.Solo o = true
 is_built m o = false
+
+-- whether the command does this kind yet
+abbrev pub is_kind_built : Mode → Kind → Bool
+is_kind_built mode.Solo k = true
+is_kind_built m kind.Counter = true
+is_kind_built m k = false
 
 -- a script with one order more, on this line
 abbrev pub with_line : Script → ℕ → Order → Script
@@ -35,41 +56,52 @@ with_line s n o = record { config = s.config; orders = s.orders ++ record { numb
 abbrev pub is_over : Script → Bool
 is_over s = nat_lt 1000 (length (names_in s.orders)) || nat_lt 4000 (length (pairs_in s.orders))
 
--- any fault is that of a form that isn't built yet
-abbrev pub only_built : {A : Type 0} → Result A Why → Result A Why
-only_built (Ok x) = Ok x
-only_built (Err w) = Err why.NotBuilt
-
 -- the first line too many
 abbrev pub is_late : ℕ → Bool
-is_late n = n == 101
+is_late n = n == 20001
 
--- the first line that isn't blank
-unfoldable pub first_line : ℕ → List (List ℕ) → Result Script Why
-first_line n [] = Err why.NoConfig
-first_line n (w ∷ ws) = do
-  _ ← refuse (not (is_text w (codes "config"))) why.NoConfig
+-- the tests that come first, of any line
+unfoldable pub plain : List ℕ → Result (Unit {0}) Why
+plain line = do
+  text ← refuse (not (is_comment (words line)) && not (list_all is_plain line)) why.NotText
+  refuse (nat_lt 256 (length line)) why.LongLine
+
+-- the words of the first line that isn't blank, with the tests in the order of their reasons
+unfoldable pub first_line : Mode → ℕ → List (List ℕ) → Result Script Why
+first_line m n [] = Err why.NoConfig
+first_line m n (w ∷ ws) = do
+  first ← refuse (not (is_text w (codes "config"))) why.NoConfig
   c ← settings ws
-  _ ← refuse (is_late n) why.NotBuilt
+  early ← refuse (is_late n) why.TooManyLines
+  built ← refuse (not (is_kind_built m c.kind)) why.NotBuilt
   Ok (record { config = c; orders = [] })
 
--- another line that isn't blank
+-- a `config`
+abbrev pub is_config_line : List (List ℕ) → Bool
+is_config_line [] = false
+is_config_line (w ∷ ws) = is_text w (codes "config")
+
+-- the words of a later line, with the tests in the order of their reasons
 unfoldable pub next_line : Mode → Script → ℕ → List (List ℕ) → Result Script Why
 next_line m s n ws = do
-  o ← only_built (order_of s.config ws)
-  _ ← refuse (is_over (with_line s n o)) why.OutOfRange
-  _ ← refuse (is_late n) why.NotBuilt
-  _ ← refuse (not (is_built m o)) why.NotBuilt
+  once ← refuse (is_config_line ws) why.SecondConfig
+  o ← order_of s.config ws
+  within ← refuse (is_over (with_line s n o)) why.OutOfRange
+  early ← refuse (is_late n) why.TooManyLines
+  taken ← refuse (not (takes m o)) why.WrongMode
+  built ← refuse (not (is_built m o)) why.NotBuilt
   Ok (with_line s n o)
 
--- what was read, with this line, or why the line is refused
+-- what was read, with these words
 abbrev pub with_words : Mode → Option Script → ℕ → List (List ℕ) → Result Script Why
-with_words m None n ws = first_line n ws
+with_words m None n ws = first_line m n ws
 with_words m (Some s) n ws = next_line m s n ws
 
+-- what was read, with this line, or the reason for which it is refused; a blank line adds nothing
 unfoldable pub line_read : Mode → Option Script → ℕ → List ℕ → Result (Option Script) Why
 line_read m so n line =
-    if is_blank (words line) then (refuse (is_late n) why.NotBuilt >>= λ _. Ok so)
+    plain line >>= λ ok.
+    if is_blank (words line) then (refuse (is_late n) why.TooManyLines >>= λ early. Ok so)
     else (with_words m so n (words line) >>= λ s. Ok (Some s))
 
 -- after this line, from here on
@@ -91,7 +123,7 @@ lines_read m so n (l ∷ ls) = going_on n (line_read m so n l) (λ more. lines_r
 abbrev pub is_too_long : List ℕ → Bool
 is_too_long bytes = nat_lt 4194304 (length bytes)
 
--- Read
+-- what the bytes say under this command
 unfoldable pub reading : Mode → List ℕ → Reading
 reading m bytes = if is_too_long bytes then Refused 0 why.TooLong else lines_read m None 1 (lines bytes)
 

@@ -1,5 +1,5 @@
 -- Words of a line, numbers and names.
-use Rattle.std.specs.Prelude.{ℕ, ◌+◌, ◌-◌, ◌*◌, Bool, true, ◌==◌, ◌&&◌, ◌||◌, nat_lt, nat_le, nat_eq, List, [], ◌∷◌, length, filter, fold, slice_index}
+use Rattle.std.specs.Prelude.{ℕ, ◌+◌, ◌-◌, ◌*◌, Bool, true, false, ◌==◌, ◌&&◌, ◌||◌, nat_lt, nat_le, nat_eq, List, [], ◌∷◌, length, filter, fold, slice_index}
 use Rattle.std.specs.List.{slice_split, list_all}
 use Rattle.std.specs.Cmp.Lexicographic.{pointwise}
 use Rattle.yard_model.specs.Name.{is_name_byte}
@@ -26,6 +26,14 @@ begins_comment w = slice_index w 0 == 35
 abbrev pub is_blank : List (List ℕ) → Bool
 is_blank [] = true
 is_blank (w ∷ ws) = begins_comment w
+
+abbrev pub is_comment : List (List ℕ) → Bool
+is_comment [] = false
+is_comment (w ∷ ws) = begins_comment w
+
+-- printable ASCII, or a tab
+abbrev pub is_plain : ℕ → Bool
+is_plain b = (nat_le 32 b && nat_le b 126) || (b == 9)
 
 abbrev pub is_digit : ℕ → Bool
 is_digit b = nat_le 48 b && nat_le b 57

@@ -1,11 +1,14 @@
 //! Scripts: from bytes to settings and orders, or the first fault.
 #![tactic(auto)]
 
+mod commands;
 mod cut;
 mod draft;
 mod fault;
-mod grammar;
+mod orders;
 mod read;
+mod settings;
+mod words;
 
 pub use fault::{Mode, ScriptFault, Why};
 pub use read::read_script;

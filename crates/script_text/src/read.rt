@@ -1,15 +1,23 @@
 //! Reading a script, line by line.
 ghost use Rattle.std.specs.Prelude.{◌≡◌, ℕ, ◌+◌, ◌≤◌, ◌≢◌, IfOk, IfErr, length, false, Some};
 ghost use Rattle.script_text.specs.Faults.{Gives};
-ghost use Rattle.script_text.specs.Words.{words, is_blank, begins_comment};
-ghost use Rattle.script_text.specs.Reading.{Reading, Spelled, Refused, reading, line_read, first_line, next_line, is_over, is_late, is_built, is_too_long, ended, TellsFault, IsWithin, stopped_at};
+ghost use Rattle.script_text.specs.Words.{words};
+ghost use Rattle.script_text.specs.Reading.{Reading, Spelled, Refused, reading, line_read, first_line, next_line, is_over, is_built, takes, is_kind_built, is_config_line, plain, ended, TellsFault, IsWithin, stopped_at};
 
 use crate::cut::{next_line, next_word};
 use crate::draft::Draft;
 use crate::fault::{Mode, ScriptFault, Stop, Why};
-use crate::grammar::{is, order, settings};
+use crate::orders::order;
+use crate::settings::settings;
+use crate::words::{is, is_blank, is_comment, is_plain_text};
 use std::alloc::{AllocError, Global};
-use yard_model::{Charter, Order};
+use yard_model::{Charter, Kind, Order};
+
+/// The most bytes of a script.
+const MOST_BYTES: usize = 4_194_304;
+
+/// The first line too many.
+const LATE_LINE: u32 = 20_001;
 
 /// The charter that the bytes spell under this command, or the first fault. `OutOfMemory` says
 /// only that memory ran out.
@@ -17,7 +25,7 @@ pub fn read_script(alloc: Global, bytes: &[u8], mode: Mode) -> Result<Charter, S
     ensures ok { IfOk result (λ c. reading mode bytes.now ≡ Spelled c) }
     ensures at { IfErr result (λ e. TellsFault e (reading mode bytes.now)) }
 {
-    if bytes.len() > 4_194_304 {
+    if bytes.len() > MOST_BYTES {
         return Err(ScriptFault::At {
             line: 0,
             why: Why::TooLong,
@@ -76,26 +84,27 @@ fn read_line(
 ) -> Result<Option<Draft>, Stop>
     ensures value { Gives result (line_read mode draft number line.now) }
     ensures within { (n : ℕ) → IsWithin n draft → IfOk result (IsWithin (n + 1)) }
-    ensures early { IfOk result (λ _. number ≢ 101) }
+    ensures early { IfOk result (λ _. number ≢ 20001) }
 {
+    check_text(line)?;
     if is_blank(line) {
-        if number == 101 {
-            return Err(Stop::Refused(Why::NotBuilt));
+        if number == LATE_LINE {
+            return Err(Stop::Refused(Why::TooManyLines));
         }
         return Ok(draft);
     }
     match draft {
-        None => Ok(Some(read_first(alloc, number, line)?)),
+        None => Ok(Some(read_first(alloc, mode, number, line)?)),
         Some(draft) => Ok(Some(read_next(mode, draft, number, line)?)),
     }
 }
 
 /// The first line that isn't blank.
 #[tactic(auto, unfolding(crate::specs::Reading::first_line))]
-fn read_first(alloc: Global, number: u32, line: &[u8]) -> Result<Draft, Stop>
-    ensures value { Gives result (first_line number (words line.now)) }
+fn read_first(alloc: Global, mode: Mode, number: u32, line: &[u8]) -> Result<Draft, Stop>
+    ensures value { Gives result (first_line mode number (words line.now)) }
     ensures within { (n : ℕ) → IfOk result (λ d. IsWithin n (Some d)) }
-    ensures early { IfOk result (λ _. number ≢ 101) }
+    ensures early { IfOk result (λ _. number ≢ 20001) }
 {
     let Some((word, rest)) = next_word(line) else {
         return Err(Stop::Refused(Why::NoConfig));
@@ -104,7 +113,10 @@ fn read_first(alloc: Global, number: u32, line: &[u8]) -> Result<Draft, Stop>
         return Err(Stop::Refused(Why::NoConfig));
     }
     let config = settings(rest)?;
-    if number == 101 {
+    if number == LATE_LINE {
+        return Err(Stop::Refused(Why::TooManyLines));
+    }
+    if !is_kind_built(mode, config.kind) {
         return Err(Stop::Refused(Why::NotBuilt));
     }
     Ok(Draft::new(alloc, config))
@@ -115,19 +127,64 @@ fn read_first(alloc: Global, number: u32, line: &[u8]) -> Result<Draft, Stop>
 fn read_next(mode: Mode, draft: Draft, number: u32, line: &[u8]) -> Result<Draft, Stop>
     ensures value { Gives result (next_line mode draft number (words line.now)) }
     ensures within { IfOk result (λ d. (is_over d ≡ false) × (length d.orders ≡ length draft.orders + 1)) }
-    ensures early { IfOk result (λ _. number ≢ 101) }
+    ensures early { IfOk result (λ _. number ≢ 20001) }
 {
-    let Ok(order) = order(draft.config(), line) else {
-        return Err(Stop::Refused(Why::NotBuilt));
-    };
+    if is_config_line(line) {
+        return Err(Stop::Refused(Why::SecondConfig));
+    }
+    let order = order(draft.config(), line)?;
     let longer = draft.with(number, &order)?;
     if longer.is_over() {
         return Err(Stop::Refused(Why::OutOfRange));
     }
-    if number == 101 || !is_built(mode, &order) {
+    if number == LATE_LINE {
+        return Err(Stop::Refused(Why::TooManyLines));
+    }
+    if !takes(mode, &order) {
+        return Err(Stop::Refused(Why::WrongMode));
+    }
+    if !is_built(mode, &order) {
         return Err(Stop::Refused(Why::NotBuilt));
     }
     Ok(longer)
+}
+
+/// The tests that come first, of any line.
+#[tactic(auto, unfolding(crate::specs::Reading::plain))]
+fn check_text(line: &[u8]) -> Result<(), Why>
+    ensures { result ≡ plain line.now }
+{
+    if !is_comment(line) && !is_plain_text(line) {
+        return Err(Why::NotText);
+    }
+    if line.len() > 256 {
+        return Err(Why::LongLine);
+    }
+    Ok(())
+}
+
+/// Whether the first word is `config`.
+fn is_config_line(line: &[u8]) -> bool
+    ensures { result ≡ is_config_line (words line.now) }
+{
+    match next_word(line) {
+        None => false,
+        Some((word, _)) => is(word, "config"),
+    }
+}
+
+/// Whether the command takes this order.
+fn takes(mode: Mode, order: &Order) -> bool
+    ensures { result ≡ takes mode order.now }
+{
+    match mode {
+        Mode::Solo => matches!(order, Order::Send(_, _, _) | Order::Deliver(_)),
+        Mode::Replay => true,
+        Mode::Live => !matches!(
+            order,
+            Order::Deliver(_) | Order::Pump(_) | Order::FailWrite(_, _)
+        ),
+    }
 }
 
 /// Whether the command does this order yet.
@@ -135,24 +192,18 @@ fn is_built(mode: Mode, order: &Order) -> bool
     ensures { result ≡ is_built mode order.now }
 {
     match (mode, order) {
-        (Mode::Solo, Order::Send(_, _, _)) => true,
-        (Mode::Solo, Order::Deliver(_)) => true,
+        (Mode::Solo, _) => true,
         _ => false,
     }
 }
 
-/// Whether the line has no word, or is a comment.
-fn is_blank(line: &[u8]) -> bool
-    ensures { result ≡ is_blank (words line.now) }
+/// Whether the command does this kind yet.
+fn is_kind_built(mode: Mode, kind: Kind) -> bool
+    ensures { result ≡ is_kind_built mode kind }
 {
-    match next_word(line) {
-        None => true,
-        Some((word, _)) => begins_comment(word),
+    match (mode, kind) {
+        (Mode::Solo, _) => true,
+        (_, Kind::Counter) => true,
+        _ => false,
     }
-}
-
-fn begins_comment(word: &[u8]) -> bool
-    ensures { result ≡ begins_comment word.now }
-{
-    !word.is_empty() && word[0] == b'#'
 }

@@ -3,8 +3,8 @@ use Rattle.script_text.specs.Reading.{Spelled, TellsFault, reading, ended}
 use Rattle.script_text.proofs.Steps.{reading_long, reading_short, lines_more, lines_stop, lines_end}
 use Rattle.script_text.proofs.read.read_script.Goals as goal
 
-pub returns-then-bytes-gt4194304-clause-at : goal.returns-then-bytes-gt4194304-clause-at
-returns-then-bytes-gt4194304-clause-at c = reading_long c.args.mode c.args.bytes.now (omega arith)
+pub returns-then-bytes-gt-MOST_BYTES-clause-at : goal.returns-then-bytes-gt-MOST_BYTES-clause-at
+returns-then-bytes-gt-MOST_BYTES-clause-at c = reading_long c.args.mode c.args.bytes.now (omega arith)
 
 pub loop-line-preserved : goal.loop-line-preserved
 loop-line-preserved c = record {

@@ -7,7 +7,7 @@ abbrev pub invariant-loop-line : goal.invariant-loop-line
 invariant-loop-line l = record {
   read : lines_read l.mode l.draft (l.number + 1) (lines l.rest) ≡ lines_read l.mode None 1 (lines l.bytes);
   within : IsWithin l.number l.draft;
-  early : l.number ≤ 100;
+  early : l.number ≤ 20000;
 }
 
 abbrev pub decreases-loop-line : goal.decreases-loop-line

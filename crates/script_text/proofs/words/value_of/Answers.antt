@@ -1,7 +1,7 @@
 use Rattle.std.proofs.Common.{◌≡◌, ◌<◌, ◌≤◌, ◌+◌, ◌*◌, ◌^◌, arith}
 use Rattle.std.specs.Prelude.{slice_index_or}
 use Rattle.script_text.proofs.Names.{digit_at, power_more, power_within}
-use Rattle.script_text.proofs.grammar.value_of.Goals as goal
+use Rattle.script_text.proofs.words.value_of.Goals as goal
 
 pub overflow_mul-value : goal.overflow_mul-value
 overflow_mul-value c =

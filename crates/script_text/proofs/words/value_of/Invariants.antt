@@ -1,7 +1,7 @@
 use Rattle.std.proofs.Common.{◌≡◌, ◌<◌, ◌^◌, drop}
 use Rattle.std.specs.Prelude.{fold}
 use Rattle.script_text.specs.Words.{with_digit, value_of}
-use Rattle.script_text.proofs.grammar.value_of.Given as goal
+use Rattle.script_text.proofs.words.value_of.Given as goal
 
 abbrev pub invariant-loop-b : goal.invariant-loop-b
 invariant-loop-b l = record {

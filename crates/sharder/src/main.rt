@@ -1,0 +1,80 @@
+//! The program: words from the command line, a script from standard input, a text to standard
+//! output, and a line on standard error where it could not be had.
+#![tactic(auto)]
+
+use std::env::{self, Env};
+use std::process::ExitCode;
+use yard_io::{StdSink, StdSource};
+use yard_top::{Status, sharder};
+
+const USAGE: &str = "usage: sharder solo or replay [json] or live TURNS SEED or bulk NUMBER";
+
+const HELP: &str = "sharder: a cluster of sharded, event-sourced entities with reliable delivery
+
+  sharder solo      reads a script of settings, sends and deliveries, and writes
+                    the report of what is recorded
+  sharder --help    prints this
+  sharder --version prints the name and the version
+
+Status: 0 the whole text was written, 2 usage, 3 the input is no script,
+4 a read failed, 5 a write failed, 6 there was no memory.
+";
+
+const VERSION: &str = "sharder 0.1.0\n";
+
+/// The words after the program's name; None where one isn't text.
+fn words_of(rt: &(impl Env + AllocGlobal)) -> Option<Vec<String>> {
+    let mut words = env::args(rt).ok()?;
+    words.next();
+    words.collect(rt.alloc()).ok()
+}
+
+/// What stands on standard error beside the status, if anything.
+fn complain(rt: &impl Eprint, status: Status) {
+    let _ = match status {
+        Status::Ok => Ok(()),
+        Status::Usage => eprintln!(rt; "{USAGE}"),
+        Status::Refused { line, why } => {
+            let reason = why.number();
+            eprintln!(rt; "sharder: line {line}: reason {reason}")
+        }
+        Status::ReadFault => eprintln!(rt; "sharder: read fault"),
+        Status::WriteFault => eprintln!(rt; "sharder: write fault"),
+        Status::OutOfMemory => eprintln!(rt; "sharder: out of memory"),
+    };
+}
+
+/// What `--help` or `--version` prints, where it is the only word.
+fn told(words: &[String]) -> Option<&'static str> {
+    match words {
+        [word] => match word.as_str() {
+            "--help" => Some(HELP),
+            "--version" => Some(VERSION),
+            _ => None,
+        },
+        _ => None,
+    }
+}
+
+fn run(rt: &HostRuntime) -> Status {
+    let Some(words) = words_of(rt) else {
+        return Status::Usage;
+    };
+    if let Some(text) = told(words.as_slice()) {
+        return match print!(rt; "{text}") {
+            Ok(()) => Status::Ok,
+            Err(_) => Status::WriteFault,
+        };
+    }
+    let mut source = StdSource::new(rt.stdin());
+    match StdSink::new(rt.alloc(), rt.stdout()) {
+        Ok(mut sink) => sharder(rt.alloc(), words.as_slice(), &mut source, &mut sink),
+        Err(_) => Status::OutOfMemory,
+    }
+}
+
+fn main(rt: HostRuntime) -> ExitCode {
+    let status = run(&rt);
+    complain(&rt, status);
+    ExitCode::from(status.code())
+}

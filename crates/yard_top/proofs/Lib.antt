@@ -1,0 +1,5 @@
+mod FactsLaws
+mod KnownLaws
+mod OutputLaws
+mod PlayLaws
+mod SoloLaws

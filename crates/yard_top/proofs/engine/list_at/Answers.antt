@@ -1,0 +1,19 @@
+use Rattle.std.proofs.Common.{◌≡◌, ◌<◌, ◌≤◌, ℕ, length, ap, sym, ◌∙◌, subst, arith}
+use Rattle.std.specs.Prelude.{List, [], map, slice_index_or}
+use Rattle.yard_model.specs.declared.fact.Fact.{Fact}
+use Rattle.yard_model.specs.Entry.{shard_fact}
+use Rattle.yard_top.specs.Facts.{facts_of}
+use Rattle.yard_top.proofs.FactsLaws.{list_there, list_missing}
+use Rattle.yard_top.proofs.engine.list_at.Goals as goal
+
+pub returns-then-place-lists : goal.returns-then-place-lists
+returns-then-place-lists c =
+    let inside : c.get-place.result < length c.args.lists.now = c.if-place-lists.true in
+    ap (map (shard_fact c.args.s)) c.as_slice.ensures.value
+    ∙ subst (λ (n : ℕ). map (shard_fact n) c.index-lists-place.result.items ≡ slice_index_or (facts_of c.args.lists.now) n []) c.get-place.ensures.value
+    (list_there c.args.lists.now c.get-place.result c.index-lists-place.result inside c.index-lists-place.is)
+
+pub returns-else-place-lists : goal.returns-else-place-lists
+returns-else-place-lists c =
+    let past : length c.args.lists.now ≤ c.args.s = omega arith in
+    list_missing 0 c.args.lists.now c.args.s past

@@ -1,0 +1,19 @@
+use Rattle.std.proofs.Common.{◌≡◌, ap, sym, ◌∙◌, subst}
+use Rattle.std.specs.Prelude.{true, List, ◌++◌}
+use Rattle.yard_model.specs.Script.{setting}
+use Rattle.yard_model.specs.SlotLists.{SlotLists}
+use Rattle.yard_model.specs.Text.{report}
+use Rattle.trace_text.specs.Foldable.{is_foldable_in_all}
+use Rattle.yard_top.specs.Facts.{facts_of, lists_of}
+use Rattle.yard_top.proofs.SoloLaws.{solo_foldable}
+use Rattle.yard_top.proofs.solo.solo_report.Goals as goal
+
+pub push_report-requires : goal.push_report-requires
+push_report-requires c =
+    subst (λ (l : SlotLists). is_foldable_in_all (setting c.args.charter.now) l ≡ true) (sym c.in_ok-engine.ensures)
+    (solo_foldable c.args.charter.now (c.journals_are_sound.ensures c.args.charter.now c.config.ensures.script))
+
+pub returns-clause-text : goal.returns-clause-text
+returns-clause-text c =
+    let lists : SlotLists = lists_of c.in_ok-engine.engine.config (facts_of c.in_ok-engine.engine.lists.items) in
+    c.in_ok-push_report.ensures ∙ (ap (λ l. l ++ report (setting c.args.charter.now) lists) c.new-text.ensures.items ∙ ap (report (setting c.args.charter.now)) c.in_ok-engine.ensures)

@@ -1,0 +1,15 @@
+-- The forms of the command line: the words after the program's name.
+use Rattle.std.specs.Prelude.{ℕ, nat_eq, List, [], ◌∷◌, String, string_bytes, Option, Some, None, codes, if◌then◌else◌}
+use Rattle.std.specs.Cmp.Lexicographic.{pointwise}
+use Rattle.std.specs.declared.alloc.Global.{Global}
+use Rattle.yard_top.specs.declared.forms.Form.{Form}
+use Rattle.yard_top.specs.declared.forms.Form.TheVariants as form
+
+abbrev pub form_of_word : List ℕ → Option Form
+form_of_word w = if pointwise nat_eq w (codes "solo") then Some form.Solo else None
+
+-- the form of these words: `solo` alone
+abbrev pub form_in : List (String Global) → Option Form
+form_in [] = None
+form_in (w ∷ []) = form_of_word (string_bytes w)
+form_in (w ∷ v ∷ ws) = None

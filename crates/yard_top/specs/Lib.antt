@@ -1,0 +1,5 @@
+pub mod Ends
+pub mod Facts
+pub mod Forms
+pub mod Known
+pub mod Sound

@@ -1,0 +1,282 @@
+//! The engine of `solo`: one incarnation that numbers sends and records what is delivered.
+ghost use Rattle.std.specs.Prelude.{◌≡◌, ◌+◌, ◌-◌, ◌<◌, ◌≤◌, ℕ, List, [], ◌∷◌, ◌++◌, length, map, slice_set, slice_index_or, IfOk, OnOk, IsTrue, None, cond, slice_get, fold};
+ghost use Rattle.std.specs.List.{list_all};
+ghost use Rattle.std.specs.Ordering.{nat_cmp};
+ghost use Rattle.std.specs.Cmp.Lexicographic.{slice_cmp};
+ghost use Rattle.std.specs.BTreeMap.{get, is_at, Updates};
+ghost use Rattle.yard_model.specs.Behaviour.{is_of_kind};
+ghost use Rattle.yard_model.specs.Shard.{shard};
+ghost use Rattle.yard_model.specs.Solo.{next_message, after_order, after_line, alone, start};
+ghost use Rattle.yard_model.specs.SlotReads.{journal};
+ghost use Rattle.yard_top.specs.Known.{Known, known_or, KnowsAll, sent_at};
+ghost use Rattle.yard_top.specs.Facts.{facts_of, with_fact, with_taken, with_one, held, state_of, lists_of, bare};
+ghost use Rattle.yard_model.specs.Entry.{shard_fact};
+ghost use Rattle.yard_model.specs.declared.entry.ShardEntry.TheVariants as entry;
+ghost use Rattle.yard_model.specs.Words.{numbers};
+ghost use Rattle.yard_model.specs.Script.{is_order};
+ghost use Rattle.yard_model.specs.declared.fact.Fact.TheVariants as fact;
+
+use crate::entity::Entity;
+use behaviour_core::Behaviour;
+use shard_extract::shard_of;
+use std::alloc::{AllocError, Global};
+use std::collections::BTreeMap;
+use yard_model::{
+    Command, Config, CoordEntry, EntityName, Incarnation, Kind, Line, Lists, Message, NodeNo,
+    Order, ProducerNo, QueueEntry, Record, ShardEntry, ShardNo,
+};
+
+/// The one incarnation, which posts to itself and holds every shard.
+const ALONE: Incarnation = Incarnation {
+    node: NodeNo::FIRST,
+    number: 1,
+};
+
+/// What was posted, what is known of each entity, and the list of each shard.
+#[derive(Drop)]
+pub struct Engine {
+    pub config: Config,
+    pub posted: Vec<Message>,
+    pub entities: BTreeMap<EntityName, Entity>,
+    pub lists: Vec<Vec<ShardEntry>>,
+}
+
+impl Engine {
+    /// An engine that holds every shard and to which nothing was posted. The only error is want of
+    /// memory.
+    pub fn new(alloc: Global, config: &Config) -> Result<Engine, AllocError>
+        requires some { 1 ≤ config.now.shards }
+        requires most { config.now.shards ≤ 128 }
+        ensures knows { IfOk result (λ e. KnowsAll e.config e.posted.items (facts_of e.lists.items) e.entities) }
+        ensures posted { IfOk result (λ e. e.posted.items ≡ []) }
+        ensures lists { IfOk result (λ e. facts_of e.lists.items ≡ map held (numbers 0 config.now.shards)) }
+        ensures config { IfOk result (λ e. e.config ≡ config.now) }
+    {
+        let lists = held_lists(alloc, config.shards)?;
+        Ok(Engine {
+            config: *config,
+            posted: Vec::new(alloc),
+            entities: BTreeMap::new(alloc),
+            lists,
+        })
+    }
+
+    /// Carries out these orders, the first that the engine gets. The only error is want of memory.
+    pub fn play<B: Behaviour>(
+        &mut self,
+        alloc: Global,
+        lines: &[Line],
+        behaviour: &B,
+    ) -> Result<(), AllocError>
+        requires knows { KnowsAll self.old.config self.old.posted.items (facts_of self.old.lists.items) self.old.entities }
+        requires kind { B.kind_of behaviour.now ≡ self.old.config.kind }
+        requires posted { self.old.posted.items ≡ [] }
+        requires lists { facts_of self.old.lists.items ≡ map held (numbers 0 self.old.config.shards) }
+        requires orders { IsTrue (list_all (λ l. is_order self.old.config l.order) lines.now) }
+        requires fits { length lines.now ≤ 200000 }
+        ensures state { OnOk result (state_of self.old.config self.new.posted.items (facts_of self.new.lists.items)
+            ≡ fold (after_line (bare self.old.config)) (start (bare self.old.config)) lines.now) }
+        ensures config { self.new.config ≡ self.old.config }
+    {
+        for line in lines {
+            self.order(alloc, &line.order, behaviour)?;
+        }
+        Ok(())
+    }
+
+    /// Carries out one order; `solo` knows sends and deliveries. The only error is want of memory.
+    pub fn order<B: Behaviour>(
+        &mut self,
+        alloc: Global,
+        order: &Order,
+        behaviour: &B,
+    ) -> Result<(), AllocError>
+        requires knows { KnowsAll self.old.config self.old.posted.items (facts_of self.old.lists.items) self.old.entities }
+        requires kind { B.kind_of behaviour.now ≡ self.old.config.kind }
+        requires order { IsTrue (is_order self.old.config order.now) }
+        requires posts { length self.old.posted.items < 4294967295 }
+        requires room { (e : List ℕ) → length (journal e (slice_index_or (facts_of self.old.lists.items) (shard self.old.config.shards e) [])) < 4294967295 }
+        ensures knows { OnOk result (KnowsAll self.new.config self.new.posted.items (facts_of self.new.lists.items) self.new.entities) }
+        ensures state { OnOk result (state_of self.old.config self.new.posted.items (facts_of self.new.lists.items)
+            ≡ after_order (bare self.old.config) (state_of self.old.config self.old.posted.items (facts_of self.old.lists.items)) order.now) }
+        ensures config { self.new.config ≡ self.old.config }
+    {
+        match order {
+            Order::Send(producer, entity, command) => self.send(alloc, *producer, entity, command),
+            Order::Deliver(number) => self.deliver(alloc, *number, behaviour),
+            _ => Ok(()),
+        }
+    }
+
+    /// Delivers the posted message of this number, from 1, if it is there.
+    fn deliver<B: Behaviour>(
+        &mut self,
+        alloc: Global,
+        number: u32,
+        behaviour: &B,
+    ) -> Result<(), AllocError>
+        requires knows { KnowsAll self.old.config self.old.posted.items (facts_of self.old.lists.items) self.old.entities }
+        requires kind { B.kind_of behaviour.now ≡ self.old.config.kind }
+        requires number { 0 < number }
+        requires room { (e : List ℕ) → length (journal e (slice_index_or (facts_of self.old.lists.items) (shard self.old.config.shards e) [])) < 4294967295 }
+        ensures knows { OnOk result (KnowsAll self.new.config self.new.posted.items (facts_of self.new.lists.items) self.new.entities) }
+        ensures posted { self.new.posted ≡ self.old.posted }
+        ensures lists { OnOk result (facts_of self.new.lists.items ≡ with_one (slice_get self.old.posted.items (number - 1)) self.old.config (facts_of self.old.lists.items)) }
+        ensures config { self.new.config ≡ self.old.config }
+    {
+        match posted_at(self.posted.as_slice(), number) {
+            Some(message) => self.take(alloc, &message, behaviour),
+            None => Ok(()),
+        }
+    }
+
+    /// Numbers a command and posts it. The only error is want of memory.
+    pub fn send(
+        &mut self,
+        alloc: Global,
+        producer: ProducerNo,
+        entity: &EntityName,
+        command: &Command,
+    ) -> Result<(), AllocError>
+        requires knows { KnowsAll self.old.config self.old.posted.items (facts_of self.old.lists.items) self.old.entities }
+        requires command { IsTrue (is_of_kind self.old.config.kind command.now) }
+        requires room { length self.old.posted.items < 4294967295 }
+        ensures knows { OnOk result (KnowsAll self.new.config self.new.posted.items (facts_of self.new.lists.items) self.new.entities) }
+        ensures posted { OnOk result (self.new.posted.items ≡ self.old.posted.items ++ next_message self.old.posted.items producer entity.now command.now ∷ []) }
+        ensures lists { OnOk result (self.new.lists ≡ self.old.lists) }
+        ensures config { self.new.config ≡ self.old.config }
+    {
+        let mut known = take_out(alloc, &mut self.entities, entity, self.config.kind);
+        let number = known.send(producer);
+        self.entities.insert(*entity, known)?;
+        self.posted.push(Message {
+            producer,
+            entity: *entity,
+            number,
+            command: *command,
+            origin: ALONE,
+        })?;
+        Ok(())
+    }
+
+    /// Delivers a posted message: it is recorded where it is the next of its pair. The only error
+    /// is want of memory.
+    pub fn take<B: Behaviour>(
+        &mut self,
+        alloc: Global,
+        message: &Message,
+        behaviour: &B,
+    ) -> Result<(), AllocError>
+        requires knows { KnowsAll self.old.config self.old.posted.items (facts_of self.old.lists.items) self.old.entities }
+        requires kind { B.kind_of behaviour.now ≡ self.old.config.kind }
+        requires command { IsTrue (is_of_kind self.old.config.kind message.now.command) }
+        requires room { (e : List ℕ) → length (journal e (slice_index_or (facts_of self.old.lists.items) (shard self.old.config.shards e) [])) < 4294967295 }
+        ensures knows { OnOk result (KnowsAll self.new.config self.new.posted.items (facts_of self.new.lists.items) self.new.entities) }
+        ensures posted { self.new.posted ≡ self.old.posted }
+        ensures lists { OnOk result (facts_of self.new.lists.items ≡ with_taken self.old.config (facts_of self.old.lists.items) message.now) }
+        ensures config { self.new.config ≡ self.old.config }
+    {
+        let mut known = take_out(alloc, &mut self.entities, &message.entity, self.config.kind);
+        let taken = known.take(message, behaviour)?;
+        self.entities.insert(message.entity, known)?;
+        match taken {
+            Some(entry) => push_record(
+                &mut self.lists,
+                self.config.shards,
+                &message.entity,
+                &entry,
+            ),
+            None => Ok(()),
+        }
+    }
+}
+
+/// The list of a shard that is held and has no records.
+fn held_list(alloc: Global) -> Result<Vec<ShardEntry>, AllocError>
+    ensures { IfOk result (λ list. list.items ≡ entry.Granted 1 alone ∷ []) }
+{
+    let mut list = Vec::new(alloc);
+    list.push(ShardEntry::Granted(1, ALONE))?;
+    Ok(list)
+}
+
+/// The lists of so many shards that are held and have no records.
+fn held_lists(alloc: Global, shards: u8) -> Result<Vec<Vec<ShardEntry>>, AllocError>
+    ensures { IfOk result (λ lists. facts_of lists.items ≡ map held (numbers 0 shards)) }
+{
+    let mut lists = Vec::new(alloc);
+    for _ in 0..shards {
+        lists.push(held_list(alloc)?)?;
+    }
+    Ok(lists)
+}
+
+/// Appends a record to the list of its entity's shard.
+fn push_record(
+    lists: &mut Vec<Vec<ShardEntry>>,
+    shards: u8,
+    entity: &EntityName,
+    entry: &Record,
+) -> Result<(), AllocError>
+    requires wide { length lists.old.items ≡ shards }
+    requires some { 1 ≤ shards }
+    requires most { shards ≤ 128 }
+    ensures { OnOk result (facts_of lists.new.items ≡ with_fact (shard shards entity.now) (fact.Wrote entity.now entry.now) (facts_of lists.old.items)) }
+{
+    let place = shard_of(entity, shards).get() as usize;
+    let list = &mut lists[place];
+    list.push(ShardEntry::Wrote(*entity, *entry))?;
+    Ok(())
+}
+
+/// The message of this number, from 1.
+fn posted_at(posted: &[Message], number: u32) -> Option<Message>
+    requires { 0 < number }
+    ensures { result ≡ slice_get posted.now (number - 1) }
+{
+    posted.get(number as usize - 1).copied()
+}
+
+/// What is known of a name, taken out of the map.
+fn take_out(
+    alloc: Global,
+    entities: &mut BTreeMap<EntityName, Entity>,
+    entity: &EntityName,
+    kind: Kind,
+) -> Entity
+    ensures known { result ≡ known_or kind (get (slice_cmp nat_cmp) entities.old entity.now) }
+    ensures rest { Updates (slice_cmp nat_cmp) entities.old entities.new entity.now None }
+{
+    match entities.remove(entity) {
+        Some(known) => known,
+        None => Entity::new(alloc, kind),
+    }
+}
+
+impl Lists for Engine {
+    ghost lists = { λ e. lists_of e.config (facts_of e.lists.items) };
+
+    fn shard(&self, s: ShardNo) -> &[ShardEntry] {
+        list_at(self.lists.as_slice(), s)
+    }
+
+    fn coordinator(&self) -> &[CoordEntry] {
+        &[]
+    }
+
+    fn queue(&self, _p: ProducerNo) -> &[QueueEntry] {
+        &[]
+    }
+}
+
+/// The list of a shard; empty where there is no such shard.
+fn list_at(lists: &[Vec<ShardEntry>], s: ShardNo) -> &[ShardEntry]
+    ensures { map (shard_fact s) result.now ≡ slice_index_or (facts_of lists.now) s [] }
+{
+    let place = s.get() as usize;
+    if place < lists.len() {
+        lists[place].as_slice()
+    } else {
+        &[]
+    }
+}

@@ -1,0 +1,18 @@
+//! The top call: words and a source in, texts out to a sink, and a status. Each status has its
+//! cause as a clause of the call.
+#![tactic(auto)]
+
+mod engine;
+mod entity;
+mod forms;
+mod output;
+mod solo;
+mod status;
+mod top;
+
+pub use forms::{Form, form_of};
+pub use status::Status;
+pub use top::sharder;
+
+#[cfg(test)]
+mod tests;

@@ -1,0 +1,44 @@
+//! How a run of the program ends.
+ghost use Rattle.std.specs.Prelude.{◌≡◌};
+ghost use Rattle.yard_top.specs.Ends.{code_of};
+
+use script_text::Why;
+
+/// How a run of the program ends.
+#[derive(Clone, Copy, Debug, PartialEq, Eq)]
+pub enum Status {
+    /// The input was read to its end, and the whole text was written and flushed.
+    Ok,
+    /// The words are not a form that the program knows; nothing was read or written.
+    Usage,
+    /// The input is not a script of this command: the first fault, with its line from 1, or line 0
+    /// where more than 4 MiB came. Nothing was written.
+    Refused {
+        /// The line.
+        line: u32,
+        /// The reason.
+        why: Why,
+    },
+    /// The source failed; nothing was written.
+    ReadFault,
+    /// The sink failed; what was written is a front of the text.
+    WriteFault,
+    /// There was no memory; nothing was written.
+    OutOfMemory,
+}
+
+impl Status {
+    /// The exit status of the program.
+    pub fn code(self) -> u8
+        ensures { result ≡ code_of self }
+    {
+        match self {
+            Status::Ok => 0,
+            Status::Usage => 2,
+            Status::Refused { .. } => 3,
+            Status::ReadFault => 4,
+            Status::WriteFault => 5,
+            Status::OutOfMemory => 6,
+        }
+    }
+}

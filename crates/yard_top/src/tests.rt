@@ -1,0 +1,122 @@
+//! What no clause says: that memory is there where there is plenty, and the texts of known scripts.
+use crate::status::Status;
+use crate::top::sharder;
+use script_text::Why;
+use std::alloc::{AllocError, Global};
+use std::process::Abort;
+use std::test::Fail;
+use yard_io::{Failed, MemSink, MemSource, Sink, WholeSource};
+
+const ONE_COMMAND: &[u8] = b"config shards=1\nsend 1 c1 add 5\ndeliver 1\n";
+
+const ONE_RECORD: &[u8] = b"report
+entity c1 shard 0 records 1 state 5
+record 1 epoch 1 by 1:1 add 5 / added 5 / ok 5
+end
+";
+
+fn solo_words(alloc: Global) -> Result<Vec<String>, AllocError> {
+    let mut words = Vec::new(alloc);
+    words.push(String::from_str(alloc, "solo")?)?;
+    Ok(words)
+}
+
+/// Runs `solo` on a script, where these reads and writes fail, and compares what comes of it.
+fn expect(
+    rt: &(impl Abort + AllocGlobal),
+    script: &[u8],
+    failing_reads: &[u32],
+    failing_writes: &[u32],
+    status: Status,
+    text: &[u8],
+) -> Result<(), Fail> {
+    let alloc = rt.alloc();
+    let words = solo_words(alloc)?;
+    let mut source = MemSource::new(alloc, script, failing_reads)?;
+    let mut sink = MemSink::new(alloc, failing_writes)?;
+    let end = sharder(alloc, words.as_slice(), &mut source, &mut sink);
+    assert_eq!(rt; end, status);
+    assert!(rt; sink.bytes() == text);
+    Ok(())
+}
+
+#[test]
+fn known_scripts(rt: HostRuntime) -> Result<(), Fail> {
+    expect(&rt, ONE_COMMAND, &[], &[], Status::Ok, ONE_RECORD)?;
+    let none = Status::Refused {
+        line: 1,
+        why: Why::NoConfig,
+    };
+    expect(&rt, b"", &[], &[], none, b"")
+}
+
+#[test]
+fn faults(rt: HostRuntime) -> Result<(), Fail> {
+    expect(&rt, ONE_COMMAND, &[1], &[], Status::ReadFault, b"")?;
+    expect(&rt, ONE_COMMAND, &[], &[2], Status::WriteFault, b"report\n")
+}
+
+#[test]
+fn other_words(rt: HostRuntime) -> Result<(), Fail> {
+    let alloc = rt.alloc();
+    let mut source = WholeSource::new(alloc, ONE_COMMAND)?;
+    let mut sink = MemSink::new(alloc, &[])?;
+    let mut words = Vec::new(alloc);
+    for word in ["solo", "solo"] {
+        assert_eq!(rt;
+            sharder(alloc, words.as_slice(), &mut source, &mut sink),
+            Status::Usage
+        );
+        words.push(String::from_str(alloc, "replay")?)?;
+        words.push(String::from_str(alloc, word)?)?;
+    }
+    assert!(rt; sink.bytes().is_empty());
+    Ok(())
+}
+
+#[test]
+fn too_much(rt: HostRuntime) -> Result<(), Fail> {
+    let bytes = vec![in rt.alloc(); b'\n'; 4_194_305]?;
+    let long = Status::Refused {
+        line: 0,
+        why: Why::TooLong,
+    };
+    expect(&rt, bytes.as_slice(), &[], &[], long, b"")
+}
+
+/// A sink that takes one byte a call.
+#[derive(Drop)]
+struct Drip(MemSink);
+
+impl Sink for Drip {
+    ghost taken = { λ d. ⟦<MemSink as Sink>⟧.taken d.0 };
+
+    ghost flushed = { λ d. ⟦<MemSink as Sink>⟧.flushed d.0 };
+
+    ghost faults = { λ d. ⟦<MemSink as Sink>⟧.faults d.0 };
+
+    fn write(&mut self, piece: &[u8]) -> Result<usize, Failed> {
+        match piece {
+            [] => Ok(0),
+            [first, ..] => self.0.write(&[*first]),
+        }
+    }
+
+    fn flush(&mut self) -> Result<(), Failed> {
+        self.0.flush()
+    }
+}
+
+#[test]
+fn one_byte_a_call(rt: HostRuntime) -> Result<(), Fail> {
+    let alloc = rt.alloc();
+    let words = solo_words(alloc)?;
+    let mut source = WholeSource::new(alloc, ONE_COMMAND)?;
+    let mut sink = Drip(MemSink::new(alloc, &[])?);
+    assert_eq!(rt;
+        sharder(alloc, words.as_slice(), &mut source, &mut sink),
+        Status::Ok
+    );
+    assert!(rt; sink.0.bytes() == ONE_RECORD);
+    Ok(())
+}

@@ -2,4 +2,5 @@ pub mod Ends
 pub mod Facts
 pub mod Forms
 pub mod Known
+pub mod Posts
 pub mod Sound

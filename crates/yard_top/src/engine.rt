@@ -17,6 +17,7 @@ ghost use Rattle.yard_model.specs.Script.{is_order};
 ghost use Rattle.yard_model.specs.declared.fact.Fact.TheVariants as fact;
 
 use crate::entity::Entity;
+use crate::posts::Posts;
 use behaviour_core::Behaviour;
 use shard_extract::shard_of;
 use std::alloc::{AllocError, Global};
@@ -36,7 +37,7 @@ const ALONE: Incarnation = Incarnation {
 #[derive(Drop)]
 pub struct Engine {
     pub config: Config,
-    pub posted: Vec<Message>,
+    pub posted: Posts,
     pub entities: BTreeMap<EntityName, Entity>,
     pub lists: Vec<Vec<ShardEntry>>,
 }
@@ -47,15 +48,15 @@ impl Engine {
     pub fn new(alloc: Global, config: &Config) -> Result<Engine, AllocError>
         requires some { 1 ≤ config.now.shards }
         requires most { config.now.shards ≤ 128 }
-        ensures knows { IfOk result (λ e. KnowsAll e.config e.posted.items (facts_of e.lists.items) e.entities) }
-        ensures posted { IfOk result (λ e. e.posted.items ≡ []) }
+        ensures knows { IfOk result (λ e. KnowsAll e.config e.posted (facts_of e.lists.items) e.entities) }
+        ensures posted { IfOk result (λ e. e.posted ≡ []) }
         ensures lists { IfOk result (λ e. facts_of e.lists.items ≡ map held (numbers 0 config.now.shards)) }
         ensures config { IfOk result (λ e. e.config ≡ config.now) }
     {
         let lists = held_lists(alloc, config.shards)?;
         Ok(Engine {
             config: *config,
-            posted: Vec::new(alloc),
+            posted: Posts::new(alloc),
             entities: BTreeMap::new(alloc),
             lists,
         })
@@ -68,13 +69,13 @@ impl Engine {
         lines: &[Line],
         behaviour: &B,
     ) -> Result<(), AllocError>
-        requires knows { KnowsAll self.old.config self.old.posted.items (facts_of self.old.lists.items) self.old.entities }
+        requires knows { KnowsAll self.old.config self.old.posted (facts_of self.old.lists.items) self.old.entities }
         requires kind { B.kind_of behaviour.now ≡ self.old.config.kind }
-        requires posted { self.old.posted.items ≡ [] }
+        requires posted { self.old.posted ≡ [] }
         requires lists { facts_of self.old.lists.items ≡ map held (numbers 0 self.old.config.shards) }
         requires orders { IsTrue (list_all (λ l. is_order self.old.config l.order) lines.now) }
         requires fits { length lines.now ≤ 200000 }
-        ensures state { OnOk result (state_of self.old.config self.new.posted.items (facts_of self.new.lists.items)
+        ensures state { OnOk result (state_of self.old.config self.new.posted (facts_of self.new.lists.items)
             ≡ fold (after_line (bare self.old.config)) (start (bare self.old.config)) lines.now) }
         ensures config { self.new.config ≡ self.old.config }
     {
@@ -91,14 +92,14 @@ impl Engine {
         order: &Order,
         behaviour: &B,
     ) -> Result<(), AllocError>
-        requires knows { KnowsAll self.old.config self.old.posted.items (facts_of self.old.lists.items) self.old.entities }
+        requires knows { KnowsAll self.old.config self.old.posted (facts_of self.old.lists.items) self.old.entities }
         requires kind { B.kind_of behaviour.now ≡ self.old.config.kind }
         requires order { IsTrue (is_order self.old.config order.now) }
-        requires posts { length self.old.posted.items < 4294967295 }
+        requires posts { length self.old.posted < 1000000 }
         requires room { (e : List ℕ) → length (journal e (slice_index_or (facts_of self.old.lists.items) (shard self.old.config.shards e) [])) < 4294967295 }
-        ensures knows { OnOk result (KnowsAll self.new.config self.new.posted.items (facts_of self.new.lists.items) self.new.entities) }
-        ensures state { OnOk result (state_of self.old.config self.new.posted.items (facts_of self.new.lists.items)
-            ≡ after_order (bare self.old.config) (state_of self.old.config self.old.posted.items (facts_of self.old.lists.items)) order.now) }
+        ensures knows { OnOk result (KnowsAll self.new.config self.new.posted (facts_of self.new.lists.items) self.new.entities) }
+        ensures state { OnOk result (state_of self.old.config self.new.posted (facts_of self.new.lists.items)
+            ≡ after_order (bare self.old.config) (state_of self.old.config self.old.posted (facts_of self.old.lists.items)) order.now) }
         ensures config { self.new.config ≡ self.old.config }
     {
         match order {
@@ -115,16 +116,16 @@ impl Engine {
         number: u32,
         behaviour: &B,
     ) -> Result<(), AllocError>
-        requires knows { KnowsAll self.old.config self.old.posted.items (facts_of self.old.lists.items) self.old.entities }
+        requires knows { KnowsAll self.old.config self.old.posted (facts_of self.old.lists.items) self.old.entities }
         requires kind { B.kind_of behaviour.now ≡ self.old.config.kind }
         requires number { 0 < number }
         requires room { (e : List ℕ) → length (journal e (slice_index_or (facts_of self.old.lists.items) (shard self.old.config.shards e) [])) < 4294967295 }
-        ensures knows { OnOk result (KnowsAll self.new.config self.new.posted.items (facts_of self.new.lists.items) self.new.entities) }
+        ensures knows { OnOk result (KnowsAll self.new.config self.new.posted (facts_of self.new.lists.items) self.new.entities) }
         ensures posted { self.new.posted ≡ self.old.posted }
-        ensures lists { OnOk result (facts_of self.new.lists.items ≡ with_one (slice_get self.old.posted.items (number - 1)) self.old.config (facts_of self.old.lists.items)) }
+        ensures lists { OnOk result (facts_of self.new.lists.items ≡ with_one (slice_get self.old.posted (number - 1)) self.old.config (facts_of self.old.lists.items)) }
         ensures config { self.new.config ≡ self.old.config }
     {
-        match posted_at(self.posted.as_slice(), number) {
+        match self.posted.at(number) {
             Some(message) => self.take(alloc, &message, behaviour),
             None => Ok(()),
         }
@@ -138,25 +139,25 @@ impl Engine {
         entity: &EntityName,
         command: &Command,
     ) -> Result<(), AllocError>
-        requires knows { KnowsAll self.old.config self.old.posted.items (facts_of self.old.lists.items) self.old.entities }
+        requires knows { KnowsAll self.old.config self.old.posted (facts_of self.old.lists.items) self.old.entities }
         requires command { IsTrue (is_of_kind self.old.config.kind command.now) }
-        requires room { length self.old.posted.items < 4294967295 }
-        ensures knows { OnOk result (KnowsAll self.new.config self.new.posted.items (facts_of self.new.lists.items) self.new.entities) }
-        ensures posted { OnOk result (self.new.posted.items ≡ self.old.posted.items ++ next_message self.old.posted.items producer entity.now command.now ∷ []) }
+        requires room { length self.old.posted < 1000000 }
+        ensures knows { OnOk result (KnowsAll self.new.config self.new.posted (facts_of self.new.lists.items) self.new.entities) }
+        ensures posted { OnOk result (self.new.posted ≡ self.old.posted ++ next_message self.old.posted producer entity.now command.now ∷ []) }
         ensures lists { OnOk result (self.new.lists ≡ self.old.lists) }
         ensures config { self.new.config ≡ self.old.config }
     {
         let mut known = take_out(alloc, &mut self.entities, entity, self.config.kind);
         let number = known.send(producer);
         self.entities.insert(*entity, known)?;
-        self.posted.push(Message {
+        let message = Message {
             producer,
             entity: *entity,
             number,
             command: *command,
             origin: ALONE,
-        })?;
-        Ok(())
+        };
+        self.posted.post(&message)
     }
 
     /// Delivers a posted message: it is recorded where it is the next of its pair. The only error
@@ -167,11 +168,11 @@ impl Engine {
         message: &Message,
         behaviour: &B,
     ) -> Result<(), AllocError>
-        requires knows { KnowsAll self.old.config self.old.posted.items (facts_of self.old.lists.items) self.old.entities }
+        requires knows { KnowsAll self.old.config self.old.posted (facts_of self.old.lists.items) self.old.entities }
         requires kind { B.kind_of behaviour.now ≡ self.old.config.kind }
         requires command { IsTrue (is_of_kind self.old.config.kind message.now.command) }
         requires room { (e : List ℕ) → length (journal e (slice_index_or (facts_of self.old.lists.items) (shard self.old.config.shards e) [])) < 4294967295 }
-        ensures knows { OnOk result (KnowsAll self.new.config self.new.posted.items (facts_of self.new.lists.items) self.new.entities) }
+        ensures knows { OnOk result (KnowsAll self.new.config self.new.posted (facts_of self.new.lists.items) self.new.entities) }
         ensures posted { self.new.posted ≡ self.old.posted }
         ensures lists { OnOk result (facts_of self.new.lists.items ≡ with_taken self.old.config (facts_of self.old.lists.items) message.now) }
         ensures config { self.new.config ≡ self.old.config }
@@ -227,14 +228,6 @@ fn push_record(
     let list = &mut lists[place];
     list.push(ShardEntry::Wrote(*entity, *entry))?;
     Ok(())
-}
-
-/// The message of this number, from 1.
-fn posted_at(posted: &[Message], number: u32) -> Option<Message>
-    requires { 0 < number }
-    ensures { result ≡ slice_get posted.now (number - 1) }
-{
-    posted.get(number as usize - 1).copied()
 }
 
 /// What is known of a name, taken out of the map.

@@ -6,6 +6,7 @@ mod engine;
 mod entity;
 mod forms;
 mod output;
+mod posts;
 mod solo;
 mod status;
 mod top;

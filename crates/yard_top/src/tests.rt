@@ -15,6 +15,61 @@ record 1 epoch 1 by 1:1 add 5 / added 5 / ok 5
 end
 ";
 
+const COLLISION_GAP_REPEAT: &[u8] = b"config shards=10
+send 1 Aa add 1
+send 1 BB add 2
+send 1 Aa add 3
+deliver 3
+deliver 1
+deliver 2
+deliver 3
+deliver 1
+";
+
+const TWO_NAMES_OF_ONE_SHARD: &[u8] = b"report
+entity Aa shard 2 records 2 state 4
+record 1 epoch 1 by 1:1 add 1 / added 1 / ok 1
+record 2 epoch 1 by 1:2 add 3 / added 3 / ok 4
+entity BB shard 2 records 1 state 2
+record 1 epoch 1 by 1:1 add 2 / added 2 / ok 2
+end
+";
+
+const ACCOUNT: &[u8] = b"config kind=account shards=1 producers=1
+send 1 a deposit 5
+send 1 a create
+send 1 a deposit 100
+send 1 a withdraw 150
+send 1 a close
+send 1 a withdraw 100
+send 1 a close
+send 1 a balance
+send 1 a create
+deliver 1
+deliver 2
+deliver 3
+deliver 4
+deliver 5
+deliver 6
+deliver 7
+deliver 8
+deliver 9
+";
+
+const CLOSED_ACCOUNT: &[u8] = b"report
+entity a shard 0 records 9 state closed
+record 1 epoch 1 by 1:1 deposit 5 / - / no 1
+record 2 epoch 1 by 1:2 create / created / ok 0
+record 3 epoch 1 by 1:3 deposit 100 / deposited 100 / ok 100
+record 4 epoch 1 by 1:4 withdraw 150 / - / no 3
+record 5 epoch 1 by 1:5 close / - / no 4
+record 6 epoch 1 by 1:6 withdraw 100 / withdrawn 100 / ok 0
+record 7 epoch 1 by 1:7 close / closed / ok 0
+record 8 epoch 1 by 1:8 balance / - / no 1
+record 9 epoch 1 by 1:9 create / - / no 2
+end
+";
+
 fn solo_words(alloc: Global) -> Result<Vec<String>, AllocError> {
     let mut words = Vec::new(alloc);
     words.push(String::from_str(alloc, "solo")?)?;
@@ -42,7 +97,13 @@ fn expect(
 
 #[test]
 fn known_scripts(rt: HostRuntime) -> Result<(), Fail> {
-    expect(&rt, ONE_COMMAND, &[], &[], Status::Ok, ONE_RECORD)?;
+    for (script, text) in [
+        (ONE_COMMAND, ONE_RECORD),
+        (COLLISION_GAP_REPEAT, TWO_NAMES_OF_ONE_SHARD),
+        (ACCOUNT, CLOSED_ACCOUNT),
+    ] {
+        expect(&rt, script, &[], &[], Status::Ok, text)?;
+    }
     let none = Status::Refused {
         line: 1,
         why: Why::NoConfig,

@@ -8,5 +8,5 @@ use Rattle.yard_top.proofs.engine.Engine.new.Goals as goal
 
 pub returns-clause-knows : goal.returns-clause-knows
 returns-clause-knows c =
-    subst (λ (l : List Message). KnowsAll c.args.config.now l (facts_of c.in_ok-lists.lists.items) c.new-2.result) (sym c.new.ensures.items)
+    subst (λ (l : List Message). KnowsAll c.args.config.now l (facts_of c.in_ok-lists.lists.items) c.new-2.result) (sym c.new.ensures)
     (knows_nothing c.args.config.now c.requires.some c.requires.most (facts_of c.in_ok-lists.lists.items) c.in_ok-lists.ensures c.new-2.result c.new-2.ensures.empty)

@@ -20,7 +20,7 @@ use Rattle.yard_top.proofs.engine.Engine.play.Goals as goal
 pub loop-line-init : goal.loop-line-init
 loop-line-init g c =
     let cfg : Config = c.args.self.now.config in
-    let posted : List Message = c.args.self.now.posted.items in
+    let posted : List Message = c.args.self.now.posted in
     let lists : List (List Fact) = facts_of c.args.self.now.lists.items in
     let none : length posted ≡ 0 = ap length c.requires.posted in
     record {
@@ -37,9 +37,9 @@ loop-line-preserved g c =
     let cfg : Config = c.args.self.now.config in
     let i : ℕ = c.loop-line.line-index in
     let line : Line = c.line-item.result in
-    let posted : List Message = c.loop-line.self.posted.items in
+    let posted : List Message = c.loop-line.self.posted in
     let lists : List (List Fact) = facts_of c.loop-line.self.lists.items in
-    let posted' : List Message = c.order.new.self.posted.items in
+    let posted' : List Message = c.order.new.self.posted in
     let lists' : List (List Fact) = facts_of c.order.new.self.lists.items in
     let same : c.loop-line.self.config ≡ cfg = c.loop-line.invariant.config in
     let cut : drop i c.args.lines.now ≡ line ∷ drop (i + 1) c.args.lines.now = drop_more c.args.lines.now i line c.loop-line-test.true ∙ ap (λ (x : Line). x ∷ drop (i + 1) c.args.lines.now) (sym c.line-item.is) in

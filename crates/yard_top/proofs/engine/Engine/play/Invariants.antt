@@ -12,11 +12,11 @@ use Rattle.yard_top.proofs.engine.Engine.play.Given as goal
 
 abbrev pub invariant-loop-line : goal.invariant-loop-line
 invariant-loop-line g l = record {
-  knows : KnowsAll l.self.config l.self.posted.items (facts_of l.self.lists.items) l.self.entities;
+  knows : KnowsAll l.self.config l.self.posted (facts_of l.self.lists.items) l.self.entities;
   config : l.self.config ≡ l.initial.self.config;
-  state : fold (after_line (bare l.initial.self.config)) (state_of l.initial.self.config l.self.posted.items (facts_of l.self.lists.items)) (drop l.line-index l.lines)
+  state : fold (after_line (bare l.initial.self.config)) (state_of l.initial.self.config l.self.posted (facts_of l.self.lists.items)) (drop l.line-index l.lines)
       ≡ fold (after_line (bare l.initial.self.config)) (start (bare l.initial.self.config)) l.lines;
   orders : IsTrue (list_all (λ (x : Line). is_order l.initial.self.config x.order) (drop l.line-index l.lines));
-  posts : length l.self.posted.items ≤ l.line-index;
+  posts : length l.self.posted ≤ l.line-index;
   room : (e : List ℕ) → length (journal e (slice_index_or (facts_of l.self.lists.items) (shard l.initial.self.config.shards e) [])) ≤ l.line-index;
 }

@@ -1,6 +1,6 @@
 -- The lists of the shards, as facts.
-use Rattle.std.proofs.Common.{◌≡◌, ◌≢◌, ◌<◌, ◌≤◌, ℕ, zero, suc, ◌+◌, ◌-◌, sym, ap, ◌∙◌, refl, subst, arith, Vec, Global}
-use Rattle.std.specs.Prelude.{Bool, true, false, ◌==◌, List, [], ◌∷◌, ◌++◌, length, map, fold, slice_index_or, slice_set}
+use Rattle.std.proofs.Common.{◌≡◌, ◌<◌, ◌≤◌, ℕ, zero, suc, ◌+◌, ◌-◌, sym, ap, ◌∙◌, refl, arith, Vec, Global}
+use Rattle.std.specs.Prelude.{List, [], ◌∷◌, ◌++◌, length, map, slice_index_or, slice_set}
 use Rattle.std.proofs.lemmas.List.{map-append, append_assoc}
 use Rattle.std.proofs.lemmas.List.Sums.{fold-append}
 use Rattle.yard_model.specs.declared.fact.Fact.{Fact}
@@ -9,7 +9,6 @@ use Rattle.yard_model.specs.declared.entry.ShardEntry.{ShardEntry}
 use Rattle.yard_model.specs.declared.entry.ShardEntry.TheVariants as entry
 use Rattle.yard_model.specs.declared.packet.Record.{Record}
 use Rattle.yard_model.specs.Entry.{shard_fact}
-use Rattle.yard_model.specs.Script.{is_name}
 use Rattle.yard_model.specs.SlotReads.{journal, journal_step}
 use Rattle.yard_top.specs.Facts.{facts_from, facts_of, with_fact, held}
 use Rattle.yard_model.specs.Words.{numbers}

@@ -1,6 +1,6 @@
 -- What one order adds: at most one message, and at most one record to each journal.
-use Rattle.std.proofs.Common.{◌≡◌, ◌<◌, ◌≤◌, ℕ, ◌+◌, ◌-◌, sym, ap, ◌∙◌, refl, subst, arith, length-append}
-use Rattle.std.specs.Prelude.{Bool, true, false, ◌==◌, List, [], ◌∷◌, ◌++◌, length, slice_index_or, Option, Some, None, if◌then◌else◌}
+use Rattle.std.proofs.Common.{◌≡◌, ◌<◌, ◌≤◌, ℕ, ◌+◌, ◌-◌, ap, ◌∙◌, refl, arith, length-append}
+use Rattle.std.specs.Prelude.{true, false, ◌==◌, List, [], ◌∷◌, ◌++◌, length, slice_index_or, Option, Some, None, if◌then◌else◌}
 use Rattle.std.specs.List.{slice_get}
 use Rattle.yard_model.specs.declared.charter.Config.{Config}
 use Rattle.yard_model.specs.declared.charter.Order.{Order}
@@ -13,7 +13,7 @@ use Rattle.yard_model.specs.Script.{is_name}
 use Rattle.yard_model.specs.Shard.{shard}
 use Rattle.yard_model.specs.SlotLists.{SlotLists, shard_list}
 use Rattle.yard_model.specs.SlotReads.{journal, position}
-use Rattle.yard_model.specs.Solo.{Solo, after_order, with_delivery, with_delivered, with_entry, next_message, next_record}
+use Rattle.yard_model.specs.Solo.{after_order, with_delivery, with_delivered, with_entry, next_message, next_record}
 use Rattle.yard_top.specs.Facts.{state_of, bare, with_fact}
 use Rattle.yard_top.proofs.KnownLaws.{journal_of_it, journal_of_another}
 

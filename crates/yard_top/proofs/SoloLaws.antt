@@ -1,5 +1,5 @@
 -- The journals of `solo`: one induction over the orders of a script.
-use Rattle.std.proofs.Common.{◌≡◌, ◌≢◌, ◌<◌, ◌≤◌, ℕ, zero, suc, ◌+◌, ◌-◌, sym, ap, ◌∙◌, refl, subst, arith, length-append}
+use Rattle.std.proofs.Common.{◌≡◌, ◌<◌, ◌≤◌, ℕ, ◌+◌, ◌-◌, sym, ap, ◌∙◌, refl, subst, arith, length-append}
 use Rattle.std.specs.Prelude.{Bool, true, false, ◌==◌, ◌&&◌, nat_lt, nat_le, cond, ◌↔◌, List, [], ◌∷◌, ◌++◌, length, map, filter, fold, slice_index_or, Option, Some, None, if◌then◌else◌, IsTrue}
 use Rattle.std.specs.List.{list_all, slice_get}
 use Rattle.std.specs.Option.{option_map_or}
@@ -7,9 +7,7 @@ use Rattle.std.proofs.lemmas.Bool.Decides.{Decides-eqb}
 use Rattle.std.proofs.lemmas.List.{append-nil, append_assoc, map-append, length-map, length-set}
 use Rattle.std.proofs.lemmas.List.Elements.{filter-append}
 use Rattle.std.proofs.lemmas.List.Folds.{list_all-append}
-use Rattle.std.proofs.lemmas.List.Sums.{fold-append}
 use Rattle.std.proofs.Math.Bool.{and-true, and_assoc}
-use Rattle.yard_model.specs.declared.charter.Config.{Config}
 use Rattle.yard_model.specs.declared.charter.Line.{Line}
 use Rattle.yard_model.specs.declared.charter.Order.{Order}
 use Rattle.yard_model.specs.declared.charter.Order.TheVariants as order
@@ -17,7 +15,6 @@ use Rattle.yard_model.specs.declared.charter.Sending.{Sending}
 use Rattle.yard_model.specs.declared.event.Command.{Command}
 use Rattle.yard_model.specs.declared.event.Decision.{Decision}
 use Rattle.yard_model.specs.declared.event.Kind.{Kind}
-use Rattle.yard_model.specs.declared.fact.Fact.{Fact}
 use Rattle.yard_model.specs.declared.fact.Fact.TheVariants as fact
 use Rattle.yard_model.specs.declared.packet.Message.{Message}
 use Rattle.yard_model.specs.declared.packet.Record.{Record}
@@ -27,7 +24,7 @@ use Rattle.yard_model.specs.Equal.{is_command, is_decision}
 use Rattle.yard_model.specs.Follow.{each_follows}
 use Rattle.yard_model.specs.Genuine.{is_planned}
 use Rattle.yard_model.specs.Lawful.{is_folded, is_folded_after, is_merged, is_merged_after}
-use Rattle.yard_model.specs.Script.{Script, IsScript, setting, sends, sends_in, with_send_of, with_order, with_send, count_to, plan, is_name, is_order, is_config, names_in}
+use Rattle.yard_model.specs.Script.{Script, IsScript, setting, sends, with_send_of, with_order, with_send, count_to, plan, is_name, is_order, is_config, names_in}
 use Rattle.yard_model.specs.Shard.{shard, absolute, java_hash}
 use Rattle.yard_model.specs.Words.{numbers}
 use Rattle.std.proofs.Math.Nat.{mod-lt}
@@ -41,7 +38,7 @@ use Rattle.yard_model.specs.Setting.{shard_of}
 use Rattle.yard_top.specs.Facts.{with_fact, held}
 use Rattle.yard_top.specs.Sound.{IsSound, solo_journal}
 use Rattle.yard_top.proofs.FactsLaws.{no_records}
-use Rattle.yard_top.proofs.KnownLaws.{pair_more, journal_of_it, journal_of_another, all_at, and_both, same_name, true_is_not_false, not_same, numbers_length}
+use Rattle.yard_top.proofs.KnownLaws.{pair_more, journal_of_it, journal_of_another, all_at, and_both, same_name, numbers_length}
 
 -- Settings in range.
 

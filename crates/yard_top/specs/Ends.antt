@@ -1,8 +1,7 @@
 -- How a run of the program may end, and what each end says.
-use Rattle.std.specs.Prelude.{◌≡◌, ◌⊎◌, ℕ, List, take, Option, Some, None, IfSome}
+use Rattle.std.specs.Prelude.{◌≡◌, ◌⊎◌, ℕ, List, take, Option, IfSome}
 use Rattle.yard_io.specs.Told.{followed_by, without_first, count_of, TakesFront}
 use Rattle.script_text.specs.Reading.{Reading, Spelled, Refused, reading}
-use Rattle.script_text.specs.declared.fault.Mode.{Mode}
 use Rattle.script_text.specs.declared.fault.Mode.TheVariants as mode
 use Rattle.script_text.specs.declared.fault.Why.{Why}
 use Rattle.yard_model.specs.Script.{Script}

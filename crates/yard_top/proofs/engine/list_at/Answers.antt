@@ -1,6 +1,5 @@
-use Rattle.std.proofs.Common.{◌≡◌, ◌<◌, ◌≤◌, ℕ, length, ap, sym, ◌∙◌, subst, arith}
-use Rattle.std.specs.Prelude.{List, [], map, slice_index_or}
-use Rattle.yard_model.specs.declared.fact.Fact.{Fact}
+use Rattle.std.proofs.Common.{◌≡◌, ◌<◌, ◌≤◌, ℕ, length, ap, ◌∙◌, subst, arith}
+use Rattle.std.specs.Prelude.{[], map, slice_index_or}
 use Rattle.yard_model.specs.Entry.{shard_fact}
 use Rattle.yard_top.specs.Facts.{facts_of}
 use Rattle.yard_top.proofs.FactsLaws.{list_there, list_missing}

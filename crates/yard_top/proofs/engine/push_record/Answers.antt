@@ -1,5 +1,5 @@
-use Rattle.std.proofs.Common.{◌≡◌, ◌<◌, ℕ, sym, ap, ◌∙◌, subst, arith}
-use Rattle.std.specs.Prelude.{length, slice_set}
+use Rattle.std.proofs.Common.{◌≡◌, ◌<◌, sym, ap, ◌∙◌, subst, arith}
+use Rattle.std.specs.Prelude.{length}
 use Rattle.std.proofs.Math.Nat.{mod-lt}
 use Rattle.yard_model.specs.Shard.{shard, absolute, java_hash}
 use Rattle.yard_model.specs.declared.fact.Fact.TheVariants as fact

@@ -1,5 +1,5 @@
 use Rattle.std.proofs.Common.{◌≡◌, ap, sym, ◌∙◌, subst}
-use Rattle.std.specs.Prelude.{true, List, ◌++◌}
+use Rattle.std.specs.Prelude.{true, ◌++◌}
 use Rattle.yard_model.specs.Script.{setting}
 use Rattle.yard_model.specs.SlotLists.{SlotLists}
 use Rattle.yard_model.specs.Text.{report}

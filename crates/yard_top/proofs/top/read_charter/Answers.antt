@@ -1,4 +1,4 @@
-use Rattle.std.proofs.Common.{◌≡◌, ap, sym, ◌∙◌, subst}
+use Rattle.std.proofs.Common.{ap, sym, ◌∙◌, subst}
 use Rattle.script_text.specs.Reading.{reading, TellsFault}
 use Rattle.script_text.specs.declared.fault.Mode.TheVariants as mode
 use Rattle.script_text.specs.declared.fault.ScriptFault.{ScriptFault}

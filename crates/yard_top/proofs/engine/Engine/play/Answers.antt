@@ -1,15 +1,14 @@
 use Rattle.std.proofs.Common.{◌≡◌, ◌<◌, ◌≤◌, ℕ, ◌+◌, List, [], ◌∷◌, length, drop, refl, ap, sym, ◌∙◌, subst, arith}
-use Rattle.std.specs.Prelude.{fold, slice_index_or, IsTrue, true}
+use Rattle.std.specs.Prelude.{fold, IsTrue}
 use Rattle.std.specs.List.{list_all}
 use Rattle.std.proofs.lemmas.List.{drop_more}
 use Rattle.yard_model.specs.declared.charter.Config.{Config}
 use Rattle.yard_model.specs.declared.charter.Line.{Line}
-use Rattle.yard_model.specs.declared.charter.Order.{Order}
 use Rattle.yard_model.specs.declared.fact.Fact.{Fact}
 use Rattle.yard_model.specs.declared.packet.Message.{Message}
 use Rattle.yard_model.specs.Script.{is_order}
 use Rattle.yard_model.specs.Shard.{shard}
-use Rattle.yard_model.specs.Solo.{Solo, after_line, after_order, start}
+use Rattle.yard_model.specs.Solo.{Solo, after_line, after_order}
 use Rattle.yard_model.specs.Words.{numbers}
 use Rattle.yard_top.specs.Facts.{facts_of, state_of, bare}
 use Rattle.yard_top.proofs.FactsLaws.{no_records}

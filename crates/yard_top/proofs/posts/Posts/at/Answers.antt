@@ -1,5 +1,5 @@
-use Rattle.std.proofs.Common.{◌≡◌, ◌-◌, ℕ, ap, sym, ◌∙◌}
-use Rattle.std.specs.Prelude.{List, Option, Some, None, option_map, slice_get}
+use Rattle.std.proofs.Common.{◌≡◌, ◌-◌, ap, sym, ◌∙◌}
+use Rattle.std.specs.Prelude.{List, Some, None, option_map, slice_get}
 use Rattle.std.proofs.lemmas.Option.{slice_get-map}
 use Rattle.yard_model.specs.declared.packet.Packet.{Packet}
 use Rattle.yard_top.specs.Posts.{is_message, message_of}

@@ -1,3 +1,4 @@
+mod CameLaws
 mod FactsLaws
 mod KnownLaws
 mod OutputLaws

@@ -1,5 +1,5 @@
 -- How a run of the program may end, and what each end says.
-use Rattle.std.specs.Prelude.{◌≡◌, ◌⊎◌, ℕ, List, take, Option, IfSome}
+use Rattle.std.specs.Prelude.{◌≡◌, ◌⊎◌, ℕ, List, length, take, Option, IfSome}
 use Rattle.yard_io.specs.Told.{followed_by, without_first, count_of, TakesFront}
 use Rattle.script_text.specs.Reading.{Reading, Spelled, Refused, reading}
 use Rattle.script_text.specs.declared.fault.Mode.TheVariants as mode
@@ -49,9 +49,10 @@ IfNoMemory s P = Unit {0}
 abbrev pub most_read : ℕ
 most_read = 4194305
 
--- these bytes came of a source, which had and then has these left, where it tells
+-- these bytes came of a source, which had and then has these left, where it tells: all to the end of the input, or the most that is read
 pub record Came (had has : Option (List ℕ)) (bytes : List ℕ) : Type 0 where
   pub bytes_are : IfSome had (λ xs. bytes ≡ take most_read xs)
+  pub end : IfSome had (λ xs. (bytes ≡ xs) ⊎ (length bytes ≡ most_read))
   pub left : has ≡ without_first most_read had
 
 -- what a sink had taken and flushed, where it tells
@@ -64,6 +65,7 @@ pub record WroteSolo (had has : Option (List ℕ)) (before after : Taken) : Type
   pub input : List ℕ
   pub script : Script
   pub came : Came had has input
+  pub all : IfSome had (λ xs. input ≡ xs)
   pub spelled : reading mode.Solo input ≡ Spelled script
   pub written : after.bytes ≡ followed_by before.bytes (solo_text script)
   pub flushed : after.flushed ≡ count_of after.bytes
@@ -74,6 +76,7 @@ pub record BeganSolo (had has : Option (List ℕ)) (before after : Taken) : Type
   pub input : List ℕ
   pub script : Script
   pub came : Came had has input
+  pub all : IfSome had (λ xs. input ≡ xs)
   pub spelled : reading mode.Solo input ≡ Spelled script
   pub begun : TakesFront before.bytes after.bytes (solo_text script)
 
@@ -87,6 +90,7 @@ pub record CameRefused (had has : Option (List ℕ)) (line : ℕ) (why : Why) : 
 pub record SoloCame (had has : Option (List ℕ)) (script : Script) : Type 0 where
   pub input : List ℕ
   pub came : Came had has input
+  pub all : IfSome had (λ xs. input ≡ xs)
   pub spelled : reading mode.Solo input ≡ Spelled script
 
 -- a run that ends before anything is written

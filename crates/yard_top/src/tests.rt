@@ -111,6 +111,46 @@ fn known_scripts(rt: HostRuntime) -> Result<(), Fail> {
     expect(&rt, b"", &[], &[], none, b"")
 }
 
+/// A comment of so many bytes, and settings.
+fn after_comment(alloc: Global, bytes: usize) -> Result<Vec<u8>, AllocError> {
+    let mut script = vec![in alloc; b'#'; bytes]?;
+    script.extend_from_slice(b"\nconfig shards=1\n")?;
+    Ok(script)
+}
+
+#[test]
+fn odd_scripts(rt: HostRuntime) -> Result<(), Fail> {
+    let cases: [(&[u8], u32, Why); 8] = [
+        (b"# a\n# b\n", 1, Why::NoConfig),
+        (b"config\n\0\n", 2, Why::NotText),
+        (b"config\ndeliver 999999999999999999\n", 2, Why::OutOfRange),
+        (b"config\ndeliver 1000000000000000000\n", 2, Why::BadNumber),
+        (b"config keep=1 keep=1\n", 1, Why::ExtraWord),
+        (b"config shards=0\n", 1, Why::OutOfRange),
+        (b"config kind=tree\n", 1, Why::UnknownWord),
+        (b"config\nup 1\n", 2, Why::WrongMode),
+    ];
+    for (script, line, why) in cases {
+        expect(&rt, script, &[], &[], Status::Refused { line, why }, b"")?;
+    }
+    for script in [b"# \0\nconfig\n".as_slice(), b"config\r\n".as_slice()] {
+        expect(&rt, script, &[], &[], Status::Ok, b"report\nend\n")?;
+    }
+    Ok(())
+}
+
+#[test]
+fn long_lines(rt: HostRuntime) -> Result<(), Fail> {
+    let fits = after_comment(rt.alloc(), 256)?;
+    expect(&rt, fits.as_slice(), &[], &[], Status::Ok, b"report\nend\n")?;
+    let long = after_comment(rt.alloc(), 257)?;
+    let refused = Status::Refused {
+        line: 1,
+        why: Why::LongLine,
+    };
+    expect(&rt, long.as_slice(), &[], &[], refused, b"")
+}
+
 #[test]
 fn faults(rt: HostRuntime) -> Result<(), Fail> {
     expect(&rt, ONE_COMMAND, &[1], &[], Status::ReadFault, b"")?;

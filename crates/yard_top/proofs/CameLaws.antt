@@ -1,13 +1,13 @@
 -- What came is the whole input, or the most that is read.
-use Rattle.std.proofs.Common.{◌≡◌, ◌<◌, ◌≤◌, ℕ, List, length, take, sym, ap, ◌∙◌, refl, subst, arith, inl, inr, length-take-le}
-use Rattle.std.specs.Prelude.{Bool, true, false, nat_lt, nat_le, Option, Some, None, IfSome, ◌⊎◌, if◌then◌else◌}
+use Rattle.std.proofs.Common.{◌≡◌, ◌<◌, ◌≤◌, ℕ, List, length, take, ap, ◌∙◌, refl, arith, inl, inr, length-take-le}
+use Rattle.std.specs.Prelude.{true, false, nat_le, Option, Some, None, IfSome, ◌⊎◌, if◌then◌else◌}
 use Rattle.std.proofs.lemmas.List.{take_all}
 use Rattle.std.proofs.lemmas.Bool.Decides.{nat_tests}
 use Rattle.std.specs.Str.Lines.{lines}
 use Rattle.yard_model.specs.Script.{Script}
 use Rattle.script_text.specs.declared.fault.Mode.{Mode}
 use Rattle.script_text.specs.declared.fault.Why.TheVariants as why
-use Rattle.script_text.specs.Reading.{Reading, Spelled, Refused, reading, lines_read, is_too_long}
+use Rattle.script_text.specs.Reading.{Spelled, Refused, reading, lines_read, is_too_long}
 use Rattle.yard_top.specs.Ends.{most_read}
 
 taken_end : (xs bytes : List ℕ) → bytes ≡ take most_read xs → (bytes ≡ xs) ⊎ (length bytes ≡ most_read)

@@ -9,8 +9,7 @@ ghost use Rattle.yard_model.specs.Shard.{shard};
 ghost use Rattle.yard_model.specs.Solo.{next_message, after_order, after_line, alone, start};
 ghost use Rattle.yard_model.specs.SlotReads.{journal};
 ghost use Rattle.yard_top.specs.Known.{Known, known_or, KnowsAll, sent_at};
-ghost use Rattle.yard_top.specs.Facts.{facts_of, with_fact, with_taken, with_one, held, state_of, lists_of, bare};
-ghost use Rattle.yard_model.specs.Entry.{shard_fact};
+ghost use Rattle.yard_top.specs.Facts.{facts_of, with_fact, with_taken, with_one, held, state_of, bare};
 ghost use Rattle.yard_model.specs.declared.entry.ShardEntry.TheVariants as entry;
 ghost use Rattle.yard_model.specs.Words.{numbers};
 ghost use Rattle.yard_model.specs.Script.{is_order};
@@ -243,33 +242,5 @@ fn take_out(
     match entities.remove(entity) {
         Some(known) => known,
         None => Entity::new(alloc, kind),
-    }
-}
-
-impl Lists for Engine {
-    ghost lists = { λ e. lists_of e.config (facts_of e.lists.items) };
-
-    fn shard(&self, s: ShardNo) -> &[ShardEntry] {
-        list_at(self.lists.as_slice(), s)
-    }
-
-    fn coordinator(&self) -> &[CoordEntry] {
-        &[]
-    }
-
-    fn queue(&self, _p: ProducerNo) -> &[QueueEntry] {
-        &[]
-    }
-}
-
-/// The list of a shard; empty where there is no such shard.
-fn list_at(lists: &[Vec<ShardEntry>], s: ShardNo) -> &[ShardEntry]
-    ensures { map (shard_fact s) result.now ≡ slice_index_or (facts_of lists.now) s [] }
-{
-    let place = s.get() as usize;
-    if place < lists.len() {
-        lists[place].as_slice()
-    } else {
-        &[]
     }
 }

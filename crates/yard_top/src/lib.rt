@@ -6,8 +6,10 @@ mod engine;
 mod entity;
 mod forms;
 mod output;
+mod played;
 mod posts;
 mod solo;
+mod sound;
 mod status;
 mod top;
 

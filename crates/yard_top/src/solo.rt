@@ -1,29 +1,17 @@
 //! `solo`: from a script to its report.
-ghost use Rattle.std.specs.Prelude.{◌≡◌, ◌↔◌, IfOk, IsTrue, List, ℕ};
-ghost use Rattle.yard_model.specs.Script.{Script, IsScript, setting};
+ghost use Rattle.std.specs.Prelude.{◌≡◌, IfOk, List, ℕ};
 ghost use Rattle.yard_model.specs.Solo.{solo, solo_text};
 ghost use Rattle.yard_top.specs.Facts.{facts_of, lists_of};
 ghost use Rattle.yard_top.specs.Sound.{IsSound, solo_journal};
 
 use crate::engine::Engine;
+use crate::played::Played;
+use crate::sound::journals_are_sound;
 use behaviour_core::Behaviour;
-use behaviour_core::laws::decided_law;
 use behaviour_kinds::{Account, Cart, Counter};
 use std::alloc::{AllocError, Global};
 use trace_text::push_report;
-use yard_model::laws::{command_law, decision_law};
 use yard_model::{Charter, Kind};
-
-/// In every journal of `solo` each record has the next number, and its events and reply are those
-/// that are decided at the state of the records before it; of each producer the journal has the
-/// first commands that the script sends to the entity, once and in order.
-pub fn journals_are_sound()
-    ensures { (c : Script) → IsScript c → (e : List ℕ) → IsSound c e (solo_journal c e) }
-{
-    command_law();
-    decision_law();
-    decided_law();
-}
 
 /// The text that `solo` writes for this script. The only error is want of memory.
 pub fn solo_report(alloc: Global, charter: &Charter) -> Result<Vec<u8>, AllocError>
@@ -33,14 +21,16 @@ pub fn solo_report(alloc: Global, charter: &Charter) -> Result<Vec<u8>, AllocErr
     journals_are_sound();
     charter.config();
     let engine = engine_after(alloc, charter)?;
+    let played = Played::new(charter, engine);
     let mut text = Vec::new(alloc);
-    push_report(&mut text, charter, &engine)?;
+    push_report(&mut text, charter, &played)?;
     Ok(text)
 }
 
 /// The engine after all orders of the script, which decides by the script's kind.
 fn engine_after(alloc: Global, charter: &Charter) -> Result<Engine, AllocError>
-    ensures { IfOk result (λ e. lists_of e.config (facts_of e.lists.items) ≡ (solo charter.now).lists) }
+    ensures config { IfOk result (λ e. e.config ≡ charter.now.config) }
+    ensures lists { IfOk result (λ e. lists_of e.config (facts_of e.lists.items) ≡ (solo charter.now).lists) }
 {
     match charter.config().kind {
         Kind::Counter => played(alloc, charter, &Counter),
@@ -56,7 +46,8 @@ fn played<B: Behaviour>(
     behaviour: &B,
 ) -> Result<Engine, AllocError>
     requires { B.kind_of behaviour.now ≡ charter.now.config.kind }
-    ensures { IfOk result (λ e. lists_of e.config (facts_of e.lists.items) ≡ (solo charter.now).lists) }
+    ensures config { IfOk result (λ e. e.config ≡ charter.now.config) }
+    ensures lists { IfOk result (λ e. lists_of e.config (facts_of e.lists.items) ≡ (solo charter.now).lists) }
 {
     let mut engine = Engine::new(alloc, charter.config())?;
     engine.play(alloc, charter.orders(), behaviour)?;

@@ -10,10 +10,10 @@ use Rattle.yard_top.proofs.solo.solo_report.Goals as goal
 
 pub push_report-requires : goal.push_report-requires
 push_report-requires c =
-    subst (λ (l : SlotLists). is_foldable_in_all (setting c.args.charter.now) l ≡ true) (sym c.in_ok-engine.ensures)
+    subst (λ (l : SlotLists). is_foldable_in_all (setting c.args.charter.now) l ≡ true) (sym c.new-played.ensures)
     (solo_foldable c.args.charter.now (c.journals_are_sound.ensures c.args.charter.now c.config.ensures.script))
 
 pub returns-clause-text : goal.returns-clause-text
 returns-clause-text c =
-    let lists : SlotLists = lists_of c.in_ok-engine.engine.config (facts_of c.in_ok-engine.engine.lists.items) in
-    c.in_ok-push_report.ensures ∙ (ap (λ l. l ++ report (setting c.args.charter.now) lists) c.new-text.ensures.items ∙ ap (report (setting c.args.charter.now)) c.in_ok-engine.ensures)
+    let lists : SlotLists = lists_of c.new-played.result.charter.now.config (facts_of c.new-played.result.lists.items) in
+    c.in_ok-push_report.ensures ∙ (ap (λ l. l ++ report (setting c.args.charter.now) lists) c.new-text.ensures.items ∙ ap (report (setting c.args.charter.now)) c.new-played.ensures)

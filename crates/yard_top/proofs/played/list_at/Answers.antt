@@ -3,7 +3,7 @@ use Rattle.std.specs.Prelude.{[], map, slice_index_or}
 use Rattle.yard_model.specs.Entry.{shard_fact}
 use Rattle.yard_top.specs.Facts.{facts_of}
 use Rattle.yard_top.proofs.FactsLaws.{list_there, list_missing}
-use Rattle.yard_top.proofs.engine.list_at.Goals as goal
+use Rattle.yard_top.proofs.played.list_at.Goals as goal
 
 pub returns-then-place-lists : goal.returns-then-place-lists
 returns-then-place-lists c =

@@ -6,3 +6,4 @@ pub mod PartsLaws
 pub mod Places
 pub mod Recorded
 pub mod SafetyLaws
+pub mod WordsLaws

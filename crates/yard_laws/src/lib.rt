@@ -4,3 +4,4 @@
 
 pub mod acts;
 pub mod safety;
+pub mod trace;

@@ -68,6 +68,14 @@ all_where {X} p q pick r h (x ∷ xs) e f = step (pick x) refl f (λ g. all_wher
         both (q x) (list_all q xs) (h x (and_both (p x) (list_all p xs) e).0 (λ u. m.0)) (rest m.1)
     step false t g rest = both (q x) (list_all q xs) (h x (and_both (p x) (list_all p xs) e).0 (λ u. absurd (true_is_not_false (sym u ∙ t)))) (rest g)
 
+pub all_filter : {X : Type 0} (p pick : X → Bool) → (xs : List X) → list_all p xs ≡ true → list_all p (filter pick xs) ≡ true
+all_filter p pick [] e = refl
+all_filter {X} p pick (x ∷ xs) e = step (pick x) (all_filter p pick xs (and_both (p x) (list_all p xs) e).1)
+  where
+    step : (b : Bool) → list_all p (filter pick xs) ≡ true → list_all p (cond b (x ∷ filter pick xs) (filter pick xs)) ≡ true
+    step true h = both (p x) (list_all p (filter pick xs)) (and_both (p x) (list_all p xs) e).0 h
+    step false h = h
+
 pub all_set : {X : Type 0} (p : X → Bool) (xs : List X) (i : ℕ) (v : X) → list_all p xs ≡ true → p v ≡ true → list_all p (slice_set xs i v) ≡ true
 all_set p [] i v e h = refl
 all_set p (x ∷ xs) zero v e h = both (p v) (list_all p xs) h (and_both (p x) (list_all p xs) e).1

@@ -31,3 +31,8 @@ follows_by may also gives P step before (x ∷ xs) p e f =
     let a : (also before x ≡ true) × (each_follows also (before ++ x ∷ []) xs ≡ true) = and_both (also before x) (each_follows also (before ++ x ∷ []) xs) f in
     let new : P (before ++ x ∷ []) × (gives before x ≡ true) = step before x p m.0 a.0 in
     both (gives before x) (each_follows gives (before ++ x ∷ []) xs) new.1 (follows_by may also gives P step (before ++ x ∷ []) xs new.0 m.1 a.1)
+
+-- what holds of any item after any holds of each
+pub follows_all : {A : Type 0} (may : List A → A → Bool) → ((before : List A) (x : A) → may before x ≡ true) → (before xs : List A) → each_follows may before xs ≡ true
+follows_all may h before [] = refl
+follows_all may h before (x ∷ xs) = both (may before x) (each_follows may (before ++ x ∷ []) xs) (h before x) (follows_all may h (before ++ x ∷ []) xs)

@@ -1,15 +1,17 @@
 -- Guarded traces, and what follows from their guards.
-use Rattle.std.specs.Prelude.{◌≡◌, ℕ, ◌<◌, Bool, true, not, List, [], length, IsTrue}
+use Rattle.std.specs.Prelude.{◌≡◌, ℕ, ◌<◌, Bool, true, ◌&&◌, not, List, [], ◌∷◌, ◌++◌, length, IsTrue}
+use Rattle.std.specs.List.{list_all}
 use Rattle.yard_model.specs.declared.fact.Fact.{Fact}
 use Rattle.yard_model.specs.declared.fact.Fact.TheVariants as fact
 use Rattle.yard_model.specs.declared.incarnation.Slot.TheVariants as slot
 use Rattle.yard_model.specs.Script.{Script, setting}
-use Rattle.yard_model.specs.Lawful.{own}
+use Rattle.yard_model.specs.Lawful.{own, lawful}
+use Rattle.yard_model.specs.SlotReads.{holder}
 use Rattle.yard_model.specs.SlotLists.{SlotLists, shard_list, queue_list}
 use Rattle.yard_model.specs.Trace.{lists_of}
-use Rattle.yard_model.specs.Words.{is_among}
+use Rattle.yard_model.specs.Words.{is_at, is_among}
 use Rattle.yard_model.specs.Follow.{each_follows}
-use Rattle.yard_model.specs.Safe.{live_at, safe, guarded}
+use Rattle.yard_model.specs.Safe.{live_at, shard_list_of, shows, safe, guarded}
 
 -- an entity is started where it is not live at that incarnation already
 abbrev pub starts_anew : List Fact → Fact → Bool
@@ -35,3 +37,18 @@ GuardedIsOwn = (c : Script) (trace : List Fact) → IsTrue (guarded c trace) →
 -- guarded facts make a safe trace
 abbrev pub GuardedIsSafe : Type 0
 GuardedIsSafe = (c : Script) (trace : List Fact) → IsTrue (guarded c trace) → IsTrue (started_once trace) → IsTrue (safe c trace)
+
+-- each incarnation at which e is live holds the lease of the shard of e
+abbrev pub live_hold : Script → List Fact → List ℕ → Bool
+live_hold c trace e = list_all (λ x. is_at x (holder (shard_list_of c e trace))) (live_at e trace)
+
+abbrev pub is_held_now : Script → List Fact → Bool
+is_held_now c trace = list_all (live_hold c trace) (setting c).names && lawful c (lists_of (setting c) trace)
+
+-- at each prefix the live ones hold their shards, what a record or an active entity says is what the journal says, and the lists are lawful
+abbrev pub held : Script → List Fact → Bool
+held c trace = is_held_now c [] && each_follows (λ before f. shows c before f && is_held_now c (before ++ f ∷ [])) [] trace
+
+-- guarded facts keep this whatever is started
+abbrev pub GuardedIsHeld : Type 0
+GuardedIsHeld = (c : Script) (trace : List Fact) → IsTrue (guarded c trace) → IsTrue (held c trace)

@@ -1,3 +1,4 @@
+pub mod Before
 pub mod Booleans
 pub mod Follows
 pub mod Live

@@ -1,3 +1,4 @@
 pub mod Guarded
 pub mod Parts
+pub mod Prefixes
 pub mod WorldWords

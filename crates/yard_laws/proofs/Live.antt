@@ -23,7 +23,7 @@ use Rattle.yard_laws.proofs.Booleans.{true_is_not_false, and_both, both, of_not,
 
 -- Incarnations that are found the same.
 
-same_both : (x y w : Incarnation) → is_same x w ≡ true → is_same y w ≡ true → is_same x y ≡ true
+pub same_both : (x y w : Incarnation) → is_same x w ≡ true → is_same y w ≡ true → is_same x y ≡ true
 same_both x y w e f =
     let a : ((x.node == w.node) ≡ true) × ((x.number == w.number) ≡ true) = and_both (x.node == w.node) (x.number == w.number) e in
     let b : ((y.node == w.node) ≡ true) × ((y.number == w.number) ≡ true) = and_both (y.node == w.node) (y.number == w.number) f in
@@ -31,7 +31,7 @@ same_both x y w e f =
     (number_itself x.node y.node (same_number x.node w.node a.0 ∙ sym (same_number y.node w.node b.0)))
     (number_itself x.number y.number (same_number x.number w.number a.1 ∙ sym (same_number y.number w.number b.1)))
 
-both_held : (x y : Incarnation) (h : Option Incarnation) → is_at x h ≡ true → is_at y h ≡ true → is_same x y ≡ true
+pub both_held : (x y : Incarnation) (h : Option Incarnation) → is_at x h ≡ true → is_at y h ≡ true → is_same x y ≡ true
 both_held x y None e f = absurd (true_is_not_false (sym e))
 both_held x y (Some w) e f = same_both x y w e f
 

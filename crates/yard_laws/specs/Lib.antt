@@ -1,4 +1,5 @@
 pub mod Guarded
+pub mod Local
 pub mod Parts
 pub mod Prefixes
 pub mod WorldWords

@@ -3,5 +3,6 @@
 #![tactic(auto)]
 
 pub mod acts;
+pub mod facts;
 pub mod safety;
 pub mod trace;

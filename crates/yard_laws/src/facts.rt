@@ -1,0 +1,20 @@
+//! What one fact changes of what a trace says.
+ghost use Rattle.yard_laws.specs.Local.{ListGrows, OtherListsStay, OthersLiveOn, GuardedByItsActor};
+
+/// An entry stands at the end of its slot's list, and the lists of the other slots stay.
+pub fn entry_in_its_list()
+    ensures grows { ListGrows }
+    ensures stay { OtherListsStay }
+{}
+
+/// A fact changes what is live at the incarnation that it names, and nothing of what is live at any
+/// other.
+pub fn others_live_on()
+    ensures { OthersLiveOn }
+{}
+
+/// Where the live ones hold their shards, a fact is guarded if it is so by what its actor has: the
+/// lists of the slots that it holds, and what is live at it.
+pub fn guarded_by_its_actor()
+    ensures { GuardedByItsActor }
+{}

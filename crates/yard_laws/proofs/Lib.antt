@@ -1,6 +1,7 @@
 pub mod Before
 pub mod Booleans
 pub mod Follows
+pub mod FreeLaws
 pub mod Live
 pub mod LocalLaws
 pub mod Owns

@@ -1,3 +1,4 @@
+pub mod Free
 pub mod Guarded
 pub mod Local
 pub mod Parts

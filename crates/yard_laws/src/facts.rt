@@ -1,4 +1,5 @@
 //! What one fact changes of what a trace says.
+ghost use Rattle.yard_laws.specs.Free.{FreeIsGuarded, FreeLeavesLists, FreeLeavesLive, RegionIsFree};
 ghost use Rattle.yard_laws.specs.Local.{ListGrows, OtherListsStay, OthersLiveOn, GuardedByItsActor};
 
 /// An entry stands at the end of its slot's list, and the lists of the other slots stay.
@@ -17,4 +18,17 @@ pub fn others_live_on()
 /// lists of the slots that it holds, and what is live at it.
 pub fn guarded_by_its_actor()
     ensures { GuardedByItsActor }
+{}
+
+/// A fact that is no entry of a slot's list and no word on a live entity is guarded wherever it
+/// stands, and changes neither the lists nor who is live.
+pub fn free_facts()
+    ensures guarded { FreeIsGuarded }
+    ensures lists { FreeLeavesLists }
+    ensures live { FreeLeavesLive }
+{}
+
+/// A region tells such facts alone: no rule of it owes a guard.
+pub fn region_is_free()
+    ensures { RegionIsFree }
 {}

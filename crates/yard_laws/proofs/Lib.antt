@@ -7,6 +7,7 @@ pub mod LocalLaws
 pub mod Owns
 pub mod PartsLaws
 pub mod Places
+pub mod QueueLaws
 pub mod Recorded
 pub mod SafetyLaws
 pub mod WordsLaws

@@ -3,4 +3,5 @@ pub mod Guarded
 pub mod Local
 pub mod Parts
 pub mod Prefixes
+pub mod Queues
 pub mod WorldWords

@@ -4,5 +4,6 @@
 
 pub mod acts;
 pub mod facts;
+pub mod queue;
 pub mod safety;
 pub mod trace;

@@ -80,21 +80,21 @@ free_leaves_live e trace f h = live_more e trace f ∙ live_free e (live_at e tr
 
 -- Moves that are put together.
 
-abbrev AreFree : List Move → Type 0
+abbrev pub AreFree : List Move → Type 0
 AreFree ms = list_all is_free_move ms ≡ true
 
-join : (xs ys : List Move) → AreFree xs → AreFree ys → AreFree (xs ++ ys)
+pub join : (xs ys : List Move) → AreFree xs → AreFree ys → AreFree (xs ++ ys)
 join xs ys e f = list_all-append is_free_move xs ys ∙ both (list_all is_free_move xs) (list_all is_free_move ys) e f
 
-either : (b : Bool) (xs ys : List Move) → AreFree xs → AreFree ys → AreFree (if b then xs else ys)
+pub either : (b : Bool) (xs ys : List Move) → AreFree xs → AreFree ys → AreFree (if b then xs else ys)
 either true xs ys e f = e
 either false xs ys e f = f
 
-of_some : {X : Type 0} (f : X → List Move) (o : Option X) → ((x : X) → AreFree (f x)) → AreFree (where_some f o)
+pub of_some : {X : Type 0} (f : X → List Move) (o : Option X) → ((x : X) → AreFree (f x)) → AreFree (where_some f o)
 of_some f None h = refl
 of_some f (Some x) h = h x
 
-of_each : {X : Type 0} (f : X → List Move) (xs : List X) → ((x : X) → AreFree (f x)) → AreFree (flat_map f xs)
+pub of_each : {X : Type 0} (f : X → List Move) (xs : List X) → ((x : X) → AreFree (f x)) → AreFree (flat_map f xs)
 of_each f [] h = refl
 of_each f (x ∷ xs) h = join (f x) (flat_map f xs) (h x) (of_each f xs h)
 

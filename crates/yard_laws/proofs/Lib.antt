@@ -2,6 +2,7 @@ pub mod Before
 pub mod Booleans
 pub mod Follows
 pub mod FreeLaws
+pub mod HomeLaws
 pub mod Live
 pub mod LocalLaws
 pub mod Owns

@@ -1,5 +1,6 @@
 pub mod Free
 pub mod Guarded
+pub mod Homes
 pub mod Local
 pub mod Parts
 pub mod Prefixes

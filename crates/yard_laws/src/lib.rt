@@ -3,6 +3,7 @@
 #![tactic(auto)]
 
 pub mod acts;
+pub mod coordinator;
 pub mod facts;
 pub mod queue;
 pub mod safety;

@@ -39,7 +39,7 @@ begin_free ss st =
 hand_off_free : (st : Coordinator) (x : Moving) → AreFree (coordinator.hand_off st x)
 hand_off_free st x = of_some (λ o. post st.who o (body.HandOff x.shard (coordinator.stamp st)) ∷ []) x.owner (λ o. refl)
 
-last_free : (r : Incarnation) (st : Coordinator) (x : Moving) → AreFree (coordinator.hand_off_if_last r st x)
+pub last_free : (r : Incarnation) (st : Coordinator) (x : Moving) → AreFree (coordinator.hand_off_if_last r st x)
 last_free r st x = either (is_among r x.awaited && is_empty (without r x.awaited)) (coordinator.hand_off st x) [] (hand_off_free st x) refl
 
 again_free : (st : Coordinator) (x : Moving) → AreFree (coordinator.hand_off_again st x)
@@ -115,10 +115,10 @@ registers c st from k node room true false e = own_more c slot.Coordinator st.en
 
 -- Allocation.
 
-same_itself : (x : Incarnation) → is_same x x ≡ true
+pub same_itself : (x : Incarnation) → is_same x x ≡ true
 same_itself x = both (x.node == x.node) (x.number == x.number) (number_itself x.node x.node refl) (number_itself x.number x.number refl)
 
-each_among : (xs : List Incarnation) → list_all (λ r. is_among r xs) xs ≡ true
+pub each_among : (xs : List Incarnation) → list_all (λ r. is_among r xs) xs ≡ true
 each_among [] = refl
 each_among (x ∷ xs) =
     both (is_among x (x ∷ xs)) (list_all (λ r. is_among r (x ∷ xs)) xs) (left_of (is_same x x) (is_among x xs) (same_itself x))

@@ -5,6 +5,7 @@ pub mod FreeLaws
 pub mod HomeLaws
 pub mod Live
 pub mod LocalLaws
+pub mod LostLaws
 pub mod Owns
 pub mod PartsLaws
 pub mod Places

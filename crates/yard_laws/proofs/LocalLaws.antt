@@ -94,7 +94,7 @@ among_more x y live other = list_any-append (is_same x) live (y ∷ []) ∙ (ap 
 same_as : (x y z : Incarnation) → is_same y z ≡ true → is_same x z ≡ true → is_same x y ≡ true
 same_as x y z e f = same_both x y z f e
 
-among_fewer : (x y : Incarnation) (live : List Incarnation) → is_same x y ≡ false → is_among x (without y live) ≡ is_among x live
+pub among_fewer : (x y : Incarnation) (live : List Incarnation) → is_same x y ≡ false → is_among x (without y live) ≡ is_among x live
 among_fewer x y [] other = refl
 among_fewer x y (z ∷ zs) other = step (is_same y z) refl (among_fewer x y zs other)
   where

@@ -1,5 +1,5 @@
 -- The rules of a coordinator: most tell free facts alone; one that registers a region or allocates a shard keeps its list lawful.
-use Rattle.std.specs.Prelude.{ℕ, ◌<◌, List, length, fold, is_none, IsTrue}
+use Rattle.std.specs.Prelude.{ℕ, ◌<◌, List, length, fold, is_none, is_some, IsTrue}
 use Rattle.std.specs.List.{list_all}
 use Rattle.yard_model.specs.declared.incarnation.Incarnation.{Incarnation}
 use Rattle.yard_model.specs.declared.incarnation.Stamp.{Stamp}
@@ -36,3 +36,11 @@ pub record KeepsHomes (c : Script) (st : Coordinator) : Type 0 where
 
 abbrev pub CoordinatorKeepsHomes : Type 0
 CoordinatorKeepsHomes = (c : Script) (st : Coordinator) → IsCoordinatorHeld c st → KeepsHomes c st
+
+-- and where it terminates the regions that are not in the view, and where a shard with a home has stopped
+pub record EndsHomes (c : Script) (st : Coordinator) : Type 0 where
+  pub terminates : (view : List Incarnation) → IsTrue (own c slot.Coordinator (fold coordinator_step st.entries (coordinator.terminate_lost view st)))
+  pub stops : (from : Incarnation) (s : ℕ) (stamp : Stamp) → IsTrue (is_shard c s) → IsTrue (is_some (allocation s st.entries)) → IsTrue (own c slot.Coordinator (fold coordinator_step st.entries (coordinator.shard_stopped from s stamp st)))
+
+abbrev pub CoordinatorEndsHomes : Type 0
+CoordinatorEndsHomes = (c : Script) (st : Coordinator) → IsCoordinatorHeld c st → EndsHomes c st

@@ -70,7 +70,7 @@ rebalance_free : (limit : ℕ) (st : Coordinator) → AreFree (coordinator.rebal
 rebalance_free limit st =
     either (not (is_empty st.moving) || is_empty (coordinator.picked limit st)) (told fact.Nothing ∷ []) (coordinator.begin (coordinator.picked limit st) st) refl (begin_free (coordinator.picked limit st) st)
 
-tell_free : (from : Incarnation) (s : ℕ) (st : Coordinator) → AreFree (coordinator.tell_home from s st)
+pub tell_free : (from : Incarnation) (s : ℕ) (st : Coordinator) → AreFree (coordinator.tell_home from s st)
 tell_free from s st = of_some (λ h. post st.who from (body.ShardHome s h (coordinator.stamp st)) ∷ []) (coordinator.home_of st s) (λ h. refl)
 
 quit_free : (from : Incarnation) (st : Coordinator) → AreFree (coordinator.quit from st)

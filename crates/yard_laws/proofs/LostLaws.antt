@@ -1,32 +1,31 @@
 -- The coordinator terminates regions that are lost, and allocates anew a shard that has stopped.
-use Rattle.std.proofs.Common.{◌≡◌, ℕ, sym, ap, ◌∙◌, refl, subst}
-use Rattle.std.specs.Prelude.{Bool, true, false, ◌==◌, ◌&&◌, ◌||◌, not, cond, List, [], ◌∷◌, ◌++◌, filter, fold, Option, Some, None, is_some, is_none, if◌then◌else◌}
+use Rattle.std.proofs.Common.{◌≡◌, ℕ, sym, ap, ◌∙◌, refl}
+use Rattle.std.specs.Prelude.{Bool, true, false, ◌&&◌, ◌||◌, not, cond, List, [], ◌∷◌, ◌++◌, filter, fold, None, is_some, is_none, if◌then◌else◌}
 use Rattle.std.specs.List.{list_all, list_any, flat_map}
 use Rattle.std.proofs.lemmas.List.Sums.{fold-append}
 use Rattle.yard_model.specs.declared.fact.Fact.{Fact}
 use Rattle.yard_model.specs.declared.fact.Fact.TheVariants as fact
 use Rattle.yard_model.specs.declared.out.Item.TheVariants as item
 use Rattle.yard_model.specs.declared.incarnation.Incarnation.{Incarnation}
-use Rattle.yard_model.specs.declared.incarnation.Stamp.{Stamp}
 use Rattle.yard_model.specs.declared.incarnation.Slot.TheVariants as slot
 use Rattle.yard_model.specs.Script.{Script}
 use Rattle.yard_model.specs.Words.{is_same, is_at, is_among, is_empty, without}
 use Rattle.yard_model.specs.Genuine.{is_node, is_shard}
 use Rattle.yard_model.specs.Lawful.{own, is_held, is_leased, is_entry, may_follow}
-use Rattle.yard_model.specs.SlotReads.{holder, regions, regions_step, allocation, allocation_step}
+use Rattle.yard_model.specs.SlotReads.{regions, regions_step, allocation, allocation_step}
 use Rattle.yard_model.specs.Turns.{for_each}
 use Rattle.yard_model.specs.Move.{Move, made, told}
 use Rattle.yard_model.specs.Coordinator as coordinator
 use Rattle.yard_model.specs.Coordinator.{Coordinator, Moving, coordinator_after, coordinator_step}
-use Rattle.yard_laws.specs.Free.{is_free, is_free_move}
-use Rattle.yard_laws.specs.Homes.{IsCoordinatorHeld, KeepsHomes, CoordinatorEndsHomes}
+use Rattle.yard_laws.specs.Free.{is_free_move}
+use Rattle.yard_laws.specs.Homes.{IsCoordinatorHeld, KeepsHomes, CoordinatorKeepsList}
 use Rattle.yard_laws.proofs.Booleans.{true_is_not_false, and_both, both, of_not, number_itself}
 use Rattle.yard_laws.proofs.Follows.{follows_to}
 use Rattle.yard_laws.proofs.Owns.{own_more}
 use Rattle.yard_laws.proofs.Live.{same_both, holder_more}
 use Rattle.yard_laws.proofs.LocalLaws.{among_fewer}
 use Rattle.yard_laws.proofs.FreeLaws.{AreFree, either, of_each}
-use Rattle.yard_laws.proofs.HomeLaws.{last_free, same_itself, each_among, coordinator_keeps_homes}
+use Rattle.yard_laws.proofs.HomeLaws.{last_free, tell_free, same_itself, each_among, coordinator_keeps_homes}
 
 -- Regions are registered once.
 
@@ -169,11 +168,29 @@ own_if : (c : Script) (b : Bool) (list : List Fact) (ms : List Move) → own c s
 own_if c true list ms o e = e
 own_if c false list ms o e = o
 
-pub coordinator_ends_homes : CoordinatorEndsHomes
-coordinator_ends_homes c st k = record {
+-- A home that is asked for.
+
+got : (c : Script) (st : Coordinator) (from : Incarnation) (s : ℕ) → IsCoordinatorHeld c st → is_shard c s ≡ true → (ms : List Move) → own c slot.Coordinator (fold coordinator_step st.entries ms) ≡ true
+    → own c slot.Coordinator (fold coordinator_step st.entries (ms ++ coordinator.tell_home from s (fold coordinator_after st ms))) ≡ true
+got c st from s k shard ms o =
+    let later : Coordinator = fold coordinator_after st ms in
+    let tells : List Move = coordinator.tell_home from s later in
+    ap (own c slot.Coordinator) (fold-append coordinator_step st.entries ms tells ∙ all_keep (fold coordinator_step st.entries ms) tells (tell_free from s later)) ∙ o
+
+allocates_if : (c : Script) (st : Coordinator) (s : ℕ) → IsCoordinatorHeld c st → is_shard c s ≡ true → (b : Bool) → is_none (allocation s st.entries) ≡ b
+    → own c slot.Coordinator (fold coordinator_step st.entries (if b then coordinator.allocate s st else [])) ≡ true
+allocates_if c st s k shard true e = let keeps : KeepsHomes c st = coordinator_keeps_homes c st k in keeps.allocates s shard e
+allocates_if c st s k shard false e = k.own_is
+
+pub coordinator_keeps_list : CoordinatorKeepsList
+coordinator_keeps_list c st k = record {
   terminates = λ view. terminates_each c st (filter (λ r. not (is_among r view)) (regions st.entries)) k.own_is k.held_is
       (filter_among (λ r. not (is_among r view)) (λ x. is_among x (regions st.entries)) (regions st.entries) (each_among (regions st.entries)))
       (differ_filter (λ r. not (is_among r view)) (regions st.entries) (regions_differ c st.entries k.own_is));
   stops = λ from s stamp shard there.
       own_if c (list_any (λ (x : Moving). is_empty x.awaited && is_at from x.owner) (coordinator.moving_at s stamp st)) st.entries (told (fact.Deallocated s) ∷ coordinator.allocate s (coordinator_after st (told (fact.Deallocated s)))) k.own_is (stopped c st s k shard there);
+  gets = λ from s shard.
+      let first : List Move = if is_none (allocation s st.entries) then coordinator.allocate s st else [] in
+      own_if c (is_among from (coordinator.registered st) && not (coordinator.is_moving st s)) st.entries (first ++ coordinator.tell_home from s (fold coordinator_after st first)) k.own_is
+      (got c st from s k shard first (allocates_if c st s k shard (is_none (allocation s st.entries)) refl));
 }

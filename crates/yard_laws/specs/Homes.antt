@@ -37,10 +37,11 @@ pub record KeepsHomes (c : Script) (st : Coordinator) : Type 0 where
 abbrev pub CoordinatorKeepsHomes : Type 0
 CoordinatorKeepsHomes = (c : Script) (st : Coordinator) → IsCoordinatorHeld c st → KeepsHomes c st
 
--- and where it terminates the regions that are not in the view, and where a shard with a home has stopped
-pub record EndsHomes (c : Script) (st : Coordinator) : Type 0 where
+-- and where it terminates the regions that are not in the view, where a shard with a home has stopped, and where it is asked for the home of a shard
+pub record KeepsList (c : Script) (st : Coordinator) : Type 0 where
   pub terminates : (view : List Incarnation) → IsTrue (own c slot.Coordinator (fold coordinator_step st.entries (coordinator.terminate_lost view st)))
   pub stops : (from : Incarnation) (s : ℕ) (stamp : Stamp) → IsTrue (is_shard c s) → IsTrue (is_some (allocation s st.entries)) → IsTrue (own c slot.Coordinator (fold coordinator_step st.entries (coordinator.shard_stopped from s stamp st)))
+  pub gets : (from : Incarnation) (s : ℕ) → IsTrue (is_shard c s) → IsTrue (own c slot.Coordinator (fold coordinator_step st.entries (coordinator.get_home from s st)))
 
-abbrev pub CoordinatorEndsHomes : Type 0
-CoordinatorEndsHomes = (c : Script) (st : Coordinator) → IsCoordinatorHeld c st → EndsHomes c st
+abbrev pub CoordinatorKeepsList : Type 0
+CoordinatorKeepsList = (c : Script) (st : Coordinator) → IsCoordinatorHeld c st → KeepsList c st

@@ -1,5 +1,5 @@
 //! What a coordinator's rules keep.
-ghost use Rattle.yard_laws.specs.Homes.{CoordinatorIsFree, CoordinatorKeepsHomes, CoordinatorEndsHomes};
+ghost use Rattle.yard_laws.specs.Homes.{CoordinatorIsFree, CoordinatorKeepsHomes, CoordinatorKeepsList};
 
 /// Where a coordinator rebalances, ticks, tells a home, or takes word of a started shard, a leaving
 /// region or an acknowledged handoff, it owes no guard.
@@ -13,8 +13,8 @@ pub fn coordinator_keeps_homes()
     ensures { CoordinatorKeepsHomes }
 {}
 
-/// So it does where it terminates the regions that are not in its node's view, and where it takes
-/// word that a shard with a home has stopped, which it allocates anew.
-pub fn coordinator_ends_homes()
-    ensures { CoordinatorEndsHomes }
+/// So it does where it terminates the regions that are not in its node's view, where it takes word
+/// that a shard with a home has stopped, which it allocates anew, and where it is asked for a home.
+pub fn coordinator_keeps_list()
+    ensures { CoordinatorKeepsList }
 {}

@@ -1,5 +1,0 @@
-use Rattle.yard_laws.proofs.LostLaws as laws
-use Rattle.yard_laws.proofs.coordinator.coordinator_ends_homes.Goals as goal
-
-pub returns : goal.returns
-returns c = laws.coordinator_ends_homes

@@ -1,5 +1,6 @@
 pub mod Before
 pub mod Booleans
+pub mod EntryLaws
 pub mod Follows
 pub mod FreeLaws
 pub mod HomeLaws

@@ -1,3 +1,4 @@
+pub mod Entries
 pub mod Free
 pub mod Guarded
 pub mod Homes

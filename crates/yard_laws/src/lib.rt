@@ -4,6 +4,7 @@
 
 pub mod acts;
 pub mod coordinator;
+pub mod entities;
 pub mod facts;
 pub mod queue;
 pub mod safety;

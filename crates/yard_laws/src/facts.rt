@@ -15,7 +15,8 @@ pub fn others_live_on()
 {}
 
 /// Where the live ones hold their shards, a fact is guarded if it is so by what its actor has: the
-/// lists of the slots that it holds, and what is live at it.
+/// lists of the slots that it holds, and what is live at it. Of a confirmation it is to be known
+/// besides that the number is recorded.
 pub fn guarded_by_its_actor()
     ensures { GuardedByItsActor }
 {}

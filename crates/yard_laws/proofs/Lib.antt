@@ -1,0 +1,16 @@
+pub mod Before
+pub mod Booleans
+pub mod EntryLaws
+pub mod Follows
+pub mod FreeLaws
+pub mod HomeLaws
+pub mod Live
+pub mod LocalLaws
+pub mod LostLaws
+pub mod Owns
+pub mod PartsLaws
+pub mod Places
+pub mod QueueLaws
+pub mod Recorded
+pub mod SafetyLaws
+pub mod WordsLaws

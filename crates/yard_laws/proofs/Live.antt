@@ -1,0 +1,204 @@
+-- Who is live holds the shard: one guarded fact more.
+use Rattle.std.proofs.Common.{◌≡◌, ◌<◌, ℕ, sym, ap, ◌∙◌, refl, subst}
+use Rattle.std.specs.Prelude.{Bool, true, false, ◌==◌, ◌&&◌, ◌||◌, not, cond, is_some, List, [], ◌∷◌, ◌++◌, length, if◌then◌else◌, Option, Some, None, slice_index_or, slice_set}
+use Rattle.std.specs.List.{list_all}
+use Rattle.std.proofs.lemmas.List.Sums.{fold-append}
+use Rattle.std.proofs.lemmas.List.Folds.{list_all-append}
+use Rattle.std.proofs.lemmas.List.{get_or-set_same, get_or-set_other}
+use Rattle.yard_model.specs.declared.fact.Fact.{Fact}
+use Rattle.yard_model.specs.declared.fact.Fact.TheVariants as fact
+use Rattle.yard_model.specs.declared.incarnation.Incarnation.{Incarnation}
+use Rattle.yard_model.specs.declared.incarnation.Slot.TheVariants as slot
+use Rattle.yard_model.specs.Script.{Script, setting, is_name}
+use Rattle.yard_model.specs.Setting.{shard_of}
+use Rattle.yard_model.specs.Words.{is_same, is_at, is_among, is_empty, without}
+use Rattle.yard_model.specs.Genuine.{is_shard}
+use Rattle.yard_model.specs.SlotLists.{SlotLists, shard_list}
+use Rattle.yard_model.specs.SlotReads.{holder, holder_step}
+use Rattle.yard_model.specs.Trace.{with_entry, lists_step, lists_of}
+use Rattle.yard_model.specs.Lawful.{may_follow, is_leased, is_held, is_entry}
+use Rattle.yard_model.specs.Safe.{live_at, live_step, at_most_holder, own_guard, cross_guard, guard}
+use Rattle.yard_laws.specs.Guarded.{Owns}
+use Rattle.yard_laws.proofs.Booleans.{true_is_not_false, and_both, both, of_not, same_number, number_itself, other_number, below, same_name, all_map, all_where, all_filter}
+
+-- Incarnations that are found the same.
+
+pub same_both : (x y w : Incarnation) → is_same x w ≡ true → is_same y w ≡ true → is_same x y ≡ true
+same_both x y w e f =
+    let a : ((x.node == w.node) ≡ true) × ((x.number == w.number) ≡ true) = and_both (x.node == w.node) (x.number == w.number) e in
+    let b : ((y.node == w.node) ≡ true) × ((y.number == w.number) ≡ true) = and_both (y.node == w.node) (y.number == w.number) f in
+    both (x.node == y.node) (x.number == y.number)
+    (number_itself x.node y.node (same_number x.node w.node a.0 ∙ sym (same_number y.node w.node b.0)))
+    (number_itself x.number y.number (same_number x.number w.number a.1 ∙ sym (same_number y.number w.number b.1)))
+
+pub both_held : (x y : Incarnation) (h : Option Incarnation) → is_at x h ≡ true → is_at y h ≡ true → is_same x y ≡ true
+both_held x y None e f = absurd (true_is_not_false (sym e))
+both_held x y (Some w) e f = same_both x y w e f
+
+-- At most one live, and that is the holder.
+
+none_live : (h : Option Incarnation) (live : List Incarnation) → is_some h ≡ false → at_most_holder h live ≡ true → live ≡ []
+none_live h [] n e = refl
+none_live None (x ∷ []) n e = absurd (true_is_not_false (sym e))
+none_live (Some y) (x ∷ []) n e = absurd (true_is_not_false n)
+none_live h (x ∷ y ∷ xs) n e = absurd (true_is_not_false (sym e))
+
+empty_is : {A : Type 0} (xs : List A) → is_empty xs ≡ true → xs ≡ []
+empty_is [] e = refl
+empty_is (x ∷ xs) e = absurd (true_is_not_false (sym e))
+
+-- one more is live: the holder, which wasn't
+live_more : (h : Option Incarnation) (live : List Incarnation) (x : Incarnation) → at_most_holder h live ≡ true → is_at x h ≡ true → not (is_among x live) ≡ true → at_most_holder h (live ++ x ∷ []) ≡ true
+live_more h [] x e at new = at
+live_more h (y ∷ []) x e at new = absurd (true_is_not_false (sym (ap (λ b. b || false) (both_held x y h at e)) ∙ of_not (is_among x (y ∷ [])) new))
+live_more h (y ∷ z ∷ xs) x e at new = absurd (true_is_not_false (sym e))
+
+live_fewer : (h : Option Incarnation) (live : List Incarnation) (x : Incarnation) → at_most_holder h live ≡ true → at_most_holder h (without x live) ≡ true
+live_fewer h [] x e = refl
+live_fewer h (y ∷ []) x e = step (not (is_same x y))
+  where
+    step : (b : Bool) → at_most_holder h (cond b (y ∷ []) []) ≡ true
+    step true = e
+    step false = refl
+live_fewer h (y ∷ z ∷ xs) x e = absurd (true_is_not_false (sym e))
+
+-- a test of the live ones by the holder, that guarded facts keep where anew says which may be started
+pub record IsKeptTest (test : Option Incarnation → List Incarnation → Bool) (anew : Incarnation → List Incarnation → Bool) : Type 0 where
+  pub none : (h : Option Incarnation) → test h [] ≡ true
+  pub free : (h : Option Incarnation) (live : List Incarnation) → is_some h ≡ false → test h live ≡ true → live ≡ []
+  pub more : (h : Option Incarnation) (live : List Incarnation) (x : Incarnation) → test h live ≡ true → is_at x h ≡ true → anew x live ≡ true → test h (live ++ x ∷ []) ≡ true
+  pub fewer : (h : Option Incarnation) (live : List Incarnation) (x : Incarnation) → test h live ≡ true → test h (without x live) ≡ true
+
+-- at most one is live, and that is the holder, where none is started twice
+pub one_kept : IsKeptTest at_most_holder (λ x live. not (is_among x live))
+one_kept = record { none = λ h. refl; free = none_live; more = live_more; fewer = live_fewer }
+
+-- each live one is the holder, whatever is started
+pub each_kept : IsKeptTest (λ h live. list_all (λ x. is_at x h) live) (λ x live. true)
+each_kept = record {
+  none = λ h. refl;
+  free = each_free;
+  more = λ h live x e at new. list_all-append (λ y. is_at y h) live (x ∷ []) ∙ both (list_all (λ y. is_at y h) live) (is_at x h && true) e (both (is_at x h) true at refl);
+  fewer = λ h live x e. all_filter (λ y. is_at y h) (λ y. not (is_same x y)) live e;
+}
+  where
+    each_free : (h : Option Incarnation) (live : List Incarnation) → is_some h ≡ false → list_all (λ x. is_at x h) live ≡ true → live ≡ []
+    each_free h [] n e = refl
+    each_free None (x ∷ xs) n e = absurd (true_is_not_false (sym e))
+    each_free (Some y) (x ∷ xs) n e = absurd (true_is_not_false n)
+
+test_none : (test : Option Incarnation → List Incarnation → Bool) (h : Option Incarnation) (live : List Incarnation) → test h [] ≡ true → live ≡ [] → test h live ≡ true
+test_none test h live e n = ap (test h) n ∙ e
+
+test_if : (test : Option Incarnation → List Incarnation → Bool) (b : Bool) (h : Option Incarnation) (old new : List Incarnation) → test h old ≡ true → (b ≡ true → test h new ≡ true) → test h (if b then new else old) ≡ true
+test_if test true h old new e f = f refl
+test_if test false h old new e f = e
+
+-- The holder of a shard, with one entry more in the list of a shard.
+
+pub holder_more : (list : List Fact) (f : Fact) → holder (list ++ f ∷ []) ≡ holder_step (holder list) f
+holder_more list f = fold-append holder_step None list (f ∷ [])
+
+-- what holds of the holder of every shard, where it holds of that of the shard with an entry more and of the others
+holder_in : (lists : SlotLists) (f : Fact) (s k : ℕ) (P : Option Incarnation → Type 0) → s < length lists.shards
+    → (k ≡ s → P (holder_step (holder (shard_list lists s)) f)) → P (holder (shard_list lists k))
+    → P (holder (slice_index_or (slice_set lists.shards s (shard_list lists s ++ f ∷ [])) k []))
+holder_in lists f s k P inside here there = at (k == s) refl
+  where
+    at : (b : Bool) → (k == s) ≡ b → P (holder (slice_index_or (slice_set lists.shards s (shard_list lists s ++ f ∷ [])) k []))
+    at true e =
+        let v : List Fact = shard_list lists s ++ f ∷ [] in
+        let same : k ≡ s = same_number k s e in
+        subst P (sym (ap (λ t. holder (slice_index_or (slice_set lists.shards s v) t [])) same ∙ (ap holder (get_or-set_same lists.shards s v [] inside) ∙ holder_more (shard_list lists s) f))) (here same)
+    at false e = subst P (sym (ap holder (get_or-set_other lists.shards s k (shard_list lists s ++ f ∷ []) [] (other_number k s e)))) there
+
+-- the test of those live by the holder of e's shard in these lists
+abbrev pub held_in : (Option Incarnation → List Incarnation → Bool) → Script → SlotLists → List ℕ → List Incarnation → Bool
+held_in test c lists e live = test (holder (shard_list lists (shard_of (setting c) e))) live
+
+abbrev pub held_at : (Option Incarnation → List Incarnation → Bool) → Script → List Fact → List ℕ → Bool
+held_at test c trace e = held_in test c (lists_of (setting c) trace) e (live_at e trace)
+
+-- an entity is started where anew lets it be
+abbrev pub starts : (Incarnation → List Incarnation → Bool) → List Fact → Fact → Bool
+starts anew trace (fact.Start x e) = anew x (live_at e trace)
+starts anew trace f = true
+
+-- an entry that isn't about the lease changes nothing
+kept : (test : Option Incarnation → List Incarnation → Bool) (c : Script) (lists : SlotLists) (f : Fact) (s : ℕ) (e : List ℕ) (live : List Incarnation) → s < length lists.shards
+    → (holder_step (holder (shard_list lists s)) f ≡ holder (shard_list lists s)) → held_in test c lists e live ≡ true → held_in test c (with_entry f lists (Some (slot.Shard s))) e live ≡ true
+kept test c lists f s e live inside same h =
+    let k : ℕ = shard_of (setting c) e in
+    holder_in lists f s k (λ o. test o live ≡ true) inside (λ it. subst (λ o. test o live ≡ true) (ap (λ t. holder (shard_list lists t)) it ∙ sym same) h) h
+
+-- the names whose live ones are the holders, after a fact more
+abbrev pub AllHeld : (Option Incarnation → List Incarnation → Bool) → Script → List Fact → Fact → Type 0
+AllHeld test c trace f = list_all (λ e. held_in test c (lists_step (setting c) (lists_of (setting c) trace) f) e (live_step e (live_at e trace) f)) (setting c).names ≡ true
+
+-- the shard of an entry is there
+inside_of : (c : Script) (trace : List Fact) (f : Fact) (s : ℕ) → Owns c (lists_of (setting c) trace) → own_guard c trace f (Some (slot.Shard s)) ≡ true → s < length (lists_of (setting c) trace).shards
+inside_of c trace f s k g = subst (λ n. s < n) (sym k.shards) (below s c.config.shards (and_both (is_shard c s) (may_follow c (slot.Shard s) (shard_list (lists_of (setting c) trace) s) f) g).0)
+
+entry_held : (test : Option Incarnation → List Incarnation → Bool) (c : Script) (trace : List Fact) (f : Fact) (s : ℕ) → Owns c (lists_of (setting c) trace) → list_all (held_at test c trace) (setting c).names ≡ true → own_guard c trace f (Some (slot.Shard s)) ≡ true
+    → ((h : Option Incarnation) → holder_step h f ≡ h)
+    → list_all (λ e. held_in test c (with_entry f (lists_of (setting c) trace) (Some (slot.Shard s))) e (live_at e trace)) (setting c).names ≡ true
+entry_held test c trace f s k h g same =
+    let lists : SlotLists = lists_of (setting c) trace in
+    all_map (held_at test c trace) (λ e. held_in test c (with_entry f lists (Some (slot.Shard s))) e (live_at e trace))
+    (λ e old. kept test c lists f s e (live_at e trace) (inside_of c trace f s k g) (same (holder (shard_list lists s))) old) (setting c).names h
+
+pub live_held : (test : Option Incarnation → List Incarnation → Bool) (anew : Incarnation → List Incarnation → Bool) → IsKeptTest test anew → (c : Script) (trace : List Fact) (f : Fact) → Owns c (lists_of (setting c) trace) → list_all (held_at test c trace) (setting c).names ≡ true → guard c trace f ≡ true → starts anew trace f ≡ true → AllHeld test c trace f
+live_held test anew t c trace (fact.Granted (slot.Shard s) n x) k h g a =
+    let f : Fact = fact.Granted (slot.Shard s) n x in
+    let lists : SlotLists = lists_of (setting c) trace in
+    let own_is : own_guard c trace f (Some (slot.Shard s)) ≡ true = (and_both (own_guard c trace f (Some (slot.Shard s))) true g).0 in
+    let may : may_follow c (slot.Shard s) (shard_list lists s) f ≡ true = (and_both (is_shard c s) (may_follow c (slot.Shard s) (shard_list lists s) f) own_is).1 in
+    let leased : is_leased (shard_list lists s) f ≡ true = (and_both (is_leased (shard_list lists s) f) (is_entry c (slot.Shard s) (shard_list lists s) f) may).0 in
+    let free : is_held (shard_list lists s) ≡ false = of_not (is_held (shard_list lists s)) (and_both (not (is_held (shard_list lists s))) _ leased).0 in
+    all_map (held_at test c trace) (λ e. held_in test c (with_entry f lists (Some (slot.Shard s))) e (live_at e trace))
+    (λ e old.
+    holder_in lists f s (shard_of (setting c) e) (λ o. test o (live_at e trace) ≡ true) (inside_of c trace f s k own_is)
+    (λ it. test_none test (Some x) (live_at e trace) (t.none (Some x)) (t.free (holder (shard_list lists (shard_of (setting c) e))) (live_at e trace) (ap (λ t. is_held (shard_list lists t)) it ∙ free) old))
+    old)
+    (setting c).names h
+live_held test anew t c trace (fact.Granted s n x) k h g a = h
+live_held test anew t c trace (fact.Freed (slot.Shard s) n why) k h g a =
+    let f : Fact = fact.Freed (slot.Shard s) n why in
+    let lists : SlotLists = lists_of (setting c) trace in
+    let guards : (own_guard c trace f (Some (slot.Shard s)) ≡ true) × (cross_guard c trace f ≡ true) = and_both (own_guard c trace f (Some (slot.Shard s))) (cross_guard c trace f) g in
+    all_where (held_at test c trace) (λ e. held_in test c (with_entry f lists (Some (slot.Shard s))) e (live_at e trace)) (λ e. shard_of (setting c) e == s) (λ e. is_empty (live_at e trace))
+    (λ e old none.
+    holder_in lists f s (shard_of (setting c) e) (λ o. test o (live_at e trace) ≡ true) (inside_of c trace f s k guards.0)
+    (λ it. test_none test None (live_at e trace) (t.none None) (empty_is (live_at e trace) (none (number_itself (shard_of (setting c) e) s it))))
+    old)
+    (setting c).names h guards.1
+live_held test anew t c trace (fact.Freed s n why) k h g a = h
+live_held test anew t c trace (fact.Wrote x r) k h g a = entry_held test c trace (fact.Wrote x r) (shard_of (setting c) x) k h (and_both (own_guard c trace (fact.Wrote x r) (Some (slot.Shard (shard_of (setting c) x)))) _ g).0 (λ o. refl)
+live_held test anew t c trace (fact.Snapshot x m) k h g a = entry_held test c trace (fact.Snapshot x m) (shard_of (setting c) x) k h (and_both (own_guard c trace (fact.Snapshot x m) (Some (slot.Shard (shard_of (setting c) x)))) _ g).0 (λ o. refl)
+live_held test anew t c trace (fact.Remembered x) k h g a = entry_held test c trace (fact.Remembered x) (shard_of (setting c) x) k h (and_both (own_guard c trace (fact.Remembered x) (Some (slot.Shard (shard_of (setting c) x)))) _ g).0 (λ o. refl)
+live_held test anew t c trace (fact.Forgotten x) k h g a = entry_held test c trace (fact.Forgotten x) (shard_of (setting c) x) k h (and_both (own_guard c trace (fact.Forgotten x) (Some (slot.Shard (shard_of (setting c) x)))) _ g).0 (λ o. refl)
+live_held test anew t c trace (fact.Start x y) k h g a =
+    let lists : SlotLists = lists_of (setting c) trace in
+    all_map (held_at test c trace) (λ e. held_in test c lists e (if is_name y e then live_at e trace ++ x ∷ [] else live_at e trace))
+    (λ e old.
+    test_if test (is_name y e) (holder (shard_list lists (shard_of (setting c) e))) (live_at e trace) (live_at e trace ++ x ∷ []) old (λ it.
+    t.more (holder (shard_list lists (shard_of (setting c) e))) (live_at e trace) x old
+    (subst (λ z. is_at x (holder (shard_list lists (shard_of (setting c) z))) ≡ true) (same_name y e it) (and_both true (cross_guard c trace (fact.Start x y)) g).1)
+    (subst (λ z. anew x (live_at z trace) ≡ true) (same_name y e it) a)))
+    (setting c).names h
+live_held test anew t c trace (fact.Stop x y) k h g a =
+    let lists : SlotLists = lists_of (setting c) trace in
+    all_map (held_at test c trace) (λ e. held_in test c lists e (if is_name y e then without x (live_at e trace) else live_at e trace))
+    (λ e old. test_if test (is_name y e) (holder (shard_list lists (shard_of (setting c) e))) (live_at e trace) (without x (live_at e trace)) old (λ it. t.fewer (holder (shard_list lists (shard_of (setting c) e))) (live_at e trace) x old))
+    (setting c).names h
+live_held test anew t c trace (fact.WriteFailed x y) k h g a =
+    let lists : SlotLists = lists_of (setting c) trace in
+    all_map (held_at test c trace) (λ e. held_in test c lists e (if is_name y e then without x (live_at e trace) else live_at e trace))
+    (λ e old. test_if test (is_name y e) (holder (shard_list lists (shard_of (setting c) e))) (live_at e trace) (without x (live_at e trace)) old (λ it. t.fewer (holder (shard_list lists (shard_of (setting c) e))) (live_at e trace) x old))
+    (setting c).names h
+live_held test anew t c trace (fact.Gone x) k h g a =
+    let lists : SlotLists = lists_of (setting c) trace in
+    all_map (held_at test c trace) (λ e. held_in test c lists e (without x (live_at e trace)))
+    (λ e old. t.fewer (holder (shard_list lists (shard_of (setting c) e))) (live_at e trace) x old)
+    (setting c).names h
+live_held test anew t c trace f k h g a = h

@@ -1,0 +1,5 @@
+use Rattle.yard_laws.proofs.Owns.{guarded_is_own}
+use Rattle.yard_laws.proofs.safety.guarded_is_own.Goals as goal
+
+pub returns : goal.returns
+returns c = guarded_is_own

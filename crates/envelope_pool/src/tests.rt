@@ -1,0 +1,42 @@
+//! What no clause says: that memory is there where there is plenty.
+use crate::Pool;
+use std::test::Fail;
+
+#[test]
+fn lists_share_the_cells(rt: HostRuntime) -> Result<(), Fail> {
+    let mut pool = Pool::new(rt.alloc(), 3, 2)?;
+    assert_eq!(rt; pool.total(), 0);
+    assert_eq!(rt; pool.pop(0), None);
+    assert!(rt; pool.push(1, 10u32).is_ok());
+    assert!(rt; pool.push(0, 11).is_ok());
+    assert!(rt; pool.push(1, 12).is_ok());
+    assert_eq!(rt; pool.len(0), 1);
+    assert_eq!(rt; pool.len(1), 2);
+    let refused = match pool.push(0, 13) {
+        Ok(()) => None,
+        Err(full) => Some(full.item),
+    };
+    assert_eq!(rt; refused, Some(13));
+    assert_eq!(rt; pool.total(), 3);
+    assert_eq!(rt; pool.pop(1), Some(10));
+    assert_eq!(rt; pool.pop(0), Some(11));
+    assert_eq!(rt; pool.pop(0), None);
+    assert!(rt; pool.push(1, 14).is_ok());
+    assert_eq!(rt; pool.pop(1), Some(12));
+    assert_eq!(rt; pool.pop(1), Some(14));
+    assert_eq!(rt; pool.pop(1), None);
+    assert_eq!(rt; pool.total(), 0);
+    Ok(())
+}
+
+#[test]
+fn a_pool_of_no_cells_is_full(rt: HostRuntime) -> Result<(), Fail> {
+    let mut pool = Pool::new(rt.alloc(), 0, 1)?;
+    let refused = match pool.push(0, 7u8) {
+        Ok(()) => None,
+        Err(full) => Some(full.item),
+    };
+    assert_eq!(rt; refused, Some(7));
+    assert_eq!(rt; pool.total(), 0);
+    Ok(())
+}

@@ -5,6 +5,7 @@
 pub mod acts;
 pub mod coordinator;
 pub mod entities;
+pub mod equal;
 pub mod facts;
 pub mod queue;
 pub mod safety;

@@ -48,7 +48,7 @@ is_folded c records = each_follows (is_folded_after c) [] records
 abbrev pub is_merged_after : Script → List ℕ → List Record → Record → Bool
 is_merged_after c e before r = (r.place == position r.producer before + 1) && is_planned c r.producer e r.place r.command
 
--- Merged: of each producer the journal has the first commands of Plan, once and in order (own)
+-- Merged: of each producer the journal has the first commands of Plan, once and in order
 abbrev pub is_merged : Script → List ℕ → List Record → Bool
 is_merged c e records = each_follows (is_merged_after c e) [] records
 

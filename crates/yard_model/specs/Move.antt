@@ -1,4 +1,4 @@
--- A move: one step of an actor. It is an item of the node's turn, or a silent step that no item tells (own).
+-- A move: one step of an actor. It is an item of the node's turn, or a silent step that no item tells.
 use Rattle.std.specs.Prelude.{ℕ, List, [], ◌∷◌}
 use Rattle.yard_model.specs.declared.out.Item.{Item}
 use Rattle.yard_model.specs.declared.out.Item.TheVariants as item

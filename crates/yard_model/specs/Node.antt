@@ -1,4 +1,4 @@
--- A node: its actors side by side, and what each input gives. An input is handled whole before the next (own).
+-- A node: its actors side by side, and what each input gives. An input is handled whole before the next, a rule of this project.
 use Rattle.std.specs.Prelude.{ℕ, ◌+◌, ◌-◌, Bool, ◌&&◌, nat_le, not, List, [], ◌∷◌, ◌++◌, map, replicate, Option, Some, None, is_none, slice_index_or, slice_set, if◌then◌else◌}
 use Rattle.std.specs.List.{flat_map}
 use Rattle.std.specs.Option.{option_map}

@@ -73,9 +73,9 @@ abbrev pub own_guard : Script → List Fact → Fact → Option Slot → Bool
 own_guard c trace f None = true
 own_guard c trace f (Some s) = is_slot_of c s && may_follow c s (list_at (lists_of (setting c) trace) s) f
 
--- the holder of its shard starts an entity; a live one writes; a shard is freed when none of its entities is live; an Active one is its journal; a confirmed number is recorded
+-- the holder of its shard starts an entity that isn't live; a live one writes; a shard is freed when none of its entities is live; an Active one is its journal; a confirmed number is recorded
 abbrev pub cross_guard : Script → List Fact → Fact → Bool
-cross_guard c trace (fact.Start x e) = is_at x (holder (shard_list_of c e trace))
+cross_guard c trace (fact.Start x e) = is_at x (holder (shard_list_of c e trace)) && is_empty (live_at e trace)
 cross_guard c trace (fact.Wrote e r) = not (is_empty (live_at e trace))
 cross_guard c trace (fact.Freed (slot.Shard s) n why) = list_all (λ e. is_empty (live_at e trace)) (names_of (setting c) s)
 cross_guard c trace (fact.Active x e m st) = is_journal_state c m st (journal e (shard_list_of c e trace))

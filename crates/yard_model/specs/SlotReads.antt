@@ -1,4 +1,4 @@
--- What is read off the list of one slot: each word by a step, oldest entry first (own: a lease's list is event sourced as an entity's journal is).
+-- What is read off the list of one slot: each word by a step, oldest entry first: a lease's list is event sourced as an entity's journal is.
 use Rattle.std.specs.Prelude.{ℕ, ◌+◌, Bool, true, false, ◌==◌, List, [], ◌∷◌, ◌++◌, length, count_by, fold, Option, Some, None, if◌then◌else◌}
 use Rattle.yard_model.specs.declared.fact.Fact.{Fact}
 use Rattle.yard_model.specs.declared.fact.Fact.TheVariants as fact

@@ -1,4 +1,4 @@
--- What `solo` does: one incarnation numbers the sends and posts them in script order, and records what is delivered to it (own).
+-- What `solo` does: one incarnation numbers the sends and posts them in script order, and records what is delivered to it.
 use Rattle.std.specs.Prelude.{ℕ, ◌+◌, ◌-◌, ◌==◌, ◌&&◌, List, [], ◌∷◌, ◌++◌, length, count_by, fold, map, slice_set, Option, Some, None, if◌then◌else◌}
 use Rattle.std.specs.List.{slice_get}
 use Rattle.yard_model.specs.declared.fact.Fact.{Fact}

@@ -1,4 +1,4 @@
--- What is printed, as bytes: facts, reports and lists (own).
+-- What is printed, as bytes: facts, reports and lists.
 use Rattle.std.specs.Prelude.{ℕ, ◌==◌, List, [], ◌∷◌, ◌++◌, length, map, codes, decimal, if◌then◌else◌}
 use Rattle.std.specs.List.{flat_map, join_with_byte}
 use Rattle.yard_model.specs.declared.fact.Fact.{Fact}

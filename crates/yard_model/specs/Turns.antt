@@ -1,4 +1,4 @@
--- How rules are put together: one and then another; one for each. A rule is a function from a state to moves, and the state after it is the fold of the actor's step over its moves (own).
+-- How rules are put together: one and then another; one for each. A rule is a function from a state to moves, and the state after it is the fold of the actor's step over its moves.
 use Rattle.std.specs.Prelude.{List, [], ◌∷◌, ◌++◌, fold, Option, Some, None}
 
 -- what p gives, and then what q gives where p's moves count

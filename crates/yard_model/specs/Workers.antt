@@ -1,4 +1,4 @@
--- The orders that each node's worker takes in a live run, and which producers' sends are sure to be queued there (own).
+-- The orders that each node's worker takes in a live run, and which producers' sends are sure to be queued there.
 use Rattle.std.specs.Prelude.{ℕ, ◌*◌, Bool, true, false, ◌==◌, ◌&&◌, ◌||◌, nat_le, not, List, [], ◌∷◌, ◌++◌, length, map, fold, Option, Some, None, if◌then◌else◌}
 use Rattle.std.specs.List.{list_any, list_all}
 use Rattle.std.specs.Option.{option_map_or}

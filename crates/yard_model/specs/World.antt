@@ -1,4 +1,4 @@
--- The world: all nodes, one step after the other, as the orders of a script say (own). Its words, but for the nodes and what was ordered, are folds of one-fact steps over the facts.
+-- The world: all nodes, one step after the other, as the orders of a script say. Its words, but for the nodes and what was ordered, are folds of one-fact steps over the facts.
 use Rattle.std.specs.Prelude.{ℕ, zero, suc, ◌+◌, ◌-◌, ◌*◌, Bool, true, false, ◌==◌, ◌||◌, nat_lt, not, max, List, [], ◌∷◌, ◌++◌, length, map, filter, fold, sum, replicate, Option, Some, None, is_none, slice_index_or, slice_set, if◌then◌else◌}
 use Rattle.std.specs.List.{list_any, flat_map, slice_get}
 use Rattle.yard_model.specs.declared.fact.Fact.{Fact}

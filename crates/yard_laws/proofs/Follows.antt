@@ -22,17 +22,11 @@ follows_to may P step before (x ∷ xs) p e =
     subst P (append_assoc before (x ∷ []) xs) (follows_to may P step (before ++ x ∷ []) xs (step before x p m.0) m.1)
 
 -- what is kept by each item, and gives another test of it, gives that test of each
-pub follows_by : {A : Type 0} (may also gives : List A → A → Bool) (P : List A → Type 0)
-    → ((before : List A) (x : A) → P before → may before x ≡ true → also before x ≡ true → P (before ++ x ∷ []) × (gives before x ≡ true))
-    → (before xs : List A) → P before → each_follows may before xs ≡ true → each_follows also before xs ≡ true → each_follows gives before xs ≡ true
-follows_by may also gives P step before [] p e f = refl
-follows_by may also gives P step before (x ∷ xs) p e f =
+pub follows_by : {A : Type 0} (may gives : List A → A → Bool) (P : List A → Type 0)
+    → ((before : List A) (x : A) → P before → may before x ≡ true → P (before ++ x ∷ []) × (gives before x ≡ true))
+    → (before xs : List A) → P before → each_follows may before xs ≡ true → each_follows gives before xs ≡ true
+follows_by may gives P step before [] p e = refl
+follows_by may gives P step before (x ∷ xs) p e =
     let m : (may before x ≡ true) × (each_follows may (before ++ x ∷ []) xs ≡ true) = and_both (may before x) (each_follows may (before ++ x ∷ []) xs) e in
-    let a : (also before x ≡ true) × (each_follows also (before ++ x ∷ []) xs ≡ true) = and_both (also before x) (each_follows also (before ++ x ∷ []) xs) f in
-    let new : P (before ++ x ∷ []) × (gives before x ≡ true) = step before x p m.0 a.0 in
-    both (gives before x) (each_follows gives (before ++ x ∷ []) xs) new.1 (follows_by may also gives P step (before ++ x ∷ []) xs new.0 m.1 a.1)
-
--- what holds of any item after any holds of each
-pub follows_all : {A : Type 0} (may : List A → A → Bool) → ((before : List A) (x : A) → may before x ≡ true) → (before xs : List A) → each_follows may before xs ≡ true
-follows_all may h before [] = refl
-follows_all may h before (x ∷ xs) = both (may before x) (each_follows may (before ++ x ∷ []) xs) (h before x) (follows_all may h (before ++ x ∷ []) xs)
+    let new : P (before ++ x ∷ []) × (gives before x ≡ true) = step before x p m.0 in
+    both (gives before x) (each_follows gives (before ++ x ∷ []) xs) new.1 (follows_by may gives P step (before ++ x ∷ []) xs new.0 m.1)

@@ -47,11 +47,10 @@ empty_is : {A : Type 0} (xs : List A) → is_empty xs ≡ true → xs ≡ []
 empty_is [] e = refl
 empty_is (x ∷ xs) e = absurd (true_is_not_false (sym e))
 
--- one more is live: the holder, which wasn't
-live_more : (h : Option Incarnation) (live : List Incarnation) (x : Incarnation) → at_most_holder h live ≡ true → is_at x h ≡ true → not (is_among x live) ≡ true → at_most_holder h (live ++ x ∷ []) ≡ true
-live_more h [] x e at new = at
-live_more h (y ∷ []) x e at new = absurd (true_is_not_false (sym (ap (λ b. b || false) (both_held x y h at e)) ∙ of_not (is_among x (y ∷ [])) new))
-live_more h (y ∷ z ∷ xs) x e at new = absurd (true_is_not_false (sym e))
+-- one more is live: the holder, where none was
+live_more : (h : Option Incarnation) (live : List Incarnation) (x : Incarnation) → is_at x h ≡ true → is_empty live ≡ true → at_most_holder h (live ++ x ∷ []) ≡ true
+live_more h [] x at new = at
+live_more h (y ∷ ys) x at new = absurd (true_is_not_false (sym new))
 
 live_fewer : (h : Option Incarnation) (live : List Incarnation) (x : Incarnation) → at_most_holder h live ≡ true → at_most_holder h (without x live) ≡ true
 live_fewer h [] x e = refl
@@ -62,37 +61,12 @@ live_fewer h (y ∷ []) x e = step (not (is_same x y))
     step false = refl
 live_fewer h (y ∷ z ∷ xs) x e = absurd (true_is_not_false (sym e))
 
--- a test of the live ones by the holder, that guarded facts keep where anew says which may be started
-pub record IsKeptTest (test : Option Incarnation → List Incarnation → Bool) (anew : Incarnation → List Incarnation → Bool) : Type 0 where
-  pub none : (h : Option Incarnation) → test h [] ≡ true
-  pub free : (h : Option Incarnation) (live : List Incarnation) → is_some h ≡ false → test h live ≡ true → live ≡ []
-  pub more : (h : Option Incarnation) (live : List Incarnation) (x : Incarnation) → test h live ≡ true → is_at x h ≡ true → anew x live ≡ true → test h (live ++ x ∷ []) ≡ true
-  pub fewer : (h : Option Incarnation) (live : List Incarnation) (x : Incarnation) → test h live ≡ true → test h (without x live) ≡ true
+none_held : (h : Option Incarnation) (live : List Incarnation) → live ≡ [] → at_most_holder h live ≡ true
+none_held h live n = ap (at_most_holder h) n
 
--- at most one is live, and that is the holder, where none is started twice
-pub one_kept : IsKeptTest at_most_holder (λ x live. not (is_among x live))
-one_kept = record { none = λ h. refl; free = none_live; more = live_more; fewer = live_fewer }
-
--- each live one is the holder, whatever is started
-pub each_kept : IsKeptTest (λ h live. list_all (λ x. is_at x h) live) (λ x live. true)
-each_kept = record {
-  none = λ h. refl;
-  free = each_free;
-  more = λ h live x e at new. list_all-append (λ y. is_at y h) live (x ∷ []) ∙ both (list_all (λ y. is_at y h) live) (is_at x h && true) e (both (is_at x h) true at refl);
-  fewer = λ h live x e. all_filter (λ y. is_at y h) (λ y. not (is_same x y)) live e;
-}
-  where
-    each_free : (h : Option Incarnation) (live : List Incarnation) → is_some h ≡ false → list_all (λ x. is_at x h) live ≡ true → live ≡ []
-    each_free h [] n e = refl
-    each_free None (x ∷ xs) n e = absurd (true_is_not_false (sym e))
-    each_free (Some y) (x ∷ xs) n e = absurd (true_is_not_false n)
-
-test_none : (test : Option Incarnation → List Incarnation → Bool) (h : Option Incarnation) (live : List Incarnation) → test h [] ≡ true → live ≡ [] → test h live ≡ true
-test_none test h live e n = ap (test h) n ∙ e
-
-test_if : (test : Option Incarnation → List Incarnation → Bool) (b : Bool) (h : Option Incarnation) (old new : List Incarnation) → test h old ≡ true → (b ≡ true → test h new ≡ true) → test h (if b then new else old) ≡ true
-test_if test true h old new e f = f refl
-test_if test false h old new e f = e
+held_if : (b : Bool) (h : Option Incarnation) (old new : List Incarnation) → at_most_holder h old ≡ true → (b ≡ true → at_most_holder h new ≡ true) → at_most_holder h (if b then new else old) ≡ true
+held_if true h old new e f = f refl
+held_if false h old new e f = e
 
 -- The holder of a shard, with one entry more in the list of a shard.
 
@@ -112,93 +86,89 @@ holder_in lists f s k P inside here there = at (k == s) refl
         subst P (sym (ap (λ t. holder (slice_index_or (slice_set lists.shards s v) t [])) same ∙ (ap holder (get_or-set_same lists.shards s v [] inside) ∙ holder_more (shard_list lists s) f))) (here same)
     at false e = subst P (sym (ap holder (get_or-set_other lists.shards s k (shard_list lists s ++ f ∷ []) [] (other_number k s e)))) there
 
--- the test of those live by the holder of e's shard in these lists
-abbrev pub held_in : (Option Incarnation → List Incarnation → Bool) → Script → SlotLists → List ℕ → List Incarnation → Bool
-held_in test c lists e live = test (holder (shard_list lists (shard_of (setting c) e))) live
+-- at most one is live, and that is the holder of e's shard in these lists
+abbrev pub held_in : Script → SlotLists → List ℕ → List Incarnation → Bool
+held_in c lists e live = at_most_holder (holder (shard_list lists (shard_of (setting c) e))) live
 
-abbrev pub held_at : (Option Incarnation → List Incarnation → Bool) → Script → List Fact → List ℕ → Bool
-held_at test c trace e = held_in test c (lists_of (setting c) trace) e (live_at e trace)
-
--- an entity is started where anew lets it be
-abbrev pub starts : (Incarnation → List Incarnation → Bool) → List Fact → Fact → Bool
-starts anew trace (fact.Start x e) = anew x (live_at e trace)
-starts anew trace f = true
+abbrev pub held_at : Script → List Fact → List ℕ → Bool
+held_at c trace e = held_in c (lists_of (setting c) trace) e (live_at e trace)
 
 -- an entry that isn't about the lease changes nothing
-kept : (test : Option Incarnation → List Incarnation → Bool) (c : Script) (lists : SlotLists) (f : Fact) (s : ℕ) (e : List ℕ) (live : List Incarnation) → s < length lists.shards
-    → (holder_step (holder (shard_list lists s)) f ≡ holder (shard_list lists s)) → held_in test c lists e live ≡ true → held_in test c (with_entry f lists (Some (slot.Shard s))) e live ≡ true
-kept test c lists f s e live inside same h =
+kept : (c : Script) (lists : SlotLists) (f : Fact) (s : ℕ) (e : List ℕ) (live : List Incarnation) → s < length lists.shards
+    → (holder_step (holder (shard_list lists s)) f ≡ holder (shard_list lists s)) → held_in c lists e live ≡ true → held_in c (with_entry f lists (Some (slot.Shard s))) e live ≡ true
+kept c lists f s e live inside same h =
     let k : ℕ = shard_of (setting c) e in
-    holder_in lists f s k (λ o. test o live ≡ true) inside (λ it. subst (λ o. test o live ≡ true) (ap (λ t. holder (shard_list lists t)) it ∙ sym same) h) h
+    holder_in lists f s k (λ o. at_most_holder o live ≡ true) inside (λ it. subst (λ o. at_most_holder o live ≡ true) (ap (λ t. holder (shard_list lists t)) it ∙ sym same) h) h
 
 -- the names whose live ones are the holders, after a fact more
-abbrev pub AllHeld : (Option Incarnation → List Incarnation → Bool) → Script → List Fact → Fact → Type 0
-AllHeld test c trace f = list_all (λ e. held_in test c (lists_step (setting c) (lists_of (setting c) trace) f) e (live_step e (live_at e trace) f)) (setting c).names ≡ true
+abbrev pub AllHeld : Script → List Fact → Fact → Type 0
+AllHeld c trace f = list_all (λ e. held_in c (lists_step (setting c) (lists_of (setting c) trace) f) e (live_step e (live_at e trace) f)) (setting c).names ≡ true
 
 -- the shard of an entry is there
 inside_of : (c : Script) (trace : List Fact) (f : Fact) (s : ℕ) → Owns c (lists_of (setting c) trace) → own_guard c trace f (Some (slot.Shard s)) ≡ true → s < length (lists_of (setting c) trace).shards
 inside_of c trace f s k g = subst (λ n. s < n) (sym k.shards) (below s c.config.shards (and_both (is_shard c s) (may_follow c (slot.Shard s) (shard_list (lists_of (setting c) trace) s) f) g).0)
 
-entry_held : (test : Option Incarnation → List Incarnation → Bool) (c : Script) (trace : List Fact) (f : Fact) (s : ℕ) → Owns c (lists_of (setting c) trace) → list_all (held_at test c trace) (setting c).names ≡ true → own_guard c trace f (Some (slot.Shard s)) ≡ true
+entry_held : (c : Script) (trace : List Fact) (f : Fact) (s : ℕ) → Owns c (lists_of (setting c) trace) → list_all (held_at c trace) (setting c).names ≡ true → own_guard c trace f (Some (slot.Shard s)) ≡ true
     → ((h : Option Incarnation) → holder_step h f ≡ h)
-    → list_all (λ e. held_in test c (with_entry f (lists_of (setting c) trace) (Some (slot.Shard s))) e (live_at e trace)) (setting c).names ≡ true
-entry_held test c trace f s k h g same =
+    → list_all (λ e. held_in c (with_entry f (lists_of (setting c) trace) (Some (slot.Shard s))) e (live_at e trace)) (setting c).names ≡ true
+entry_held c trace f s k h g same =
     let lists : SlotLists = lists_of (setting c) trace in
-    all_map (held_at test c trace) (λ e. held_in test c (with_entry f lists (Some (slot.Shard s))) e (live_at e trace))
-    (λ e old. kept test c lists f s e (live_at e trace) (inside_of c trace f s k g) (same (holder (shard_list lists s))) old) (setting c).names h
+    all_map (held_at c trace) (λ e. held_in c (with_entry f lists (Some (slot.Shard s))) e (live_at e trace))
+    (λ e old. kept c lists f s e (live_at e trace) (inside_of c trace f s k g) (same (holder (shard_list lists s))) old) (setting c).names h
 
-pub live_held : (test : Option Incarnation → List Incarnation → Bool) (anew : Incarnation → List Incarnation → Bool) → IsKeptTest test anew → (c : Script) (trace : List Fact) (f : Fact) → Owns c (lists_of (setting c) trace) → list_all (held_at test c trace) (setting c).names ≡ true → guard c trace f ≡ true → starts anew trace f ≡ true → AllHeld test c trace f
-live_held test anew t c trace (fact.Granted (slot.Shard s) n x) k h g a =
+pub live_held : (c : Script) (trace : List Fact) (f : Fact) → Owns c (lists_of (setting c) trace) → list_all (held_at c trace) (setting c).names ≡ true → guard c trace f ≡ true → AllHeld c trace f
+live_held c trace (fact.Granted (slot.Shard s) n x) k h g =
     let f : Fact = fact.Granted (slot.Shard s) n x in
     let lists : SlotLists = lists_of (setting c) trace in
     let own_is : own_guard c trace f (Some (slot.Shard s)) ≡ true = (and_both (own_guard c trace f (Some (slot.Shard s))) true g).0 in
     let may : may_follow c (slot.Shard s) (shard_list lists s) f ≡ true = (and_both (is_shard c s) (may_follow c (slot.Shard s) (shard_list lists s) f) own_is).1 in
     let leased : is_leased (shard_list lists s) f ≡ true = (and_both (is_leased (shard_list lists s) f) (is_entry c (slot.Shard s) (shard_list lists s) f) may).0 in
     let free : is_held (shard_list lists s) ≡ false = of_not (is_held (shard_list lists s)) (and_both (not (is_held (shard_list lists s))) _ leased).0 in
-    all_map (held_at test c trace) (λ e. held_in test c (with_entry f lists (Some (slot.Shard s))) e (live_at e trace))
+    all_map (held_at c trace) (λ e. held_in c (with_entry f lists (Some (slot.Shard s))) e (live_at e trace))
     (λ e old.
-    holder_in lists f s (shard_of (setting c) e) (λ o. test o (live_at e trace) ≡ true) (inside_of c trace f s k own_is)
-    (λ it. test_none test (Some x) (live_at e trace) (t.none (Some x)) (t.free (holder (shard_list lists (shard_of (setting c) e))) (live_at e trace) (ap (λ t. is_held (shard_list lists t)) it ∙ free) old))
+    holder_in lists f s (shard_of (setting c) e) (λ o. at_most_holder o (live_at e trace) ≡ true) (inside_of c trace f s k own_is)
+    (λ it. none_held (Some x) (live_at e trace) (none_live (holder (shard_list lists (shard_of (setting c) e))) (live_at e trace) (ap (λ t. is_held (shard_list lists t)) it ∙ free) old))
     old)
     (setting c).names h
-live_held test anew t c trace (fact.Granted s n x) k h g a = h
-live_held test anew t c trace (fact.Freed (slot.Shard s) n why) k h g a =
+live_held c trace (fact.Granted s n x) k h g = h
+live_held c trace (fact.Freed (slot.Shard s) n why) k h g =
     let f : Fact = fact.Freed (slot.Shard s) n why in
     let lists : SlotLists = lists_of (setting c) trace in
     let guards : (own_guard c trace f (Some (slot.Shard s)) ≡ true) × (cross_guard c trace f ≡ true) = and_both (own_guard c trace f (Some (slot.Shard s))) (cross_guard c trace f) g in
-    all_where (held_at test c trace) (λ e. held_in test c (with_entry f lists (Some (slot.Shard s))) e (live_at e trace)) (λ e. shard_of (setting c) e == s) (λ e. is_empty (live_at e trace))
+    all_where (held_at c trace) (λ e. held_in c (with_entry f lists (Some (slot.Shard s))) e (live_at e trace)) (λ e. shard_of (setting c) e == s) (λ e. is_empty (live_at e trace))
     (λ e old none.
-    holder_in lists f s (shard_of (setting c) e) (λ o. test o (live_at e trace) ≡ true) (inside_of c trace f s k guards.0)
-    (λ it. test_none test None (live_at e trace) (t.none None) (empty_is (live_at e trace) (none (number_itself (shard_of (setting c) e) s it))))
+    holder_in lists f s (shard_of (setting c) e) (λ o. at_most_holder o (live_at e trace) ≡ true) (inside_of c trace f s k guards.0)
+    (λ it. none_held None (live_at e trace) (empty_is (live_at e trace) (none (number_itself (shard_of (setting c) e) s it))))
     old)
     (setting c).names h guards.1
-live_held test anew t c trace (fact.Freed s n why) k h g a = h
-live_held test anew t c trace (fact.Wrote x r) k h g a = entry_held test c trace (fact.Wrote x r) (shard_of (setting c) x) k h (and_both (own_guard c trace (fact.Wrote x r) (Some (slot.Shard (shard_of (setting c) x)))) _ g).0 (λ o. refl)
-live_held test anew t c trace (fact.Snapshot x m) k h g a = entry_held test c trace (fact.Snapshot x m) (shard_of (setting c) x) k h (and_both (own_guard c trace (fact.Snapshot x m) (Some (slot.Shard (shard_of (setting c) x)))) _ g).0 (λ o. refl)
-live_held test anew t c trace (fact.Remembered x) k h g a = entry_held test c trace (fact.Remembered x) (shard_of (setting c) x) k h (and_both (own_guard c trace (fact.Remembered x) (Some (slot.Shard (shard_of (setting c) x)))) _ g).0 (λ o. refl)
-live_held test anew t c trace (fact.Forgotten x) k h g a = entry_held test c trace (fact.Forgotten x) (shard_of (setting c) x) k h (and_both (own_guard c trace (fact.Forgotten x) (Some (slot.Shard (shard_of (setting c) x)))) _ g).0 (λ o. refl)
-live_held test anew t c trace (fact.Start x y) k h g a =
+live_held c trace (fact.Freed s n why) k h g = h
+live_held c trace (fact.Wrote x r) k h g = entry_held c trace (fact.Wrote x r) (shard_of (setting c) x) k h (and_both (own_guard c trace (fact.Wrote x r) (Some (slot.Shard (shard_of (setting c) x)))) _ g).0 (λ o. refl)
+live_held c trace (fact.Snapshot x m) k h g = entry_held c trace (fact.Snapshot x m) (shard_of (setting c) x) k h (and_both (own_guard c trace (fact.Snapshot x m) (Some (slot.Shard (shard_of (setting c) x)))) _ g).0 (λ o. refl)
+live_held c trace (fact.Remembered x) k h g = entry_held c trace (fact.Remembered x) (shard_of (setting c) x) k h (and_both (own_guard c trace (fact.Remembered x) (Some (slot.Shard (shard_of (setting c) x)))) _ g).0 (λ o. refl)
+live_held c trace (fact.Forgotten x) k h g = entry_held c trace (fact.Forgotten x) (shard_of (setting c) x) k h (and_both (own_guard c trace (fact.Forgotten x) (Some (slot.Shard (shard_of (setting c) x)))) _ g).0 (λ o. refl)
+live_held c trace (fact.Start x y) k h g =
     let lists : SlotLists = lists_of (setting c) trace in
-    all_map (held_at test c trace) (λ e. held_in test c lists e (if is_name y e then live_at e trace ++ x ∷ [] else live_at e trace))
+    let guards : (is_at x (holder (shard_list lists (shard_of (setting c) y))) ≡ true) × (is_empty (live_at y trace) ≡ true) = and_both _ (is_empty (live_at y trace)) (and_both true (cross_guard c trace (fact.Start x y)) g).1 in
+    all_map (held_at c trace) (λ e. held_in c lists e (if is_name y e then live_at e trace ++ x ∷ [] else live_at e trace))
     (λ e old.
-    test_if test (is_name y e) (holder (shard_list lists (shard_of (setting c) e))) (live_at e trace) (live_at e trace ++ x ∷ []) old (λ it.
-    t.more (holder (shard_list lists (shard_of (setting c) e))) (live_at e trace) x old
-    (subst (λ z. is_at x (holder (shard_list lists (shard_of (setting c) z))) ≡ true) (same_name y e it) (and_both true (cross_guard c trace (fact.Start x y)) g).1)
-    (subst (λ z. anew x (live_at z trace) ≡ true) (same_name y e it) a)))
+    held_if (is_name y e) (holder (shard_list lists (shard_of (setting c) e))) (live_at e trace) (live_at e trace ++ x ∷ []) old (λ it.
+    live_more (holder (shard_list lists (shard_of (setting c) e))) (live_at e trace) x
+    (subst (λ z. is_at x (holder (shard_list lists (shard_of (setting c) z))) ≡ true) (same_name y e it) guards.0)
+    (subst (λ z. is_empty (live_at z trace) ≡ true) (same_name y e it) guards.1)))
     (setting c).names h
-live_held test anew t c trace (fact.Stop x y) k h g a =
+live_held c trace (fact.Stop x y) k h g =
     let lists : SlotLists = lists_of (setting c) trace in
-    all_map (held_at test c trace) (λ e. held_in test c lists e (if is_name y e then without x (live_at e trace) else live_at e trace))
-    (λ e old. test_if test (is_name y e) (holder (shard_list lists (shard_of (setting c) e))) (live_at e trace) (without x (live_at e trace)) old (λ it. t.fewer (holder (shard_list lists (shard_of (setting c) e))) (live_at e trace) x old))
+    all_map (held_at c trace) (λ e. held_in c lists e (if is_name y e then without x (live_at e trace) else live_at e trace))
+    (λ e old. held_if (is_name y e) (holder (shard_list lists (shard_of (setting c) e))) (live_at e trace) (without x (live_at e trace)) old (λ it. live_fewer (holder (shard_list lists (shard_of (setting c) e))) (live_at e trace) x old))
     (setting c).names h
-live_held test anew t c trace (fact.WriteFailed x y) k h g a =
+live_held c trace (fact.WriteFailed x y) k h g =
     let lists : SlotLists = lists_of (setting c) trace in
-    all_map (held_at test c trace) (λ e. held_in test c lists e (if is_name y e then without x (live_at e trace) else live_at e trace))
-    (λ e old. test_if test (is_name y e) (holder (shard_list lists (shard_of (setting c) e))) (live_at e trace) (without x (live_at e trace)) old (λ it. t.fewer (holder (shard_list lists (shard_of (setting c) e))) (live_at e trace) x old))
+    all_map (held_at c trace) (λ e. held_in c lists e (if is_name y e then without x (live_at e trace) else live_at e trace))
+    (λ e old. held_if (is_name y e) (holder (shard_list lists (shard_of (setting c) e))) (live_at e trace) (without x (live_at e trace)) old (λ it. live_fewer (holder (shard_list lists (shard_of (setting c) e))) (live_at e trace) x old))
     (setting c).names h
-live_held test anew t c trace (fact.Gone x) k h g a =
+live_held c trace (fact.Gone x) k h g =
     let lists : SlotLists = lists_of (setting c) trace in
-    all_map (held_at test c trace) (λ e. held_in test c lists e (without x (live_at e trace)))
-    (λ e old. t.fewer (holder (shard_list lists (shard_of (setting c) e))) (live_at e trace) x old)
+    all_map (held_at c trace) (λ e. held_in c lists e (without x (live_at e trace)))
+    (λ e old. live_fewer (holder (shard_list lists (shard_of (setting c) e))) (live_at e trace) x old)
     (setting c).names h
-live_held test anew t c trace f k h g a = h
+live_held c trace f k h g = h

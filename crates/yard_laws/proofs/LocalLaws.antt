@@ -1,7 +1,7 @@
 -- A fact changes the list of its slot, and who is live by its actor, alone.
 use Rattle.std.proofs.Common.{◌≡◌, ◌≢◌, ◌<◌, ◌≤◌, ℕ, ◌-◌, sym, ap, ◌∙◌, refl, subst, arith}
-use Rattle.std.specs.Prelude.{Bool, true, false, ◌==◌, ◌||◌, not, cond, List, [], ◌∷◌, ◌++◌, length, filter, fold, Option, Some, None, if◌then◌else◌}
-use Rattle.std.specs.List.{list_all}
+use Rattle.std.specs.Prelude.{Bool, true, false, ◌==◌, ◌&&◌, ◌||◌, not, cond, List, [], ◌∷◌, ◌++◌, length, filter, fold, Option, Some, None, if◌then◌else◌}
+use Rattle.std.specs.List.{list_all, list_any}
 use Rattle.std.specs.Option.{option_map_or}
 use Rattle.std.proofs.lemmas.List.{get_or-set_same, get_or-set_other, length-set, length-replicate}
 use Rattle.std.proofs.lemmas.List.Folds.{list_any-append}
@@ -13,14 +13,13 @@ use Rattle.yard_model.specs.declared.incarnation.Slot.TheVariants as slot
 use Rattle.yard_model.specs.Script.{Script, setting, is_name}
 use Rattle.yard_model.specs.Setting.{shard_of, names_of}
 use Rattle.yard_model.specs.Words.{is_same, is_at, is_among, is_empty, without}
-use Rattle.yard_model.specs.Genuine.{is_slot_of}
+use Rattle.yard_model.specs.Genuine.{is_slot_of, is_brought}
 use Rattle.yard_model.specs.SlotLists.{SlotLists, shard_list, queue_list}
 use Rattle.yard_model.specs.SlotReads.{holder}
 use Rattle.yard_model.specs.Trace.{slot_of, list_at, with_entry, lists_step, lists_of, no_lists}
-use Rattle.yard_model.specs.Safe.{live_at, live_step, own_guard, cross_guard, guard}
-use Rattle.yard_laws.specs.Guarded.{live_hold, starts_anew}
+use Rattle.yard_model.specs.Safe.{live_at, live_step, at_most_holder, one_live, own_guard, cross_guard, guard}
 use Rattle.yard_laws.specs.Local.{ListGrows, OtherListsStay, starter, OthersLiveOn, GuardedByItsActor}
-use Rattle.yard_laws.proofs.Booleans.{true_is_not_false, and_both, both, of_not, same_number, below}
+use Rattle.yard_laws.proofs.Booleans.{true_is_not_false, and_both, both, of_not, same_number, same_name, below}
 use Rattle.yard_laws.proofs.Owns.{lists_more, producer_above, producer_within}
 use Rattle.yard_laws.proofs.Live.{same_both, both_held}
 use Rattle.yard_laws.proofs.SafetyLaws.{live_more}
@@ -127,11 +126,19 @@ not_empty x [] e = e
 not_empty x (y ∷ ys) e = refl
 
 -- where the holder isn't live, none is
-none_else : (x : Incarnation) (h : Option Incarnation) (live : List Incarnation) → is_at x h ≡ true → list_all (λ y. is_at y h) live ≡ true → not (is_among x live) ≡ true → is_empty live ≡ true
+none_else : (x : Incarnation) (h : Option Incarnation) (live : List Incarnation) → is_at x h ≡ true → at_most_holder h live ≡ true → not (is_among x live) ≡ true → is_empty live ≡ true
 none_else x h [] at all none = refl
-none_else x h (y ∷ ys) at all none =
-    let same : is_same x y ≡ true = both_held x y h at (and_both (is_at y h) (list_all (λ z. is_at z h) ys) all).0 in
-    absurd (true_is_not_false (sym (ap (λ b. b || is_among x ys) same) ∙ of_not (is_among x (y ∷ ys)) none))
+none_else x h (y ∷ []) at all none = absurd (true_is_not_false (sym (ap (λ b. b || false) (both_held x y h at all)) ∙ of_not (is_among x (y ∷ [])) none))
+none_else x h (y ∷ z ∷ ys) at all none = absurd (true_is_not_false (sym all))
+
+-- what holds of each name holds of one that is among them
+of_brought : (p : List ℕ → Bool) (e : List ℕ) (names : List (List ℕ)) → list_all p names ≡ true → list_any (is_name e) names ≡ true → p e ≡ true
+of_brought p e [] all any = absurd (true_is_not_false (sym any))
+of_brought p e (n ∷ ns) all any = at (is_name e n) refl (λ m. of_brought p e ns (and_both (p n) (list_all p ns) all).1 m)
+  where
+    at : (b : Bool) → is_name e n ≡ b → (list_any (is_name e) ns ≡ true → p e ≡ true) → p e ≡ true
+    at true it rest = ap p (same_name e n it) ∙ (and_both (p n) (list_all p ns) all).0
+    at false it rest = rest (sym (ap (λ b. b || list_any (is_name e) ns) it) ∙ any)
 
 -- of those that are picked, what follows of two tests
 all_picked : {X : Type 0} (p r q pick : X → Bool) → ((x : X) → pick x ≡ true → p x ≡ true → r x ≡ true → q x ≡ true) → (xs : List X) → list_all p xs ≡ true → list_all r (filter pick xs) ≡ true → list_all q (filter pick xs) ≡ true
@@ -146,23 +153,25 @@ all_picked {X} p r q pick h (x ∷ xs) e f = step (pick x) refl f (λ g. all_pic
 
 pub guarded_by_its_actor : GuardedByItsActor
 guarded_by_its_actor x c trace (fact.Start y e) j o g =
-    let m : (is_at y (holder (shard_list (lists_of (setting c) trace) (shard_of (setting c) e))) ≡ true) × (not (is_among y (live_at e trace)) ≡ true) = and_both _ (not (is_among y (live_at e trace))) g in
-    both (guard c trace (fact.Start y e)) (starts_anew trace (fact.Start y e)) m.0 m.1
+    let h : Option Incarnation = holder (shard_list (lists_of (setting c) trace) (shard_of (setting c) e)) in
+    let m : ((is_brought c e && is_at y h) ≡ true) × (not (is_among y (live_at e trace)) ≡ true) = and_both (is_brought c e && is_at y h) (not (is_among y (live_at e trace))) g in
+    let n : (is_brought c e ≡ true) × (is_at y h ≡ true) = and_both (is_brought c e) (is_at y h) m.0 in
+    both (is_at y h) (is_empty (live_at e trace)) n.1 (none_else y h (live_at e trace) n.1 (of_brought (one_live c trace) e (setting c).names j n.0) m.1)
 guarded_by_its_actor x c trace (fact.Wrote e r) j o g =
     let f : Fact = fact.Wrote e r in
-    both (guard c trace f) true (both (own_guard c trace f (slot_of (setting c) f)) (cross_guard c trace f) o (not_empty x (live_at e trace) g)) refl
+    both (own_guard c trace f (slot_of (setting c) f)) (cross_guard c trace f) o (not_empty x (live_at e trace) g)
 guarded_by_its_actor x c trace (fact.Freed (slot.Shard s) n why) j o g =
     let f : Fact = fact.Freed (slot.Shard s) n why in
     let h : Option Incarnation = holder (shard_list (lists_of (setting c) trace) s) in
     let m : (is_at x h ≡ true) × (list_all (λ e. not (is_among x (live_at e trace))) (names_of (setting c) s) ≡ true) = and_both (is_at x h) (list_all (λ e. not (is_among x (live_at e trace))) (names_of (setting c) s)) g in
     let free : cross_guard c trace f ≡ true =
-    all_picked (live_hold c trace) (λ e. not (is_among x (live_at e trace))) (λ e. is_empty (live_at e trace)) (λ e. shard_of (setting c) e == s)
-    (λ e t all none. none_else x h (live_at e trace) m.0 (subst (λ k. list_all (λ y. is_at y (holder (shard_list (lists_of (setting c) trace) k))) (live_at e trace) ≡ true) (same_number (shard_of (setting c) e) s t) all) none)
+    all_picked (one_live c trace) (λ e. not (is_among x (live_at e trace))) (λ e. is_empty (live_at e trace)) (λ e. shard_of (setting c) e == s)
+    (λ e t all none. none_else x h (live_at e trace) m.0 (subst (λ k. at_most_holder (holder (shard_list (lists_of (setting c) trace) k)) (live_at e trace) ≡ true) (same_number (shard_of (setting c) e) s t) all) none)
     (setting c).names j m.1 in
-    both (guard c trace f) true (both (own_guard c trace f (slot_of (setting c) f)) (cross_guard c trace f) o free) refl
-guarded_by_its_actor x c trace (fact.Freed s n why) j o g = both (guard c trace (fact.Freed s n why)) true (both (own_guard c trace (fact.Freed s n why) (Some s)) true o refl) refl
-guarded_by_its_actor x c trace (fact.Active y e n st) j o g = both (guard c trace (fact.Active y e n st)) true g refl
+    both (own_guard c trace f (slot_of (setting c) f)) (cross_guard c trace f) o free
+guarded_by_its_actor x c trace (fact.Freed s n why) j o g = both (own_guard c trace (fact.Freed s n why) (Some s)) true o refl
+guarded_by_its_actor x c trace (fact.Active y e n st) j o g = g
 guarded_by_its_actor x c trace (fact.Confirmed p e n) j o g =
     let f : Fact = fact.Confirmed p e n in
-    both (guard c trace f) true (both (own_guard c trace f (slot_of (setting c) f)) (cross_guard c trace f) o g) refl
-guarded_by_its_actor x c trace f j o g = both (guard c trace f) true (both (own_guard c trace f (slot_of (setting c) f)) true o refl) refl
+    both (own_guard c trace f (slot_of (setting c) f)) (cross_guard c trace f) o g
+guarded_by_its_actor x c trace f j o g = both (own_guard c trace f (slot_of (setting c) f)) true o refl

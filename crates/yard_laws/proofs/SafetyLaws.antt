@@ -18,18 +18,18 @@ use Rattle.yard_model.specs.SlotLists.{SlotLists, shard_list, queue_list}
 use Rattle.yard_model.specs.SlotReads.{holder, epoch}
 use Rattle.yard_model.specs.Trace.{slot_of, list_at, lists_step, lists_of, no_lists}
 use Rattle.yard_model.specs.Lawful.{own, may_follow, is_leased, is_entry, is_held, is_recorded, confirmed_there, lawful}
-use Rattle.yard_model.specs.Safe.{live_at, live_step, at_most_holder, own_guard, cross_guard, guard, guarded, shows}
-use Rattle.yard_laws.specs.Guarded.{Owns, GuardedIsSafe, GuardedIsHeld}
+use Rattle.yard_model.specs.Safe.{live_at, live_step, at_most_holder, own_guard, cross_guard, guard, guarded, shows, is_safe_now}
+use Rattle.yard_laws.specs.Guarded.{Owns, GuardedIsSafe}
 use Rattle.yard_laws.proofs.Booleans.{and_both, both, number_itself, all_of, all_map, all_replicate}
-use Rattle.yard_laws.proofs.Follows.{follows_by, follows_all}
+use Rattle.yard_laws.proofs.Follows.{follows_by}
 use Rattle.yard_laws.proofs.Owns.{no_lists_own, owns_step, lists_more}
-use Rattle.yard_laws.proofs.Live.{IsKeptTest, one_kept, each_kept, held_in, held_at, starts, live_held}
+use Rattle.yard_laws.proofs.Live.{held_in, held_at, live_held}
 use Rattle.yard_laws.proofs.Recorded.{there_more, guarded_recorded}
 
 -- what each guarded fact keeps: lists that are lawful by themselves, live means holder, and what is confirmed stands in the journals
-pub record IsKept (test : Option Incarnation → List Incarnation → Bool) (c : Script) (trace : List Fact) : Type 0 where
+pub record IsKept (c : Script) (trace : List Fact) : Type 0 where
   pub owns : Owns c (lists_of (setting c) trace)
-  pub live : list_all (held_at test c trace) (setting c).names ≡ true
+  pub live : list_all (held_at c trace) (setting c).names ≡ true
   pub there : confirmed_there c (lists_of (setting c) trace) ≡ true
 
 all_from : (p : ℕ → Bool) → ((x : ℕ) → 0 < x → p x ≡ true) → (a n : ℕ) → 0 < a → list_all p (numbers a n) ≡ true
@@ -53,33 +53,29 @@ lawful_of c lists k there =
     (all_from (λ p. own c (slot.Queue p) (queue_list lists p)) k.queue 1 c.config.producers (omega arith)))
     there
 
--- of each of the script's names those live pass the test, and the lists are lawful
-abbrev passes_now : (Option Incarnation → List Incarnation → Bool) → Script → List Fact → Bool
-passes_now test c trace = list_all (held_at test c trace) (setting c).names && lawful c (lists_of (setting c) trace)
+now_safe : (c : Script) (trace : List Fact) → IsKept c trace → is_safe_now c trace ≡ true
+now_safe c trace k = both (list_all (held_at c trace) (setting c).names) (lawful c (lists_of (setting c) trace)) k.live (lawful_of c (lists_of (setting c) trace) k.owns k.there)
 
-now_safe : (test : Option Incarnation → List Incarnation → Bool) (c : Script) (trace : List Fact) → IsKept test c trace → passes_now test c trace ≡ true
-now_safe test c trace k = both (list_all (held_at test c trace) (setting c).names) (lawful c (lists_of (setting c) trace)) k.live (lawful_of c (lists_of (setting c) trace) k.owns k.there)
-
-kept_none : (test : Option Incarnation → List Incarnation → Bool) (anew : Incarnation → List Incarnation → Bool) → IsKeptTest test anew → (c : Script) → IsKept test c []
-kept_none test anew t c = record {
+kept_none : (c : Script) → IsKept c []
+kept_none c = record {
   owns = no_lists_own c;
-  live = all_of (held_at test c []) (λ e. t.none (holder (shard_list (no_lists (setting c)) (shard_of (setting c) e)))) (setting c).names;
+  live = all_of (held_at c []) (λ e. refl) (setting c).names;
   there = all_replicate (list_all (is_recorded c (no_lists (setting c)))) c.config.producers [] refl;
 }
 
 pub live_more : (e : List ℕ) (trace : List Fact) (f : Fact) → live_at e (trace ++ f ∷ []) ≡ live_step e (live_at e trace) f
 live_more e trace f = fold-append (live_step e) [] trace (f ∷ [])
 
-kept_more : (test : Option Incarnation → List Incarnation → Bool) (anew : Incarnation → List Incarnation → Bool) → IsKeptTest test anew → (c : Script) (trace : List Fact) (f : Fact)
-    → IsKept test c trace → guard c trace f ≡ true → starts anew trace f ≡ true → IsKept test c (trace ++ f ∷ [])
-kept_more test anew t c trace f k g a =
+kept_more : (c : Script) (trace : List Fact) (f : Fact)
+    → IsKept c trace → guard c trace f ≡ true → IsKept c (trace ++ f ∷ [])
+kept_more c trace f k g =
     let lists : SlotLists = lists_of (setting c) trace in
     let new : SlotLists = lists_step (setting c) lists f in
     record {
       owns = owns_step c trace f k.owns g;
-      live = all_map (λ e. held_in test c new e (live_step e (live_at e trace) f)) (held_at test c (trace ++ f ∷ []))
-          (λ e h. ap (λ l. held_in test c l e (live_at e (trace ++ f ∷ []))) (lists_more c trace f) ∙ (ap (held_in test c new e) (live_more e trace f) ∙ h))
-          (setting c).names (live_held test anew t c trace f k.owns k.live g a);
+      live = all_map (λ e. held_in c new e (live_step e (live_at e trace) f)) (held_at c (trace ++ f ∷ []))
+          (λ e h. ap (λ l. held_in c l e (live_at e (trace ++ f ∷ []))) (lists_more c trace f) ∙ (ap (held_in c new e) (live_more e trace f) ∙ h))
+          (setting c).names (live_held c trace f k.owns k.live g);
       there = ap (confirmed_there c) (lists_more c trace f) ∙ there_more c lists f (slot_of (setting c) f) k.there (guarded_recorded c trace f k.owns g);
     }
 
@@ -99,24 +95,11 @@ shown c trace (fact.Wrote e r) g =
 shown c trace (fact.Active x e m st) g = (and_both true (cross_guard c trace (fact.Active x e m st)) g).1
 shown c trace f g = slot_shown c trace f (slot_of (setting c) f) (and_both (own_guard c trace f (slot_of (setting c) f)) (cross_guard c trace f) g).0
 
--- at each prefix those live pass a test that guarded facts keep
-passes : (test : Option Incarnation → List Incarnation → Bool) (anew : Incarnation → List Incarnation → Bool) → IsKeptTest test anew → (c : Script) (trace : List Fact)
-    → guarded c trace ≡ true → each_follows (starts anew) [] trace ≡ true
-    → (passes_now test c [] && each_follows (λ before f. shows c before f && passes_now test c (before ++ f ∷ [])) [] trace) ≡ true
-passes test anew t c trace g a =
-    both (passes_now test c []) (each_follows (λ before f. shows c before f && passes_now test c (before ++ f ∷ [])) [] trace) (now_safe test c [] (kept_none test anew t c))
-    (follows_by (guard c) (starts anew) (λ before f. shows c before f && passes_now test c (before ++ f ∷ [])) (IsKept test c)
-    (λ before f k g a.
-    let new : IsKept test c (before ++ f ∷ []) = kept_more test anew t c before f k g a in
-    (new, both (shows c before f) (passes_now test c (before ++ f ∷ [])) (shown c before f g) (now_safe test c (before ++ f ∷ []) new)))
-    [] trace (kept_none test anew t c) g a)
-
-anything_starts : (trace : List Fact) (f : Fact) → starts (λ x live. true) trace f ≡ true
-anything_starts trace (fact.Start x e) = refl
-anything_starts trace f = refl
-
 pub guarded_is_safe : GuardedIsSafe
-guarded_is_safe c trace g a = passes at_most_holder (λ x live. not (is_among x live)) one_kept c trace g a
-
-pub guarded_is_held : GuardedIsHeld
-guarded_is_held c trace g = passes (λ h live. list_all (λ x. is_at x h) live) (λ x live. true) each_kept c trace g (follows_all (starts (λ x live. true)) anything_starts [] trace)
+guarded_is_safe c trace g =
+    both (is_safe_now c []) (each_follows (λ before f. shows c before f && is_safe_now c (before ++ f ∷ [])) [] trace) (now_safe c [] (kept_none c))
+    (follows_by (guard c) (λ before f. shows c before f && is_safe_now c (before ++ f ∷ [])) (IsKept c)
+    (λ before f k g.
+    let new : IsKept c (before ++ f ∷ []) = kept_more c before f k g in
+    (new, both (shows c before f) (is_safe_now c (before ++ f ∷ [])) (shown c before f g) (now_safe c (before ++ f ∷ []) new)))
+    [] trace (kept_none c) g)

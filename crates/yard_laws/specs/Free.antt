@@ -14,7 +14,6 @@ use Rattle.yard_model.specs.Safe.{live_at, guard}
 use Rattle.yard_model.specs.Move.{Move, made}
 use Rattle.yard_model.specs.Region as region
 use Rattle.yard_model.specs.Region.{Region}
-use Rattle.yard_laws.specs.Guarded.{starts_anew}
 
 -- it is no entry of a slot's list, and no word on an entity that is live
 abbrev pub is_free : Fact → Bool
@@ -48,7 +47,7 @@ is_free_move m = true
 
 -- such a fact is guarded after any trace
 abbrev pub FreeIsGuarded : Type 0
-FreeIsGuarded = (c : Script) (trace : List Fact) (f : Fact) → IsTrue (is_free f) → IsTrue (guard c trace f && starts_anew trace f)
+FreeIsGuarded = (c : Script) (trace : List Fact) (f : Fact) → IsTrue (is_free f) → IsTrue (guard c trace f)
 
 -- it changes no list
 abbrev pub FreeLeavesLists : Type 0

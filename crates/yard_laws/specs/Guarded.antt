@@ -13,15 +13,6 @@ use Rattle.yard_model.specs.Words.{is_at, is_among}
 use Rattle.yard_model.specs.Follow.{each_follows}
 use Rattle.yard_model.specs.Safe.{live_at, shard_list_of, shows, safe, guarded}
 
--- an entity is started where it is not live at that incarnation already
-abbrev pub starts_anew : List Fact → Fact → Bool
-starts_anew trace (fact.Start x e) = not (is_among x (live_at e trace))
-starts_anew trace f = true
-
--- no entity is started twice at one incarnation
-abbrev pub started_once : List Fact → Bool
-started_once trace = each_follows starts_anew [] trace
-
 -- there is a list for each slot, and each is lawful by itself
 pub record Owns (c : Script) (lists : SlotLists) : Type 0 where
   pub shards : length lists.shards ≡ c.config.shards
@@ -36,19 +27,4 @@ GuardedIsOwn = (c : Script) (trace : List Fact) → IsTrue (guarded c trace) →
 
 -- guarded facts make a safe trace
 abbrev pub GuardedIsSafe : Type 0
-GuardedIsSafe = (c : Script) (trace : List Fact) → IsTrue (guarded c trace) → IsTrue (started_once trace) → IsTrue (safe c trace)
-
--- each incarnation at which e is live holds the lease of the shard of e
-abbrev pub live_hold : Script → List Fact → List ℕ → Bool
-live_hold c trace e = list_all (λ x. is_at x (holder (shard_list_of c e trace))) (live_at e trace)
-
-abbrev pub is_held_now : Script → List Fact → Bool
-is_held_now c trace = list_all (live_hold c trace) (setting c).names && lawful c (lists_of (setting c) trace)
-
--- at each prefix the live ones hold their shards, what a record or an active entity says is what the journal says, and the lists are lawful
-abbrev pub held : Script → List Fact → Bool
-held c trace = is_held_now c [] && each_follows (λ before f. shows c before f && is_held_now c (before ++ f ∷ [])) [] trace
-
--- guarded facts keep this whatever is started
-abbrev pub GuardedIsHeld : Type 0
-GuardedIsHeld = (c : Script) (trace : List Fact) → IsTrue (guarded c trace) → IsTrue (held c trace)
+GuardedIsSafe = (c : Script) (trace : List Fact) → IsTrue (guarded c trace) → IsTrue (safe c trace)

@@ -1,5 +1,5 @@
 //! What follows of a trace of guarded facts.
-ghost use Rattle.yard_laws.specs.Guarded.{GuardedIsOwn, GuardedIsHeld, GuardedIsSafe};
+ghost use Rattle.yard_laws.specs.Guarded.{GuardedIsOwn, GuardedIsSafe};
 ghost use Rattle.yard_laws.specs.Prefixes.{OwnBefore, GuardedBefore, SafeBefore, SafeNow};
 
 /// After guarded facts there is a list for each slot, and each is lawful by itself.
@@ -7,16 +7,9 @@ pub fn guarded_is_own()
     ensures { GuardedIsOwn }
 {}
 
-/// Guarded facts keep this, whatever is started: each incarnation at which one of the script's
-/// entities is live holds the lease of its shard; what a record or an active entity says is what the
-/// journal says; and all lists are lawful.
-pub fn guarded_is_held()
-    ensures { GuardedIsHeld }
-{}
-
-/// Guarded facts make a safe trace, where no entity is started again at an incarnation at which it is
-/// live: each of the script's entities is live at one incarnation at most, which holds its shard;
-/// what a record or an active entity says is what the journal says; and all lists are lawful.
+/// Guarded facts make a safe trace: each of the script's entities is live at one incarnation at most,
+/// which holds its shard; what a record or an active entity says is what the journal says; and all
+/// lists are lawful.
 #[tactic(auto, using(crate::proofs::SafetyLaws::guarded_is_safe))]
 pub fn guarded_is_safe()
     ensures { GuardedIsSafe }

@@ -204,7 +204,11 @@ fn no_sends(alloc: Global) -> Result<Vec<Vec<Sending>>, AllocError>
 }
 
 /// One order more.
-fn add_order(all: &mut Vec<Vec<Sending>>, counts: &mut Counts, order: &Order) -> Result<(), AllocError>
+fn add_order(
+    all: &mut Vec<Vec<Sending>>,
+    counts: &mut Counts,
+    order: &Order,
+) -> Result<(), AllocError>
     requires { length all.old.items ≡ 32 }
     ensures all { length all.new.items ≡ 32 }
     ensures keeps { OnOk result ((done : List Line) (number : ℕ) → length done < 200000 → KeepsSends counts.old (map (λ v. v.items) all.old.items) done
@@ -227,7 +231,11 @@ fn add_order(all: &mut Vec<Vec<Sending>>, counts: &mut Counts, order: &Order) ->
 }
 
 /// One send more of this producer.
-fn add_send(all: &mut Vec<Vec<Sending>>, producer: ProducerNo, sending: &Sending) -> Result<(), AllocError>
+fn add_send(
+    all: &mut Vec<Vec<Sending>>,
+    producer: ProducerNo,
+    sending: &Sending,
+) -> Result<(), AllocError>
     requires { length all.old.items ≡ 32 }
     ensures all { length all.new.items ≡ 32 }
     ensures sends { OnOk result (map (λ v. v.items) all.new.items ≡ slice_set (map (λ v. v.items) all.old.items) (producer - 1)

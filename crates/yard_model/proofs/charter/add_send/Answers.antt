@@ -10,8 +10,8 @@ returns-clause-sends c =
     let seen = λ (v : Vec Sending Global). v.items in
     let place : c.get.result - 1 ≡ c.args.producer - 1 = ap (λ n. n - 1) c.get.ensures.value in
     let was : get_or (map seen c.args.all.now.items) (c.get.result - 1) [] ≡ c.index_mut.result.now.items =
-        get_or_any (map seen c.args.all.now.items) (c.get.result - 1) [] c.index_mut.result.now.items (omega (arith, length-map c.args.all.now.items seen))
-        ∙ (get_or-map seen c.args.all.now.items (c.get.result - 1) c.index_mut.result.now ∙ ap seen (sym c.index_mut.ensures.value)) in
+    get_or_any (map seen c.args.all.now.items) (c.get.result - 1) [] c.index_mut.result.now.items (omega (arith, length-map c.args.all.now.items seen))
+    ∙ (get_or-map seen c.args.all.now.items (c.get.result - 1) c.index_mut.result.now ∙ ap seen (sym c.index_mut.ensures.value)) in
     map-set seen c.args.all.now.items (c.get.result - 1) c.push.new.self
     ∙ (ap (λ l. set (map seen c.args.all.now.items) (c.get.result - 1) l) (c.in_ok-push.ensures.items ∙ ap (λ l. l ++ c.args.sending.now ∷ []) (sym was))
     ∙ ap (λ n. set (map seen c.args.all.now.items) n (get_or (map seen c.args.all.now.items) n [] ++ c.args.sending.now ∷ [])) place)

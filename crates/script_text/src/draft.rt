@@ -1,13 +1,13 @@
 //! A script that is being read.
-ghost use Rattle.std.specs.Prelude.{◌≡◌, ℕ, ◌≤◌, List, [], length, false, IfOk, OnOk, IsTrue};
+ghost use Rattle.std.specs.Prelude.{◌≡◌, ◌==◌, ℕ, ◌+◌, ◌≤◌, if◌then◌else◌, List, [], length, min, false, IfOk, OnOk, IsTrue};
+ghost use Rattle.yard_model.specs.Counts.{names};
 ghost use Rattle.yard_model.specs.Script.{is_config, is_order, brought, with_brought, with_pair, Pair};
 ghost use Rattle.script_text.specs.Drafts.{KeepsPairs};
 ghost use Rattle.script_text.specs.Reading.{with_line, is_over};
 
 use std::alloc::{AllocError, Global};
-use std::collections::BTreeSet;
 use std::marker::{Model, PhantomData};
-use yard_model::{Charter, Command, Config, EntityName, Line, Order, ProducerNo};
+use yard_model::{Charter, Command, Config, Counts, Line, Order};
 
 /// What was read so far; seen as a script. It keeps at hand the names and the pairs of producer
 /// and entity that the orders bring.
@@ -15,8 +15,8 @@ use yard_model::{Charter, Command, Config, EntityName, Line, Order, ProducerNo};
 pub struct Draft {
     config: Config,
     orders: Vec<Line>,
-    names: BTreeSet<EntityName>,
-    pairs: BTreeSet<(ProducerNo, EntityName)>,
+    counts: Counts,
+    pairs: u32,
     holds: PhantomData<(Order, Command)>,
 }
 
@@ -28,7 +28,7 @@ impl Model for Draft {
 
     ghost view = { λ d. record { config = d.config; orders = d.orders.items } };
 
-    ghost invariant = { λ d. IsDraft (record { config = d.config; orders = d.orders.items }) d.names.keys d.pairs.keys };
+    ghost invariant = { λ d. IsDraft (record { config = d.config; orders = d.orders.items }) d.counts d.pairs };
 }
 
 impl Draft {
@@ -40,8 +40,8 @@ impl Draft {
         Draft {
             config,
             orders: Vec::new(alloc),
-            names: BTreeSet::new(alloc),
-            pairs: BTreeSet::new(alloc),
+            counts: Counts::new(alloc),
+            pairs: 0,
             holds: PhantomData,
         }
     }
@@ -62,12 +62,11 @@ impl Draft {
         let Draft {
             config,
             mut orders,
-            mut names,
-            mut pairs,
+            mut counts,
+            pairs,
             holds,
         } = self;
-        add_name(&mut names, order)?;
-        add_pair(&mut pairs, order)?;
+        let pairs = add_order(&mut counts, pairs, order)?;
         orders.push(Line {
             number,
             order: *order,
@@ -75,7 +74,7 @@ impl Draft {
         Ok(Draft {
             config,
             orders,
-            names,
+            counts,
             pairs,
             holds,
         })
@@ -85,7 +84,7 @@ impl Draft {
     pub fn is_over(&self) -> bool
         ensures { result ≡ is_over self.now }
     {
-        self.names.len() > 1000 || self.pairs.len() > 4000
+        self.counts.len() > 1000 || self.pairs > 4000
     }
 
     /// The charter of all that was read. The only error is want of memory.
@@ -97,7 +96,7 @@ impl Draft {
         let Draft {
             config,
             orders,
-            names: _,
+            counts: _,
             pairs: _,
             holds: _,
         } = self;
@@ -105,25 +104,35 @@ impl Draft {
     }
 }
 
-/// The name that the order brings.
-fn add_name(names: &mut BTreeSet<EntityName>, order: &Order) -> Result<(), AllocError>
-    ensures { OnOk result (names.new.keys ≡ with_brought names.old.keys (brought order.now)) }
+/// The names and the sends with those of one order more, and how many pairs there are then.
+fn add_order(counts: &mut Counts, pairs: u32, order: &Order) -> Result<u32, AllocError>
+    ensures names { OnOk result (names counts.new ≡ with_brought (names counts.old) (brought order.now)) }
+    ensures pairs { IfOk result (λ more. (known : List Pair) → KeepsPairs counts.old pairs known → KeepsPairs counts.new more (with_pair known order.now)) }
 {
     match order {
-        Order::Send(_, entity, _) => names.insert(*entity)?,
-        Order::Passivate(entity) => names.insert(*entity)?,
-        Order::FailWrite(entity, _) => names.insert(*entity)?,
-        _ => return Ok(()),
-    };
-    Ok(())
+        Order::Send(producer, entity, _) => {
+            let count = counts.add(*producer, entity)?;
+            Ok(pairs_after(pairs, count))
+        }
+        Order::Passivate(entity) => {
+            counts.add_name(entity)?;
+            Ok(pairs)
+        }
+        Order::FailWrite(entity, _) => {
+            counts.add_name(entity)?;
+            Ok(pairs)
+        }
+        _ => Ok(pairs),
+    }
 }
 
-/// The pair of producer and entity that the order brings.
-fn add_pair(pairs: &mut BTreeSet<(ProducerNo, EntityName)>, order: &Order) -> Result<(), AllocError>
-    ensures { OnOk result ((known : List Pair) → KeepsPairs pairs.old.keys known → KeepsPairs pairs.new.keys (with_pair known order.now)) }
+/// How many pairs there are after a send that is this one of its pair.
+fn pairs_after(pairs: u32, count: u32) -> u32
+    ensures { result ≡ (if count == 1 then min (pairs + 1) 4294967295 else pairs) }
 {
-    if let Order::Send(producer, entity, _) = order {
-        pairs.insert((*producer, *entity))?;
+    if count == 1 {
+        pairs.saturating_add(1)
+    } else {
+        pairs
     }
-    Ok(())
 }

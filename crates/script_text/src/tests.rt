@@ -1,6 +1,6 @@
 //! Scripts, and what they are refused for.
 use crate::{Mode, ScriptFault, Why, read_script};
-use std::alloc::Global;
+use std::alloc::{AllocError, Global};
 use std::process::Abort;
 use std::test::Fail;
 use yard_model::{CartItem, Command, Order};
@@ -152,6 +152,30 @@ fn long_scripts(rt: HostRuntime) -> Result<(), Fail> {
     );
     let much = vec![in alloc; b'\n'; 4_194_305]?;
     expect_fault(&rt, alloc, much.as_slice(), Mode::Replay, 0, Why::TooLong);
+    Ok(())
+}
+
+/// Settings, and this as line 20,001; the lines between are blank.
+fn with_late_line(alloc: Global, last: &str) -> Result<Vec<u8>, AllocError> {
+    let mut text = Vec::from_slice(alloc, b"config".as_slice())?;
+    for _ in 0..20_000u32 {
+        text.push(b'\n')?;
+    }
+    text.extend_from_slice(last.as_bytes())?;
+    Ok(text)
+}
+
+#[test]
+fn late_lines(rt: HostRuntime) -> Result<(), Fail> {
+    let cases = [
+        ("fly", Why::UnknownWord),
+        ("send 1 a add 1", Why::TooManyLines),
+        ("up 1", Why::TooManyLines),
+    ];
+    for (last, why) in cases {
+        let text = with_late_line(rt.alloc(), last)?;
+        expect_fault(&rt, rt.alloc(), text.as_slice(), Mode::Solo, 20_001, why);
+    }
     Ok(())
 }
 

@@ -1,10 +1,12 @@
 -- What a charter keeps at hand.
-use Rattle.std.specs.Prelude.{◌≡◌, ℕ, List, map, unwrap_or}
+use Rattle.std.specs.Prelude.{◌≡◌, ℕ, ◌+◌, ◌<◌, List, [], length, map, slice_index_or}
 use Rattle.std.specs.Ordering.{nat_cmp}
 use Rattle.std.specs.Cmp.Lexicographic.{slice_cmp}
-use Rattle.std.specs.BTreeMap.{BTreeMap, get}
 use Rattle.std.specs.List.Sorted.{IsStrictlySortedBy}
+use Rattle.yard_model.specs.declared.charter.Line.{Line}
 use Rattle.yard_model.specs.declared.charter.Sending.{Sending}
+use Rattle.yard_model.specs.declared.counts.Counts.{Counts}
+use Rattle.yard_model.specs.Counts.{names, count_of}
 use Rattle.yard_model.specs.Words.{numbers}
 use Rattle.yard_model.specs.Script.{Script, IsScript, names_in, sends_in, count_to}
 
@@ -14,10 +16,9 @@ pub record IsCharter (c : Script) (kept : List (List ℕ)) (sent : List (List Se
   pub sorted : IsStrictlySortedBy (slice_cmp nat_cmp) kept
   pub sends : sent ≡ map (λ p. sends_in p c.orders) (numbers 1 32)
 
--- how many are counted of a name
-abbrev pub counted : BTreeMap (List ℕ) ℕ → List ℕ → ℕ
-counted counts e = unwrap_or (get (slice_cmp nat_cmp) counts e) 0
-
--- the counts are those of the sends to each name
-pub record CountsSends (counts : BTreeMap (List ℕ) ℕ) (sends : List Sending) : Type 0 where
-  pub each : (e : List ℕ) → counted counts e ≡ count_to e sends
+-- the counts and the lists of sends are those of the orders so far
+pub record KeepsSends (c : Counts) (sent : List (List Sending)) (done : List Line) : Type 0 where
+  pub names : names c ≡ names_in done
+  pub long : length sent ≡ 32
+  pub sends : (i : ℕ) → i < 32 → slice_index_or sent i [] ≡ sends_in (i + 1) done
+  pub counts : (i : ℕ) (e : List ℕ) → i < 32 → count_of c (i + 1) e ≡ count_to e (sends_in (i + 1) done)

@@ -1,6 +1,7 @@
 pub mod Behaviour
 pub mod Charter
 pub mod Coordinator
+pub mod Counts
 pub mod Entities
 pub mod Entry
 pub mod Equal

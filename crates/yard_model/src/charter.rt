@@ -1,18 +1,19 @@
 //! What a script says: its settings and its orders.
-ghost use Rattle.std.specs.Prelude.{◌≡◌, ◌+◌, ◌<◌, ◌≤◌, IfOk, OnOk, length, map};
+ghost use Rattle.std.specs.Prelude.{◌≡◌, ℕ, ◌+◌, ◌-◌, ◌<◌, ◌≤◌, List, [], ◌∷◌, ◌++◌, IfOk, OnOk, length, map, replicate, slice_set, slice_index_or};
 ghost use Rattle.std.specs.Ordering.{nat_cmp};
 ghost use Rattle.std.specs.Cmp.Lexicographic.{slice_cmp};
 ghost use Rattle.std.specs.List.Sorted.{IsStrictlySortedBy};
-ghost use Rattle.yard_model.specs.Script.{names_in, sends_in, sends, with_send, brought, IsScript};
-ghost use Rattle.yard_model.specs.Charter.{counted, CountsSends};
+ghost use Rattle.yard_model.specs.Script.{names_in, sends_in, sends, IsScript};
+ghost use Rattle.yard_model.specs.Charter.{KeepsSends};
+ghost use Rattle.yard_model.specs.Counts.{names, CountsNone};
 ghost use Rattle.yard_model.specs.Words.{numbers};
 
+use crate::counts::Counts;
 use crate::event::{Command, Kind};
 use crate::incarnation::Keep;
 use crate::name::EntityName;
 use crate::number::{NodeNo, ProducerNo};
 use std::alloc::{AllocError, Global};
-use std::collections::{BTreeMap, BTreeSet};
 use std::marker::{Model, PhantomData};
 
 /// The settings of a script.
@@ -119,8 +120,9 @@ impl Charter {
         requires { IsScript (record { config = config; orders = orders.items }) }
         ensures { IfOk result (λ c. c ≡ record { config = config; orders = orders.items }) }
     {
-        let names = names_of(alloc, orders.as_slice())?;
-        let sends = sends_of_all(alloc, orders.as_slice())?;
+        let mut counts = Counts::new(alloc);
+        let sends = sends_of_all(alloc, &mut counts, orders.as_slice())?;
+        let names = counts.into_names(alloc)?;
         Ok(Charter {
             config,
             orders,
@@ -171,87 +173,76 @@ impl Charter {
     }
 }
 
-/// The names that these orders bring, in order.
-fn names_of(alloc: Global, orders: &[Line]) -> Result<Vec<EntityName>, AllocError>
-    ensures value { IfOk result (λ names. names.items ≡ names_in orders.now) }
-    ensures sorted { IfOk result (λ names. IsStrictlySortedBy (slice_cmp nat_cmp) names.items) }
+/// The sends of each producer that there can be. The counts are those of no orders, and come to be
+/// those of these.
+fn sends_of_all(
+    alloc: Global,
+    counts: &mut Counts,
+    orders: &[Line],
+) -> Result<Vec<Vec<Sending>>, AllocError>
+    requires few { length orders.now ≤ 200000 }
+    requires none { CountsNone counts.old }
+    ensures sends { IfOk result (λ all. map (λ v. v.items) all.items ≡ map (λ p. sends_in p orders.now) (numbers 1 32)) }
+    ensures names { OnOk result (names counts.new ≡ names_in orders.now) }
 {
-    let mut set = BTreeSet::new(alloc);
+    let mut all = no_sends(alloc)?;
     for line in orders {
-        if let Some(name) = brought_by(&line.order) {
-            set.insert(name)?;
-        }
-    }
-    set.into_iter().collect(alloc)
-}
-
-/// The name that an order brings.
-fn brought_by(order: &Order) -> Option<EntityName>
-    ensures { result ≡ brought order.now }
-{
-    match order {
-        Order::Send(_, entity, _) => Some(*entity),
-        Order::Passivate(entity) => Some(*entity),
-        Order::FailWrite(entity, _) => Some(*entity),
-        _ => None,
-    }
-}
-
-/// The sends of each producer that there can be.
-fn sends_of_all(alloc: Global, orders: &[Line]) -> Result<Vec<Vec<Sending>>, AllocError>
-    requires { length orders.now ≤ 200000 }
-    ensures { IfOk result (λ all. map (λ v. v.items) all.items ≡ map (λ p. sends_in p orders.now) (numbers 1 32)) }
-{
-    let mut all = Vec::new(alloc);
-    for i in 0..32 {
-        all.push(sends_of(alloc, i + 1, orders)?)?;
+        add_order(&mut all, counts, &line.order)?;
     }
     Ok(all)
 }
 
-/// The sends of one producer.
-fn sends_of(alloc: Global, p: u8, orders: &[Line]) -> Result<Vec<Sending>, AllocError>
-    requires { length orders.now ≤ 200000 }
-    ensures { IfOk result (λ v. v.items ≡ sends_in p orders.now) }
+/// No sends of each producer that there can be.
+fn no_sends(alloc: Global) -> Result<Vec<Vec<Sending>>, AllocError>
+    ensures { IfOk result (λ all. map (λ v. v.items) all.items ≡ replicate 32 []) }
 {
-    let mut sends = Vec::new(alloc);
-    let mut counts = BTreeMap::new(alloc);
-    for line in orders {
-        if let Order::Send(producer, entity, command) = &line.order {
-            if producer.get() == p {
-                add_send(&mut sends, &mut counts, entity, command)?;
-            }
-        }
+    let mut all = Vec::new(alloc);
+    for _ in 0..32u32 {
+        all.push(Vec::new(alloc))?;
     }
-    Ok(sends)
+    Ok(all)
 }
 
-/// One send more, numbered by the counts of its producer's sends to each name.
-fn add_send(
-    sends: &mut Vec<Sending>,
-    counts: &mut BTreeMap<EntityName, u32>,
-    entity: &EntityName,
-    command: &Command,
+/// One order more.
+fn add_order(
+    all: &mut Vec<Vec<Sending>>,
+    counts: &mut Counts,
+    order: &Order,
 ) -> Result<(), AllocError>
-    requires counts { CountsSends counts.old sends.old.items }
-    requires room { length sends.old.items < 200000 }
-    ensures sends { OnOk result (sends.new.items ≡ with_send sends.old.items entity.now command.now) }
-    ensures counts { OnOk result (CountsSends counts.new sends.new.items) }
+    requires { length all.old.items ≡ 32 }
+    ensures all { length all.new.items ≡ 32 }
+    ensures keeps { OnOk result ((done : List Line) (number : ℕ) → length done < 200000 → KeepsSends counts.old (map (λ v. v.items) all.old.items) done
+        → KeepsSends counts.new (map (λ v. v.items) all.new.items) (done ++ record { number = number; order = order.now } ∷ [])) }
 {
-    let number = next_number(counts, entity);
-    counts.insert(*entity, number)?;
-    sends.push(Sending {
-        entity: *entity,
-        number,
-        command: *command,
-    })?;
-    Ok(())
+    match order {
+        Order::Send(producer, entity, command) => {
+            let number = counts.add(*producer, entity)?;
+            let sending = Sending {
+                entity: *entity,
+                number,
+                command: *command,
+            };
+            add_send(all, *producer, &sending)
+        }
+        Order::Passivate(entity) => counts.add_name(entity),
+        Order::FailWrite(entity, _) => counts.add_name(entity),
+        _ => Ok(()),
+    }
 }
 
-/// The number of the next send to this name.
-fn next_number(counts: &BTreeMap<EntityName, u32>, entity: &EntityName) -> u32
-    requires { counted counts.now entity.now < 200000 }
-    ensures { result ≡ counted counts.now entity.now + 1 }
+/// One send more of this producer.
+fn add_send(
+    all: &mut Vec<Vec<Sending>>,
+    producer: ProducerNo,
+    sending: &Sending,
+) -> Result<(), AllocError>
+    requires { length all.old.items ≡ 32 }
+    ensures all { length all.new.items ≡ 32 }
+    ensures sends { OnOk result (map (λ v. v.items) all.new.items ≡ slice_set (map (λ v. v.items) all.old.items) (producer - 1)
+        (slice_index_or (map (λ v. v.items) all.old.items) (producer - 1) [] ++ sending.now ∷ [])) }
+    ensures range { (0 < producer) × (producer ≤ 32) }
 {
-    counts.get(entity).copied().unwrap_or(0) + 1
+    let place = producer.get() as usize - 1;
+    all[place].push(*sending)?;
+    Ok(())
 }

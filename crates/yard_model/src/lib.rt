@@ -5,6 +5,7 @@
 #![tactic(auto)]
 
 mod charter;
+mod counts;
 mod entry;
 mod event;
 mod events;
@@ -24,6 +25,7 @@ mod shard_set;
 mod state;
 
 pub use charter::{Charter, Config, Line, Order, Sending};
+pub use counts::Counts;
 pub use entry::{CoordEntry, Lists, QueueEntry, ShardEntry};
 pub use event::{Command, Decision, Event, Kind, Reply};
 pub use events::Events;

@@ -1,21 +1,17 @@
-use Rattle.std.proofs.Common.{◌≡◌, ◌≤◌, ◌+◌, ◌++◌, ◌∷◌, [], ap, sym, ◌∙◌, subst, arith}
-use Rattle.std.specs.Prelude.{List, length}
+use Rattle.std.proofs.Common.{◌≡◌, [], ◌∷◌, ◌++◌, ◌-◌, map, sym, ap, ◌∙◌, set, get_or, arith, Vec, Global}
+use Rattle.std.proofs.lemmas.List.{map-set, length-map}
+use Rattle.std.proofs.Math.ListN.{get_or-map}
+use Rattle.yard_model.proofs.SendsLaws.{get_or_any}
 use Rattle.yard_model.specs.declared.charter.Sending.{Sending}
-use Rattle.yard_model.specs.Charter.{counted, CountsSends}
-use Rattle.yard_model.specs.Script.{count_to}
-use Rattle.yard_model.proofs.CharterLaws.{count_within, counts_more}
 use Rattle.yard_model.proofs.charter.add_send.Goals as goal
 
-pub next_number-number-requires : goal.next_number-number-requires
-next_number-number-requires c =
-    let all : count_to c.args.entity.now c.args.sends.now.items ≤ length c.args.sends.now.items = count_within c.args.entity.now c.args.sends.now.items in
-    let here : counted c.args.counts.now c.args.entity.now ≡ count_to c.args.entity.now c.args.sends.now.items = c.requires.counts.each c.args.entity.now in
-    omega arith
-
-pub returns-clause-counts : goal.returns-clause-counts
-returns-clause-counts c =
-    let it : Sending = record { entity = c.args.entity.now; number = c.next_number-number.result; command = c.args.command.now } in
-    let number : c.next_number-number.result ≡ count_to c.args.entity.now c.args.sends.now.items + 1 = c.next_number-number.ensures ∙ ap (λ n. n + 1) (c.requires.counts.each c.args.entity.now) in
-    let pushed : c.push.new.self.items ≡ c.args.sends.now.items ++ it ∷ [] = c.in_ok-push.ensures.items in
-    subst (λ (l : List Sending). CountsSends c.insert.new.self l) (sym pushed)
-    (counts_more c.args.counts.now c.insert.new.self c.args.sends.now.items it c.next_number-number.result c.requires.counts number c.in_ok-insert.ensures.updates)
+pub returns-clause-sends : goal.returns-clause-sends
+returns-clause-sends c =
+    let seen = λ (v : Vec Sending Global). v.items in
+    let place : c.get.result - 1 ≡ c.args.producer - 1 = ap (λ n. n - 1) c.get.ensures.value in
+    let was : get_or (map seen c.args.all.now.items) (c.get.result - 1) [] ≡ c.index_mut.result.now.items =
+    get_or_any (map seen c.args.all.now.items) (c.get.result - 1) [] c.index_mut.result.now.items (omega (arith, length-map c.args.all.now.items seen))
+    ∙ (get_or-map seen c.args.all.now.items (c.get.result - 1) c.index_mut.result.now ∙ ap seen (sym c.index_mut.ensures.value)) in
+    map-set seen c.args.all.now.items (c.get.result - 1) c.push.new.self
+    ∙ (ap (λ l. set (map seen c.args.all.now.items) (c.get.result - 1) l) (c.in_ok-push.ensures.items ∙ ap (λ l. l ++ c.args.sending.now ∷ []) (sym was))
+    ∙ ap (λ n. set (map seen c.args.all.now.items) n (get_or (map seen c.args.all.now.items) n [] ++ c.args.sending.now ∷ [])) place)

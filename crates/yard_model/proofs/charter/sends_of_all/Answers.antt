@@ -1,12 +1,16 @@
-use Rattle.std.proofs.Common.{arith, Vec, Global}
+use Rattle.std.proofs.Common.{length, map, sym, subst, ap, ◌∙◌, [], Vec, Global}
+use Rattle.std.proofs.lemmas.List.{take_all, length-map}
 use Rattle.yard_model.specs.declared.charter.Sending.{Sending}
-use Rattle.yard_model.specs.Script.{sends_in}
-use Rattle.yard_model.proofs.CharterLaws.{row_more}
+use Rattle.yard_model.specs.Charter.{KeepsSends}
+use Rattle.yard_model.proofs.SendsLaws.{keeps_none, keeps_all}
 use Rattle.yard_model.proofs.charter.sends_of_all.Goals as goal
 
-pub loop-i-preserved : goal.loop-i-preserved
-loop-i-preserved c = record {
-  built = row_more (λ (v : Vec Sending Global). v.items) (λ p. sends_in p c.args.orders.now) _ _ c.in_ok-sends_of.field-0 c.loop-i.i 32 _ (omega arith)
-      c.in_ok-push.ensures.items c.in_ok-sends_of.ensures c.loop-i.invariant.built;
-  within = omega arith;
+pub loop-line-init : goal.loop-line-init
+loop-line-init c = record {
+  keeps = subst (λ sent. KeepsSends c.args.counts.now sent []) (sym c.in_ok-all.ensures) (keeps_none c.args.counts.now c.requires.none);
+  long = sym (length-map c.in_ok-all.all.items (λ (v : Vec Sending Global). v.items)) ∙ ap length c.in_ok-all.ensures;
 }
+
+pub returns-clause-sends : goal.returns-clause-sends
+returns-clause-sends c = keeps_all c.loop-line.counts _ c.args.orders.now
+    (subst (λ done. KeepsSends c.loop-line.counts (map (λ (v : Vec Sending Global). v.items) c.loop-line.all.items) done) (take_all c.loop-line.line-index c.args.orders.now c.loop-line-test.false) c.loop-line.invariant.keeps)

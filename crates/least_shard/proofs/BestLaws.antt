@@ -1,5 +1,5 @@
 -- The first of the least, along a list.
-use Rattle.std.proofs.Common.{◌≡◌, ℕ, zero, suc, ◌+◌, ◌<◌, ◌≤◌, Bool, true, false, inl, inr, List, [], ◌∷◌, length, map, drop, get_or, ap, sym, ◌∙◌, refl, arith, if◌then◌else◌, Some}
+use Rattle.std.proofs.Common.{◌≡◌, ℕ, ◌+◌, ◌<◌, ◌≤◌, Bool, true, false, inl, inr, List, [], ◌∷◌, length, map, drop, get_or, ap, sym, ◌∙◌, refl, arith, if◌then◌else◌, Some}
 use Rattle.std.specs.Prelude.{nat_lt, fold}
 use Rattle.std.proofs.lemmas.Bool.{ltb-true, ltb-false, cases_lt}
 use Rattle.std.proofs.lemmas.List.{at_drop_more, drop_all}
@@ -30,8 +30,8 @@ pub record IsLeast (xs : List Load) (n i : ℕ) : Type 0 where
 pub least_one : (xs : List Load) → IsLeast xs 1 0
 least_one xs = record { within = omega arith; least = λ k h. omega (arith, ap (λ n. count_of (load_at xs n)) (at_zero k h)); first = λ k h. absurd (omega arith); rest = refl }
   where
-  at_zero : (k : ℕ) → k < 1 → k ≡ 0
-  at_zero k h = omega arith
+    at_zero : (k : ℕ) → k < 1 → k ≡ 0
+    at_zero k h = omega arith
 
 least_by : (xs : List Load) (n i : ℕ) → n < length xs → IsLeast xs n i → (b : Bool) → nat_lt (count_of (load_at xs n)) (count_of (load_at xs i)) ≡ b
     → IsLeast xs (n + 1) (if b then n else i)
@@ -43,8 +43,8 @@ least_by xs n i h old true e = let fewer : count_of (load_at xs n) < count_of (l
       ∙ (sym (fold_more smaller share_of (share_of (load_at xs i)) xs n no_load h) ∙ old.rest);
 }
   where
-  at_or_below : {P : Type 0} (k : ℕ) → k < n + 1 → (k < n → P) → (k ≡ n → P) → P
-  at_or_below {P} k low p q = elim (cases_lt k n) as (λ _. P) [ inl x ↦ p x | inr x ↦ q (omega arith) ]
+    at_or_below : {P : Type 0} (k : ℕ) → k < n + 1 → (k < n → P) → (k ≡ n → P) → P
+    at_or_below {P} k low p q = elim (cases_lt k n) as (λ _. P) [ inl x ↦ p x | inr x ↦ q (omega arith) ]
 least_by xs n i h old false e = let others : count_of (load_at xs i) ≤ count_of (load_at xs n) = ltb-false _ _ e in record {
   within = omega (arith, old.within);
   least = λ k low. at_or_below k low (λ below. old.least k below) (λ here. omega (arith, ap (λ j. count_of (load_at xs j)) here));
@@ -53,8 +53,8 @@ least_by xs n i h old false e = let others : count_of (load_at xs i) ≤ count_o
       ∙ (sym (fold_more smaller share_of (share_of (load_at xs i)) xs n no_load h) ∙ old.rest);
 }
   where
-  at_or_below : {P : Type 0} (k : ℕ) → k < n + 1 → (k < n → P) → (k ≡ n → P) → P
-  at_or_below {P} k low p q = elim (cases_lt k n) as (λ _. P) [ inl x ↦ p x | inr x ↦ q (omega arith) ]
+    at_or_below : {P : Type 0} (k : ℕ) → k < n + 1 → (k < n → P) → (k ≡ n → P) → P
+    at_or_below {P} k low p q = elim (cases_lt k n) as (λ _. P) [ inl x ↦ p x | inr x ↦ q (omega arith) ]
 
 pub least_more : (xs : List Load) (n i : ℕ) → n < length xs → IsLeast xs n i
     → IsLeast xs (n + 1) (if nat_lt (count_of (load_at xs n)) (count_of (load_at xs i)) then n else i)

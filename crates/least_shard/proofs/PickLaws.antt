@@ -1,14 +1,13 @@
 -- The picks of a round, over the shares alone.
-use Rattle.std.proofs.Common.{◌≡◌, ℕ, zero, suc, ◌+◌, ◌-◌, ◌<◌, ◌≤◌, min, max, Bool, true, false, true≢false, ◌⊎◌, inl, inr, List, [], ◌∷◌, length, map, drop, get_or, ap, sym, subst, ◌∙◌, refl, arith, if◌then◌else◌, Option, Some, None}
-use Rattle.std.specs.Prelude.{nat_lt, nat_le, fold, IfSome, IfNone}
+use Rattle.std.proofs.Common.{◌≡◌, ℕ, zero, suc, ◌+◌, ◌-◌, ◌<◌, ◌≤◌, max, Bool, true, false, true≢false, ◌⊎◌, inl, inr, List, [], ◌∷◌, length, map, drop, get_or, ap, sym, subst, ◌∙◌, refl, arith, if◌then◌else◌, Option, Some, None}
+use Rattle.std.specs.Prelude.{nat_lt, nat_le, fold}
 use Rattle.std.proofs.lemmas.Bool.{ltb-true, ltb-false, le-leb, lt-leb}
 use Rattle.std.proofs.lemmas.List.{get_or-map, length-map, length-drop}
 use Rattle.yard_model.specs.declared.load.Load.{Load}
 use Rattle.yard_model.specs.Loads.{no_load}
-use Rattle.yard_model.specs.Members.{no_member}
 use Rattle.yard_model.specs.Words.{is_same}
 use Rattle.yard_model.specs.Coordinator.{Share, smallest, largest, with_pick, picks}
-use Rattle.least_shard.specs.Spread.{members, count_of, share_of, shares_of, AreOfDifferentRegions}
+use Rattle.least_shard.specs.Spread.{members, share_of, shares_of, AreOfDifferentRegions}
 use Rattle.least_shard.specs.Fair.{no_share, share_at, IsFair, CountsWithin}
 use Rattle.least_shard.proofs.BestLaws.{smaller}
 use Rattle.least_shard.proofs.MemberLaws.{few_members}
@@ -35,23 +34,24 @@ pub record Chooses (R : Share → Share → Type 0) (f : Share → Share → Sha
 best_more : (R : Share → Share → Type 0) (f : Share → Share → Share) → Chooses R f → (x y : Share) (ys : List Share) (b : Share) → IsBest R (f x y ∷ ys) b → IsBest R (x ∷ y ∷ ys) b
 best_more R f c x y ys b h = place_by h.place h.within h.there
   where
-  all : (i : ℕ) → i < length (x ∷ y ∷ ys) → R (share_at (x ∷ y ∷ ys) i) b
-  all zero low = c.along x (f x y) b (c.left x y) (h.best 0 (omega arith))
-  all (suc zero) low = c.along y (f x y) b (c.right x y) (h.best 0 (omega arith))
-  all (suc (suc i)) low = h.best (suc i) (omega arith)
-  place_by : (p : ℕ) → p < length (f x y ∷ ys) → share_at (f x y ∷ ys) p ≡ b → IsBest R (x ∷ y ∷ ys) b
-  place_by zero low at = elim (c.either x y) as (λ _. IsBest R (x ∷ y ∷ ys) b) [
-    | inl e ↦ record { place = 0; within = omega arith; there = sym e ∙ at; best = all }
-    | inr e ↦ record { place = 1; within = omega arith; there = sym e ∙ at; best = all }
-  ]
-  place_by (suc p) low at = record { place = suc (suc p); within = omega arith; there = at; best = all }
+    all : (i : ℕ) → i < length (x ∷ y ∷ ys) → R (share_at (x ∷ y ∷ ys) i) b
+    all zero low = c.along x (f x y) b (c.left x y) (h.best 0 (omega arith))
+    all (suc zero) low = c.along y (f x y) b (c.right x y) (h.best 0 (omega arith))
+    all (suc (suc i)) low = h.best (suc i) (omega arith)
+
+    place_by : (p : ℕ) → p < length (f x y ∷ ys) → share_at (f x y ∷ ys) p ≡ b → IsBest R (x ∷ y ∷ ys) b
+    place_by zero low at = elim (c.either x y) as (λ _. IsBest R (x ∷ y ∷ ys) b) [
+      | inl e ↦ record { place = 0; within = omega arith; there = sym e ∙ at; best = all }
+      | inr e ↦ record { place = 1; within = omega arith; there = sym e ∙ at; best = all }
+    ]
+    place_by (suc p) low at = record { place = suc (suc p); within = omega arith; there = at; best = all }
 
 best_fold : (R : Share → Share → Type 0) (f : Share → Share → Share) → Chooses R f → (x : Share) (xs : List Share) → IsBest R (x ∷ xs) (fold f x xs)
 best_fold R f c x [] = record { place = 0; within = omega arith; there = refl; best = λ i low. alone i low }
   where
-  alone : (i : ℕ) → i < 1 → R (share_at (x ∷ []) i) x
-  alone zero low = c.same x
-  alone (suc i) low = absurd (omega arith)
+    alone : (i : ℕ) → i < 1 → R (share_at (x ∷ []) i) x
+    alone zero low = c.same x
+    alone (suc i) low = absurd (omega arith)
 best_fold R f c x (y ∷ ys) = best_more R f c x y ys _ (best_fold R f c (f x y) ys)
 
 abbrev pub HasNoMore : Share → Share → Type 0
@@ -114,7 +114,7 @@ has_rest xs x y fair pick =
     let y_at = pick.smallest.there in
     let there = fair.there pick.largest.place pick.smallest.place pick.largest.within pick.smallest.within in
     let there' : x.count ≤ max (length x.rest) (y.count + 1) =
-      subst (λ (z : Share). z.count ≤ max (length z.rest) (y.count + 1)) x_at (subst (λ (w : Share). (share_at xs pick.largest.place).count ≤ max (length (share_at xs pick.largest.place).rest) (w.count + 1)) y_at there) in
+    subst (λ (z : Share). z.count ≤ max (length z.rest) (y.count + 1)) x_at (subst (λ (w : Share). (share_at xs pick.largest.place).count ≤ max (length (share_at xs pick.largest.place).rest) (w.count + 1)) y_at there) in
     omega (arith, pick.apart)
 
 abbrev picked_by : Share → Bool → Bool → Share
@@ -141,63 +141,72 @@ high_by x y z has high false false same other = high
 pub fair_after : (xs : List Share) (x y : Share) → IsFair xs → IsPick xs x y → IsFair (map (with_pick x y) xs)
 fair_after xs x y fair pick = record { one = one; there = there }
   where
-  size : length (map (with_pick x y) xs) ≡ length xs
-  size = length-map xs (with_pick x y)
-  at' : (i : ℕ) → i < length xs → share_at (map (with_pick x y) xs) i ≡ with_pick x y (share_at xs i)
-  at' i low = get_or-map (with_pick x y) xs i no_share no_share low
-  region_by : (z : Share) (one two : Bool) → (picked_by z one two).region ≡ z.region
-  region_by z true two = refl
-  region_by z false true = refl
-  region_by z false false = refl
-  is_x : (i : ℕ) → i < length xs → is_same (share_at xs i).region x.region ≡ true → share_at xs i ≡ x
-  is_x i low h = fair.one i pick.largest.place low pick.largest.within (ap (λ (s : Share). is_same (share_at xs i).region s.region) pick.largest.there ∙ h) ∙ pick.largest.there
-  is_y : (i : ℕ) → i < length xs → is_same (share_at xs i).region y.region ≡ true → share_at xs i ≡ y
-  is_y i low h = fair.one i pick.smallest.place low pick.smallest.within (ap (λ (s : Share). is_same (share_at xs i).region s.region) pick.smallest.there ∙ h) ∙ pick.smallest.there
-  one : (i j : ℕ) → i < length (map (with_pick x y) xs) → j < length (map (with_pick x y) xs) → is_same (share_at (map (with_pick x y) xs) i).region (share_at (map (with_pick x y) xs) j).region ≡ true → share_at (map (with_pick x y) xs) i ≡ share_at (map (with_pick x y) xs) j
-  one i j low high h =
-    let li : i < length xs = omega (arith, size) in
-    let lj : j < length xs = omega (arith, size) in
-    let ri : (share_at (map (with_pick x y) xs) i).region ≡ (share_at xs i).region = ap (λ (s : Share). s.region) (at' i li) ∙ region_by (share_at xs i) _ _ in
-    let rj : (share_at (map (with_pick x y) xs) j).region ≡ (share_at xs j).region = ap (λ (s : Share). s.region) (at' j lj) ∙ region_by (share_at xs j) _ _ in
-    let same : is_same (share_at xs i).region (share_at xs j).region ≡ true = ap (λ r. is_same r (share_at xs j).region) (sym ri) ∙ (ap (is_same (share_at (map (with_pick x y) xs) i).region) (sym rj) ∙ h) in
-    at' i li ∙ (ap (with_pick x y) (fair.one i j li lj same) ∙ sym (at' j lj))
-  there : (i j : ℕ) → i < length (map (with_pick x y) xs) → j < length (map (with_pick x y) xs) → (share_at (map (with_pick x y) xs) i).count ≤ max (length (share_at (map (with_pick x y) xs) i).rest) ((share_at (map (with_pick x y) xs) j).count + 1)
-  there i j low high =
-    let li : i < length xs = omega (arith, size) in
-    let lj : j < length xs = omega (arith, size) in
-    let before : (share_at xs i).count ≤ max (length (share_at xs i).rest) (y.count + 1) =
-      subst (λ (w : Share). (share_at xs i).count ≤ max (length (share_at xs i).rest) (w.count + 1)) pick.smallest.there (fair.there i pick.smallest.place li pick.smallest.within) in
-    let top : (with_pick x y (share_at xs i)).count ≤ max (length (with_pick x y (share_at xs i)).rest) (y.count + 1) =
-      high_by x y (share_at xs i) (has_rest xs x y fair pick) before _ _ (is_x i li) (is_y i li) in
-    let bottom : y.count ≤ (with_pick x y (share_at xs j)).count = low_by x y (share_at xs j) pick.apart (pick.smallest.best j lj) _ _ (is_x j lj) in
-    let top' : (share_at (map (with_pick x y) xs) i).count ≤ max (length (share_at (map (with_pick x y) xs) i).rest) (y.count + 1) =
-      subst (λ (s : Share). s.count ≤ max (length s.rest) (y.count + 1)) (sym (at' i li)) top in
-    let bottom' : y.count ≤ (share_at (map (with_pick x y) xs) j).count = subst (λ (s : Share). y.count ≤ s.count) (sym (at' j lj)) bottom in
-    omega arith
+    size : length (map (with_pick x y) xs) ≡ length xs
+    size = length-map xs (with_pick x y)
+
+    at' : (i : ℕ) → i < length xs → share_at (map (with_pick x y) xs) i ≡ with_pick x y (share_at xs i)
+    at' i low = get_or-map (with_pick x y) xs i no_share no_share low
+
+    region_by : (z : Share) (one two : Bool) → (picked_by z one two).region ≡ z.region
+    region_by z true two = refl
+    region_by z false true = refl
+    region_by z false false = refl
+
+    is_x : (i : ℕ) → i < length xs → is_same (share_at xs i).region x.region ≡ true → share_at xs i ≡ x
+    is_x i low h = fair.one i pick.largest.place low pick.largest.within (ap (λ (s : Share). is_same (share_at xs i).region s.region) pick.largest.there ∙ h) ∙ pick.largest.there
+
+    is_y : (i : ℕ) → i < length xs → is_same (share_at xs i).region y.region ≡ true → share_at xs i ≡ y
+    is_y i low h = fair.one i pick.smallest.place low pick.smallest.within (ap (λ (s : Share). is_same (share_at xs i).region s.region) pick.smallest.there ∙ h) ∙ pick.smallest.there
+
+    one : (i j : ℕ) → i < length (map (with_pick x y) xs) → j < length (map (with_pick x y) xs) → is_same (share_at (map (with_pick x y) xs) i).region (share_at (map (with_pick x y) xs) j).region ≡ true → share_at (map (with_pick x y) xs) i ≡ share_at (map (with_pick x y) xs) j
+    one i j low high h =
+        let li : i < length xs = omega (arith, size) in
+        let lj : j < length xs = omega (arith, size) in
+        let ri : (share_at (map (with_pick x y) xs) i).region ≡ (share_at xs i).region = ap (λ (s : Share). s.region) (at' i li) ∙ region_by (share_at xs i) _ _ in
+        let rj : (share_at (map (with_pick x y) xs) j).region ≡ (share_at xs j).region = ap (λ (s : Share). s.region) (at' j lj) ∙ region_by (share_at xs j) _ _ in
+        let same : is_same (share_at xs i).region (share_at xs j).region ≡ true = ap (λ r. is_same r (share_at xs j).region) (sym ri) ∙ (ap (is_same (share_at (map (with_pick x y) xs) i).region) (sym rj) ∙ h) in
+        at' i li ∙ (ap (with_pick x y) (fair.one i j li lj same) ∙ sym (at' j lj))
+
+    there : (i j : ℕ) → i < length (map (with_pick x y) xs) → j < length (map (with_pick x y) xs) → (share_at (map (with_pick x y) xs) i).count ≤ max (length (share_at (map (with_pick x y) xs) i).rest) ((share_at (map (with_pick x y) xs) j).count + 1)
+    there i j low high =
+        let li : i < length xs = omega (arith, size) in
+        let lj : j < length xs = omega (arith, size) in
+        let before : (share_at xs i).count ≤ max (length (share_at xs i).rest) (y.count + 1) =
+        subst (λ (w : Share). (share_at xs i).count ≤ max (length (share_at xs i).rest) (w.count + 1)) pick.smallest.there (fair.there i pick.smallest.place li pick.smallest.within) in
+        let top : (with_pick x y (share_at xs i)).count ≤ max (length (with_pick x y (share_at xs i)).rest) (y.count + 1) =
+        high_by x y (share_at xs i) (has_rest xs x y fair pick) before _ _ (is_x i li) (is_y i li) in
+        let bottom : y.count ≤ (with_pick x y (share_at xs j)).count = low_by x y (share_at xs j) pick.apart (pick.smallest.best j lj) _ _ (is_x j lj) in
+        let top' : (share_at (map (with_pick x y) xs) i).count ≤ max (length (share_at (map (with_pick x y) xs) i).rest) (y.count + 1) =
+        subst (λ (s : Share). s.count ≤ max (length s.rest) (y.count + 1)) (sym (at' i li)) top in
+        let bottom' : y.count ≤ (share_at (map (with_pick x y) xs) j).count = subst (λ (s : Share). y.count ≤ s.count) (sym (at' j lj)) bottom in
+        omega arith
 
 -- at first
 pub fair_first : (loads : List Load) → AreOfDifferentRegions loads → IsFair (shares_of loads)
 fair_first loads different = record { one = one; there = there }
   where
-  size : length (shares_of loads) ≡ length loads
-  size = length-map loads share_of
-  at' : (i : ℕ) → i < length loads → share_at (shares_of loads) i ≡ share_of (get_or loads i no_load)
-  at' i low = get_or-map share_of loads i no_load no_share low
-  one : (i j : ℕ) → i < length (shares_of loads) → j < length (shares_of loads) → is_same (share_at (shares_of loads) i).region (share_at (shares_of loads) j).region ≡ true
-      → share_at (shares_of loads) i ≡ share_at (shares_of loads) j
-  one i j low high h =
-    let li : i < length loads = omega (arith, size) in
-    let lj : j < length loads = omega (arith, size) in
-    let same : is_same (get_or loads i no_load).region (get_or loads j no_load).region ≡ true =
-      ap (λ (s : Share). is_same s.region (get_or loads j no_load).region) (sym (at' i li)) ∙ (ap (λ (s : Share). is_same (share_at (shares_of loads) i).region s.region) (sym (at' j lj)) ∙ h) in
-    ap (share_at (shares_of loads)) (different i j li lj same)
-  there : (i j : ℕ) → i < length (shares_of loads) → j < length (shares_of loads)
-      → (share_at (shares_of loads) i).count ≤ max (length (share_at (shares_of loads) i).rest) ((share_at (shares_of loads) j).count + 1)
-  there i j low high =
-    let li : i < length loads = omega (arith, size) in
-    let e : (share_at (shares_of loads) i).count ≡ length (members (get_or loads i no_load).shards) = ap (λ (s : Share). s.count) (at' i li) in
-    let f : length (share_at (shares_of loads) i).rest ≡ length (members (get_or loads i no_load).shards) = ap (λ (s : Share). length s.rest) (at' i li) in
-    omega arith
+    size : length (shares_of loads) ≡ length loads
+    size = length-map loads share_of
+
+    at' : (i : ℕ) → i < length loads → share_at (shares_of loads) i ≡ share_of (get_or loads i no_load)
+    at' i low = get_or-map share_of loads i no_load no_share low
+
+    one : (i j : ℕ) → i < length (shares_of loads) → j < length (shares_of loads) → is_same (share_at (shares_of loads) i).region (share_at (shares_of loads) j).region ≡ true
+        → share_at (shares_of loads) i ≡ share_at (shares_of loads) j
+    one i j low high h =
+        let li : i < length loads = omega (arith, size) in
+        let lj : j < length loads = omega (arith, size) in
+        let same : is_same (get_or loads i no_load).region (get_or loads j no_load).region ≡ true =
+        ap (λ (s : Share). is_same s.region (get_or loads j no_load).region) (sym (at' i li)) ∙ (ap (λ (s : Share). is_same (share_at (shares_of loads) i).region s.region) (sym (at' j lj)) ∙ h) in
+        ap (share_at (shares_of loads)) (different i j li lj same)
+
+    there : (i j : ℕ) → i < length (shares_of loads) → j < length (shares_of loads)
+        → (share_at (shares_of loads) i).count ≤ max (length (share_at (shares_of loads) i).rest) ((share_at (shares_of loads) j).count + 1)
+    there i j low high =
+        let li : i < length loads = omega (arith, size) in
+        let e : (share_at (shares_of loads) i).count ≡ length (members (get_or loads i no_load).shards) = ap (λ (s : Share). s.count) (at' i li) in
+        let f : length (share_at (shares_of loads) i).rest ≡ length (members (get_or loads i no_load).shards) = ap (λ (s : Share). length s.rest) (at' i li) in
+        omega arith
 
 abbrev by_test : ℕ → List Share → Share → Share → Bool → List ℕ
 by_test n xs x y b = elim b as (λ b. List ℕ) [
@@ -239,10 +248,10 @@ counts_after n xs x y h = λ i low.
     let li : i < length xs = omega (arith, length-map xs (with_pick x y)) in
     subst (λ (s : Share). s.count ≤ n + 1) (sym (get_or-map (with_pick x y) xs i no_share no_share li)) (count_by_case (share_at xs i) (h i li) _ _)
   where
-  count_by_case : (z : Share) → z.count ≤ n → (one two : Bool) → (picked_by z one two).count ≤ n + 1
-  count_by_case z k true two = omega arith
-  count_by_case z k false true = omega arith
-  count_by_case z k false false = omega arith
+    count_by_case : (z : Share) → z.count ≤ n → (one two : Bool) → (picked_by z one two).count ≤ n + 1
+    count_by_case z k true two = omega arith
+    count_by_case z k false true = omega arith
+    count_by_case z k false false = omega arith
 
 pub counts_first : (loads : List Load) → CountsWithin 128 (shares_of loads)
 counts_first loads = λ i low.

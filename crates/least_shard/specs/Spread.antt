@@ -1,5 +1,5 @@
 -- The shares of the shards that the loads tell of.
-use Rattle.std.specs.Prelude.{◌≡◌, ℕ, ◌<◌, true, List, map, filter, length, slice_index_or}
+use Rattle.std.specs.Prelude.{◌≡◌, ℕ, ◌+◌, ◌<◌, ◌≤◌, true, List, map, filter, length, slice_index_or}
 use Rattle.yard_model.specs.declared.load.Load.{Load}
 use Rattle.yard_model.specs.Loads.{no_load}
 use Rattle.yard_model.specs.Words.{numbers, is_same}
@@ -28,3 +28,7 @@ shares_of loads = map share_of loads
 -- no two of the loads are of one region
 abbrev pub AreOfDifferentRegions : List Load → Type 0
 AreOfDifferentRegions loads = (i j : ℕ) → i < length loads → j < length loads → is_same (slice_index_or loads i no_load).region (slice_index_or loads j no_load).region ≡ true → i ≡ j
+
+-- the counts differ by at most one
+abbrev pub AreEven : List Load → Type 0
+AreEven loads = (i j : ℕ) → i < length loads → j < length loads → count_of (slice_index_or loads i no_load) ≤ count_of (slice_index_or loads j no_load) + 1

@@ -9,3 +9,6 @@ mod tally;
 
 pub use choice::choose;
 pub use rebalance::round;
+
+#[cfg(test)]
+mod tests;

@@ -2,8 +2,8 @@
 ghost use Rattle.std.specs.Prelude.{◌≡◌, ℕ, ◌+◌, ◌<◌, ◌≤◌, [], ◌∷◌, length, map, take, Some, IfSome, IfNone};
 ghost use Rattle.yard_model.specs.ShardSet.{set_of};
 ghost use Rattle.yard_model.specs.Coordinator.{largest, smallest, with_pick, picks};
-ghost use Rattle.least_shard.specs.Spread.{shares_of, AreOfDifferentRegions};
-ghost use Rattle.least_shard.specs.Fair.{IsFair, CountsWithin};
+ghost use Rattle.least_shard.specs.Spread.{shares_of, AreOfDifferentRegions, AreEven};
+ghost use Rattle.least_shard.specs.Fair.{IsFair, CountsWithin, AreEvenShares, moved};
 ghost use Rattle.least_shard.specs.Seen.{seen, seen_all};
 
 use crate::tally::{Tally, lowest_of};
@@ -15,6 +15,14 @@ use yard_model::{Incarnation, Load, NodeNo, ShardNo, ShardSet};
 pub fn round(loads: &[Load], limit: u8) -> ShardSet
     requires fits { length loads.now ≤ 16 }
     ensures picks { AreOfDifferentRegions loads.now → result ≡ set_of (picks limit (shares_of loads.now)) }
+
+    // It is empty exactly where there is nothing to even out.
+    ensures none { AreOfDifferentRegions loads.now → AreEven loads.now → result ≡ 0 }
+    ensures even { AreOfDifferentRegions loads.now → 0 < limit → result ≡ 0 → AreEven loads.now }
+
+    // Where fewer are picked than may be, the counts then differ by at most one.
+    ensures few { length (picks limit (shares_of loads.now)) ≤ limit }
+    ensures moved { length (picks limit (shares_of loads.now)) < limit → AreEvenShares (moved limit (shares_of loads.now)) }
 {
     let mut tallies = tallies_of(loads);
     picks_of(&mut tallies[..loads.len()], limit)

@@ -35,14 +35,22 @@ impl Tally {
     pub(crate) fn or_more(&self, other: &Tally) -> Tally
         ensures { seen result ≡ (if nat_lt self.now.count other.now.count then seen other.now else seen self.now) }
     {
-        if self.count < other.count { *other } else { *self }
+        if self.count < other.count {
+            *other
+        } else {
+            *self
+        }
     }
 
     /// The other where it has fewer, else this one.
     pub(crate) fn or_fewer(&self, other: &Tally) -> Tally
         ensures { seen result ≡ (if nat_lt other.now.count self.now.count then seen other.now else seen self.now) }
     {
-        if other.count < self.count { *other } else { *self }
+        if other.count < self.count {
+            *other
+        } else {
+            *self
+        }
     }
 
     /// This share once a shard of `from` is picked and counts to `to`.

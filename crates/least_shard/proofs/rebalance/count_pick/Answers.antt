@@ -1,7 +1,7 @@
-use Rattle.std.proofs.Common.{◌≡◌, ℕ, ◌+◌, ◌<◌, ◌≤◌, List, [], ◌∷◌, ◌++◌, length, take, drop, map, get_or, sym, ap, ◌∙◌, arith}
+use Rattle.std.proofs.Common.{◌≡◌, ℕ, ◌+◌, ◌<◌, List, [], ◌∷◌, ◌++◌, length, take, drop, map, get_or, sym, ap, ◌∙◌, arith}
 use Rattle.std.proofs.lemmas.List.{length-map, length-set, get_or-drop, get_or-map, take_more, take_more_set, map_push, drop-set-lt, drop-drop}
 use Rattle.yard_model.specs.Coordinator.{with_pick}
-use Rattle.least_shard.specs.Fair.{no_share, CountsWithin}
+use Rattle.least_shard.specs.Fair.{no_share}
 use Rattle.least_shard.specs.Seen.{seen, seen_all}
 use Rattle.least_shard.specs.declared.tally.Tally.{Tally}
 use Rattle.least_shard.proofs.rebalance.count_pick.Goals as goal

@@ -1,6 +1,6 @@
-use Rattle.std.proofs.Common.{◌≡◌, ℕ, zero, suc, ◌+◌, ◌<◌, ◌≤◌, List, [], length, sym, ap, subst, ◌∙◌, arith, Option, Some, None}
+use Rattle.std.proofs.Common.{◌≡◌, ◌+◌, length, sym, ap, subst, ◌∙◌, arith, Option, Some, None}
 use Rattle.std.specs.Prelude.{IfNone}
-use Rattle.yard_model.specs.Coordinator.{picks, with_pick}
+use Rattle.yard_model.specs.Coordinator.{picks}
 use Rattle.least_shard.specs.Fair.{IsFair, CountsWithin}
 use Rattle.least_shard.specs.Seen.{seen, seen_all}
 use Rattle.least_shard.proofs.PickLaws.{IsPick, largest_is, smallest_is, has_rest, fair_after, counts_after, picks_none}

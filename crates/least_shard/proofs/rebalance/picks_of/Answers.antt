@@ -1,8 +1,7 @@
-use Rattle.std.proofs.Common.{◌≡◌, ℕ, ◌+◌, ◌-◌, ◌<◌, ◌≤◌, List, ◌∷◌, length, sym, ap, subst, ◌∙◌, arith}
+use Rattle.std.proofs.Common.{◌≡◌, ◌+◌, ◌-◌, sym, ap, ◌∙◌, arith}
 use Rattle.std.specs.Prelude.{fold}
 use Rattle.yard_model.specs.ShardSet.{with_shard}
 use Rattle.yard_model.specs.Coordinator.{picks}
-use Rattle.least_shard.specs.Fair.{CountsWithin}
 use Rattle.least_shard.specs.Seen.{seen_all}
 use Rattle.least_shard.proofs.PickLaws.{counts_more}
 use Rattle.least_shard.proofs.rebalance.picks_of.Goals as goal
@@ -18,6 +17,6 @@ loop-left-preserved c =
       counts = counts_more ((1000 - left) + 1) (1000 - (left - 1)) us (omega (arith, inv.fits)) (c.in-Some.ensures.counts (1000 - left) inv.counts);
       fair = λ fair. c.in-Some.ensures.fair (inv.fair fair);
       same = λ fair.
-        ap (λ p. fold with_shard p (picks (left - 1) us)) c.with-picked.ensures.bits
-        ∙ (ap (fold with_shard c.loop-left.picked) (sym (c.in-Some.ensures.picked (inv.fair fair) (left - 1)) ∙ ap (λ n. picks n ts) one) ∙ inv.same fair);
+          ap (λ p. fold with_shard p (picks (left - 1) us)) c.with-picked.ensures.bits
+          ∙ (ap (fold with_shard c.loop-left.picked) (sym (c.in-Some.ensures.picked (inv.fair fair) (left - 1)) ∙ ap (λ n. picks n ts) one) ∙ inv.same fair);
     }

@@ -1,4 +1,4 @@
-use Rattle.std.proofs.Common.{◌∙◌, ap, sym, Option, Some, None}
+use Rattle.std.proofs.Common.{◌∙◌, ap, Option, Some, None}
 use Rattle.std.specs.Prelude.{◌≡◌, ℕ, ◌<◌, ◌^◌, true, false, [], IfSome, IfNone, slice_index_or}
 use Rattle.yard_model.specs.ShardSet.{has}
 use Rattle.least_shard.specs.Spread.{members}

@@ -1,5 +1,5 @@
 -- What clearing one bit does, and the regions whose bits are one.
-use Rattle.std.proofs.Common.{◌≡◌, ◌≢◌, ℕ, zero, suc, ◌+◌, ◌-◌, ◌*◌, ◌%◌, ◌^◌, ◌<◌, ◌≤◌, Bool, true, false, not, ◌&&◌, ◌||◌, List, [], ◌∷◌, length, drop, get_or, ap, sym, ◌∙◌, refl, arith, if◌then◌else◌}
+use Rattle.std.proofs.Common.{◌≡◌, ◌≢◌, ℕ, suc, ◌+◌, ◌*◌, ◌%◌, ◌^◌, ◌<◌, ◌≤◌, Bool, true, false, not, ◌&&◌, ◌||◌, List, [], ◌∷◌, length, drop, get_or, ap, sym, ◌∙◌, refl, arith, if◌then◌else◌}
 use Rattle.std.specs.Prelude.{◌==◌}
 use Rattle.std.specs.Int.{w16, bit_not}
 use Rattle.std.proofs.lemmas.List.{drop_more, drop_all}
@@ -9,7 +9,7 @@ use Rattle.yard_model.specs.declared.incarnation.Incarnation.{Incarnation}
 use Rattle.yard_model.specs.Members.{no_member}
 use Rattle.yard_model.specs.ShardSet.{has}
 use Rattle.yard_model.specs.Words.{is_same, is_among, is_empty, without}
-use Rattle.handoff_steps.specs.Awaited.{awaited_from, awaited_of}
+use Rattle.handoff_steps.specs.Awaited.{awaited_from}
 
 pub clear_same : (n k : ℕ) → k < 16 → has (bit_and n (bit_not w16 (1 * 2 ^ k % 2 ^ 16))) k ≡ false
 clear_same n k within = ap (λ b. b == 1) (bit_at_clear_same w16 n k within)
@@ -54,9 +54,9 @@ kept who (r ∷ rs) i new old h =
     ap (λ b. if b then r ∷ awaited_from (i + 1) rs new else awaited_from (i + 1) rs new) here
     ∙ kept_by who r (awaited_from (i + 1) rs new) (awaited_from (i + 1) rs old) (kept who rs (i + 1) new old (λ k low. later k low)) (has old i) (is_same who r) refl
   where
-  later : (k : ℕ) → k < length rs → has new (i + 1 + k) ≡ (has old (i + 1 + k) && not (is_same who (get_or rs k no_member)))
-  later k low = let next : i + suc k ≡ i + 1 + k = omega arith in
-    ap (has new) (sym next) ∙ (h (suc k) (omega arith) ∙ ap (λ n. has old n && not (is_same who (get_or rs k no_member))) next)
+    later : (k : ℕ) → k < length rs → has new (i + 1 + k) ≡ (has old (i + 1 + k) && not (is_same who (get_or rs k no_member)))
+    later k low = let next : i + suc k ≡ i + 1 + k = omega arith in
+        ap (has new) (sym next) ∙ (h (suc k) (omega arith) ∙ ap (λ n. has old n && not (is_same who (get_or rs k no_member))) next)
 
 all_by : (i : ℕ) → i < 16 → has 65535 i ≡ true
 all_by i h = ap (λ b. b == 1) (bit_at_ones 16 i h)

@@ -1,5 +1,5 @@
 -- What stands for a shard in a round.
-use Rattle.std.specs.Prelude.{ℕ, true, false, List, [], Option, Some, None}
+use Rattle.std.specs.Prelude.{true, false, List, [], Option, Some, None}
 use Rattle.yard_model.specs.declared.incarnation.Incarnation.{Incarnation}
 use Rattle.handoff_steps.specs.declared.cell.Cell.{Cell}
 use Rattle.handoff_steps.specs.declared.cell.Cell.TheVariants as cell

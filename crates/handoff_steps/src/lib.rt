@@ -11,3 +11,6 @@ mod waits;
 
 pub use round::Round;
 pub use step::Step;
+
+#[cfg(test)]
+mod tests;

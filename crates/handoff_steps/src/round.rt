@@ -5,7 +5,8 @@ ghost use Rattle.yard_model.specs.ShardSet.{has};
 ghost use Rattle.yard_model.specs.Words.{is_among, is_empty};
 ghost use Rattle.yard_model.specs.Coordinator.{not_awaited};
 ghost use Rattle.handoff_steps.specs.declared.step.Step.TheVariants as step;
-ghost use Rattle.handoff_steps.specs.Places.{moving, place_at, with_place, one_of, is_open, is_awaiting, is_owned, acknowledged_by, ended, next_step, place_without, step_without, takes_ack, takes_stop, home_in, regions_of, shards_in, begins};
+ghost use Rattle.handoff_steps.specs.Places.{moving, place_at, with_place, one_of, is_open, is_awaiting, is_owned, acknowledged_by, ended, next_step, place_without, step_without, takes_ack, takes_stop, moving_from, first_place, home_in, regions_of, all_shards, shards_in, begins};
+ghost use Rattle.handoff_steps.specs.Seen.{seen};
 
 use crate::cell::Cell;
 use crate::step::Step;
@@ -35,6 +36,23 @@ impl Model for Round {
 }
 
 impl Round {
+    /// Begins a round of these shards: each is to be handed off by its home, and every region of
+    /// the loads is awaited.
+    pub fn begin(stamp: Stamp, picks: ShardSet, loads: &[Load]) -> Round
+        requires fits { length loads.now ≤ 16 }
+        requires homes { (s : ℕ) → has picks s ≡ true → IsSome (home_in loads.now s) }
+        ensures stamp { result.stamp ≡ stamp }
+        ensures places { result.places ≡ map (first_place picks loads.now) all_shards }
+        ensures moving { moving result ≡ map (begins loads.now) (shards_in picks) }
+    {
+        Round {
+            stamp,
+            regions: regions_of(loads),
+            count: loads.len() as u8,
+            cells: cells_of(picks, loads),
+        }
+    }
+
     /// The stamp of the round.
     pub fn stamp(&self) -> Stamp
         ensures { result ≡ self.now.stamp }
@@ -45,6 +63,7 @@ impl Round {
     /// Whether the shard is in the round and not done.
     pub fn is_moving(&self, s: ShardNo) -> bool
         ensures place { result ≡ is_open (place_at self.now s) }
+        ensures moving { result ≡ list_any (λ x. x.shard == s) (moving self.now) }
         ensures shard { filter (λ x. x.shard == s) (moving self.now) ≡ one_of s (place_at self.now s) }
         ensures all { length self.now.places ≡ 128 }
     {
@@ -54,8 +73,16 @@ impl Round {
     /// Whether the shard is in the round and not done, and this region is awaited.
     pub fn awaits(&self, s: ShardNo, who: Incarnation) -> bool
         ensures place { result ≡ is_awaiting who (place_at self.now s) }
+        ensures moving { result ≡ list_any (λ x. x.shard == s && is_among who x.awaited) (moving self.now) }
     {
         self.cells[s.get() as usize].is_awaiting(&self.regions[..self.count as usize], &who)
+    }
+
+    /// Whether every shard of the round is done.
+    pub fn is_done(&self) -> bool
+        ensures { result ≡ is_empty (moving self.now) }
+    {
+        is_none_open(&self.cells, &self.regions[..self.count as usize])
     }
 
     /// The home of the shard when the round began; None exactly where it isn't in the round.
@@ -127,8 +154,60 @@ impl Round {
         }
         let was_awaited = cell.is_awaiting(regions, &who);
         let next = cell.acknowledged_by(regions, &who);
-        let step = next.next_step(regions);
+        let answer = next.next_step(regions);
         self.cells[place] = next;
-        if was_awaited { step } else { Step::Wait }
+        if was_awaited { answer } else { Step::Wait }
     }
+}
+
+/// The regions of the loads; the places after them are for none.
+fn regions_of(loads: &[Load]) -> [Incarnation; 16]
+    requires { length loads.now ≤ 16 }
+    ensures { take (length loads.now) result ≡ regions_of loads.now }
+{
+    let none = Incarnation {
+        node: NodeNo::FIRST,
+        number: 0,
+    };
+    let mut regions = [none; 16];
+    for place in 0..loads.len() {
+        regions[place] = loads[place].region;
+    }
+    regions
+}
+
+/// The places of the shards as a round begins.
+fn cells_of(picks: ShardSet, loads: &[Load]) -> [Cell; 128]
+    requires { length loads.now ≤ 16 }
+    ensures { map (seen (regions_of loads.now)) result ≡ map (first_place picks loads.now) all_shards }
+{
+    let mut cells = [Cell::Out; 128];
+    for s in 0..128u8 {
+        cells[s as usize] = cell_of(s, picks, loads);
+    }
+    cells
+}
+
+/// The place of this shard as a round begins.
+fn cell_of(s: u8, picks: ShardSet, loads: &[Load]) -> Cell
+    requires shard { s < 128 }
+    requires fits { length loads.now ≤ 16 }
+    ensures { seen (regions_of loads.now) result ≡ first_place picks loads.now s }
+{
+    match ShardNo::new(s, 128) {
+        Some(shard) => Cell::first(shard, picks, loads),
+        None => unreachable!(),
+    }
+}
+
+/// Whether no shard moves.
+fn is_none_open(cells: &[Cell], regions: &[Incarnation]) -> bool
+    ensures { result ≡ is_empty (moving_from 0 (map (seen regions.now) cells.now)) }
+{
+    for place in 0..cells.len() {
+        if cells[place].is_open(regions) {
+            return false;
+        }
+    }
+    true
 }

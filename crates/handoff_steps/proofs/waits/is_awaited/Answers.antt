@@ -1,7 +1,7 @@
-use Rattle.std.proofs.Common.{◌+◌, ◌<◌, ◌||◌, drop, true, sym, ap, ◌∙◌, arith, length}
+use Rattle.std.proofs.Common.{◌+◌, ◌<◌, ◌||◌, drop, sym, ap, ◌∙◌, arith, length}
 use Rattle.yard_model.specs.Words.{is_among}
 use Rattle.handoff_steps.specs.Awaited.{awaited_from}
-use Rattle.handoff_steps.proofs.BitLaws.{among_more, among_end}
+use Rattle.handoff_steps.proofs.BitLaws.{among_more}
 use Rattle.handoff_steps.proofs.waits.is_awaited.Goals as goal
 
 pub returns-then-is_awaited_at : goal.returns-then-is_awaited_at

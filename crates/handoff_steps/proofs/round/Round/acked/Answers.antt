@@ -1,4 +1,4 @@
-use Rattle.std.proofs.Common.{◌≡◌, ◌<◌, true, take, length, ap, sym, ◌∙◌, arith}
+use Rattle.std.proofs.Common.{take, ap, ◌∙◌, arith}
 use Rattle.handoff_steps.specs.Places.{place_at, moving, acknowledged_by}
 use Rattle.handoff_steps.specs.Seen.{seen}
 use Rattle.handoff_steps.proofs.PlaceLaws.{placed, moving_with, all_there, ack, ack_acts, ack_here}

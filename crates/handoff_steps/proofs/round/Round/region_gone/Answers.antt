@@ -1,5 +1,5 @@
-use Rattle.std.proofs.Common.{◌≡◌, ◌<◌, true, take, length, get_or, if◌then◌else◌, ap, sym, ◌∙◌, arith}
-use Rattle.handoff_steps.specs.Places.{place_at, with_place, moving, is_owned, acknowledged_by, ended, place_without}
+use Rattle.std.proofs.Common.{take, get_or, if◌then◌else◌, ap, sym, ◌∙◌, arith}
+use Rattle.handoff_steps.specs.Places.{place_at, with_place, moving, acknowledged_by, ended, place_without}
 use Rattle.handoff_steps.specs.Seen.{seen}
 use Rattle.handoff_steps.proofs.PlaceLaws.{placed, moving_with, all_there, ack, ack_acts, ack_here, stop, stop_acts, stop_here}
 use Rattle.handoff_steps.proofs.round.Round.region_gone.Goals as goal

@@ -1,5 +1,5 @@
 //! Sets of shards.
-ghost use Rattle.std.specs.Prelude.{◌≡◌, ◌≢◌, ℕ, ◌<◌, ◌≤◌, false, true, count_ones, IfNone, IfSome};
+ghost use Rattle.std.specs.Prelude.{◌≡◌, ◌≢◌, ℕ, ◌^◌, ◌<◌, ◌≤◌, false, true, count_ones, IfNone, IfSome};
 ghost use Rattle.yard_model.specs.ShardSet.{has, with_shard};
 
 use crate::number::ShardNo;
@@ -48,6 +48,7 @@ impl ShardSet {
     pub fn without(self, s: ShardNo) -> ShardSet
         ensures it { has result s ≡ false }
         ensures others { (t : ℕ) → t < 128 → t ≢ s → has result t ≡ has self t }
+        ensures fits { result < 2 ^ 128 }
     {
         ShardSet {
             bits: self.bits & !(1 << s.get()),
@@ -64,6 +65,7 @@ impl ShardSet {
     /// How many shards are in it.
     pub fn count(&self) -> u32
         ensures ones { result ≡ count_ones self.now }
+        ensures fits { self.now < 2 ^ 128 }
     {
         self.bits.count_ones()
     }

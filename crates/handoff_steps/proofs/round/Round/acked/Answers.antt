@@ -1,0 +1,20 @@
+use Rattle.std.proofs.Common.{take, ap, ◌∙◌, arith}
+use Rattle.handoff_steps.specs.Places.{place_at, moving, acknowledged_by}
+use Rattle.handoff_steps.specs.Seen.{seen}
+use Rattle.handoff_steps.proofs.PlaceLaws.{placed, moving_with, all_there, ack, ack_acts, ack_here}
+use Rattle.handoff_steps.proofs.round.Round.acked.Goals as goal
+
+pub returns-clause-place : goal.returns-clause-place
+returns-clause-place c = λ taken.
+    let i = c.self.inside in
+    let f = seen (take i.count i.regions) in
+    placed f c.args.self.now i.stamp i.cells c.get-place.result c.args.s c.index-self-place.result c.acknowledged_by-next.result (acknowledged_by c.args.from)
+    c.self.view_is c.get-place.ensures.value (omega (arith, c.self.invariant, c.get-place.ensures)) c.acknowledged_by-next.ensures
+
+pub returns-clause-moving : goal.returns-clause-moving
+returns-clause-moving c = λ taken.
+    let i = c.self.inside in
+    let v = c.args.self.now in
+    let s = c.args.s in
+    let all = all_there (seen (take i.count i.regions)) v i.stamp i.cells c.self.view_is c.self.invariant.2 in
+    ap moving (returns-clause-place c taken) ∙ moving_with v s (ack s c.args.from) (ack_acts s c.args.from) _ (omega (arith, c.get-place.ensures)) (ack_here s c.args.from (place_at v s))

@@ -1,0 +1,43 @@
+use Rattle.std.proofs.Common.{take, get_or, if◌then◌else◌, ap, sym, ◌∙◌, arith}
+use Rattle.handoff_steps.specs.Places.{place_at, with_place, moving, acknowledged_by, ended, place_without}
+use Rattle.handoff_steps.specs.Seen.{seen}
+use Rattle.handoff_steps.proofs.PlaceLaws.{placed, moving_with, all_there, ack, ack_acts, ack_here, stop, stop_acts, stop_here}
+use Rattle.handoff_steps.proofs.round.Round.region_gone.Goals as goal
+
+pub returns-then-is_owned-clause-place : goal.returns-then-is_owned-clause-place
+returns-then-is_owned-clause-place c =
+    let i = c.self.inside in
+    let f = seen (take i.count i.regions) in
+    let p = f (get_or i.cells c.get-place.result c.index-self-place.result) in
+    placed f c.args.self.now i.stamp i.cells c.get-place.result c.args.s c.index-self-place.result c.ended-next.result (place_without c.args.who)
+    c.self.view_is c.get-place.ensures.value (omega (arith, c.self.invariant, c.get-place.ensures))
+    (c.ended-next.ensures ∙ ap (λ b. if b then ended p else acknowledged_by c.args.who p) (sym (sym c.is_owned.ensures ∙ c.if-is_owned.true)))
+
+pub returns-then-is_owned-clause-owner : goal.returns-then-is_owned-clause-owner
+returns-then-is_owned-clause-owner c = λ owned.
+    let i = c.self.inside in
+    let v = c.args.self.now in
+    let s = c.args.s in
+    let p = place_at v s in
+    let all = all_there (seen (take i.count i.regions)) v i.stamp i.cells c.self.view_is c.self.invariant.2 in
+    ap moving (returns-then-is_owned-clause-place c ∙ ap (λ b. with_place v s (if b then ended p else acknowledged_by c.args.who p)) owned)
+    ∙ moving_with v s (stop s) (stop_acts s) (ended p) (omega (arith, c.get-place.ensures)) (stop_here s p)
+
+pub returns-clause-place : goal.returns-clause-place
+returns-clause-place c =
+    let i = c.self.inside in
+    let f = seen (take i.count i.regions) in
+    let p = f (get_or i.cells c.get-place.result c.index-self-place.result) in
+    placed f c.args.self.now i.stamp i.cells c.get-place.result c.args.s c.index-self-place.result c.acknowledged_by-next.result (place_without c.args.who)
+    c.self.view_is c.get-place.ensures.value (omega (arith, c.self.invariant, c.get-place.ensures))
+    (c.acknowledged_by-next.ensures ∙ ap (λ b. if b then ended p else acknowledged_by c.args.who p) (sym (sym c.is_owned.ensures ∙ c.if-is_owned.false)))
+
+pub returns-clause-other : goal.returns-clause-other
+returns-clause-other c = λ other.
+    let i = c.self.inside in
+    let v = c.args.self.now in
+    let s = c.args.s in
+    let p = place_at v s in
+    let all = all_there (seen (take i.count i.regions)) v i.stamp i.cells c.self.view_is c.self.invariant.2 in
+    ap moving (returns-clause-place c ∙ ap (λ b. with_place v s (if b then ended p else acknowledged_by c.args.who p)) other)
+    ∙ moving_with v s (ack s c.args.who) (ack_acts s c.args.who) (acknowledged_by c.args.who p) (omega (arith, c.get-place.ensures)) (ack_here s c.args.who p)

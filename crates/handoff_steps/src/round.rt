@@ -1,0 +1,213 @@
+//! The round.
+ghost use Rattle.std.specs.Prelude.{◌≡◌, ℕ, ◌<◌, ◌≤◌, true, false, not, ◌==◌, ◌&&◌, length, take, map, filter, option_map, IsSome, if◌then◌else◌};
+ghost use Rattle.std.specs.List.{list_any};
+ghost use Rattle.yard_model.specs.ShardSet.{has};
+ghost use Rattle.yard_model.specs.Words.{is_among, is_empty};
+ghost use Rattle.yard_model.specs.Coordinator.{not_awaited};
+ghost use Rattle.handoff_steps.specs.declared.step.Step.TheVariants as step;
+ghost use Rattle.handoff_steps.specs.Places.{moving, place_at, with_place, one_of, is_open, is_awaiting, is_owned, acknowledged_by, ended, next_step, place_without, step_without, takes_ack, takes_stop, moving_from, first_place, home_in, regions_of, all_shards, shards_in, begins};
+ghost use Rattle.handoff_steps.specs.Seen.{seen};
+
+use crate::cell::Cell;
+use crate::step::Step;
+use std::marker::Model;
+use yard_model::{Incarnation, Load, NodeNo, ShardNo, ShardSet, Stamp};
+
+/// A round of handoffs; seen as its stamp and, at each shard's place, the shard with its owner and
+/// the regions that are awaited, where it is in the round.
+#[derive(Drop)]
+pub struct Round {
+    stamp: Stamp,
+    regions: [Incarnation; 16],
+    count: u8,
+    cells: [Cell; 128],
+}
+
+impl Model for Round {
+    ghost use Rattle.std.specs.Prelude.{◌≡◌, ◌≤◌, length, map, take};
+    ghost use Rattle.handoff_steps.specs.Places.{Handoffs};
+    ghost use Rattle.handoff_steps.specs.Seen.{seen};
+
+    ghost Value = { Handoffs };
+
+    ghost view = { λ r. record { stamp = r.stamp; places = map (seen (take r.count r.regions)) r.cells } };
+
+    ghost invariant = { λ r. (r.count ≤ 16) × (length r.regions ≡ 16) × (length r.cells ≡ 128) };
+}
+
+impl Round {
+    /// Begins a round of these shards: each is to be handed off by its home, and every region of
+    /// the loads is awaited.
+    pub fn begin(stamp: Stamp, picks: ShardSet, loads: &[Load]) -> Round
+        requires fits { length loads.now ≤ 16 }
+        requires homes { (s : ℕ) → has picks s ≡ true → IsSome (home_in loads.now s) }
+        ensures stamp { result.stamp ≡ stamp }
+        ensures places { result.places ≡ map (first_place picks loads.now) all_shards }
+        ensures moving { moving result ≡ map (begins loads.now) (shards_in picks) }
+    {
+        Round {
+            stamp,
+            regions: regions_of(loads),
+            count: loads.len() as u8,
+            cells: cells_of(picks, loads),
+        }
+    }
+
+    /// The stamp of the round.
+    pub fn stamp(&self) -> Stamp
+        ensures { result ≡ self.now.stamp }
+    {
+        self.stamp
+    }
+
+    /// Whether the shard is in the round and not done.
+    pub fn is_moving(&self, s: ShardNo) -> bool
+        ensures place { result ≡ is_open (place_at self.now s) }
+        ensures moving { result ≡ list_any (λ x. x.shard == s) (moving self.now) }
+        ensures shard { filter (λ x. x.shard == s) (moving self.now) ≡ one_of s (place_at self.now s) }
+        ensures all { length self.now.places ≡ 128 }
+    {
+        self.cells[s.get() as usize].is_open(&self.regions[..self.count as usize])
+    }
+
+    /// Whether the shard is in the round and not done, and this region is awaited.
+    pub fn awaits(&self, s: ShardNo, who: Incarnation) -> bool
+        ensures place { result ≡ is_awaiting who (place_at self.now s) }
+        ensures moving { result ≡ list_any (λ x. x.shard == s && is_among who x.awaited) (moving self.now) }
+    {
+        self.cells[s.get() as usize].is_awaiting(&self.regions[..self.count as usize], &who)
+    }
+
+    /// Whether every shard of the round is done.
+    pub fn is_done(&self) -> bool
+        ensures { result ≡ is_empty (moving self.now) }
+    {
+        is_none_open(&self.cells, &self.regions[..self.count as usize])
+    }
+
+    /// The home of the shard when the round began; None exactly where it isn't in the round.
+    pub fn owner(&self, s: ShardNo) -> Option<Incarnation>
+        ensures { result ≡ option_map (λ h. h.owner) (place_at self.now s) }
+    {
+        self.cells[s.get() as usize].owner(&self.regions[..self.count as usize])
+    }
+
+    /// Takes an acknowledgement. Where it is waited for, its sender isn't awaited any more; where
+    /// nobody else is, the owner is to hand the shard off.
+    pub fn acked(&mut self, s: ShardNo, stamp: Stamp, from: Incarnation) -> Step
+        ensures ignored { takes_ack self.old s stamp from ≡ false → result ≡ step.Ignored stamp from }
+        ensures unchanged { takes_ack self.old s stamp from ≡ false → self.new ≡ self.old }
+        ensures answer { takes_ack self.old s stamp from ≡ true → result ≡ next_step (acknowledged_by from (place_at self.old s)) }
+        ensures place { takes_ack self.old s stamp from ≡ true → self.new ≡ with_place self.old s (acknowledged_by from (place_at self.old s)) }
+        ensures moving { takes_ack self.old s stamp from ≡ true → moving self.new ≡ map (λ x. if x.shard == s then not_awaited from x else x) (moving self.old) }
+    {
+        let place = s.get() as usize;
+        let own = self.stamp;
+        let cell = self.cells[place];
+        let regions = &self.regions[..self.count as usize];
+        if stamp != own || !cell.is_awaiting(regions, &from) {
+            return Step::Ignored { stamp, from };
+        }
+        let next = cell.acknowledged_by(regions, &from);
+        let step = next.next_step(regions);
+        self.cells[place] = next;
+        step
+    }
+
+    /// Takes the word of a shard's owner that it has stopped it; where that is waited for, the
+    /// shard is done.
+    pub fn stopped(&mut self, s: ShardNo, stamp: Stamp, from: Incarnation) -> Step
+        ensures ignored { takes_stop self.old s stamp from ≡ false → result ≡ step.Ignored stamp from }
+        ensures unchanged { takes_stop self.old s stamp from ≡ false → self.new ≡ self.old }
+        ensures answer { takes_stop self.old s stamp from ≡ true → result ≡ step.Done }
+        ensures place { takes_stop self.old s stamp from ≡ true → self.new ≡ with_place self.old s (ended (place_at self.old s)) }
+        ensures moving { takes_stop self.old s stamp from ≡ true → moving self.new ≡ filter (λ x. not (x.shard == s)) (moving self.old) }
+    {
+        let place = s.get() as usize;
+        let own = self.stamp;
+        let cell = self.cells[place];
+        let regions = &self.regions[..self.count as usize];
+        if stamp != own || !cell.is_stopping(regions, &from) {
+            return Step::Ignored { stamp, from };
+        }
+        let next = cell.ended(regions);
+        self.cells[place] = next;
+        Step::Done
+    }
+
+    /// A region is gone: a shard of its own is done, another doesn't await it any more. Where it
+    /// was the last that was awaited, the owner is to hand the shard off.
+    pub fn region_gone(&mut self, s: ShardNo, who: Incarnation) -> Step
+        requires open { is_open (place_at self.old s) ≡ true }
+        ensures answer { result ≡ step_without who (place_at self.old s) }
+        ensures place { self.new ≡ with_place self.old s (place_without who (place_at self.old s)) }
+        ensures owner { is_owned who (place_at self.old s) ≡ true → moving self.new ≡ filter (λ x. not (x.shard == s)) (moving self.old) }
+        ensures other { is_owned who (place_at self.old s) ≡ false → moving self.new ≡ map (λ x. if x.shard == s then not_awaited who x else x) (moving self.old) }
+    {
+        let place = s.get() as usize;
+        let cell = self.cells[place];
+        let regions = &self.regions[..self.count as usize];
+        if cell.is_owned(regions, &who) {
+            let next = cell.ended(regions);
+            self.cells[place] = next;
+            return Step::Done;
+        }
+        let was_awaited = cell.is_awaiting(regions, &who);
+        let next = cell.acknowledged_by(regions, &who);
+        let answer = next.next_step(regions);
+        self.cells[place] = next;
+        if was_awaited { answer } else { Step::Wait }
+    }
+}
+
+/// The regions of the loads; the places after them are for none.
+fn regions_of(loads: &[Load]) -> [Incarnation; 16]
+    requires { length loads.now ≤ 16 }
+    ensures { take (length loads.now) result ≡ regions_of loads.now }
+{
+    let none = Incarnation {
+        node: NodeNo::FIRST,
+        number: 0,
+    };
+    let mut regions = [none; 16];
+    for place in 0..loads.len() {
+        regions[place] = loads[place].region;
+    }
+    regions
+}
+
+/// The places of the shards as a round begins.
+fn cells_of(picks: ShardSet, loads: &[Load]) -> [Cell; 128]
+    requires { length loads.now ≤ 16 }
+    ensures { map (seen (regions_of loads.now)) result ≡ map (first_place picks loads.now) all_shards }
+{
+    let mut cells = [Cell::Out; 128];
+    for s in 0..128u8 {
+        cells[s as usize] = cell_of(s, picks, loads);
+    }
+    cells
+}
+
+/// The place of this shard as a round begins.
+fn cell_of(s: u8, picks: ShardSet, loads: &[Load]) -> Cell
+    requires shard { s < 128 }
+    requires fits { length loads.now ≤ 16 }
+    ensures { seen (regions_of loads.now) result ≡ first_place picks loads.now s }
+{
+    match ShardNo::new(s, 128) {
+        Some(shard) => Cell::first(shard, picks, loads),
+        None => unreachable!(),
+    }
+}
+
+/// Whether no shard moves.
+fn is_none_open(cells: &[Cell], regions: &[Incarnation]) -> bool
+    ensures { result ≡ is_empty (moving_from 0 (map (seen regions.now) cells.now)) }
+{
+    for place in 0..cells.len() {
+        if cells[place].is_open(regions) {
+            return false;
+        }
+    }
+    true
+}

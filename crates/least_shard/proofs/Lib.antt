@@ -1,0 +1,4 @@
+pub mod BestLaws
+pub mod EvenLaws
+pub mod MemberLaws
+pub mod PickLaws

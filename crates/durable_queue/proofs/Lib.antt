@@ -1,1 +1,4 @@
 pub mod SendsLaws
+pub mod ListLaws
+pub mod KeptLaws
+pub mod FirstLaws

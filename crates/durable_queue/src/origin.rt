@@ -17,6 +17,9 @@ impl Model for Origin {
     ghost also_owns = { λ _. ftrue };
 }
 
+// It owns nothing.
+unsafe impl Send for Origin {}
+
 impl Origin {
     /// That of this charter.
     pub(crate) fn of(_charter: &Charter) -> Origin

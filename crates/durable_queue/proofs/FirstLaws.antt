@@ -1,13 +1,11 @@
 -- What is queued are the first sends: how many they are, and which.
-use Rattle.std.proofs.Common.{◌≡◌, ◌<◌, ◌≤◌, ℕ, zero, suc, ◌+◌, sym, ap, ◌∙◌, refl, arith, take, drop, min, length-append, not-suc-le-zero, le_of_suc-le-suc}
-use Rattle.std.specs.Prelude.{Bool, true, false, List, [], ◌∷◌, ◌++◌, length, map, filter, count_by, Option, Some, None, is_some, slice_get, slice_index_or, if◌then◌else◌}
+use Rattle.std.proofs.Common.{◌≡◌, ◌<◌, ◌≤◌, ℕ, zero, suc, ◌+◌, sym, ap, ◌∙◌, refl, arith, take, drop, length-append, not-suc-le-zero, le_of_suc-le-suc}
+use Rattle.std.specs.Prelude.{true, List, [], ◌∷◌, ◌++◌, length, map, filter, Option, Some, None, is_some, IfSome, slice_get, slice_index_or, if◌then◌else◌}
 use Rattle.std.proofs.lemmas.Bool.Decides.{Decides-eqb}
 use Rattle.std.proofs.lemmas.Slice.Eq.{slice_eq-Decides}
-use Rattle.std.proofs.lemmas.List.{map-append, take-append-drop, length-take, length-map}
+use Rattle.std.proofs.lemmas.List.{map-append, take-append-drop}
 use Rattle.std.proofs.lemmas.List.Elements.{filter-append}
-use Rattle.std.proofs.lemmas.List.Sums.{length-filter, count_by-le-length}
 use Rattle.yard_model.specs.declared.charter.Sending.{Sending}
-use Rattle.yard_model.specs.declared.event.Command.{Command}
 use Rattle.yard_model.specs.declared.fact.Fact.{Fact}
 use Rattle.yard_model.specs.Script.{Script, is_name, sends}
 use Rattle.yard_model.specs.SlotReads as reads
@@ -21,17 +19,10 @@ commands_split e i all =
     ∙ (ap (map (λ (y : Sending). y.command)) (filter-append (λ (y : Sending). is_name y.entity e) (take i all) (drop i all))
     ∙ map-append (λ (y : Sending). y.command) (filter (λ (y : Sending). is_name y.entity e) (take i all)) (filter (λ (y : Sending). is_name y.entity e) (drop i all)))
 
-commands_within : (e : List ℕ) (all : List Sending) → length (commands_to e all) ≤ length all
-commands_within e all =
-    let size : length (commands_to e all) ≡ count_by (λ (y : Sending). is_name y.entity e) all =
-    length-map (filter (λ (y : Sending). is_name y.entity e) all) (λ (y : Sending). y.command) ∙ length-filter (λ (y : Sending). is_name y.entity e) all in
-    let few : count_by (λ (y : Sending). is_name y.entity e) all ≤ length all = count_by-le-length (λ (y : Sending). is_name y.entity e) all in
-    omega arith
-
 prefix_length : {A : Type 0} (xs ys zs : List A) → zs ≡ xs ++ ys → length xs ≤ length zs
 prefix_length xs ys zs e = let size : length zs ≡ length xs + length ys = ap length e ∙ length-append xs ys in omega arith
 
-get_first : {A : Type 0} (xs ys : List A) (i : ℕ) → i < length xs → slice_get (xs ++ ys) i ≡ slice_get xs i
+pub get_first : {A : Type 0} (xs ys : List A) (i : ℕ) → i < length xs → slice_get (xs ++ ys) i ≡ slice_get xs i
 get_first [] ys i h = absurd (not-suc-le-zero h)
 get_first (x ∷ xs) ys zero h = refl
 get_first (x ∷ xs) ys (suc i) h = get_first xs ys i (le_of_suc-le-suc h)
@@ -42,16 +33,6 @@ queued_fits c p xs e first =
     let size : reads.queued e xs ≡ length (commands_to e (take (reads.queued_in_all xs) (sends c p))) = ap length (first.each e) in
     let more : length (commands_to e (take (reads.queued_in_all xs) (sends c p))) ≤ length (commands_to e (sends c p)) =
     prefix_length (commands_to e (take (reads.queued_in_all xs) (sends c p))) (commands_to e (drop (reads.queued_in_all xs) (sends c p))) (commands_to e (sends c p)) (commands_split e (reads.queued_in_all xs) (sends c p)) in
-    omega arith
-
--- no more are queued of a name than in all
-pub queued_within : (c : Script) (p : ℕ) (xs : List Fact) (e : List ℕ) → AreFirst c p xs → reads.queued e xs ≤ reads.queued_in_all xs
-queued_within c p xs e first =
-    let i : ℕ = reads.queued_in_all xs in
-    let all : List Sending = sends c p in
-    let size : reads.queued e xs ≡ length (commands_to e (take i all)) = ap length (first.each e) in
-    let some : length (commands_to e (take i all)) ≤ length (take i all) = commands_within e (take i all) in
-    let few : length (take i all) ≡ min i (length all) = length-take i all in
     omega arith
 
 -- the command of a queued number is the one that is sent
@@ -77,3 +58,8 @@ pub get_within : {A : Type 0} (xs : List A) (i : ℕ) → i < length xs → is_s
 get_within [] i h = absurd (not-suc-le-zero h)
 get_within (x ∷ xs) zero h = refl
 get_within (x ∷ xs) (suc i) h = get_within xs i (le_of_suc-le-suc h)
+
+-- an answer is what it is equal to
+pub some_is : {A : Type 0} (answer wanted : Option A) → answer ≡ wanted → IfSome answer (λ x. wanted ≡ Some x)
+some_is None wanted e = tt
+some_is (Some x) wanted e = sym e

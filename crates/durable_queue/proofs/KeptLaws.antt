@@ -1,6 +1,6 @@
 -- What is kept at hand, with one entry more.
-use Rattle.std.proofs.Common.{◌≡◌, ◌<◌, ◌≤◌, ◌^◌, ℕ, ◌+◌, ◌-◌, sym, subst, ap, ◌∙◌, refl, arith, take, length-append}
-use Rattle.std.specs.Prelude.{Bool, true, false, cond, List, [], ◌∷◌, ◌++◌, length, map, filter, is_some, Some, Option, unwrap_or, Vec, if◌then◌else◌}
+use Rattle.std.proofs.Common.{◌≡◌, ◌<◌, ◌≤◌, ◌^◌, ℕ, ◌+◌, ◌-◌, sym, subst, ap, ◌∙◌, refl, arith, length-append}
+use Rattle.std.specs.Prelude.{Bool, true, false, cond, List, [], ◌∷◌, ◌++◌, length, map, is_some, Some, unwrap_or, Vec, if◌then◌else◌}
 use Rattle.std.specs.Ordering.{nat_cmp}
 use Rattle.std.specs.Cmp.Lexicographic.{slice_cmp, texts_ties}
 use Rattle.std.specs.BTreeMap.{BTreeMap, get, is_at, Updates}

@@ -1,6 +1,6 @@
 -- A queue's list with one entry more: it is lawful, and what is read off it.
 use Rattle.std.proofs.Common.{◌≡◌, ◌<◌, ◌≤◌, ℕ, ◌+◌, sym, ap, ◌∙◌, refl, arith, take}
-use Rattle.std.specs.Prelude.{Bool, true, false, ◌&&◌, ◌==◌, not, nat_lt, nat_le, List, [], ◌∷◌, ◌++◌, length, Option, Some, None, is_some, slice_get, slice_index_or, if◌then◌else◌}
+use Rattle.std.specs.Prelude.{Bool, true, false, ◌&&◌, ◌==◌, not, nat_lt, nat_le, List, [], ◌∷◌, ◌++◌, Some, None, is_some, slice_get, if◌then◌else◌}
 use Rattle.std.specs.Option.{option_map_or}
 use Rattle.std.proofs.Math.Bool.{and-true, and_assoc}
 use Rattle.std.proofs.lemmas.Bool.Decides.{Decides-eqb, nat_tests}
@@ -19,7 +19,7 @@ use Rattle.yard_model.specs.Genuine.{is_node}
 use Rattle.yard_model.specs.Lawful.{own, may_follow, is_held}
 use Rattle.yard_model.specs.Script.{Script, is_name, sends}
 use Rattle.yard_model.specs.SlotReads as reads
-use Rattle.durable_queue.specs.Kept.{commands_to, AreFirst, IsList, AreSums}
+use Rattle.durable_queue.specs.Kept.{commands_to, IsList, AreSums}
 use Rattle.durable_queue.proofs.SendsLaws.{commands_next}
 
 follows_more : {A : Type 0} (may : List A → A → Bool) (before xs : List A) (x : A) →

@@ -1,5 +1,5 @@
 -- What is kept of the sends to each name, with one send more.
-use Rattle.std.proofs.Common.{◌≡◌, ◌<◌, ◌≤◌, ℕ, ◌+◌, sym, ap, ◌∙◌, refl, arith, take}
+use Rattle.std.proofs.Common.{◌≡◌, ◌<◌, ℕ, ◌+◌, sym, ap, ◌∙◌, refl, arith, take}
 use Rattle.std.specs.Prelude.{Bool, true, false, cond, List, [], ◌∷◌, ◌++◌, length, map, filter, is_some, Some, None, Option, unwrap_or, slice_index_or, Vec, if◌then◌else◌}
 use Rattle.std.specs.Option.{option_map_or}
 use Rattle.std.specs.Ordering.{nat_cmp}
@@ -56,7 +56,6 @@ zero_next old new e u zero q = ap (λ o. unwrap_or o 0) (u.0 q) ∙ found (is_at
     found : (b : Bool) → unwrap_or (cond b (Some 0) (get (slice_cmp nat_cmp) old q)) 0 ≡ 0
     found true = refl
     found false = zero q
-
 
 -- the commands of each name, one send further: a plan is taken out, and put in again with one command more
 pub plans_next : (old mid new : BTreeMap (List ℕ) (Vec Command Global)) (all : List Sending) (i : ℕ) (x : Sending) (plan : Vec Command Global) → i < length all → x ≡ slice_index_or all i x →

@@ -1,11 +1,11 @@
 //! The store of a producer's queue.
-ghost use Rattle.std.specs.Prelude.{◌≡◌, ℕ, ◌+◌, ◌-◌, ◌<◌, ◌≤◌, ◌↔◌, true, false, [], ◌∷◌, ◌++◌, length, map, slice_get, Some, None, IfOk, OnOk, OnErr, IsSome, vec_len, vec_capacity};
+ghost use Rattle.std.specs.Prelude.{◌≡◌, ℕ, ◌+◌, ◌-◌, ◌<◌, ◌≤◌, ◌↔◌, true, false, [], ◌∷◌, ◌++◌, length, map, slice_get, Some, None, IfOk, OnOk, OnErr, IsSome, IfSome, vec_len, vec_capacity};
 ghost use Rattle.yard_model.specs.declared.fact.Fact.TheVariants as fact;
 ghost use Rattle.yard_model.specs.declared.incarnation.Slot.TheVariants as slot;
 ghost use Rattle.yard_model.specs.Entry.{queue_fact};
 ghost use Rattle.yard_model.specs.Genuine.{is_node, is_producer};
 ghost use Rattle.yard_model.specs.Lawful.{is_held, own};
-ghost use Rattle.yard_model.specs.Script.{sends};
+ghost use Rattle.yard_model.specs.Script.{sends, plan};
 ghost use Rattle.yard_model.specs.SlotReads as reads;
 ghost use Rattle.durable_queue.specs.Queue.{Queue};
 
@@ -16,7 +16,9 @@ use std::alloc::{AllocError, Global};
 use std::collections::BTreeMap;
 use std::marker::{Model, PhantomData};
 use yard_model::laws::sending_law;
-use yard_model::{Cause, Charter, Command, EntityName, Incarnation, ProducerNo, QueueEntry, Sending};
+use yard_model::{
+    Cause, Charter, Command, EntityName, Incarnation, ProducerNo, QueueEntry, Sending,
+};
 
 /// Fewer entries than these, so that each count and each epoch is a `u32`.
 const ENTRIES: usize = 1 << 32;
@@ -56,7 +58,11 @@ impl Model for QueueStore {
 impl QueueStore {
     /// The empty queue of a producer of this charter, with no spare. The only error is want of
     /// memory.
-    pub fn new(alloc: Global, charter: &Charter, producer: ProducerNo) -> Result<QueueStore, AllocError>
+    pub fn new(
+        alloc: Global,
+        charter: &Charter,
+        producer: ProducerNo,
+    ) -> Result<QueueStore, AllocError>
         requires producer { is_producer charter.now producer ≡ true }
         ensures script { IfOk result (λ q. q.script ≡ charter.now) }
         ensures producer { IfOk result (λ q. q.producer ≡ producer) }
@@ -93,6 +99,7 @@ impl QueueStore {
     pub fn entries(&self) -> &[QueueEntry]
         ensures value { map (queue_fact self.now.producer) result.now ≡ self.now.entries }
         ensures lawful { own self.now.script (slot.Queue self.now.producer) self.now.entries ≡ true }
+        ensures producer { is_producer self.now.script self.now.producer ≡ true }
     {
         self.entries.as_slice()
     }
@@ -143,6 +150,7 @@ impl QueueStore {
     pub fn command(&self, entity: &EntityName, number: u32) -> Option<Command>
         ensures first { number ≡ 0 → result ≡ None }
         ensures value { 0 < number → result ≡ slice_get (reads.commands entity.now self.now.entries) (number - 1) }
+        ensures planned { IfSome result (λ k. slice_get (plan self.now.script self.now.producer entity.now) (number - 1) ≡ Some k) }
         ensures queued { IsSome result ↔ ((0 < number) × (number ≤ reads.queued entity.now self.now.entries)) }
     {
         if number == 0 || number > self.queued(entity) {
@@ -213,6 +221,7 @@ impl QueueStore {
         requires charter { charter.now ≡ self.old.script }
         requires left { reads.queued_in_all self.old.entries < length (sends self.old.script self.old.producer) }
         ensures next { slice_get (sends self.old.script self.old.producer) (reads.queued_in_all self.old.entries) ≡ Some result }
+        ensures number { result.number ≡ reads.queued result.entity self.old.entries + 1 }
         ensures entries { self.new.entries ≡ self.old.entries ++ fact.Queued self.old.producer result.entity result.number result.command ∷ [] }
         ensures script { self.new.script ≡ self.old.script }
         ensures producer { self.new.producer ≡ self.old.producer }
@@ -220,9 +229,11 @@ impl QueueStore {
     {
         sending_law();
         let sending = charter.sends(self.producer)[self.total as usize];
-        let number = count_of(&self.queued, &sending.entity) + 1;
-        put(&mut self.queued, &sending.entity, number);
-        push(&mut self.entries, QueueEntry::Queued(sending.entity, sending.number, sending.command));
+        put(&mut self.queued, &sending.entity, sending.number);
+        push(
+            &mut self.entries,
+            QueueEntry::Queued(sending.entity, sending.number, sending.command),
+        );
         self.free -= 1;
         self.total += 1;
         sending

@@ -6,8 +6,8 @@ use crate::QueueStore;
 use std::alloc::{AllocError, Global};
 use std::test::Fail;
 use yard_model::{
-    Cause, Charter, Command, Config, EntityName, Incarnation, Kind, Line, NodeNo, Order, ProducerNo, QueueEntry,
-    Sending,
+    Cause, Charter, Command, Config, EntityName, Incarnation, Kind, Line, NodeNo, Order,
+    ProducerNo, QueueEntry, Sending,
 };
 
 const SETTINGS: Config = Config {
@@ -80,7 +80,11 @@ fn confirm(store: &mut QueueStore, entity: &EntityName, number: u32) -> bool
     ensures script { store.new.script ≡ store.old.script }
     ensures producer { store.new.producer ≡ store.old.producer }
 {
-    if store.spare() > 0 && store.is_leased() && number <= store.queued(entity) && store.confirmed(entity) < number {
+    if store.spare() > 0
+        && store.is_leased()
+        && number <= store.queued(entity)
+        && store.confirmed(entity) < number
+    {
         store.confirm(entity, number);
         true
     } else {

@@ -1,10 +1,8 @@
-use Rattle.std.proofs.Common.{◌≡◌, ◌<◌, ◌≤◌, ◌+◌, ℕ, List, ap, sym, ◌∙◌, arith, true, false}
-use Rattle.std.specs.Prelude.{map, length, slice_get, Some}
+use Rattle.std.proofs.Common.{◌≡◌, ◌≤◌, List, ap, ◌∙◌, arith, true}
+use Rattle.std.specs.Prelude.{map, length}
 use Rattle.yard_model.specs.declared.entry.QueueEntry.TheVariants as entry
-use Rattle.yard_model.specs.declared.incarnation.Slot.TheVariants as slot
 use Rattle.yard_model.specs.declared.fact.Fact.{Fact}
 use Rattle.yard_model.specs.Entry.{queue_fact}
-use Rattle.yard_model.specs.Genuine.{is_node}
 use Rattle.yard_model.specs.Lawful.{is_held}
 use Rattle.yard_model.specs.Script.{sends}
 use Rattle.yard_model.specs.SlotReads as reads

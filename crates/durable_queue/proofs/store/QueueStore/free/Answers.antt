@@ -1,13 +1,10 @@
-use Rattle.std.proofs.Common.{◌≡◌, ◌<◌, ◌+◌, ℕ, List, ap, sym, ◌∙◌, arith, true, false}
-use Rattle.std.specs.Prelude.{map, length, slice_get, Some}
+use Rattle.std.proofs.Common.{◌≡◌, List, ap, ◌∙◌, arith, true}
+use Rattle.std.specs.Prelude.{map}
 use Rattle.yard_model.specs.declared.entry.QueueEntry.TheVariants as entry
 use Rattle.yard_model.specs.declared.incarnation.Slot.TheVariants as slot
 use Rattle.yard_model.specs.declared.fact.Fact.{Fact}
 use Rattle.yard_model.specs.Entry.{queue_fact}
-use Rattle.yard_model.specs.Genuine.{is_node}
 use Rattle.yard_model.specs.Lawful.{is_held}
-use Rattle.yard_model.specs.Script.{sends}
-use Rattle.yard_model.specs.SlotReads as reads
 use Rattle.durable_queue.proofs.ListLaws.{list_freed, sums_freed}
 use Rattle.durable_queue.proofs.KeptLaws.{kept_more, queued_freed, confirmed_freed}
 use Rattle.durable_queue.proofs.store.QueueStore.free.Goals as goal

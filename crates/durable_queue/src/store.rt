@@ -7,7 +7,6 @@ ghost use Rattle.yard_model.specs.Genuine.{is_node, is_producer};
 ghost use Rattle.yard_model.specs.Lawful.{is_held, own};
 ghost use Rattle.yard_model.specs.Script.{sends, plan};
 ghost use Rattle.yard_model.specs.SlotReads as reads;
-ghost use Rattle.durable_queue.specs.Queue.{Queue};
 
 use crate::counts::{count_of, put, zeros_of};
 use crate::origin::Origin;

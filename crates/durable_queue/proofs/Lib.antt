@@ -1,0 +1,5 @@
+pub mod SendsLaws
+pub mod ListLaws
+pub mod KeptLaws
+pub mod FirstLaws
+pub mod NumberLaws

@@ -1,0 +1,10 @@
+use Rattle.std.proofs.Common.{◌≡◌, ℕ, List, take}
+use Rattle.yard_model.specs.Charter.{counted}
+use Rattle.durable_queue.specs.Kept.{HasCounts}
+use Rattle.durable_queue.proofs.counts.zeros_of.Given as goal
+
+abbrev pub invariant-loop-sending : goal.invariant-loop-sending
+invariant-loop-sending l = record {
+  there : HasCounts l.counts (take l.sending-index l.sends);
+  zero : (e : List ℕ) → counted l.counts e ≡ 0;
+}

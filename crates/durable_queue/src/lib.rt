@@ -1,0 +1,13 @@
+//! The durable queue of one producer (Akka 2.6, Cluster Sharding: reliable delivery with a durable
+//! queue): what the producer has sent, and how far it is confirmed.
+#![tactic(auto)]
+
+mod counts;
+mod origin;
+mod plans;
+mod store;
+
+pub use store::QueueStore;
+
+#[cfg(test)]
+mod tests;

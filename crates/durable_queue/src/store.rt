@@ -1,0 +1,268 @@
+//! The store of a producer's queue.
+ghost use Rattle.std.specs.Prelude.{◌≡◌, ℕ, ◌+◌, ◌-◌, ◌<◌, ◌≤◌, ◌↔◌, true, false, [], ◌∷◌, ◌++◌, length, map, slice_get, Some, None, IfOk, OnOk, OnErr, IsSome, IfSome, vec_len, vec_capacity};
+ghost use Rattle.yard_model.specs.declared.fact.Fact.TheVariants as fact;
+ghost use Rattle.yard_model.specs.declared.incarnation.Slot.TheVariants as slot;
+ghost use Rattle.yard_model.specs.Entry.{queue_fact};
+ghost use Rattle.yard_model.specs.Genuine.{is_node, is_producer};
+ghost use Rattle.yard_model.specs.Lawful.{is_held, own};
+ghost use Rattle.yard_model.specs.Script.{sends, plan};
+ghost use Rattle.yard_model.specs.SlotReads as reads;
+
+use crate::counts::{count_of, put, zeros_of};
+use crate::origin::Origin;
+use crate::plans::{command_at, plans_of};
+use std::alloc::{AllocError, Global};
+use std::collections::BTreeMap;
+use std::marker::{Model, PhantomData};
+use yard_model::laws::sending_law;
+use yard_model::{
+    Cause, Charter, Command, EntityName, Incarnation, ProducerNo, QueueEntry, Sending,
+};
+
+/// Fewer entries than these, so that each count and each epoch is a `u32`.
+const ENTRIES: usize = 1 << 32;
+
+/// What one producer has sent and how far it is confirmed, entry by entry (Akka 2.6, Cluster
+/// Sharding: reliable delivery, the durable producer queue); seen as its list, with a spare: so
+/// many entries more are appended with no memory taken. The list is lawful, and each question is
+/// answered from what is kept beside it.
+#[derive(Drop)]
+pub struct QueueStore {
+    origin: Origin,
+    producer: ProducerNo,
+    entries: Vec<QueueEntry>,
+    plans: BTreeMap<EntityName, Vec<Command>>,
+    queued: BTreeMap<EntityName, u32>,
+    confirmed: BTreeMap<EntityName, u32>,
+    total: u32,
+    epoch: u32,
+    leased: bool,
+    free: usize,
+    holds: PhantomData<(Command, Cause, Incarnation)>,
+}
+
+impl Model for QueueStore {
+    ghost use Rattle.std.specs.Prelude.{map, vec_capacity};
+    ghost use Rattle.yard_model.specs.Entry.{queue_fact};
+    ghost use Rattle.durable_queue.specs.Queue.{Queue};
+    ghost use Rattle.durable_queue.specs.Kept.{IsKept};
+
+    ghost Value = { Queue };
+
+    ghost view = { λ q. record { script = q.origin.script; producer = q.producer; entries = map (queue_fact q.producer) q.entries.items; spare = q.free } };
+
+    ghost invariant = { λ q. IsKept q.origin.script q.producer q.entries.items q.plans q.queued q.confirmed q.total q.epoch q.leased q.free (vec_capacity q.entries) };
+}
+
+impl QueueStore {
+    /// The empty queue of a producer of this charter, with no spare. The only error is want of
+    /// memory.
+    pub fn new(
+        alloc: Global,
+        charter: &Charter,
+        producer: ProducerNo,
+    ) -> Result<QueueStore, AllocError>
+        requires producer { is_producer charter.now producer ≡ true }
+        ensures script { IfOk result (λ q. q.script ≡ charter.now) }
+        ensures producer { IfOk result (λ q. q.producer ≡ producer) }
+        ensures entries { IfOk result (λ q. q.entries ≡ []) }
+        ensures spare { IfOk result (λ q. q.spare ≡ 0) }
+    {
+        let sends = charter.sends(producer);
+        let plans = plans_of(alloc, sends)?;
+        let queued = zeros_of(alloc, sends)?;
+        let confirmed = zeros_of(alloc, sends)?;
+        Ok(QueueStore {
+            origin: Origin::of(charter),
+            producer,
+            entries: Vec::new(alloc),
+            plans,
+            queued,
+            confirmed,
+            total: 0,
+            epoch: 0,
+            leased: false,
+            free: 0,
+            holds: PhantomData,
+        })
+    }
+
+    /// How many entries there are.
+    pub fn len(&self) -> u32
+        ensures { result ≡ length self.now.entries }
+    {
+        self.entries.len() as u32
+    }
+
+    /// The entries, oldest first.
+    pub fn entries(&self) -> &[QueueEntry]
+        ensures value { map (queue_fact self.now.producer) result.now ≡ self.now.entries }
+        ensures lawful { own self.now.script (slot.Queue self.now.producer) self.now.entries ≡ true }
+        ensures producer { is_producer self.now.script self.now.producer ≡ true }
+    {
+        self.entries.as_slice()
+    }
+
+    /// How many entries more take no memory.
+    pub fn spare(&self) -> u32
+        ensures { result ≡ self.now.spare }
+    {
+        self.free as u32
+    }
+
+    /// The epoch of the last grant; 0 before.
+    pub fn epoch(&self) -> u32
+        ensures { result ≡ reads.epoch self.now.entries }
+    {
+        self.epoch
+    }
+
+    /// Whether the last grant stands: no entry freed it.
+    pub fn is_leased(&self) -> bool
+        ensures { result ≡ is_held self.now.entries }
+    {
+        self.leased
+    }
+
+    /// How many commands are queued in all.
+    pub fn total(&self) -> u32
+        ensures { result ≡ reads.queued_in_all self.now.entries }
+    {
+        self.total
+    }
+
+    /// How many commands to this entity are queued.
+    pub fn queued(&self, entity: &EntityName) -> u32
+        ensures { result ≡ reads.queued entity.now self.now.entries }
+    {
+        count_of(&self.queued, entity)
+    }
+
+    /// The last confirmed number to this entity; 0 before.
+    pub fn confirmed(&self, entity: &EntityName) -> u32
+        ensures { result ≡ reads.confirmed entity.now self.now.entries }
+    {
+        count_of(&self.confirmed, entity)
+    }
+
+    /// The command of this number to this entity; None exactly where none of that number is queued.
+    pub fn command(&self, entity: &EntityName, number: u32) -> Option<Command>
+        ensures first { number ≡ 0 → result ≡ None }
+        ensures value { 0 < number → result ≡ slice_get (reads.commands entity.now self.now.entries) (number - 1) }
+        ensures planned { IfSome result (λ k. slice_get (plan self.now.script self.now.producer entity.now) (number - 1) ≡ Some k) }
+        ensures queued { IsSome result ↔ ((0 < number) × (number ≤ reads.queued entity.now self.now.entries)) }
+    {
+        if number == 0 || number > self.queued(entity) {
+            return None;
+        }
+        command_at(&self.plans, entity, number as usize - 1)
+    }
+
+    /// Makes the spare at least `n`. The only error is want of memory, which comes too where the
+    /// entries and the spare would be 2^32 or more; then nothing changes.
+    pub fn reserve(&mut self, n: u32) -> Result<(), AllocError>
+        ensures script { self.new.script ≡ self.old.script }
+        ensures producer { self.new.producer ≡ self.old.producer }
+        ensures entries { self.new.entries ≡ self.old.entries }
+        ensures spare { self.old.spare ≤ self.new.spare }
+        ensures ok { OnOk result (n ≤ self.new.spare) }
+        ensures err { OnErr result (self.new ≡ self.old) }
+    {
+        let wanted = n as usize;
+        if wanted > self.free {
+            if self.entries.len() + wanted >= ENTRIES {
+                return Err(AllocError);
+            }
+            self.entries.reserve(wanted)?;
+            self.free = wanted;
+        }
+        Ok(())
+    }
+
+    /// A grant to this incarnation, in a new epoch, which it answers.
+    pub fn grant(&mut self, who: Incarnation) -> u32
+        requires spare { 0 < self.old.spare }
+        requires free { is_held self.old.entries ≡ false }
+        requires node { is_node self.old.script who ≡ true }
+        ensures epoch { result ≡ reads.epoch self.old.entries + 1 }
+        ensures entries { self.new.entries ≡ self.old.entries ++ fact.Granted (slot.Queue self.old.producer) result who ∷ [] }
+        ensures script { self.new.script ≡ self.old.script }
+        ensures producer { self.new.producer ≡ self.old.producer }
+        ensures spare { self.new.spare + 1 ≡ self.old.spare }
+    {
+        let epoch = self.epoch + 1;
+        push(&mut self.entries, QueueEntry::Granted(epoch, who));
+        self.free -= 1;
+        self.epoch = epoch;
+        self.leased = true;
+        epoch
+    }
+
+    /// The end of the last grant.
+    pub fn free(&mut self, cause: Cause)
+        requires spare { 0 < self.old.spare }
+        requires leased { is_held self.old.entries ≡ true }
+        ensures entries { self.new.entries ≡ self.old.entries ++ fact.Freed (slot.Queue self.old.producer) (reads.epoch self.old.entries) cause ∷ [] }
+        ensures script { self.new.script ≡ self.old.script }
+        ensures producer { self.new.producer ≡ self.old.producer }
+        ensures spare { self.new.spare + 1 ≡ self.old.spare }
+    {
+        push(&mut self.entries, QueueEntry::Freed(self.epoch, cause));
+        self.free -= 1;
+        self.leased = false;
+    }
+
+    /// Queues the next send of the producer, in script order, and answers it. The charter is the
+    /// one that the store was made for.
+    pub fn queue(&mut self, charter: &Charter) -> Sending
+        requires spare { 0 < self.old.spare }
+        requires leased { is_held self.old.entries ≡ true }
+        requires charter { charter.now ≡ self.old.script }
+        requires left { reads.queued_in_all self.old.entries < length (sends self.old.script self.old.producer) }
+        ensures next { slice_get (sends self.old.script self.old.producer) (reads.queued_in_all self.old.entries) ≡ Some result }
+        ensures number { result.number ≡ reads.queued result.entity self.old.entries + 1 }
+        ensures entries { self.new.entries ≡ self.old.entries ++ fact.Queued self.old.producer result.entity result.number result.command ∷ [] }
+        ensures script { self.new.script ≡ self.old.script }
+        ensures producer { self.new.producer ≡ self.old.producer }
+        ensures spare { self.new.spare + 1 ≡ self.old.spare }
+    {
+        sending_law();
+        let sending = charter.sends(self.producer)[self.total as usize];
+        put(&mut self.queued, &sending.entity, sending.number);
+        push(
+            &mut self.entries,
+            QueueEntry::Queued(sending.entity, sending.number, sending.command),
+        );
+        self.free -= 1;
+        self.total += 1;
+        sending
+    }
+
+    /// All numbers to this entity up to this one are recorded.
+    pub fn confirm(&mut self, entity: &EntityName, number: u32)
+        requires spare { 0 < self.old.spare }
+        requires leased { is_held self.old.entries ≡ true }
+        requires queued { number ≤ reads.queued entity.now self.old.entries }
+        requires above { reads.confirmed entity.now self.old.entries < number }
+        ensures entries { self.new.entries ≡ self.old.entries ++ fact.Confirmed self.old.producer entity.now number ∷ [] }
+        ensures script { self.new.script ≡ self.old.script }
+        ensures producer { self.new.producer ≡ self.old.producer }
+        ensures spare { self.new.spare + 1 ≡ self.old.spare }
+    {
+        put(&mut self.confirmed, entity, number);
+        push(&mut self.entries, QueueEntry::Confirmed(*entity, number));
+        self.free -= 1;
+    }
+}
+
+/// One entry more, for which there is room.
+fn push(entries: &mut Vec<QueueEntry>, entry: QueueEntry)
+    requires { vec_len entries.old < vec_capacity entries.old }
+    ensures items { entries.new.items ≡ entries.old.items ++ entry ∷ [] }
+    ensures capacity { vec_capacity entries.old ≤ vec_capacity entries.new }
+{
+    match entries.push(entry) {
+        Ok(()) => {}
+        Err(_) => unreachable!(),
+    }
+}

@@ -1,11 +1,11 @@
 -- Homes and loads after a change.
-use Rattle.std.proofs.Common.{◌≡◌, ◌≢◌, ◌<◌, ◌≤◌, ℕ, suc, ◌+◌, sym, subst, ap, ◌∙◌, refl, arith, length, length-append}
-use Rattle.std.specs.Prelude.{Bool, true, false, ◌==◌, ◌&&◌, ◌||◌, not, List, [], ◌∷◌, ◌++◌, map, filter, take, drop, replicate, Option, Some, None, slice_index_or, slice_set, if◌then◌else◌, cond, count_by}
-use Rattle.std.specs.List.{All, AllPairs, list_any}
+use Rattle.std.proofs.Common.{◌≡◌, ◌≢◌, ◌<◌, ℕ, suc, ◌+◌, sym, subst, ap, ◌∙◌, refl, arith, length, length-append}
+use Rattle.std.specs.Prelude.{Bool, true, false, ◌==◌, ◌||◌, not, List, [], ◌∷◌, ◌++◌, map, filter, take, drop, Option, Some, None, slice_index_or, slice_set, if◌then◌else◌, cond}
+use Rattle.std.specs.List.{All, AllPairs}
 use Rattle.std.specs.Option.{ForSome}
 use Rattle.std.proofs.Math.ListN.{get_or-map}
-use Rattle.std.proofs.lemmas.List.{length-map, length-set, length-replicate, length-drop, drop-drop, take_more, take_more_set, drop-set-lt, get_or-set_same, get_or-set_other, get_or-replicate, map-append}
-use Rattle.std.proofs.lemmas.List.Elements.{All-append, All-filter, All-nil, filter_passes}
+use Rattle.std.proofs.lemmas.List.{length-map, length-set, length-drop, drop-drop, take_more, take_more_set, drop-set-lt, get_or-set_same, get_or-set_other, map-append}
+use Rattle.std.proofs.lemmas.List.Elements.{All-append, All-filter, filter_passes}
 use Rattle.std.proofs.lemmas.List.Kept.{AllPairs-filter}
 use Rattle.std.proofs.lemmas.List.Sums.{length-filter, count_by-le-length}
 use Rattle.std.proofs.lemmas.List.Quantifiers.{all_pairs_push}
@@ -16,7 +16,7 @@ use Rattle.yard_model.specs.ShardSet.{has}
 use Rattle.yard_model.specs.Words.{is_same, is_at, is_among, without, at}
 use Rattle.coordinator_state.specs.Coord.{AreApart}
 use Rattle.coordinator_state.specs.Homes.{regions_of, home_without, is_of_other, HasHomes, AreDifferent, AreRegistered, AreHomes}
-use Rattle.coordinator_state.proofs.Same.{true_is_not_false, not_so, same_is, same_itself, same_turned, some_is, at_none, among_more, among_without}
+use Rattle.coordinator_state.proofs.Same.{true_is_not_false, not_so, same_is, same_turned, some_is, at_none, among_more, among_without}
 
 -- One load.
 
@@ -96,8 +96,8 @@ terminated_homes homes loads r k = record {
   size = length-map homes (home_without r) ∙ k.size;
   each = λ i d h. other_load r homes (slice_index_or (filter (is_of_other r) loads) i d) (All-filter (is_of_other r) (HasHomes homes) loads k.each i d h) (filter_passes (is_of_other r) loads i d h);
   registered = λ s x e.
-    let p : (at homes s ≡ Some x) × (is_same r x ≡ false) = stays r x (at homes s) (sym (home_at r homes s) ∙ e) in
-    ap (is_among x) (regions_without r loads) ∙ among_without x r (regions_of loads) p.1 (k.registered s x p.0);
+      let p : (at homes s ≡ Some x) × (is_same r x ≡ false) = stays r x (at homes s) (sym (home_at r homes s) ∙ e) in
+      ap (is_among x) (regions_without r loads) ∙ among_without x r (regions_of loads) p.1 (k.registered s x p.0);
   different = subst AreDifferent (sym (regions_without r loads)) (AllPairs-filter (λ x y. is_same x y ≡ false) (λ y. not (is_same r y)) (regions_of loads) k.different);
   few = omega (arith, k.few, length-filter (is_of_other r) loads, count_by-le-length (is_of_other r) loads);
 }
@@ -173,10 +173,10 @@ one_cleared f old now i x y within is step front back =
     let inside : i < length old = omega (arith, length-drop i now, length-drop i old, ap length back) in
     let here : slice_index_or old i x ≡ x = sym (get_or_rest old i x) ∙ (sym (ap (λ l. slice_index_or l 0 x) back) ∙ (get_or_rest now i x ∙ sym is)) in (
       take_more_set now i y within
-      ∙ (ap (λ l. l ++ y ∷ []) front
-      ∙ (ap (λ z. map f (take i old) ++ z ∷ []) (step ∙ ap f (sym here))
-      ∙ (sym (map-append f (take i old) (slice_index_or old i x ∷ []))
-      ∙ sym (ap (map f) (take_more old i x inside))))),
+          ∙ (ap (λ l. l ++ y ∷ []) front
+          ∙ (ap (λ z. map f (take i old) ++ z ∷ []) (step ∙ ap f (sym here))
+          ∙ (sym (map-append f (take i old) (slice_index_or old i x ∷ []))
+          ∙ sym (ap (map f) (take_more old i x inside))))),
       drop-set-lt (i + 1) now i y (omega arith) ∙ (sym (drop-drop 1 i now) ∙ (ap (drop 1) back ∙ drop-drop 1 i old)),
     )
 

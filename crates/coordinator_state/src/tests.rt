@@ -7,9 +7,7 @@ ghost use Rattle.yard_model.specs.Genuine.{is_node};
 use crate::CoordStore;
 use std::alloc::{AllocError, Global};
 use std::test::Fail;
-use yard_model::{
-    Cause, Charter, Config, CoordEntry, Incarnation, Kind, NodeNo, ShardNo,
-};
+use yard_model::{Cause, Charter, Config, CoordEntry, Incarnation, Kind, NodeNo, ShardNo};
 
 const SETTINGS: Config = Config {
     nodes: 3,

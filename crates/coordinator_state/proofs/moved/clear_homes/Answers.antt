@@ -17,7 +17,7 @@ loop-home-preserved c =
     let within : i < length now = subst (λ n. i < n) (sym c.loop-home.auto.homes) c.loop-home-test.true in
     elim c.if-is_home.branch [
       | then-is_home w ↦ subst (λ (l : List (Option Incarnation)). (take (i + 1) l ≡ map (home_without r) (take (i + 1) old)) × (drop (i + 1) l ≡ drop (i + 1) old)) (sym w.homes-is)
-        (one_cleared (home_without r) old now i x None within c.home-item.is (taken r x (ap (is_at r) c.home-item.is ∙ (sym c.is_home.ensures ∙ w.if-is_home.true))) c.loop-home.invariant.0 c.loop-home.invariant.1)
+          (one_cleared (home_without r) old now i x None within c.home-item.is (taken r x (ap (is_at r) c.home-item.is ∙ (sym c.is_home.ensures ∙ w.if-is_home.true))) c.loop-home.invariant.0 c.loop-home.invariant.1)
       | else-is_home w ↦ subst (λ (l : List (Option Incarnation)). (take (i + 1) l ≡ map (home_without r) (take (i + 1) old)) × (drop (i + 1) l ≡ drop (i + 1) old)) (sym w.homes-is)
-        (one_cleared (home_without r) old now i x (slice_index_or now i x) within c.home-item.is (sym c.home-item.is ∙ left r x (ap (is_at r) c.home-item.is ∙ (sym c.is_home.ensures ∙ w.if-is_home.false))) c.loop-home.invariant.0 c.loop-home.invariant.1)
+          (one_cleared (home_without r) old now i x (slice_index_or now i x) within c.home-item.is (sym c.home-item.is ∙ left r x (ap (is_at r) c.home-item.is ∙ (sym c.is_home.ensures ∙ w.if-is_home.false))) c.loop-home.invariant.0 c.loop-home.invariant.1)
     ]

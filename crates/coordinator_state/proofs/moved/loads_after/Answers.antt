@@ -1,4 +1,4 @@
-use Rattle.std.proofs.Common.{◌≡◌, ◌<◌, ◌+◌, List, [], ◌∷◌, ◌++◌, sym, subst, ◌∙◌, ap, refl, arith, length, length-append}
+use Rattle.std.proofs.Common.{◌≡◌, ◌<◌, List, [], ◌∷◌, ◌++◌, sym, subst, ◌∙◌, ap, refl, arith, length, length-append}
 use Rattle.std.specs.Prelude.{slice_set, slice_index_or}
 use Rattle.std.specs.List.{All}
 use Rattle.yard_model.specs.declared.load.Load.{Load}
@@ -20,6 +20,6 @@ loop-load-preserved c =
       ap regions_of made ∙ regions_more items after i x m inside c.load-item.is refl inv.0,
       omega (arith, ap length made, length-append after (m ∷ []), inv.1),
       λ homes within each. subst (λ (l : List Load). All (HasHomes (slice_set homes c.args.s c.args.home.now)) l) (sym made)
-      (one_moved c.args.loads.now after i c.args.s c.args.home.now x m (subst (λ (l : List Load). i < length l) same inside) (c.load-item.is ∙ ap (λ (l : List Load). slice_index_or l i x) same) refl
-      c.shards_after.ensures.it c.shards_after.ensures.others homes within each (inv.2 homes within each)),
+          (one_moved c.args.loads.now after i c.args.s c.args.home.now x m (subst (λ (l : List Load). i < length l) same inside) (c.load-item.is ∙ ap (λ (l : List Load). slice_index_or l i x) same) refl
+          c.shards_after.ensures.it c.shards_after.ensures.others homes within each (inv.2 homes within each)),
     )

@@ -1,4 +1,4 @@
-use Rattle.std.proofs.Common.{◌≡◌, ◌<◌, ◌≤◌, take, length, map}
+use Rattle.std.proofs.Common.{◌≡◌, ◌<◌, ◌≤◌, take, length}
 use Rattle.std.specs.Prelude.{List, Option, slice_set}
 use Rattle.std.specs.List.{All}
 use Rattle.yard_model.specs.declared.incarnation.Incarnation.{Incarnation}

@@ -1,7 +1,6 @@
-use Rattle.std.proofs.Common.{◌≡◌, ◌<◌, ◌∙◌, sym, subst, true, ap, length, ℕ, List}
-use Rattle.std.specs.Prelude.{Option, slice_set}
+use Rattle.std.proofs.Common.{◌≡◌, ◌<◌, sym, subst, true, length, ℕ}
+use Rattle.std.specs.Prelude.{slice_set}
 use Rattle.std.specs.Option.{ForSome}
-use Rattle.yard_model.specs.declared.incarnation.Incarnation.{Incarnation}
 use Rattle.yard_model.specs.Words.{is_among}
 use Rattle.coordinator_state.specs.Homes.{AreHomes}
 use Rattle.coordinator_state.proofs.HomesLaws.{placed_homes}

@@ -1,4 +1,4 @@
-use Rattle.std.proofs.Common.{◌≡◌, ◌<◌, List, sym, subst, ◌∙◌, ap, length}
+use Rattle.std.proofs.Common.{◌<◌, List, sym, subst, ◌∙◌, ap, length}
 use Rattle.yard_model.specs.declared.load.Load.{Load}
 use Rattle.yard_model.specs.Words.{is_among}
 use Rattle.coordinator_state.specs.Homes.{AreHomes}

@@ -1,4 +1,4 @@
-use Rattle.std.proofs.Common.{◌≡◌, ◌<◌, ◌++◌, List, sym, subst, ◌∙◌, ap, length, map, take, drop, rules, arith}
+use Rattle.std.proofs.Common.{◌≡◌, ◌++◌, List, sym, subst, ◌∙◌, ap, length, map, take, drop, arith}
 use Rattle.std.specs.Prelude.{Option}
 use Rattle.std.proofs.lemmas.Grind.{common_steps}
 use Rattle.yard_model.specs.declared.incarnation.Incarnation.{Incarnation}

@@ -1,12 +1,10 @@
-use Rattle.std.proofs.Common.{◌≡◌, ◌+◌, List, sym, subst, ◌∙◌, ap, length, map}
-use Rattle.std.specs.Prelude.{true, false, Some, None, is_some, is_none, ◌<◌}
+use Rattle.std.proofs.Common.{◌+◌, List, sym, subst, ◌∙◌, ap, map}
+use Rattle.std.specs.Prelude.{true}
 use Rattle.yard_model.specs.declared.fact.Fact.{Fact}
 use Rattle.yard_model.specs.declared.entry.CoordEntry.TheVariants as coord
-use Rattle.yard_model.specs.Words.{is_among, at}
 use Rattle.yard_model.specs.Entry.{coord_fact}
-use Rattle.yard_model.specs.Genuine.{is_node, is_shard}
+use Rattle.yard_model.specs.Genuine.{is_node}
 use Rattle.yard_model.specs.Lawful.{is_held}
-use Rattle.yard_model.specs.SlotReads.{regions, allocation}
 use Rattle.coordinator_state.specs.Kept.{IsKept}
 use Rattle.coordinator_state.proofs.KeptLaws.{facts_more, granted_kept}
 use Rattle.coordinator_state.proofs.store.CoordStore.grant.Goals as goal

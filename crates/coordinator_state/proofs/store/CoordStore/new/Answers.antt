@@ -1,5 +1,5 @@
-use Rattle.std.proofs.Common.{◌≡◌, List, sym, subst, ◌∙◌, ap, map, None}
-use Rattle.std.specs.Prelude.{false, [], replicate}
+use Rattle.std.proofs.Common.{List, sym, subst, ◌∙◌, ap, map, None}
+use Rattle.std.specs.Prelude.{false}
 use Rattle.std.proofs.lemmas.List.{get_or-replicate}
 use Rattle.yard_model.specs.declared.fact.Fact.{Fact}
 use Rattle.yard_model.specs.Entry.{coord_fact}

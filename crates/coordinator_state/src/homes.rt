@@ -1,5 +1,5 @@
 //! Which regions are registered, with the shards of each, and the home of each shard.
-ghost use Rattle.std.specs.Prelude.{◌≡◌, ℕ, ◌<◌, false, true, [], ◌∷◌, ◌++◌, length, map, replicate, None, IfOk, slice_set};
+ghost use Rattle.std.specs.Prelude.{◌≡◌, ℕ, ◌<◌, false, true, [], ◌∷◌, ◌++◌, length, map, replicate, None, IfOk, IfSome, slice_set};
 ghost use Rattle.std.specs.List.{All, AllPairs};
 ghost use Rattle.std.specs.Option.{ForSome};
 ghost use Rattle.yard_model.specs.Words.{is_among, without, at};
@@ -81,7 +81,8 @@ impl Homes {
     }
 
     pub(crate) fn home(&self, s: ShardNo) -> Option<Incarnation>
-        ensures { result ≡ at self.now.homes s }
+        ensures value { result ≡ at self.now.homes s }
+        ensures registered { IfSome result (λ r. is_among r self.now.regions ≡ true) }
     {
         self.homes[s.get() as usize]
     }

@@ -1,5 +1,5 @@
 //! The store of the coordinator's slot.
-ghost use Rattle.std.specs.Prelude.{◌≡◌, ℕ, ◌+◌, ◌<◌, ◌≤◌, ◌^◌, false, true, [], ◌∷◌, ◌++◌, length, map, is_none, is_some, IsTrue, IfOk, OnOk, OnErr};
+ghost use Rattle.std.specs.Prelude.{◌≡◌, ℕ, ◌+◌, ◌<◌, ◌≤◌, ◌^◌, false, true, [], ◌∷◌, ◌++◌, length, map, is_none, is_some, IsTrue, IfOk, IfSome, OnOk, OnErr};
 ghost use Rattle.std.specs.List.{All, AllPairs};
 ghost use Rattle.yard_model.specs.declared.fact.Fact.TheVariants as fact;
 ghost use Rattle.yard_model.specs.declared.incarnation.Slot.TheVariants as slot;
@@ -167,9 +167,10 @@ impl CoordStore {
         self.leased = false;
     }
 
-    /// The home of a shard; None exactly where it has none.
+    /// The home of a shard, a registered region; None exactly where it has none.
     pub fn home(&self, s: ShardNo) -> Option<Incarnation>
-        ensures { result ≡ allocation s self.now.entries }
+        ensures value { result ≡ allocation s self.now.entries }
+        ensures registered { IfSome result (λ r. is_among r (regions self.now.entries) ≡ true) }
     {
         self.homes.home(s)
     }

@@ -1,11 +1,8 @@
 //! What no clause says: that memory is there where there is plenty, and that a store may go to
 //! another thread.
-ghost use Rattle.std.specs.Prelude.{◌≡◌, true, IfSome};
-ghost use Rattle.yard_model.specs.declared.incarnation.Incarnation.{Incarnation};
-ghost use Rattle.yard_model.specs.Genuine.{is_node};
+ghost use Rattle.std.specs.Prelude.{◌≡◌};
 
 use crate::CoordStore;
-use std::alloc::{AllocError, Global};
 use std::test::Fail;
 use yard_model::{Cause, Charter, Config, CoordEntry, Incarnation, Kind, NodeNo, ShardNo};
 

@@ -1,0 +1,3 @@
+pub mod Coord
+pub mod Homes
+pub mod Kept

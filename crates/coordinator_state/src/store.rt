@@ -1,0 +1,225 @@
+//! The store of the coordinator's slot.
+ghost use Rattle.std.specs.Prelude.{◌≡◌, ℕ, ◌+◌, ◌<◌, ◌≤◌, ◌^◌, false, true, [], ◌∷◌, ◌++◌, length, map, is_none, is_some, IsTrue, IfOk, IfSome, OnOk, OnErr};
+ghost use Rattle.std.specs.List.{All, AllPairs};
+ghost use Rattle.yard_model.specs.declared.fact.Fact.TheVariants as fact;
+ghost use Rattle.yard_model.specs.declared.incarnation.Slot.TheVariants as slot;
+ghost use Rattle.yard_model.specs.Words.{is_among};
+ghost use Rattle.yard_model.specs.Entry.{coord_fact};
+ghost use Rattle.yard_model.specs.Genuine.{is_node, is_shard};
+ghost use Rattle.yard_model.specs.Lawful.{own, is_held};
+ghost use Rattle.yard_model.specs.SlotReads as reads;
+ghost use Rattle.yard_model.specs.SlotReads.{regions, allocation};
+ghost use Rattle.coordinator_state.specs.Coord.{IsLoadOf, AreApart};
+ghost use Rattle.coordinator_state.specs.Homes.{regions_of};
+
+use crate::entries::Entries;
+use crate::homes::Homes;
+use crate::made::Made;
+use std::alloc::{AllocError, Global};
+use std::marker::Model;
+use yard_model::{Cause, Charter, CoordEntry, Incarnation, Loads, ShardNo};
+
+/// The list of the coordinator's slot, made for one charter: lawful by itself, as the type keeps,
+/// with a spare of entries that are appended with no memory taken. Seen as the charter's script,
+/// the entries as the facts that they are, and the spare. What is read off the list is at hand.
+#[derive(Drop)]
+pub struct CoordStore {
+    made: Made,
+    entries: Entries,
+    homes: Homes,
+    epoch: u32,
+    leased: bool,
+}
+
+impl Model for CoordStore {
+    ghost use Rattle.std.specs.Prelude.{map};
+    ghost use Rattle.yard_model.specs.Entry.{coord_fact};
+    ghost use Rattle.coordinator_state.specs.Coord.{Coord};
+    ghost use Rattle.coordinator_state.specs.Kept.{IsKept};
+
+    ghost Value = { Coord };
+
+    ghost view = { λ c. record { script = c.made.script; entries = map coord_fact c.entries.items; spare = c.entries.spare } };
+
+    ghost invariant = { λ c. IsKept c.made.script (map coord_fact c.entries.items) c.homes c.epoch c.leased };
+}
+
+impl CoordStore {
+    /// A store of this charter, with no entries and no spare. The only error is want of memory.
+    pub fn new(alloc: Global, charter: &Charter) -> Result<CoordStore, AllocError>
+        ensures script { IfOk result (λ c. c.script ≡ charter.now) }
+        ensures entries { IfOk result (λ c. c.entries ≡ []) }
+        ensures spare { IfOk result (λ c. c.spare ≡ 0) }
+    {
+        let homes = Homes::new(alloc)?;
+        let made = Made::of(charter);
+        Ok(CoordStore {
+            made,
+            entries: Entries::new(alloc),
+            homes,
+            epoch: 0,
+            leased: false,
+        })
+    }
+
+    /// Makes the spare at least `n`. The only error is want of memory, which is answered too where
+    /// entries and spare would come to 2^32; then nothing changes.
+    pub fn reserve(&mut self, n: u32) -> Result<(), AllocError>
+        ensures script { self.new.script ≡ self.old.script }
+        ensures entries { self.new.entries ≡ self.old.entries }
+        ensures ok { OnOk result (n ≤ self.new.spare) }
+        ensures spare { self.old.spare ≤ self.new.spare }
+        ensures err { OnErr result (self.new ≡ self.old) }
+    {
+        self.entries.reserve(n)
+    }
+
+    /// A region is registered: one that isn't, while there are fewer than 16.
+    pub fn registered(&mut self, r: Incarnation)
+        requires spare { 0 < self.old.spare }
+        requires leased { is_held self.old.entries ≡ true }
+        requires node { is_node self.old.script r ≡ true }
+        requires fresh { is_among r (regions self.old.entries) ≡ false }
+        requires room { length (regions self.old.entries) < 16 }
+        ensures script { self.new.script ≡ self.old.script }
+        ensures entries { self.new.entries ≡ self.old.entries ++ fact.Registered r ∷ [] }
+        ensures spare { self.new.spare + 1 ≡ self.old.spare }
+    {
+        let r = &r;
+        self.entries.push(CoordEntry::Registered(*r));
+        self.homes.register(*r);
+    }
+
+    /// A registered region is lost, and with it the homes there.
+    pub fn terminated(&mut self, r: Incarnation)
+        requires spare { 0 < self.old.spare }
+        requires leased { is_held self.old.entries ≡ true }
+        requires registered { is_among r (regions self.old.entries) ≡ true }
+        ensures script { self.new.script ≡ self.old.script }
+        ensures entries { self.new.entries ≡ self.old.entries ++ fact.Terminated r ∷ [] }
+        ensures spare { self.new.spare + 1 ≡ self.old.spare }
+    {
+        let r = &r;
+        self.entries.push(CoordEntry::Terminated(*r));
+        self.homes.terminate(r);
+    }
+
+    /// A shard that has no home gets one, a registered region.
+    pub fn allocated(&mut self, s: ShardNo, r: Incarnation)
+        requires spare { 0 < self.old.spare }
+        requires leased { is_held self.old.entries ≡ true }
+        requires shard { is_shard self.old.script s ≡ true }
+        requires registered { is_among r (regions self.old.entries) ≡ true }
+        requires homeless { is_none (allocation s self.old.entries) ≡ true }
+        ensures script { self.new.script ≡ self.old.script }
+        ensures entries { self.new.entries ≡ self.old.entries ++ fact.Allocated s r ∷ [] }
+        ensures spare { self.new.spare + 1 ≡ self.old.spare }
+    {
+        let r = &r;
+        let s = &s;
+        self.entries.push(CoordEntry::Allocated(*s, *r));
+        self.homes.place(*s, Some(*r));
+    }
+
+    /// A shard that has a home has none any more.
+    pub fn deallocated(&mut self, s: ShardNo)
+        requires spare { 0 < self.old.spare }
+        requires leased { is_held self.old.entries ≡ true }
+        requires shard { is_shard self.old.script s ≡ true }
+        requires home { is_some (allocation s self.old.entries) ≡ true }
+        ensures script { self.new.script ≡ self.old.script }
+        ensures entries { self.new.entries ≡ self.old.entries ++ fact.Deallocated s ∷ [] }
+        ensures spare { self.new.spare + 1 ≡ self.old.spare }
+    {
+        let s = &s;
+        self.entries.push(CoordEntry::Deallocated(*s));
+        self.homes.place(*s, None);
+    }
+
+    /// The slot is leased to this incarnation, of a node of the charter, in the next epoch; it
+    /// answers that epoch.
+    pub fn grant(&mut self, who: Incarnation) -> u32
+        requires spare { 0 < self.old.spare }
+        requires free { is_held self.old.entries ≡ false }
+        requires node { is_node self.old.script who ≡ true }
+        ensures epoch { result ≡ reads.epoch self.old.entries + 1 }
+        ensures script { self.new.script ≡ self.old.script }
+        ensures entries { self.new.entries ≡ self.old.entries ++ fact.Granted slot.Coordinator result who ∷ [] }
+        ensures spare { self.new.spare + 1 ≡ self.old.spare }
+    {
+        self.entries.as_slice();
+        let epoch = self.epoch + 1;
+        self.entries.push(CoordEntry::Granted(epoch, who));
+        self.epoch = epoch;
+        self.leased = true;
+        epoch
+    }
+
+    /// The lease ends, for this cause.
+    pub fn free(&mut self, cause: Cause)
+        requires spare { 0 < self.old.spare }
+        requires leased { is_held self.old.entries ≡ true }
+        ensures script { self.new.script ≡ self.old.script }
+        ensures entries { self.new.entries ≡ self.old.entries ++ fact.Freed slot.Coordinator (reads.epoch self.old.entries) cause ∷ [] }
+        ensures spare { self.new.spare + 1 ≡ self.old.spare }
+    {
+        self.entries.push(CoordEntry::Freed(self.epoch, cause));
+        self.leased = false;
+    }
+
+    /// The home of a shard, a registered region; None exactly where it has none.
+    pub fn home(&self, s: ShardNo) -> Option<Incarnation>
+        ensures value { result ≡ allocation s self.now.entries }
+        ensures registered { IfSome result (λ r. is_among r (regions self.now.entries) ≡ true) }
+    {
+        self.homes.home(s)
+    }
+
+    /// Whether this region is registered.
+    pub fn is_registered(&self, r: Incarnation) -> bool
+        ensures { result ≡ is_among r (regions self.now.entries) }
+    {
+        self.homes.has(&r)
+    }
+
+    /// The registered regions in order of registration, each with the shards that it is the home
+    /// of.
+    pub fn loads(&self) -> Loads
+        ensures regions { regions_of result ≡ regions self.now.entries }
+        ensures shards { All (IsLoadOf self.now.entries) result }
+        ensures apart { AllPairs AreApart result }
+    {
+        self.homes.loads()
+    }
+
+    /// The epoch of the last lease, 0 where there was none.
+    pub fn epoch(&self) -> u32
+        ensures { result ≡ reads.epoch self.now.entries }
+    {
+        self.epoch
+    }
+
+    /// How many more entries are appended with no memory taken.
+    pub fn spare(&self) -> u32
+        ensures value { result ≡ self.now.spare }
+        ensures fits { length self.now.entries + self.now.spare < 2 ^ 32 }
+    {
+        self.entries.as_slice();
+        self.entries.spare()
+    }
+
+    /// The entries, oldest first.
+    pub fn entries(&self) -> &[CoordEntry]
+        ensures facts { map coord_fact result.now ≡ self.now.entries }
+        ensures lawful { IsTrue (own self.now.script slot.Coordinator self.now.entries) }
+    {
+        self.entries.as_slice()
+    }
+
+    /// How many entries there are.
+    pub fn len(&self) -> u32
+        ensures { result ≡ length self.now.entries }
+    {
+        self.entries.len()
+    }
+}

@@ -30,6 +30,13 @@ impl Positions {
         Positions { counts: [0; 32] }
     }
 
+    /// These counts, with producer p at place p - 1.
+    pub fn new(counts: [u32; 32]) -> Positions
+        ensures { result ≡ counts }
+    {
+        Positions { counts }
+    }
+
     /// One record more of producer `p`.
     pub fn plus_one(self, p: ProducerNo) -> Positions
         requires { slice_index_or self (p - 1) 0 < 4000000000 }

@@ -1,0 +1,6 @@
+mod NamesLaws
+mod PositionsLaws
+mod FollowLaws
+mod DifferentLaws
+mod KeptLaws
+mod ShelfLaws

@@ -1,0 +1,248 @@
+-- A shard's store with one entry more.
+use Rattle.std.proofs.Common.{◌≡◌, ℕ, ◌+◌, ◌-◌, ◌<◌, ◌≤◌, List, length, sym, ap, subst, ◌∙◌, refl, true, false, arith, true≢false}
+use Rattle.std.specs.Prelude.{Bool, [], ◌∷◌, ◌++◌, ◌==◌, ◌&&◌, ◌||◌, not, nat_lt, cond, take, filter, max, slice_set, slice_index_or, replicate, ◌↔◌, IsTrue}
+use Rattle.std.specs.List.{list_any}
+use Rattle.std.specs.List.Sorted.{IsStrictlySortedBy}
+use Rattle.std.specs.Ordering.{nat_cmp}
+use Rattle.std.specs.Cmp.Lexicographic.{slice_cmp}
+use Rattle.std.proofs.lemmas.Bool.Decides.{nat_tests, Decides-eqb}
+use Rattle.std.proofs.lemmas.List.{take_all, get_or_default}
+use Rattle.std.proofs.Math.Nat.{max-le}
+use Rattle.yard_model.specs.declared.fact.Fact.{Fact}
+use Rattle.yard_model.specs.declared.fact.Fact.TheVariants as fact
+use Rattle.yard_model.specs.declared.incarnation.Cause.{Cause}
+use Rattle.yard_model.specs.declared.incarnation.Incarnation.{Incarnation}
+use Rattle.yard_model.specs.declared.incarnation.Slot.{Slot}
+use Rattle.yard_model.specs.declared.incarnation.Slot.TheVariants as slot
+use Rattle.yard_model.specs.declared.packet.Record.{Record}
+use Rattle.yard_model.specs.Behaviour.{decide, folded, is_in}
+use Rattle.yard_model.specs.Equal.{is_decision, is_slot}
+use Rattle.yard_model.specs.Genuine.{is_node, is_producer, is_brought}
+use Rattle.yard_model.specs.Lawful.{own, may_follow, is_held, is_leased, is_entry, is_of_shard, is_folded_after, is_merged_after}
+use Rattle.yard_model.specs.Script.{Script, IsScript, is_name, setting}
+use Rattle.yard_model.specs.Setting.{shard_of, names_of}
+use Rattle.yard_model.specs.SlotReads.{epoch, journal, position, last_snapshot, is_remembered}
+use Rattle.yard_model.specs.Spared.{Spared}
+use Rattle.entity_snapshot.specs.declared.snapshot.Snapshot.{Snapshot}
+use Rattle.entity_snapshot.specs.Kept.{Kept, last_of}
+use Rattle.shard_store.specs.Shelf.{Shelf, slot_of, may, with_entry}
+use Rattle.shard_store.specs.Shelved.{no_journal, no_snapshots, name_at, IsSnapshot, AreKept, AreReserved, IsShelf}
+use Rattle.shard_store.proofs.FollowLaws.{follows_more}
+use Rattle.shard_store.proofs.NamesLaws.{same_name}
+use Rattle.shard_store.proofs.KeptLaws.{IsOfNone, Marks, kept_none, kept_wrote, kept_saved, kept_marked, kept_reserved, kept_new}
+
+abbrev pub SameSlot : Type 0
+SameSlot = (a b : Slot) → IsTrue (is_slot a b) ↔ (a ≡ b)
+
+pub and_both : (a b : Bool) → (a && b) ≡ true → (a ≡ true) × (b ≡ true)
+and_both true b e = (refl, e)
+and_both false b e = absurd (true≢false (sym e))
+
+both : (a b : Bool) → a ≡ true → b ≡ true → (a && b) ≡ true
+both a b e f = ap (λ x. x && b) e ∙ f
+
+number_itself : (a : ℕ) → (a == a) ≡ true
+number_itself a = (Decides-eqb a a).1 refl
+
+below_is : (a b : ℕ) → a < b → nat_lt a b ≡ true
+below_is a b h = grind (arith, nat_tests)
+
+own_more : (s : Shelf) (f : Fact) → own s.script (slot_of s) s.entries ≡ true → may s f ≡ true → own s.script (slot_of s) (s.entries ++ f ∷ []) ≡ true
+own_more s f o m = follows_more (may_follow s.script (slot_of s)) [] s.entries f ∙ both (own s.script (slot_of s) s.entries) (may s f) o m
+
+-- What may come next.
+
+pub may_grant : (s : Shelf) (who : Incarnation) → SameSlot → is_held s.entries ≡ false → is_node s.script who ≡ true → may s (fact.Granted (slot_of s) (epoch s.entries + 1) who) ≡ true
+may_grant s who same_slot free node =
+    both (not (is_held s.entries) && (epoch s.entries + 1 == epoch s.entries + 1)) (is_slot (slot_of s) (slot_of s) && is_node s.script who)
+    (both (not (is_held s.entries)) (epoch s.entries + 1 == epoch s.entries + 1) (ap not free) (number_itself (epoch s.entries + 1)))
+    (both (is_slot (slot_of s) (slot_of s)) (is_node s.script who) ((same_slot (slot_of s) (slot_of s)).1 refl) node)
+
+pub may_free : (s : Shelf) (why : Cause) → SameSlot → is_held s.entries ≡ true → may s (fact.Freed (slot_of s) (epoch s.entries) why) ≡ true
+may_free s why same_slot held =
+    both (is_held s.entries && (epoch s.entries == epoch s.entries)) (is_slot (slot_of s) (slot_of s)) (both (is_held s.entries) (epoch s.entries == epoch s.entries) held (number_itself (epoch s.entries))) ((same_slot (slot_of s) (slot_of s)).1 refl)
+
+pub may_save : (s : Shelf) (e : List ℕ) → is_held s.entries ≡ true → is_of_shard s.script s.shard e ≡ true → last_snapshot e s.entries < length (journal e s.entries) → may s (fact.Snapshot e (length (journal e s.entries))) ≡ true
+may_save s e held of newer =
+    let n : ℕ = length (journal e s.entries) in
+    both (is_held s.entries) (is_of_shard s.script s.shard e && (n == n) && nat_lt (last_snapshot e s.entries) n) held
+    (both (is_of_shard s.script s.shard e && (n == n)) (nat_lt (last_snapshot e s.entries) n) (both (is_of_shard s.script s.shard e) (n == n) of (number_itself n)) (below_is (last_snapshot e s.entries) n newer))
+
+pub may_remember : (s : Shelf) (e : List ℕ) → is_held s.entries ≡ true → is_of_shard s.script s.shard e ≡ true → is_remembered e s.entries ≡ false → may s (fact.Remembered e) ≡ true
+may_remember s e held of new = both (is_held s.entries) (is_of_shard s.script s.shard e && not (is_remembered e s.entries)) held (both (is_of_shard s.script s.shard e) (not (is_remembered e s.entries)) of (ap not new))
+
+pub may_forget : (s : Shelf) (e : List ℕ) → is_held s.entries ≡ true → is_of_shard s.script s.shard e ≡ true → is_remembered e s.entries ≡ true → may s (fact.Forgotten e) ≡ true
+may_forget s e held of known = both (is_held s.entries) (is_of_shard s.script s.shard e && is_remembered e s.entries) held (both (is_of_shard s.script s.shard e) (is_remembered e s.entries) of known)
+
+-- The names.
+
+-- a name of this shard is among the shard's names
+any_picked : (p : List ℕ → Bool) (e : List ℕ) (names : List (List ℕ)) → p e ≡ true → list_any (is_name e) names ≡ true → list_any (is_name e) (filter p names) ≡ true
+any_picked p e [] of any = any
+any_picked p e (n ∷ ns) of any = at (is_name e n) refl (p n) refl (λ m. any_picked p e ns of m)
+  where
+    at : (b : Bool) → is_name e n ≡ b → (t : Bool) → p n ≡ t → (list_any (is_name e) ns ≡ true → list_any (is_name e) (filter p ns) ≡ true) → list_any (is_name e) (cond (p n) (n ∷ filter p ns) (filter p ns)) ≡ true
+    at true it t h rest = ap (λ b. list_any (is_name e) (cond b (n ∷ filter p ns) (filter p ns))) (sym (ap p (same_name e n it)) ∙ of) ∙ ap (λ b. b || (list_any (is_name e) (filter p ns))) it
+    at false it true h rest = ap (λ b. list_any (is_name e) (cond b (n ∷ filter p ns) (filter p ns))) h ∙ (ap (λ b. b || (list_any (is_name e) (filter p ns))) it ∙ rest (sym (ap (λ b. b || (list_any (is_name e) ns)) it) ∙ any))
+    at false it false h rest = ap (λ b. list_any (is_name e) (cond b (n ∷ filter p ns) (filter p ns))) h ∙ rest (sym (ap (λ b. b || (list_any (is_name e) ns)) it) ∙ any)
+
+pub among_names : (s : Shelf) (names : List (List ℕ)) (e : List ℕ) → names ≡ names_of (setting s.script) s.shard → is_of_shard s.script s.shard e ≡ true → list_any (is_name e) names ≡ true
+among_names s names e are of =
+    let m : (is_brought s.script e ≡ true) × ((shard_of (setting s.script) e == s.shard) ≡ true) = and_both (is_brought s.script e) (shard_of (setting s.script) e == s.shard) of in
+    ap (list_any (is_name e)) are ∙ any_picked (λ n. shard_of (setting s.script) n == s.shard) e (setting s.script).names m.1 m.0
+
+-- One entry more.
+
+pub shelf_next : (s : Shelf) {ls new_shard : ℕ} {names : List (List ℕ)} {journals new_journals : List (Spared Record)} {snapshots new_snapshots : List Kept} {marks new_marks : List Bool} {entries : List Fact} {spare : ℕ} (f : Fact)
+    → IsShelf s ls names journals snapshots marks → may s f ≡ true → entries ≡ s.entries ++ f ∷ [] → spare ≡ s.spare - 1 → new_shard ≡ ls
+    → AreKept s.script.config.kind names (s.entries ++ f ∷ []) (s.spare - 1) new_journals new_snapshots new_marks
+    → IsShelf (record { script = s.script; shard = s.shard; entries = entries; spare = spare }) new_shard names new_journals new_snapshots new_marks
+shelf_next s {ls} {new_shard} {names} {journals} {new_journals} {snapshots} {new_snapshots} {marks} {new_marks} {entries} {spare} f k m e less shard kept = record {
+  own_is = ap (own s.script (slot_of s)) e ∙ own_more s f k.own_is m;
+  shard_is = k.shard_is;
+  list_is = shard ∙ k.list_is;
+  names_are = k.names_are;
+  few_names = k.few_names;
+  sorted = k.sorted;
+  kept_is = subst (λ l. AreKept s.script.config.kind names l spare new_journals new_snapshots new_marks) (sym e) (subst (λ n. AreKept s.script.config.kind names (s.entries ++ f ∷ []) n new_journals new_snapshots new_marks) (sym less) kept);
+}
+
+-- of a grant, whose epoch and slot are told by the list
+pub shelf_granted : (s : Shelf) {ls new_shard n : ℕ} {names : List (List ℕ)} {journals : List (Spared Record)} {snapshots : List Kept} {marks : List Bool} {entries : List Fact} {spare : ℕ} (who : Incarnation)
+    → SameSlot → IsShelf s ls names journals snapshots marks → is_held s.entries ≡ false → is_node s.script who ≡ true → n ≡ epoch s.entries + 1
+    → entries ≡ s.entries ++ fact.Granted (slot.Shard ls) n who ∷ [] → spare ≡ s.spare - 1 → new_shard ≡ ls
+    → IsShelf (record { script = s.script; shard = s.shard; entries = entries; spare = spare }) new_shard names journals snapshots marks
+shelf_granted s {ls} {new_shard} {n} {names} {journals} {snapshots} {marks} {entries} {spare} who same_slot k free node now e less shard =
+    let f : Fact = fact.Granted (slot.Shard ls) n who in
+    let next : may s f ≡ true = ap (λ x. may s (fact.Granted (slot.Shard x) n who)) k.list_is ∙ (ap (λ i. may s (fact.Granted (slot_of s) i who)) now ∙ may_grant s who same_slot free node) in
+    shelf_next s f k next e less shard (kept_none s.script.config.kind names s.entries s.spare journals snapshots marks f (record { journal_is = λ x old. refl; snapshot_is = λ x old. refl; mark_is = λ x old. refl }) k.kept_is)
+
+pub shelf_freed : (s : Shelf) {ls new_shard : ℕ} {names : List (List ℕ)} {journals : List (Spared Record)} {snapshots : List Kept} {marks : List Bool} {entries : List Fact} {spare : ℕ} (why : Cause)
+    → SameSlot → IsShelf s ls names journals snapshots marks → is_held s.entries ≡ true
+    → entries ≡ s.entries ++ fact.Freed (slot.Shard ls) (epoch s.entries) why ∷ [] → spare ≡ s.spare - 1 → new_shard ≡ ls
+    → IsShelf (record { script = s.script; shard = s.shard; entries = entries; spare = spare }) new_shard names journals snapshots marks
+shelf_freed s {ls} {new_shard} {names} {journals} {snapshots} {marks} {entries} {spare} why same_slot k held e less shard =
+    let f : Fact = fact.Freed (slot.Shard ls) (epoch s.entries) why in
+    let next : may s f ≡ true = ap (λ x. may s (fact.Freed (slot.Shard x) (epoch s.entries) why)) k.list_is ∙ may_free s why same_slot held in
+    shelf_next s f k next e less shard (kept_none s.script.config.kind names s.entries s.spare journals snapshots marks f (record { journal_is = λ x old. refl; snapshot_is = λ x old. refl; mark_is = λ x old. refl }) k.kept_is)
+
+-- A record.
+
+-- what may be written is of a name of this shard, and has the next number of its journal
+pub record MayWrite (s : Shelf) (e : List ℕ) (r : Record) : Type 0 where
+  pub of : is_of_shard s.script s.shard e ≡ true
+  pub number : r.number ≡ length (journal e s.entries) + 1
+
+pub may_write : (s : Shelf) (e : List ℕ) (r : Record) → may s (fact.Wrote e r) ≡ true → MayWrite s e r
+may_write s e r m =
+    let entry : is_entry s.script (slot_of s) s.entries (fact.Wrote e r) ≡ true = (and_both (is_leased s.entries (fact.Wrote e r)) (is_entry s.script (slot_of s) s.entries (fact.Wrote e r)) m).1 in
+    let a : _ × _ = and_both (is_of_shard s.script s.shard e && is_producer s.script r.producer && is_folded_after s.script (journal e s.entries) r) (is_merged_after s.script e (journal e s.entries) r) entry in
+    let b : _ × _ = and_both (is_of_shard s.script s.shard e && is_producer s.script r.producer) (is_folded_after s.script (journal e s.entries) r) a.0 in
+    let n : _ × _ = and_both (r.number == length (journal e s.entries) + 1) (is_decision (decide (folded s.script.config.kind (journal e s.entries)) r.command) (record { events = r.events; reply = r.reply })) b.1 in
+    record { of = (and_both (is_of_shard s.script s.shard e) (is_producer s.script r.producer) b.0).0; number = (Decides-eqb r.number (length (journal e s.entries) + 1)).0 n.0 }
+
+pub journal_there : (s : Shelf) {ls : ℕ} {names : List (List ℕ)} {journals : List (Spared Record)} {snapshots : List Kept} {marks : List Bool} (e : List ℕ) (k : ℕ) (j : Spared Record)
+    → IsShelf s ls names journals snapshots marks → k < length names → name_at names k ≡ e → j ≡ slice_index_or journals k j → (slice_index_or journals k no_journal ≡ j) × (j.items ≡ journal e s.entries)
+journal_there s {ls} {names} {journals} e k j shelf inside it is =
+    let here : slice_index_or journals k no_journal ≡ j = get_or_default journals k no_journal j (omega (arith, inside, shelf.kept_is.journals_there)) ∙ sym is in
+    (here, ap (λ (x : Spared Record). x.items) (sym here) ∙ ((shelf.kept_is.journal_is k inside).records_are ∙ ap (λ x. journal x s.entries) it))
+
+pub journal_number : (s : Shelf) {ls : ℕ} {names : List (List ℕ)} {journals : List (Spared Record)} {snapshots : List Kept} {marks : List Bool} (e : List ℕ) (r : Record) (k : ℕ) (j : Spared Record)
+    → IsShelf s ls names journals snapshots marks → may s (fact.Wrote e r) ≡ true → k < length names → name_at names k ≡ e → j ≡ slice_index_or journals k j → r.number ≡ length j.items + 1
+journal_number s e r k j shelf m inside it is = (may_write s e r m).number ∙ ap (λ rs. length rs + 1) (sym (journal_there s e k j shelf inside it is).1)
+
+pub shelf_wrote : (s : Shelf) {ls new_shard : ℕ} {names : List (List ℕ)} {journals : List (Spared Record)} {snapshots : List Kept} {marks : List Bool} {entries : List Fact} {spare : ℕ} (e : List ℕ) (r : Record) (k : ℕ) (old new : Spared Record)
+    → IsShelf s ls names journals snapshots marks → may s (fact.Wrote e r) ≡ true → k < length names → name_at names k ≡ e → old ≡ slice_index_or journals k old
+    → new.items ≡ old.items ++ r ∷ [] → new.spare + 1 ≡ old.spare
+    → entries ≡ s.entries ++ fact.Wrote e r ∷ [] → spare ≡ s.spare - 1 → new_shard ≡ ls
+    → IsShelf (record { script = s.script; shard = s.shard; entries = entries; spare = spare }) new_shard names (slice_set journals k new) snapshots marks
+shelf_wrote s {ls} {new_shard} {names} {journals} {snapshots} {marks} e r k old new shelf m inside it was items less is one shard =
+    let here : slice_index_or journals k no_journal ≡ old = (journal_there s e k old shelf inside it was).0 in
+    shelf_next s (fact.Wrote e r) shelf m is one shard
+    (kept_wrote s.script.config.kind names s.entries s.spare journals snapshots marks e r k new shelf.sorted inside it (items ∙ ap (λ (x : Spared Record). x.items ++ r ∷ []) (sym here)) (less ∙ ap (λ (x : Spared Record). x.spare) (sym here)) shelf.kept_is)
+
+pub shelf_saved : (s : Shelf) {ls new_shard : ℕ} {names : List (List ℕ)} {journals : List (Spared Record)} {snapshots : List Kept} {marks : List Bool} {entries : List Fact} {spare : ℕ} (e : List ℕ) (n k : ℕ) (j : Spared Record) (p : Snapshot) (old new : Kept)
+    → IsShelf s ls names journals snapshots marks → is_held s.entries ≡ true → is_of_shard s.script s.shard e ≡ true → last_snapshot e s.entries < length (journal e s.entries) → k < length names → name_at names k ≡ e → j ≡ slice_index_or journals k j → n ≡ length j.items → old ≡ slice_index_or snapshots k old
+    → new.snapshots ≡ last_of old.keep (old.snapshots ++ p ∷ []) → new.keep ≡ old.keep
+    → p.at ≡ n → p.state ≡ folded s.script.config.kind (journal e s.entries) → ((q : ℕ) → 0 < q → q ≤ 32 → slice_index_or p.positions (q - 1) 0 ≡ position q j.items)
+    → entries ≡ s.entries ++ fact.Snapshot e n ∷ [] → spare ≡ s.spare - 1 → new_shard ≡ ls
+    → IsShelf (record { script = s.script; shard = s.shard; entries = entries; spare = spare }) new_shard names journals (slice_set snapshots k new) marks
+shelf_saved s {ls} {new_shard} {names} {journals} {snapshots} {marks} {entries} {spare} e n k j p old new shelf held of newer inside it is_journal count was saved keeps at_is state positions is one shard =
+    let records : List Record = journal e s.entries in
+    let here : j.items ≡ records = (journal_there s e k j shelf inside it is_journal).1 in
+    let long : n ≡ length records = count ∙ ap length here in
+    let kept : slice_index_or snapshots k no_snapshots ≡ old = get_or_default snapshots k no_snapshots old (omega (arith, inside, shelf.kept_is.snapshots_there)) ∙ sym was in
+    let next : may s (fact.Snapshot e n) ≡ true = ap (λ i. may s (fact.Snapshot e i)) long ∙ may_save s e held of newer in
+    let all : take n records ≡ records = take_all n records (omega (arith, long)) in
+    let snapped : IsSnapshot s.script.config.kind records n p = record {
+      at_is = at_is;
+      some = omega (arith, newer, long);
+      within = omega (arith, long);
+      state_is = state ∙ ap (folded s.script.config.kind) (sym all);
+      positions_are = λ q a b. positions q a b ∙ ap (position q) (here ∙ sym all);
+    } in
+    shelf_next s (fact.Snapshot e n) shelf next is one shard (kept_saved s.script.config.kind names s.entries s.spare journals snapshots marks e n k p new shelf.sorted inside it
+    (saved ∙ ap (λ (x : Kept). last_of x.keep (x.snapshots ++ p ∷ [])) (sym kept)) (keeps ∙ ap (λ (x : Kept). x.keep) (sym kept)) snapped shelf.kept_is)
+
+-- A mark.
+
+pub shelf_remembered : (s : Shelf) {ls new_shard : ℕ} {names : List (List ℕ)} {journals : List (Spared Record)} {snapshots : List Kept} {marks new_marks : List Bool} {entries : List Fact} {spare : ℕ} (e : List ℕ) (k : ℕ)
+    → IsShelf s ls names journals snapshots marks → is_held s.entries ≡ true → is_of_shard s.script s.shard e ≡ true → is_remembered e s.entries ≡ false → k < length names → name_at names k ≡ e
+    → new_marks ≡ slice_set marks k true → entries ≡ s.entries ++ fact.Remembered e ∷ [] → spare ≡ s.spare - 1 → new_shard ≡ ls
+    → IsShelf (record { script = s.script; shard = s.shard; entries = entries; spare = spare }) new_shard names journals snapshots new_marks
+shelf_remembered s {ls} {new_shard} {names} {journals} {snapshots} {marks} {new_marks} e k shelf held of new inside it marked is one shard =
+    shelf_next s (fact.Remembered e) shelf (may_remember s e held of new) is one shard (subst (AreKept s.script.config.kind names (s.entries ++ fact.Remembered e ∷ []) (s.spare - 1) journals snapshots) (sym marked)
+    (kept_marked s.script.config.kind names s.entries s.spare journals snapshots marks e k true (fact.Remembered e) shelf.sorted inside it (record { journal_is = λ x old. refl; snapshot_is = λ x old. refl; mark_is = λ x old. refl }) shelf.kept_is))
+
+pub shelf_forgotten : (s : Shelf) {ls new_shard : ℕ} {names : List (List ℕ)} {journals : List (Spared Record)} {snapshots : List Kept} {marks new_marks : List Bool} {entries : List Fact} {spare : ℕ} (e : List ℕ) (k : ℕ)
+    → IsShelf s ls names journals snapshots marks → is_held s.entries ≡ true → is_of_shard s.script s.shard e ≡ true → is_remembered e s.entries ≡ true → k < length names → name_at names k ≡ e
+    → new_marks ≡ slice_set marks k false → entries ≡ s.entries ++ fact.Forgotten e ∷ [] → spare ≡ s.spare - 1 → new_shard ≡ ls
+    → IsShelf (record { script = s.script; shard = s.shard; entries = entries; spare = spare }) new_shard names journals snapshots new_marks
+shelf_forgotten s {ls} {new_shard} {names} {journals} {snapshots} {marks} {new_marks} e k shelf held of known inside it marked is one shard =
+    shelf_next s (fact.Forgotten e) shelf (may_forget s e held of known) is one shard (subst (AreKept s.script.config.kind names (s.entries ++ fact.Forgotten e ∷ []) (s.spare - 1) journals snapshots) (sym marked)
+    (kept_marked s.script.config.kind names s.entries s.spare journals snapshots marks e k false (fact.Forgotten e) shelf.sorted inside it (record { journal_is = λ x old. refl; snapshot_is = λ x old. refl; mark_is = λ x old. refl }) shelf.kept_is))
+
+-- A new store, and more spare.
+
+pub keep_above : (c : Script) → IsScript c → 0 < c.config.keep
+keep_above c k = at_least (and_both _ (is_in 1 10 c.config.keep) k.config).1
+  where
+    at_least : is_in 1 10 c.config.keep ≡ true → 0 < c.config.keep
+    at_least e = grind (arith, nat_tests)
+
+pub shelf_new : (c : Script) (s n : ℕ) (names : List (List ℕ)) (journals : List (Spared Record)) (snapshots : List Kept) (marks : List Bool) → IsScript c → s < c.config.shards
+    → names ≡ names_of (setting c) s → IsStrictlySortedBy (slice_cmp nat_cmp) names → length names ≤ 1000 → n ≡ length names
+    → journals ≡ replicate n no_journal → snapshots ≡ replicate n (record { snapshots = []; keep = c.config.keep }) → marks ≡ replicate n false
+    → IsShelf (record { script = c; shard = s; entries = []; spare = 0 }) s names journals snapshots marks
+shelf_new c s n names journals snapshots marks script inside names_are sorted few count js ss ms = record {
+  own_is = refl;
+  shard_is = below_is s c.config.shards inside;
+  list_is = refl;
+  names_are = names_are;
+  few_names = few;
+  sorted = sorted;
+  kept_is = subst (λ j. AreKept c.config.kind names [] 0 j snapshots marks) (sym (js ∙ ap (λ i. replicate i no_journal) count))
+      (subst (λ k. AreKept c.config.kind names [] 0 (replicate (length names) no_journal) k marks) (sym (ss ∙ ap (λ i. replicate i (record { snapshots = []; keep = c.config.keep })) count))
+      (subst (λ m. AreKept c.config.kind names [] 0 (replicate (length names) no_journal) (replicate (length names) (record { snapshots = []; keep = c.config.keep })) m) (sym (ms ∙ ap (λ i. replicate i false) count))
+      (kept_new c.config.kind names c.config.keep (keep_above c script))));
+}
+
+pub shelf_reserved : (s : Shelf) {ls new_shard n : ℕ} {names : List (List ℕ)} {journals new : List (Spared Record)} {snapshots : List Kept} {marks : List Bool} {entries : List Fact} {spare : ℕ}
+    → IsShelf s ls names journals snapshots marks → AreReserved journals new → ((i : ℕ) → i < length new → n ≤ (slice_index_or new i no_journal).spare) → spare ≤ max s.spare n → entries ≡ s.entries → new_shard ≡ ls
+    → IsShelf (record { script = s.script; shard = s.shard; entries = entries; spare = spare }) new_shard names new snapshots marks
+shelf_reserved s {ls} {new_shard} {n} {names} {journals} {new} {snapshots} {marks} {entries} {spare} k grown enough most same_list shard = record {
+  own_is = ap (own s.script (slot_of s)) same_list ∙ k.own_is;
+  shard_is = k.shard_is;
+  list_is = shard ∙ k.list_is;
+  names_are = k.names_are;
+  few_names = k.few_names;
+  sorted = k.sorted;
+  kept_is = subst (λ l. AreKept s.script.config.kind names l spare new snapshots marks) (sym same_list) (kept_reserved s.script.config.kind names s.entries s.spare spare journals new snapshots marks grown both_spares k.kept_is);
+}
+  where
+    both_spares : (i : ℕ) → i < length names → spare ≤ (slice_index_or new i no_journal).spare
+    both_spares i within =
+        let old_is : s.spare ≤ (slice_index_or new i no_journal).spare = omega (arith, (k.kept_is.journal_is i within).spare_is, grown.spare_is i) in
+        let new_is : n ≤ (slice_index_or new i no_journal).spare = enough i (omega (arith, within, grown.there, k.kept_is.journals_there)) in
+        let all : max s.spare n ≤ (slice_index_or new i no_journal).spare = max-le old_is new_is in
+        omega (arith, most, all)

@@ -1,0 +1,71 @@
+-- How a shard's store is kept: beside the list, of each name of the shard its journal, its snapshots and whether it is remembered.
+use Rattle.std.specs.Prelude.{◌≡◌, ℕ, ◌-◌, ◌<◌, ◌≤◌, Bool, true, false, List, [], length, take, slice_get, slice_index_or, Option, MatchOption}
+use Rattle.std.specs.List.Sorted.{IsStrictlySortedBy}
+use Rattle.std.specs.Ordering.{nat_cmp}
+use Rattle.std.specs.Cmp.Lexicographic.{slice_cmp}
+use Rattle.yard_model.specs.declared.event.Kind.{Kind}
+use Rattle.yard_model.specs.declared.fact.Fact.{Fact}
+use Rattle.yard_model.specs.declared.packet.Record.{Record}
+use Rattle.yard_model.specs.Behaviour.{folded}
+use Rattle.yard_model.specs.Genuine.{is_shard}
+use Rattle.yard_model.specs.Lawful.{own}
+use Rattle.yard_model.specs.Script.{setting}
+use Rattle.yard_model.specs.Setting.{names_of}
+use Rattle.yard_model.specs.SlotReads.{journal, position, last_snapshot, is_remembered}
+use Rattle.yard_model.specs.Spared.{Spared}
+use Rattle.entity_snapshot.specs.declared.snapshot.Snapshot.{Snapshot}
+use Rattle.entity_snapshot.specs.Kept.{Kept}
+use Rattle.shard_store.specs.Shelf.{Shelf, slot_of}
+
+abbrev pub no_journal : Spared Record
+no_journal = record { items = []; spare = 0 }
+
+abbrev pub no_snapshots : Kept
+no_snapshots = record { snapshots = []; keep = 1 }
+
+abbrev pub name_at : List (List ℕ) → ℕ → List ℕ
+name_at names i = slice_index_or names i []
+
+-- what is kept of the journal of the name at a place: its records, and at least this spare
+pub record IsJournal (records : List Record) (spare : ℕ) (kept : Spared Record) : Type 0 where
+  pub records_are : kept.items ≡ records
+  pub spare_is : spare ≤ kept.spare
+
+-- the same records, with no less spare
+pub record AreReserved (old new : List (Spared Record)) : Type 0 where
+  pub there : length new ≡ length old
+  pub records_are : (i : ℕ) → (slice_index_or new i no_journal).items ≡ (slice_index_or old i no_journal).items
+  pub spare_is : (i : ℕ) → (slice_index_or old i no_journal).spare ≤ (slice_index_or new i no_journal).spare
+
+-- the snapshot after the first m of these records
+pub record IsSnapshot (kind : Kind) (records : List Record) (m : ℕ) (s : Snapshot) : Type 0 where
+  pub at_is : s.at ≡ m
+  pub some : 0 < m
+  pub within : m ≤ length records
+  pub state_is : s.state ≡ folded kind (take m records)
+  pub positions_are : (p : ℕ) → 0 < p → p ≤ 32 → slice_index_or s.positions (p - 1) 0 ≡ position p (take m records)
+
+abbrev pub latest : Kept → Option Snapshot
+latest k = slice_get k.snapshots (length k.snapshots - 1)
+
+-- the latest is that after the first m records; there is none where m is 0
+abbrev pub IsLatest : Kind → List Record → ℕ → Kept → Type 0
+IsLatest kind records m kept = (0 < kept.keep) × MatchOption (latest kept) (m ≡ 0) (IsSnapshot kind records m)
+
+-- at each place, what is kept of its name
+pub record AreKept (kind : Kind) (names : List (List ℕ)) (list : List Fact) (spare : ℕ) (journals : List (Spared Record)) (snapshots : List Kept) (marks : List Bool) : Type 0 where
+  pub journals_there : length journals ≡ length names
+  pub snapshots_there : length snapshots ≡ length names
+  pub marks_there : length marks ≡ length names
+  pub journal_is : (i : ℕ) → i < length names → IsJournal (journal (name_at names i) list) spare (slice_index_or journals i no_journal)
+  pub latest_is : (i : ℕ) → i < length names → IsLatest kind (journal (name_at names i) list) (last_snapshot (name_at names i) list) (slice_index_or snapshots i no_snapshots)
+  pub mark_is : (i : ℕ) → i < length names → slice_index_or marks i false ≡ is_remembered (name_at names i) list
+
+pub record IsShelf (s : Shelf) (list_shard : ℕ) (names : List (List ℕ)) (journals : List (Spared Record)) (snapshots : List Kept) (marks : List Bool) : Type 0 where
+  pub own_is : own s.script (slot_of s) s.entries ≡ true
+  pub shard_is : is_shard s.script s.shard ≡ true
+  pub list_is : list_shard ≡ s.shard
+  pub names_are : names ≡ names_of (setting s.script) s.shard
+  pub few_names : length names ≤ 1000
+  pub sorted : IsStrictlySortedBy (slice_cmp nat_cmp) names
+  pub kept_is : AreKept s.script.config.kind names s.entries s.spare journals snapshots marks

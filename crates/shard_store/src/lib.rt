@@ -1,0 +1,10 @@
+//! The store of a shard: the list of its slot, and at hand beside it the journal, the snapshots and
+//! the mark of each of its entities (Akka 2.6, Cluster Sharding: remembering entities; Persistence).
+#![tactic(auto)]
+
+mod list;
+mod names;
+mod positions;
+mod shelf;
+
+pub use shelf::ShardStore;

@@ -1,0 +1,137 @@
+//! The list of a shard's slot, with the lease that it tells of.
+ghost use Rattle.std.specs.Prelude.{◌≡◌, ◌+◌, ◌-◌, ◌<◌, ◌≤◌, [], ◌∷◌, ◌++◌, length, map, true, false, OnOk, OnErr, max};
+ghost use Rattle.yard_model.specs.declared.fact.Fact.TheVariants as fact;
+ghost use Rattle.yard_model.specs.declared.incarnation.Slot.TheVariants as slot;
+ghost use Rattle.yard_model.specs.Entry.{shard_fact};
+ghost use Rattle.yard_model.specs.Lawful.{is_held};
+ghost use Rattle.yard_model.specs.SlotReads.{epoch};
+ghost use Rattle.shard_store.specs.Leased.{KeepsLease};
+
+use std::alloc::{AllocError, Global};
+use std::marker::{Model, PhantomData};
+use yard_model::{Cause, Incarnation, Record, ShardEntry, ShardNo};
+
+/// The entries of a shard's slot, oldest first, with a spare.
+#[derive(Drop)]
+pub(crate) struct SlotList {
+    shard: ShardNo,
+    entries: Vec<ShardEntry>,
+    spare: u32,
+    epoch: u32,
+    leased: bool,
+    holds: PhantomData<(Record, Incarnation, Cause)>,
+}
+
+impl Model for SlotList {
+    ghost use Rattle.std.specs.Prelude.{map, vec_capacity};
+    ghost use Rattle.yard_model.specs.Entry.{shard_fact};
+    ghost use Rattle.shard_store.specs.Leased.{Listed, IsLease};
+
+    ghost Value = { Listed };
+
+    ghost view = { λ l. record { shard = l.shard; entries = map (shard_fact l.shard) l.entries.items; spare = l.spare } };
+
+    ghost invariant = { λ l. IsLease (record { shard = l.shard; entries = map (shard_fact l.shard) l.entries.items; spare = l.spare }) l.epoch l.leased (vec_capacity l.entries) };
+}
+
+impl SlotList {
+    /// No entries and no spare. It takes no memory.
+    pub(crate) fn new(alloc: Global, s: ShardNo) -> SlotList
+        ensures { result ≡ record { shard = s; entries = []; spare = 0 } }
+    {
+        SlotList {
+            shard: s,
+            entries: Vec::new(alloc),
+            spare: 0,
+            epoch: 0,
+            leased: false,
+            holds: PhantomData,
+        }
+    }
+
+    /// Makes the spare at least `n`. The only error is want of memory, also where there would be
+    /// more than 4,294,967,295 entries, and then nothing changes.
+    pub(crate) fn reserve(&mut self, n: u32) -> Result<(), AllocError>
+        ensures list { self.new ≡ record self.old { spare = self.new.spare } }
+        ensures ok { OnOk result (n ≤ self.new.spare) }
+        ensures least { self.old.spare ≤ self.new.spare }
+        ensures most { self.new.spare ≤ max self.old.spare n }
+        ensures err { OnErr result (self.new ≡ self.old) }
+    {
+        if n <= self.spare {
+            return Ok(());
+        }
+        let len = self.entries.len() as u32;
+        if n > u32::MAX - len {
+            return Err(AllocError);
+        }
+        self.entries.reserve(n as usize)?;
+        self.spare = n;
+        Ok(())
+    }
+
+    /// The lease of the next epoch goes to `who`; the epoch.
+    pub(crate) fn grant(&mut self, who: Incarnation) -> u32
+        requires spare { 0 < self.old.spare }
+        requires free { is_held self.old.entries ≡ false }
+        ensures epoch { result ≡ epoch self.old.entries + 1 }
+        ensures entries { self.new.entries ≡ self.old.entries ++ fact.Granted (slot.Shard self.old.shard) result who ∷ [] }
+        ensures spare { self.new.spare ≡ self.old.spare - 1 }
+        ensures shard { self.new.shard ≡ self.old.shard }
+    {
+        self.epoch += 1;
+        self.leased = true;
+        self.spare -= 1;
+        let epoch = self.epoch;
+        self.entries.push_reserved(ShardEntry::Granted(epoch, who));
+        epoch
+    }
+
+    /// The lease is free.
+    pub(crate) fn free(&mut self, cause: Cause)
+        requires spare { 0 < self.old.spare }
+        requires leased { is_held self.old.entries ≡ true }
+        ensures entries { self.new.entries ≡ self.old.entries ++ fact.Freed (slot.Shard self.old.shard) (epoch self.old.entries) cause ∷ [] }
+        ensures spare { self.new.spare ≡ self.old.spare - 1 }
+        ensures shard { self.new.shard ≡ self.old.shard }
+    {
+        self.leased = false;
+        self.spare -= 1;
+        let epoch = self.epoch;
+        self.entries.push_reserved(ShardEntry::Freed(epoch, cause));
+    }
+
+    /// An entry under the lease.
+    pub(crate) fn write(&mut self, entry: ShardEntry)
+        requires spare { 0 < self.old.spare }
+        requires keeps { KeepsLease (shard_fact self.old.shard entry) }
+        ensures entries { self.new.entries ≡ self.old.entries ++ shard_fact self.old.shard entry ∷ [] }
+        ensures spare { self.new.spare ≡ self.old.spare - 1 }
+        ensures shard { self.new.shard ≡ self.old.shard }
+    {
+        self.spare -= 1;
+        self.entries.push_reserved(entry);
+    }
+
+    /// The epoch of the last grant, 0 before.
+    pub(crate) fn epoch(&self) -> u32
+        ensures { result ≡ epoch self.now.entries }
+    {
+        self.epoch
+    }
+
+    /// How many entries more take no memory.
+    pub(crate) fn spare(&self) -> u32
+        ensures { result ≡ self.now.spare }
+    {
+        self.spare
+    }
+
+    /// The entries, oldest first.
+    pub(crate) fn entries(&self) -> &[ShardEntry]
+        ensures entries { map (shard_fact self.now.shard) result.now ≡ self.now.entries }
+        ensures few { length result.now < 4294967296 }
+    {
+        self.entries.as_slice()
+    }
+}

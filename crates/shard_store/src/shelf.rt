@@ -1,0 +1,252 @@
+//! The store of a shard.
+ghost use Rattle.std.specs.Prelude.{◌≡◌, ℕ, ◌+◌, ◌-◌, ◌<◌, ◌≤◌, [], ◌∷◌, ◌++◌, length, map, true, false, OnOk, OnErr, IfOk, IsTrue, MatchOption, replicate, slice_index_or};
+ghost use Rattle.yard_model.specs.declared.fact.Fact.TheVariants as fact;
+ghost use Rattle.yard_model.specs.declared.incarnation.Slot.TheVariants as slot;
+ghost use Rattle.yard_model.specs.Behaviour.{folded};
+ghost use Rattle.yard_model.specs.Entry.{shard_fact};
+ghost use Rattle.yard_model.specs.Genuine.{is_node};
+ghost use Rattle.yard_model.specs.Lawful.{own, is_held, is_of_shard};
+ghost use Rattle.yard_model.specs.SlotReads.{epoch, journal, last_snapshot, is_remembered};
+ghost use Rattle.shard_store.specs.Shelf.{Shelf, slot_of, may, with_entry};
+ghost use Rattle.shard_store.specs.Shelved.{IsSnapshot, no_journal, AreReserved};
+
+use crate::list::SlotList;
+use crate::names::Names;
+use crate::positions::positions_of;
+use entity_journal::Journal;
+use entity_snapshot::{Positions, Snapshot, Snapshots};
+use remember_store::Remembered;
+use std::alloc::{AllocError, Global};
+use std::marker::{Model, PhantomData};
+use std::snapshot::Snapshot as Ghost;
+use yard_model::laws::slot_law;
+use yard_model::{
+    Cause, Charter, EntityName, Incarnation, Record, ShardEntry, ShardNo, State,
+};
+
+/// The store of one shard, of the charter that it was made for; seen as that charter's script, the
+/// shard, the list of the shard's slot as facts, and a spare: so many entries more take no memory.
+/// The list is lawful by itself: the type keeps it. The journal, the snapshots and the mark of each
+/// of the shard's names are at hand, and no call looks through the list.
+#[derive(Drop)]
+pub struct ShardStore {
+    script: Ghost<Charter>,
+    shard: ShardNo,
+    list: SlotList,
+    names: Names,
+    journals: Vec<Journal>,
+    snapshots: Vec<Snapshots>,
+    remembered: Remembered,
+    holds: PhantomData<(Record, State, Positions)>,
+}
+
+impl Model for ShardStore {
+    ghost use Rattle.shard_store.specs.Shelf.{Shelf};
+    ghost use Rattle.shard_store.specs.Shelved.{IsShelf};
+
+    ghost Value = { Shelf };
+
+    ghost view = { λ s. record { script = s.script.value; shard = s.shard; entries = s.list.entries; spare = s.list.spare } };
+
+    ghost invariant = { λ s. IsShelf (record { script = s.script.value; shard = s.shard; entries = s.list.entries; spare = s.list.spare }) s.list.shard s.names s.journals.items s.snapshots.items s.remembered };
+}
+
+impl ShardStore {
+    /// The empty store of shard `s` of this charter, with no spare. The only error is want of memory.
+    pub fn new(alloc: Global, charter: &Charter, s: ShardNo) -> Result<ShardStore, AllocError>
+        requires { s < charter.now.config.shards }
+        ensures { IfOk result (λ x. x ≡ record { script = charter.now; shard = s; entries = []; spare = 0 }) }
+    {
+        let names = Names::of_shard(alloc, charter, s)?;
+        let count = names.len();
+        let journals = no_journals(alloc, count)?;
+        let snapshots = no_snapshots(alloc, count, charter.config().keep)?;
+        let remembered = Remembered::new(alloc, count as u16)?;
+        Ok(ShardStore {
+            script: Ghost::of(charter),
+            shard: s,
+            list: SlotList::new(alloc, s),
+            names,
+            journals,
+            snapshots,
+            remembered,
+            holds: PhantomData,
+        })
+    }
+
+    /// Makes the spare at least `n`. The only error is want of memory, also where there would be
+    /// more than 4,294,967,295 entries; the list stays, though the spare may have grown.
+    pub fn reserve(&mut self, n: u32) -> Result<(), AllocError>
+        ensures list { self.new ≡ record self.old { spare = self.new.spare } }
+        ensures ok { OnOk result (n ≤ self.new.spare) }
+        ensures spare { self.old.spare ≤ self.new.spare }
+    {
+        reserve_each(&mut self.journals, n)?;
+        self.list.reserve(n)
+    }
+
+    /// The lease of the next epoch goes to `who`, of a node of the charter; the epoch.
+    pub fn grant(&mut self, who: Incarnation) -> u32
+        requires spare { 0 < self.old.spare }
+        requires free { is_held self.old.entries ≡ false }
+        requires node { IsTrue (is_node self.old.script who) }
+        ensures epoch { result ≡ epoch self.old.entries + 1 }
+        ensures entry { self.new ≡ with_entry self.old (fact.Granted (slot_of self.old) result who) }
+    {
+        slot_law();
+        self.list.grant(who)
+    }
+
+    /// The lease is free.
+    pub fn free(&mut self, cause: Cause)
+        requires spare { 0 < self.old.spare }
+        requires leased { is_held self.old.entries ≡ true }
+        ensures { self.new ≡ with_entry self.old (fact.Freed (slot_of self.old) (epoch self.old.entries) cause) }
+    {
+        slot_law();
+        self.list.free(cause);
+    }
+
+    /// The epoch of the last grant, 0 before.
+    pub fn epoch(&self) -> u32
+        ensures { result ≡ epoch self.now.entries }
+    {
+        self.list.epoch()
+    }
+
+    /// How many entries more take no memory.
+    pub fn spare(&self) -> u32
+        ensures { result ≡ self.now.spare }
+    {
+        self.list.spare()
+    }
+
+    /// The list, oldest entry first.
+    pub fn entries(&self) -> &[ShardEntry]
+        ensures entries { map (shard_fact self.now.shard) result.now ≡ self.now.entries }
+        ensures few { length result.now < 4294967296 }
+        ensures own { IsTrue (own self.now.script (slot_of self.now) self.now.entries) }
+    {
+        self.list.entries()
+    }
+
+    /// A record of an entity, which may come next: under the open epoch, with the next number of its
+    /// journal and the next place of its producer, as the entity decides.
+    pub fn wrote(&mut self, entity: &EntityName, entry: Record)
+        requires spare { 0 < self.old.spare }
+        requires next { IsTrue (may self.old (fact.Wrote entity.now entry)) }
+        ensures { self.new ≡ with_entry self.old (fact.Wrote entity.now entry) }
+    {
+        let entry = &entry;
+        let place = self.names.place(entity);
+        self.journals[place].append(*entry);
+        self.list.write(ShardEntry::Wrote(*entity, *entry));
+    }
+
+    /// A snapshot of all records of an entity, of which there are more than at its latest one;
+    /// `state` is what they lead to. The last few snapshots stay, as the charter says.
+    pub fn snapshot(&mut self, entity: &EntityName, state: State)
+        requires spare { 0 < self.old.spare }
+        requires leased { is_held self.old.entries ≡ true }
+        requires name { IsTrue (is_of_shard self.old.script self.old.shard entity.now) }
+        requires newer { last_snapshot entity.now self.old.entries < length (journal entity.now self.old.entries) }
+        requires state { state ≡ folded self.old.script.config.kind (journal entity.now self.old.entries) }
+        ensures { self.new ≡ with_entry self.old (fact.Snapshot entity.now (length (journal entity.now self.old.entries))) }
+    {
+        let place = self.names.place(entity);
+        let journal = &self.journals[place];
+        let at = journal.len();
+        let positions = positions_of(journal);
+        self.snapshots[place].save(Snapshot {
+            at,
+            state,
+            positions,
+        });
+        self.list.write(ShardEntry::Snapshot(*entity, at));
+    }
+
+    /// The entity is remembered from now on; it wasn't.
+    pub fn remember(&mut self, entity: &EntityName)
+        requires spare { 0 < self.old.spare }
+        requires leased { is_held self.old.entries ≡ true }
+        requires name { IsTrue (is_of_shard self.old.script self.old.shard entity.now) }
+        requires new { is_remembered entity.now self.old.entries ≡ false }
+        ensures { self.new ≡ with_entry self.old (fact.Remembered entity.now) }
+    {
+        let place = self.names.place(entity);
+        self.remembered.add(place as u16);
+        self.list.write(ShardEntry::Remembered(*entity));
+    }
+
+    /// The entity isn't remembered any more; it was.
+    pub fn forget(&mut self, entity: &EntityName)
+        requires spare { 0 < self.old.spare }
+        requires leased { is_held self.old.entries ≡ true }
+        requires name { IsTrue (is_of_shard self.old.script self.old.shard entity.now) }
+        requires known { is_remembered entity.now self.old.entries ≡ true }
+        ensures { self.new ≡ with_entry self.old (fact.Forgotten entity.now) }
+    {
+        let place = self.names.place(entity);
+        self.remembered.drop_name(place as u16);
+        self.list.write(ShardEntry::Forgotten(*entity));
+    }
+
+    /// The journal of an entity of this shard.
+    pub fn journal(&self, entity: &EntityName) -> &Journal
+        requires { IsTrue (is_of_shard self.now.script self.now.shard entity.now) }
+        ensures { result.now.items ≡ journal entity.now self.now.entries }
+    {
+        &self.journals[self.names.place(entity)]
+    }
+
+    /// The latest snapshot of an entity of this shard, with the state and the counts of the records
+    /// before it; None exactly where there is none.
+    pub fn latest(&self, entity: &EntityName) -> Option<&Snapshot>
+        requires { IsTrue (is_of_shard self.now.script self.now.shard entity.now) }
+        ensures { MatchOption result (last_snapshot entity.now self.now.entries ≡ 0) (λ s. IsSnapshot self.now.script.config.kind (journal entity.now self.now.entries) (last_snapshot entity.now self.now.entries) s.now) }
+    {
+        self.snapshots[self.names.place(entity)].latest()
+    }
+
+    /// Whether an entity of this shard is remembered.
+    pub fn is_remembered(&self, entity: &EntityName) -> bool
+        requires { IsTrue (is_of_shard self.now.script self.now.shard entity.now) }
+        ensures { result ≡ is_remembered entity.now self.now.entries }
+    {
+        self.remembered.holds(self.names.place(entity) as u16)
+    }
+}
+
+/// So many empty journals.
+fn no_journals(alloc: Global, count: usize) -> Result<Vec<Journal>, AllocError>
+    ensures { IfOk result (λ v. v.items ≡ replicate count no_journal) }
+{
+    let mut journals = Vec::new(alloc);
+    for _ in 0..count {
+        journals.push(Journal::new(alloc))?;
+    }
+    Ok(journals)
+}
+
+/// So many lists without a snapshot, of which the last `keep` will stay.
+fn no_snapshots(alloc: Global, count: usize, keep: u8) -> Result<Vec<Snapshots>, AllocError>
+    requires { 0 < keep }
+    ensures { IfOk result (λ v. v.items ≡ replicate count (record { snapshots = []; keep = keep })) }
+{
+    let mut lists = Vec::new(alloc);
+    for _ in 0..count {
+        lists.push(Snapshots::new(alloc, keep)?)?;
+    }
+    Ok(lists)
+}
+
+/// Makes the spare of each journal at least `n`. The only error is want of memory.
+fn reserve_each(journals: &mut Vec<Journal>, n: u32) -> Result<(), AllocError>
+    ensures kept { AreReserved journals.old.items journals.new.items }
+    ensures ok { OnOk result ((i : ℕ) → i < length journals.new.items → n ≤ (slice_index_or journals.new.items i no_journal).spare) }
+{
+    for place in 0..journals.len() {
+        journals[place].reserve(n)?;
+    }
+    Ok(())
+}

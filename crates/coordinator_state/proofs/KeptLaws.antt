@@ -18,22 +18,12 @@ use Rattle.yard_model.specs.Follow.{each_follows}
 use Rattle.yard_model.specs.Genuine.{is_node, is_shard}
 use Rattle.yard_model.specs.Lawful.{own, is_held, is_coordinator_entry, may_follow}
 use Rattle.yard_model.specs.SlotReads.{holder, holder_step, epoch, epoch_step, regions, regions_step, allocation, allocation_step}
+use Rattle.yard_model.proofs.FollowLaws.{own_more}
 use Rattle.coordinator_state.specs.Homes.{Placed, home_without}
 use Rattle.coordinator_state.specs.Kept.{IsKept}
 use Rattle.coordinator_state.proofs.Same.{true_is_not_false, both}
 
 -- One entry more.
-
-follows_more : {A : Type 0} (may : List A → A → Bool) (before xs : List A) (x : A) →
-    each_follows may before (xs ++ x ∷ []) ≡ (each_follows may before xs && may (before ++ xs) x)
-follows_more may before [] x = and-true (may before x) ∙ ap (λ b. may b x) (sym (append-nil before))
-follows_more may before (y ∷ ys) x =
-    ap (λ b. may before y && b) (follows_more may (before ++ y ∷ []) ys x)
-    ∙ (ap (λ l. may before y && (each_follows may (before ++ y ∷ []) ys && may l x)) (append_assoc before (y ∷ []) ys)
-    ∙ sym (and_assoc (may before y) (each_follows may (before ++ y ∷ []) ys) (may (before ++ y ∷ ys) x)))
-
-own_more : (c : Script) (xs : List Fact) (f : Fact) → own c slot.Coordinator xs ≡ true → may_follow c slot.Coordinator xs f ≡ true → own c slot.Coordinator (xs ++ f ∷ []) ≡ true
-own_more c xs f o may = follows_more (may_follow c slot.Coordinator) [] xs f ∙ both (own c slot.Coordinator xs) (may_follow c slot.Coordinator xs f) o may
 
 regions_more : (xs : List Fact) (f : Fact) → regions (xs ++ f ∷ []) ≡ regions_step (regions xs) f
 regions_more xs f = fold-append regions_step [] xs (f ∷ [])
@@ -56,7 +46,7 @@ kept_more : (c : Script) (xs : List Fact) (p q : Placed) (n m : ℕ) (b d : Bool
     → d ≡ is_some (holder_step (holder xs) f)
     → IsKept c (xs ++ f ∷ []) q m d
 kept_more c xs p q n m b d f k may regions homes epoch few held = record {
-  lawful = own_more c xs f k.lawful may;
+  lawful = own_more c slot.Coordinator xs f k.lawful may;
   registered = regions ∙ (ap (λ rs. regions_step rs f) k.registered ∙ sym (regions_more xs f));
   homes = λ s h. homes s h ∙ (ap (λ o. allocation_step s o f) (k.homes s h) ∙ sym (allocation_more s xs f));
   epoch = epoch ∙ (ap (λ e. epoch_step e f) k.epoch ∙ sym (epoch_more xs f));

@@ -7,7 +7,6 @@
 
 mod entries;
 mod homes;
-mod made;
 mod moved;
 mod store;
 

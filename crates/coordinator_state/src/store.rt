@@ -14,9 +14,9 @@ ghost use Rattle.coordinator_state.specs.Homes.{regions_of};
 
 use crate::entries::Entries;
 use crate::homes::Homes;
-use crate::made::Made;
 use std::alloc::{AllocError, Global};
 use std::marker::Model;
+use std::snapshot::Snapshot as Ghost;
 use yard_model::{Cause, Charter, CoordEntry, Incarnation, Loads, ShardNo};
 
 /// The list of the coordinator's slot, made for one charter: lawful by itself, as the type keeps,
@@ -24,7 +24,7 @@ use yard_model::{Cause, Charter, CoordEntry, Incarnation, Loads, ShardNo};
 /// the entries as the facts that they are, and the spare. What is read off the list is at hand.
 #[derive(Drop)]
 pub struct CoordStore {
-    made: Made,
+    script: Ghost<Charter>,
     entries: Entries,
     homes: Homes,
     epoch: u32,
@@ -39,9 +39,9 @@ impl Model for CoordStore {
 
     ghost Value = { Coord };
 
-    ghost view = { λ c. record { script = c.made.script; entries = map coord_fact c.entries.items; spare = c.entries.spare } };
+    ghost view = { λ c. record { script = c.script.value; entries = map coord_fact c.entries.items; spare = c.entries.spare } };
 
-    ghost invariant = { λ c. IsKept c.made.script (map coord_fact c.entries.items) c.homes c.epoch c.leased };
+    ghost invariant = { λ c. IsKept c.script.value (map coord_fact c.entries.items) c.homes c.epoch c.leased };
 }
 
 impl CoordStore {
@@ -52,9 +52,8 @@ impl CoordStore {
         ensures spare { IfOk result (λ c. c.spare ≡ 0) }
     {
         let homes = Homes::new(alloc)?;
-        let made = Made::of(charter);
         Ok(CoordStore {
-            made,
+            script: Ghost::of(charter),
             entries: Entries::new(alloc),
             homes,
             epoch: 0,

@@ -19,16 +19,9 @@ use Rattle.yard_model.specs.Genuine.{is_node}
 use Rattle.yard_model.specs.Lawful.{own, may_follow, is_held}
 use Rattle.yard_model.specs.Script.{Script, is_name, sends}
 use Rattle.yard_model.specs.SlotReads as reads
+use Rattle.yard_model.proofs.FollowLaws.{own_more}
 use Rattle.durable_queue.specs.Kept.{commands_to, IsList, AreSums}
 use Rattle.durable_queue.proofs.SendsLaws.{commands_next}
-
-follows_more : {A : Type 0} (may : List A → A → Bool) (before xs : List A) (x : A) →
-    each_follows may before (xs ++ x ∷ []) ≡ (each_follows may before xs && may (before ++ xs) x)
-follows_more may before [] x = and-true (may before x) ∙ ap (λ b. may b x) (sym (append-nil before))
-follows_more may before (y ∷ ys) x =
-    ap (λ b. may before y && b) (follows_more may (before ++ y ∷ []) ys x)
-    ∙ (ap (λ l. may before y && (each_follows may (before ++ y ∷ []) ys && may l x)) (append_assoc before (y ∷ []) ys)
-    ∙ sym (and_assoc (may before y) (each_follows may (before ++ y ∷ []) ys) (may (before ++ y ∷ ys) x)))
 
 both : (a b : Bool) → a ≡ true → b ≡ true → (a && b) ≡ true
 both a b p q = ap (λ v. v && b) p ∙ q
@@ -42,16 +35,13 @@ below a b h = grind (arith, nat_tests)
 at_most : (a b : ℕ) → a ≤ b → nat_le a b ≡ true
 at_most a b h = grind (arith, nat_tests)
 
-own_more : (c : Script) (p : ℕ) (xs : List Fact) (f : Fact) → own c (slot.Queue p) xs ≡ true → may_follow c (slot.Queue p) xs f ≡ true → own c (slot.Queue p) (xs ++ f ∷ []) ≡ true
-own_more c p xs f a b = follows_more (may_follow c (slot.Queue p)) [] xs f ∙ both (own c (slot.Queue p) xs) (may_follow c (slot.Queue p) xs f) a b
-
 -- One entry more, of each kind.
 
 pub list_granted : (c : Script) (p n : ℕ) (xs : List Fact) (x : Incarnation) → is_held xs ≡ false → n ≡ reads.epoch xs + 1 → is_node c x ≡ true → IsList c p xs
     → IsList c p (xs ++ fact.Granted (slot.Queue p) n x ∷ [])
 list_granted c p n xs x free next node l =
     let f : Fact = fact.Granted (slot.Queue p) n x in record {
-      lawful = own_more c p xs f l.lawful
+      lawful = own_more c (slot.Queue p) xs f l.lawful
           (both (not (is_held xs) && (n == reads.epoch xs + 1)) (is_slot (slot.Queue p) (slot.Queue p) && is_node c x)
           (both (not (is_held xs)) (n == reads.epoch xs + 1) (ap not free) (equal n (reads.epoch xs + 1) next))
           (both (is_slot (slot.Queue p) (slot.Queue p)) (is_node c x) (equal p p refl) node));
@@ -62,7 +52,7 @@ pub list_freed : (c : Script) (p n : ℕ) (xs : List Fact) (why : Cause) → is_
     → IsList c p (xs ++ fact.Freed (slot.Queue p) n why ∷ [])
 list_freed c p n xs why held last l =
     let f : Fact = fact.Freed (slot.Queue p) n why in record {
-      lawful = own_more c p xs f l.lawful
+      lawful = own_more c (slot.Queue p) xs f l.lawful
           (both (is_held xs && (n == reads.epoch xs)) (is_slot (slot.Queue p) (slot.Queue p)) (both (is_held xs) (n == reads.epoch xs) held (equal n (reads.epoch xs) last)) (equal p p refl));
       first = record { each = λ e. fold-append (reads.commands_step e) [] xs (f ∷ []) ∙ (l.first.each e ∙ ap (λ i. commands_to e (take i (sends c p))) (sym (fold-append reads.queued_in_all_step 0 xs (f ∷ [])))) };
     }
@@ -71,7 +61,7 @@ pub list_confirmed : (c : Script) (p n : ℕ) (xs : List Fact) (e : List ℕ) �
     → IsList c p (xs ++ fact.Confirmed p e n ∷ [])
 list_confirmed c p n xs e held above there l =
     let f : Fact = fact.Confirmed p e n in record {
-      lawful = own_more c p xs f l.lawful
+      lawful = own_more c (slot.Queue p) xs f l.lawful
           (both (is_held xs) ((p == p) && nat_lt (reads.confirmed e xs) n && nat_le n (reads.queued e xs)) held
           (both ((p == p) && nat_lt (reads.confirmed e xs) n) (nat_le n (reads.queued e xs))
           (both (p == p) (nat_lt (reads.confirmed e xs) n) (equal p p refl) (below (reads.confirmed e xs) n above))
@@ -85,7 +75,7 @@ list_queued c p xs x same held next l =
     let f : Fact = fact.Queued p x.entity x.number x.command in
     let i : ℕ = reads.queued_in_all xs in
     let all : List Sending = sends c p in record {
-      lawful = own_more c p xs f l.lawful
+      lawful = own_more c (slot.Queue p) xs f l.lawful
           (both (is_held xs) ((p == p) && option_map_or (is_sending x) (slice_get all i) false) held
           (both (p == p) (option_map_or (is_sending x) (slice_get all i) false) (equal p p refl) (ap (λ o. option_map_or (is_sending x) o false) next ∙ same)));
       first = record {

@@ -3,7 +3,6 @@
 #![tactic(auto)]
 
 mod counts;
-mod origin;
 mod plans;
 mod store;
 

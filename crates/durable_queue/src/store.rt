@@ -9,11 +9,11 @@ ghost use Rattle.yard_model.specs.Script.{sends, plan};
 ghost use Rattle.yard_model.specs.SlotReads as reads;
 
 use crate::counts::{count_of, put, zeros_of};
-use crate::origin::Origin;
 use crate::plans::{command_at, plans_of};
 use std::alloc::{AllocError, Global};
 use std::collections::BTreeMap;
 use std::marker::{Model, PhantomData};
+use std::snapshot::Snapshot as Ghost;
 use yard_model::laws::sending_law;
 use yard_model::{
     Cause, Charter, Command, EntityName, Incarnation, ProducerNo, QueueEntry, Sending,
@@ -28,7 +28,7 @@ const ENTRIES: usize = 1 << 32;
 /// answered from what is kept beside it.
 #[derive(Drop)]
 pub struct QueueStore {
-    origin: Origin,
+    script: Ghost<Charter>,
     producer: ProducerNo,
     entries: Vec<QueueEntry>,
     plans: BTreeMap<EntityName, Vec<Command>>,
@@ -49,9 +49,9 @@ impl Model for QueueStore {
 
     ghost Value = { Queue };
 
-    ghost view = { λ q. record { script = q.origin.script; producer = q.producer; entries = map (queue_fact q.producer) q.entries.items; spare = q.free } };
+    ghost view = { λ q. record { script = q.script.value; producer = q.producer; entries = map (queue_fact q.producer) q.entries.items; spare = q.free } };
 
-    ghost invariant = { λ q. IsKept q.origin.script q.producer q.entries.items q.plans q.queued q.confirmed q.total q.epoch q.leased q.free (vec_capacity q.entries) };
+    ghost invariant = { λ q. IsKept q.script.value q.producer q.entries.items q.plans q.queued q.confirmed q.total q.epoch q.leased q.free (vec_capacity q.entries) };
 }
 
 impl QueueStore {
@@ -73,7 +73,7 @@ impl QueueStore {
         let queued = zeros_of(alloc, sends)?;
         let confirmed = zeros_of(alloc, sends)?;
         Ok(QueueStore {
-            origin: Origin::of(charter),
+            script: Ghost::of(charter),
             producer,
             entries: Vec::new(alloc),
             plans,

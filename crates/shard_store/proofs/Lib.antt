@@ -1,6 +1,5 @@
 mod NamesLaws
 mod PositionsLaws
-mod FollowLaws
 mod DifferentLaws
 mod KeptLaws
 mod ShelfLaws

@@ -27,7 +27,7 @@ use Rattle.entity_snapshot.specs.declared.snapshot.Snapshot.{Snapshot}
 use Rattle.entity_snapshot.specs.Kept.{Kept, last_of}
 use Rattle.shard_store.specs.Shelf.{Shelf, slot_of, may, with_entry}
 use Rattle.shard_store.specs.Shelved.{no_journal, no_snapshots, name_at, IsSnapshot, AreKept, AreReserved, IsShelf}
-use Rattle.shard_store.proofs.FollowLaws.{follows_more}
+use Rattle.yard_model.proofs.FollowLaws.{own_more}
 use Rattle.shard_store.proofs.NamesLaws.{same_name}
 use Rattle.shard_store.proofs.KeptLaws.{IsOfNone, Marks, kept_none, kept_wrote, kept_saved, kept_marked, kept_reserved, kept_new}
 
@@ -46,9 +46,6 @@ number_itself a = (Decides-eqb a a).1 refl
 
 below_is : (a b : ℕ) → a < b → nat_lt a b ≡ true
 below_is a b h = grind (arith, nat_tests)
-
-own_more : (s : Shelf) (f : Fact) → own s.script (slot_of s) s.entries ≡ true → may s f ≡ true → own s.script (slot_of s) (s.entries ++ f ∷ []) ≡ true
-own_more s f o m = follows_more (may_follow s.script (slot_of s)) [] s.entries f ∙ both (own s.script (slot_of s) s.entries) (may s f) o m
 
 -- What may come next.
 
@@ -98,7 +95,7 @@ pub shelf_next : (s : Shelf) {ls new_shard : ℕ} {names : List (List ℕ)} {jou
     → AreKept s.script.config.kind names (s.entries ++ f ∷ []) (s.spare - 1) new_journals new_snapshots new_marks
     → IsShelf (record { script = s.script; shard = s.shard; entries = entries; spare = spare }) new_shard names new_journals new_snapshots new_marks
 shelf_next s {ls} {new_shard} {names} {journals} {new_journals} {snapshots} {new_snapshots} {marks} {new_marks} {entries} {spare} f k m e less shard kept = record {
-  own_is = ap (own s.script (slot_of s)) e ∙ own_more s f k.own_is m;
+  own_is = ap (own s.script (slot_of s)) e ∙ own_more s.script (slot_of s) s.entries f k.own_is m;
   shard_is = k.shard_is;
   list_is = shard ∙ k.list_is;
   names_are = k.names_are;

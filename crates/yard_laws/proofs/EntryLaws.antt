@@ -24,7 +24,7 @@ use Rattle.yard_model.specs.Entities.{Entities, entries, record_of}
 use Rattle.yard_laws.specs.Entries.{slot_for, IsHosted, NextFollows, EntitiesFollow}
 use Rattle.yard_laws.proofs.Booleans.{and_both, both, same_number, number_itself, same_name}
 use Rattle.yard_laws.proofs.Follows.{follows_to}
-use Rattle.yard_laws.proofs.Owns.{own_more}
+use Rattle.yard_model.proofs.FollowLaws.{own_more}
 use Rattle.yard_laws.proofs.Places.{journal_more}
 use Rattle.yard_laws.proofs.Live.{holder_more}
 

@@ -6,13 +6,6 @@ use Rattle.std.proofs.lemmas.List.{append-nil, append_assoc}
 use Rattle.yard_model.specs.Follow.{each_follows}
 use Rattle.yard_laws.proofs.Booleans.{and_both, both}
 
-pub follows_more : {A : Type 0} (may : List A → A → Bool) (before xs : List A) (x : A) → each_follows may before (xs ++ x ∷ []) ≡ (each_follows may before xs && may (before ++ xs) x)
-follows_more may before [] x = and-true (may before x) ∙ ap (λ b. may b x) (sym (append-nil before))
-follows_more may before (y ∷ ys) x =
-    ap (λ b. may before y && b) (follows_more may (before ++ y ∷ []) ys x)
-    ∙ (ap (λ l. may before y && (each_follows may (before ++ y ∷ []) ys && may l x)) (append_assoc before (y ∷ []) ys)
-    ∙ sym (and_assoc (may before y) (each_follows may (before ++ y ∷ []) ys) (may (before ++ y ∷ ys) x)))
-
 -- what holds at the start and is kept by each item holds at the end
 pub follows_to : {A : Type 0} (may : List A → A → Bool) (P : List A → Type 0) → ((before : List A) (x : A) → P before → may before x ≡ true → P (before ++ x ∷ []))
     → (before xs : List A) → P before → each_follows may before xs ≡ true → P (before ++ xs)

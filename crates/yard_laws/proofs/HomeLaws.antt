@@ -21,7 +21,7 @@ use Rattle.yard_model.specs.Coordinator.{Coordinator, Moving, Share, coordinator
 use Rattle.yard_laws.specs.Free.{is_free_move}
 use Rattle.yard_laws.specs.Homes.{CoordinatorIsFree, IsCoordinatorHeld, CoordinatorKeepsHomes}
 use Rattle.yard_laws.proofs.Booleans.{and_both, both, left_of, right_of, number_itself, all_map, all_filter}
-use Rattle.yard_laws.proofs.Owns.{own_more}
+use Rattle.yard_model.proofs.FollowLaws.{own_more}
 use Rattle.yard_laws.proofs.FreeLaws.{AreFree, join, either, of_some, of_each}
 
 -- Rules that tell free facts alone.

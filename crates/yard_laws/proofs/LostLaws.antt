@@ -21,7 +21,7 @@ use Rattle.yard_laws.specs.Free.{is_free_move}
 use Rattle.yard_laws.specs.Homes.{IsCoordinatorHeld, KeepsHomes, CoordinatorKeepsList}
 use Rattle.yard_laws.proofs.Booleans.{true_is_not_false, and_both, both, of_not, number_itself}
 use Rattle.yard_laws.proofs.Follows.{follows_to}
-use Rattle.yard_laws.proofs.Owns.{own_more}
+use Rattle.yard_model.proofs.FollowLaws.{own_more}
 use Rattle.yard_laws.proofs.Live.{same_both, holder_more}
 use Rattle.yard_laws.proofs.LocalLaws.{among_fewer}
 use Rattle.yard_laws.proofs.FreeLaws.{AreFree, either, of_each}

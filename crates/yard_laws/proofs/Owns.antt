@@ -14,7 +14,8 @@ use Rattle.yard_model.specs.Trace.{slot_of, list_at, with_entry, no_lists, lists
 use Rattle.yard_model.specs.Safe.{own_guard, cross_guard, guard}
 use Rattle.yard_laws.specs.Guarded.{Owns, GuardedIsOwn}
 use Rattle.yard_laws.proofs.Booleans.{and_both, both, same_number, other_number, below, at_most, get_replicate}
-use Rattle.yard_laws.proofs.Follows.{follows_more, follows_to}
+use Rattle.yard_model.proofs.FollowLaws.{own_more}
+use Rattle.yard_laws.proofs.Follows.{follows_to}
 
 pub no_lists_own : (c : Script) → Owns c (no_lists (setting c))
 no_lists_own c = record {
@@ -24,9 +25,6 @@ no_lists_own c = record {
   coordinator = refl;
   queue = λ p h. ap (own c (slot.Queue p)) (get_replicate c.config.producers (p - 1) []);
 }
-
-pub own_more : (c : Script) (s : Slot) (list : List Fact) (f : Fact) → own c s list ≡ true → may_follow c s list f ≡ true → own c s (list ++ f ∷ []) ≡ true
-own_more c s list f e m = follows_more (may_follow c s) [] list f ∙ both (own c s list) (may_follow c s list f) e m
 
 -- the own guard of an entry of this slot
 abbrev pub may_enter : Script → SlotLists → Fact → Option Slot → Bool

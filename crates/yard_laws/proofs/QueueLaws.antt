@@ -17,7 +17,7 @@ use Rattle.yard_model.specs.SlotReads.{epoch, queued, confirmed, queued_in_all}
 use Rattle.yard_model.specs.Producer.{Producer, queue_step, next_sending}
 use Rattle.yard_laws.specs.Queues.{ProducerKeepsQueue}
 use Rattle.yard_laws.proofs.Booleans.{both, number_itself}
-use Rattle.yard_laws.proofs.Owns.{own_more}
+use Rattle.yard_model.proofs.FollowLaws.{own_more}
 
 within : (a b : ℕ) → a ≤ b → nat_le a b ≡ true
 within a b h = grind (arith, nat_tests)

@@ -1,6 +1,6 @@
 mod CharterLaws
 pub mod CountsLaws
-mod FollowLaws
+pub mod FollowLaws
 mod MembersLaws
 mod SendsLaws
 mod ShardSetLaws

@@ -24,6 +24,7 @@ use Rattle.yard_model.specs.Equal.{is_command, is_decision}
 use Rattle.yard_model.specs.Follow.{each_follows}
 use Rattle.yard_model.specs.Genuine.{is_planned}
 use Rattle.yard_model.specs.Lawful.{is_folded, is_folded_after, is_merged, is_merged_after}
+use Rattle.yard_model.proofs.FollowLaws.{follows_more}
 use Rattle.yard_model.specs.Script.{Script, IsScript, setting, sends, with_send_of, with_order, with_send, count_to, plan, is_name, is_order, is_config, names_in}
 use Rattle.yard_model.specs.Shard.{shard, absolute, java_hash}
 use Rattle.yard_model.specs.Words.{numbers}
@@ -62,13 +63,6 @@ above c e =
     omega arith
 
 -- Lists in which each item may follow those before it.
-
-follows_more : {A : Type 0} (may : List A → A → Bool) (before xs : List A) (x : A) → each_follows may before (xs ++ x ∷ []) ≡ (each_follows may before xs && may (before ++ xs) x)
-follows_more may before [] x = and-true (may before x) ∙ ap (λ b. may b x) (sym (append-nil before))
-follows_more may before (y ∷ ys) x =
-    ap (λ b. may before y && b) (follows_more may (before ++ y ∷ []) ys x)
-    ∙ (ap (λ l. may before y && (each_follows may (before ++ y ∷ []) ys && may l x)) (append_assoc before (y ∷ []) ys)
-    ∙ sym (and_assoc (may before y) (each_follows may (before ++ y ∷ []) ys) (may (before ++ y ∷ ys) x)))
 
 foldable_more : (st : State) (rs : List Record) (r : Record) → are_foldable st (rs ++ r ∷ []) ≡ (are_foldable st rs && are_applicable (fold after_record st rs) r.events)
 foldable_more st [] r = and-true (are_applicable st r.events)

@@ -13,7 +13,7 @@ use Rattle.coordinator_state.proofs.store.CoordStore.deallocated.Goals as goal
 pub invariant_of-self : goal.invariant_of-self
 invariant_of-self c =
     let k = c.self.inside in
-    let script = k.made.script in
+    let script = k.script.value in
     let xs = map coord_fact k.entries.items in
     subst (λ (l : List Fact). IsKept script l c.place.new.self k.epoch k.leased) (sym (facts_more k.entries.items c.push.new.self.items (coord.Deallocated c.args.s) c.push.ensures.items))
     (deallocated_kept script xs k.homes c.place.new.self k.epoch k.leased c.args.s c.self.invariant (ap (λ v. is_held v.entries) c.self.view_is ∙ c.requires.leased) (ap (λ v. is_shard v.script c.args.s) c.self.view_is ∙ c.requires.shard)

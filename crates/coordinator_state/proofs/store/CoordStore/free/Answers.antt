@@ -11,7 +11,7 @@ use Rattle.coordinator_state.proofs.store.CoordStore.free.Goals as goal
 pub invariant_of-self : goal.invariant_of-self
 invariant_of-self c =
     let k = c.self.inside in
-    let script = k.made.script in
+    let script = k.script.value in
     let xs = map coord_fact k.entries.items in
     subst (λ (l : List Fact). IsKept script l k.homes k.epoch false) (sym (facts_more k.entries.items c.push.new.self.items (coord.Freed k.epoch c.args.cause) c.push.ensures.items))
     (freed_kept script xs k.homes k.epoch k.leased c.args.cause c.self.invariant (ap (λ v. is_held v.entries) c.self.view_is ∙ c.requires.leased))

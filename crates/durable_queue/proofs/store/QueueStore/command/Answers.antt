@@ -15,7 +15,7 @@ returns-clause-value c some =
     let xs : List Fact = map (queue_fact q.producer) q.entries.items in
     let there : reads.queued e xs ≡ reads.queued e c.args.self.now.entries = ap (λ v. reads.queued e v.entries) c.self.view_is in
     c.command_at.ensures ∙ (ap (λ l. slice_get l (c.args.number - 1)) (k.plans.each e)
-    ∙ (command_is q.origin.script q.producer xs e (c.args.number - 1) k.list.first (omega arith) ∙ ap (λ v. slice_get (reads.commands e v.entries) (c.args.number - 1)) c.self.view_is))
+    ∙ (command_is q.script.value q.producer xs e (c.args.number - 1) k.list.first (omega arith) ∙ ap (λ v. slice_get (reads.commands e v.entries) (c.args.number - 1)) c.self.view_is))
 
 pub returns-clause-planned : goal.returns-clause-planned
 returns-clause-planned c =

@@ -19,7 +19,7 @@ put-requires c =
     let e = c.args.entity.now in
     let xs : List Fact = map (queue_fact q.producer) q.entries.items in
     let there : reads.queued e xs ≡ reads.queued e c.args.self.now.entries = ap (λ v. reads.queued e v.entries) c.self.view_is in
-    let sent : reads.queued e xs ≤ length (commands_to e (sends q.origin.script q.producer)) = queued_fits q.origin.script q.producer xs e k.list.first in
+    let sent : reads.queued e xs ≤ length (commands_to e (sends q.script.value q.producer)) = queued_fits q.script.value q.producer xs e k.list.first in
     k.confirmed_there.each e (omega arith)
 
 pub invariant_of-self : goal.invariant_of-self
@@ -32,10 +32,10 @@ invariant_of-self c =
     let held : is_held xs ≡ true = ap (λ v. is_held v.entries) c.self.view_is ∙ c.requires.leased in
     let there : reads.queued e xs ≡ reads.queued e c.args.self.now.entries = ap (λ v. reads.queued e v.entries) c.self.view_is in
     let last : reads.confirmed e xs ≡ reads.confirmed e c.args.self.now.entries = ap (λ v. reads.confirmed e v.entries) c.self.view_is in
-    kept_more q.origin.script q.producer q.entries.items c.push.new.entries.items (entry.Confirmed e c.args.number) q.plans q.queued q.confirmed q.queued c.put.new.counts
+    kept_more q.script.value q.producer q.entries.items c.push.new.entries.items (entry.Confirmed e c.args.number) q.plans q.queued q.confirmed q.queued c.put.new.counts
     q.total q.epoch q.total q.epoch q.leased _ q.free _ _ k c.push.ensures.items (omega arith) c.push.ensures.capacity (omega arith) (omega arith) k.queued_there
-    (has_put q.confirmed c.put.new.counts (sends q.origin.script q.producer) e c.args.number c.put.ensures k.confirmed_there)
-    (list_confirmed q.origin.script q.producer c.args.number xs e held (omega arith) (omega arith) k.list)
+    (has_put q.confirmed c.put.new.counts (sends q.script.value q.producer) e c.args.number c.put.ensures k.confirmed_there)
+    (list_confirmed q.script.value q.producer c.args.number xs e held (omega arith) (omega arith) k.list)
     (queued_confirmed q.queued xs q.producer e c.args.number k.queued)
     (confirmed_confirmed q.confirmed c.put.new.counts xs q.producer e c.args.number c.put.ensures k.confirmed)
     (sums_confirmed q.total q.epoch c.args.number q.leased xs q.producer e k.sums)

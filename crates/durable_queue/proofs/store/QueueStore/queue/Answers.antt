@@ -21,7 +21,7 @@ put-requires c =
     let q = c.self.inside in
     let k = c.self.invariant in
     let x = c.index-sends-self.result in
-    let all : List Sending = sends q.origin.script q.producer in
+    let all : List Sending = sends q.script.value q.producer in
     let xs : List Fact = map (queue_fact q.producer) q.entries.items in
     let list : c.sends.result.now ≡ all = c.sends.ensures ∙ ap (λ v. sends v q.producer) (c.requires.charter ∙ sym (ap (λ v. v.script) c.self.view_is)) in
     let left : reads.queued_in_all xs < length all =
@@ -35,7 +35,7 @@ returns-clause-next c =
     let q = c.self.inside in
     let k = c.self.invariant in
     let x = c.index-sends-self.result in
-    let all : List Sending = sends q.origin.script q.producer in
+    let all : List Sending = sends q.script.value q.producer in
     let xs : List Fact = map (queue_fact q.producer) q.entries.items in
     let list : c.sends.result.now ≡ all = c.sends.ensures ∙ ap (λ v. sends v q.producer) (c.requires.charter ∙ sym (ap (λ v. v.script) c.self.view_is)) in
     let left : reads.queued_in_all xs < length all =
@@ -49,7 +49,7 @@ returns-clause-number c =
     let q = c.self.inside in
     let k = c.self.invariant in
     let x = c.index-sends-self.result in
-    let all : List Sending = sends q.origin.script q.producer in
+    let all : List Sending = sends q.script.value q.producer in
     let xs : List Fact = map (queue_fact q.producer) q.entries.items in
     let list : c.sends.result.now ≡ all = c.sends.ensures ∙ ap (λ v. sends v q.producer) (c.requires.charter ∙ sym (ap (λ v. v.script) c.self.view_is)) in
     let left : reads.queued_in_all xs < length all =
@@ -57,14 +57,14 @@ returns-clause-number c =
     let size : length all ≡ length (sends c.args.self.now.script c.args.self.now.producer) = ap (λ v. length (sends v.script v.producer)) c.self.view_is in omega arith in
     let at : x ≡ slice_index_or all (reads.queued_in_all xs) x = c.index-sends-self.is ∙ (ap (λ l. slice_index_or l q.total x) list ∙ ap (λ n. slice_index_or all n x) k.sums.total) in
     let next : slice_get all (reads.queued_in_all xs) ≡ Some x = slice_get-get_or all (reads.queued_in_all xs) x left ∙ ap Some (sym at) in
-    number_next q.origin.script q.producer xs x k.list.first next ∙ ap (λ v. reads.queued x.entity v.entries + 1) c.self.view_is
+    number_next q.script.value q.producer xs x k.list.first next ∙ ap (λ v. reads.queued x.entity v.entries + 1) c.self.view_is
 
 pub invariant_of-self : goal.invariant_of-self
 invariant_of-self c =
     let q = c.self.inside in
     let k = c.self.invariant in
     let x = c.index-sends-self.result in
-    let all : List Sending = sends q.origin.script q.producer in
+    let all : List Sending = sends q.script.value q.producer in
     let xs : List Fact = map (queue_fact q.producer) q.entries.items in
     let list : c.sends.result.now ≡ all = c.sends.ensures ∙ ap (λ v. sends v q.producer) (c.requires.charter ∙ sym (ap (λ v. v.script) c.self.view_is)) in
     let left : reads.queued_in_all xs < length all =
@@ -75,11 +75,11 @@ invariant_of-self c =
     let held : is_held xs ≡ true = ap (λ v. is_held v.entries) c.self.view_is ∙ c.requires.leased in
     let next : slice_get all (reads.queued_in_all xs) ≡ Some x = slice_get-get_or all (reads.queued_in_all xs) x left ∙ ap Some (sym at) in
     let same : is_sending x x ≡ true = (c.sending_law.ensures x x).1 refl in
-    let counts : x.number ≡ counted q.queued x.entity + 1 = number_next q.origin.script q.producer xs x k.list.first next ∙ ap (λ n. n + 1) (sym (k.queued.each x.entity)) in
-    kept_more q.origin.script q.producer q.entries.items c.push.new.entries.items (entry.Queued x.entity x.number x.command) q.plans q.queued q.confirmed c.put.new.counts q.confirmed
+    let counts : x.number ≡ counted q.queued x.entity + 1 = number_next q.script.value q.producer xs x k.list.first next ∙ ap (λ n. n + 1) (sym (k.queued.each x.entity)) in
+    kept_more q.script.value q.producer q.entries.items c.push.new.entries.items (entry.Queued x.entity x.number x.command) q.plans q.queued q.confirmed c.put.new.counts q.confirmed
     q.total q.epoch (q.total + 1) q.epoch q.leased _ q.free _ _ k c.push.ensures.items (omega arith) c.push.ensures.capacity (omega arith) (omega arith)
     (has_put q.queued c.put.new.counts all x.entity x.number c.put.ensures k.queued_there) k.confirmed_there
-    (list_queued q.origin.script q.producer xs x same held next k.list)
+    (list_queued q.script.value q.producer xs x same held next k.list)
     (queued_queued q.queued c.put.new.counts xs q.producer x x.number counts c.put.ensures k.queued)
     (confirmed_queued q.confirmed xs q.producer x k.confirmed)
     (sums_queued q.total q.epoch q.leased xs q.producer x k.sums)

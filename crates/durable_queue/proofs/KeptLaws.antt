@@ -15,7 +15,7 @@ use Rattle.yard_model.specs.declared.fact.Fact.TheVariants as fact
 use Rattle.yard_model.specs.declared.incarnation.Cause.{Cause}
 use Rattle.yard_model.specs.declared.incarnation.Incarnation.{Incarnation}
 use Rattle.yard_model.specs.declared.incarnation.Slot.{Slot}
-use Rattle.yard_model.specs.Charter.{counted}
+use Rattle.durable_queue.specs.Kept.{counted}
 use Rattle.yard_model.specs.Entry.{queue_fact}
 use Rattle.yard_model.specs.Script.{Script, is_name, sends}
 use Rattle.yard_model.specs.SlotReads as reads

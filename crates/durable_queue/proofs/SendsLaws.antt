@@ -12,7 +12,7 @@ use Rattle.std.proofs.lemmas.List.{append-nil, map-append, take_more}
 use Rattle.std.proofs.lemmas.List.Elements.{filter-append}
 use Rattle.yard_model.specs.declared.charter.Sending.{Sending}
 use Rattle.yard_model.specs.declared.event.Command.{Command}
-use Rattle.yard_model.specs.Charter.{counted}
+use Rattle.durable_queue.specs.Kept.{counted}
 use Rattle.yard_model.specs.Script.{is_name}
 use Rattle.durable_queue.specs.Kept.{commands_to, planned, ArePlans, HasCounts}
 

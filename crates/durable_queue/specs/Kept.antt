@@ -1,5 +1,5 @@
 -- What a queue store keeps at hand, so that nothing is read off the list of its entries.
-use Rattle.std.specs.Prelude.{◌≡◌, ℕ, ◌+◌, ◌<◌, ◌≤◌, ◌^◌, Bool, true, List, [], length, map, filter, take, is_some, Vec}
+use Rattle.std.specs.Prelude.{◌≡◌, ℕ, ◌+◌, ◌<◌, ◌≤◌, ◌^◌, Bool, true, List, [], length, map, filter, take, is_some, unwrap_or, Vec}
 use Rattle.std.specs.Option.{option_map_or}
 use Rattle.std.specs.Ordering.{nat_cmp}
 use Rattle.std.specs.Cmp.Lexicographic.{slice_cmp}
@@ -10,12 +10,15 @@ use Rattle.yard_model.specs.declared.event.Command.{Command}
 use Rattle.yard_model.specs.declared.fact.Fact.{Fact}
 use Rattle.yard_model.specs.declared.incarnation.Slot.TheVariants as slot
 use Rattle.yard_model.specs.declared.entry.QueueEntry.{QueueEntry}
-use Rattle.yard_model.specs.Charter.{counted}
 use Rattle.yard_model.specs.Entry.{queue_fact}
 use Rattle.yard_model.specs.Genuine.{is_producer}
 use Rattle.yard_model.specs.Script.{Script, is_name, sends}
 use Rattle.yard_model.specs.SlotReads as reads
 use Rattle.yard_model.specs.Lawful.{own, is_held}
+
+-- how many are counted of a name
+abbrev pub counted : BTreeMap (List ℕ) ℕ → List ℕ → ℕ
+counted counts e = unwrap_or (get (slice_cmp nat_cmp) counts e) 0
 
 -- the commands to a name among sends, in order
 abbrev pub commands_to : List ℕ → List Sending → List Command

@@ -4,7 +4,7 @@ ghost use Rattle.std.specs.Prelude.{◌≡◌, ℕ, List, true, is_some, Some, I
 ghost use Rattle.std.specs.Ordering.{nat_cmp};
 ghost use Rattle.std.specs.Cmp.Lexicographic.{slice_cmp};
 ghost use Rattle.std.specs.BTreeMap.{get, Updates};
-ghost use Rattle.yard_model.specs.Charter.{counted};
+ghost use Rattle.durable_queue.specs.Kept.{counted};
 ghost use Rattle.durable_queue.specs.Kept.{HasCounts};
 
 use std::alloc::{AllocError, Global};

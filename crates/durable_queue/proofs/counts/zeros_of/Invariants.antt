@@ -1,5 +1,5 @@
 use Rattle.std.proofs.Common.{◌≡◌, ℕ, List, take}
-use Rattle.yard_model.specs.Charter.{counted}
+use Rattle.durable_queue.specs.Kept.{counted}
 use Rattle.durable_queue.specs.Kept.{HasCounts}
 use Rattle.durable_queue.proofs.counts.zeros_of.Given as goal
 

@@ -10,5 +10,5 @@ use Rattle.coordinator_state.proofs.store.CoordStore.new.Goals as goal
 
 pub invariant_of-result : goal.invariant_of-result
 invariant_of-result c =
-    subst (λ (l : List Fact). IsKept c.of-made.result.script l c.in_ok-homes.homes 0 false) (sym (ap (map coord_fact) c.new-2.ensures.items))
-    (none_kept c.of-made.result.script c.in_ok-homes.homes c.in_ok-homes.ensures.regions (λ s h. ap (λ hs. at hs s) c.in_ok-homes.ensures.homes ∙ get_or-replicate 128 s None None h))
+    subst (λ (l : List Fact). IsKept c.of.result.value l c.in_ok-homes.homes 0 false) (sym (ap (map coord_fact) c.new-2.ensures.items))
+    (none_kept c.of.result.value c.in_ok-homes.homes c.in_ok-homes.ensures.regions (λ s h. ap (λ hs. at hs s) c.in_ok-homes.ensures.homes ∙ get_or-replicate 128 s None None h))

@@ -3,7 +3,7 @@ use Rattle.std.specs.Prelude.{map, length, slice_get, slice_index_or, Some}
 use Rattle.yard_model.specs.declared.charter.Sending.{Sending}
 use Rattle.yard_model.specs.declared.entry.QueueEntry.TheVariants as entry
 use Rattle.yard_model.specs.declared.fact.Fact.{Fact}
-use Rattle.yard_model.specs.Charter.{counted}
+use Rattle.durable_queue.specs.Kept.{counted}
 use Rattle.yard_model.specs.Entry.{queue_fact}
 use Rattle.yard_model.specs.Equal.{is_sending}
 use Rattle.yard_model.specs.Lawful.{is_held}

@@ -198,6 +198,13 @@ impl CoordStore {
         self.epoch
     }
 
+    /// Whether the last grant stands: no entry freed it.
+    pub fn is_leased(&self) -> bool
+        ensures { result ≡ is_held self.now.entries }
+    {
+        self.leased
+    }
+
     /// How many more entries are appended with no memory taken.
     pub fn spare(&self) -> u32
         ensures value { result ≡ self.now.spare }

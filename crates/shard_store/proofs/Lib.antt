@@ -3,3 +3,4 @@ mod PositionsLaws
 mod DifferentLaws
 mod KeptLaws
 mod ShelfLaws
+mod StoresLaws

@@ -1,3 +1,4 @@
 pub mod Leased
 pub mod Shelf
 pub mod Shelved
+pub mod Stores

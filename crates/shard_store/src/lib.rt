@@ -6,5 +6,12 @@ mod list;
 mod names;
 mod positions;
 mod shelf;
+mod store;
+mod stores;
 
 pub use shelf::ShardStore;
+pub use store::{Store, StoreRef};
+pub use stores::Stores;
+
+#[cfg(test)]
+mod tests;

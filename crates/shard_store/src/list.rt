@@ -120,6 +120,13 @@ impl SlotList {
         self.epoch
     }
 
+    /// Whether the last grant stands.
+    pub(crate) fn is_leased(&self) -> bool
+        ensures { result ≡ is_held self.now.entries }
+    {
+        self.leased
+    }
+
     /// How many entries more take no memory.
     pub(crate) fn spare(&self) -> u32
         ensures { result ≡ self.now.spare }

@@ -20,9 +20,7 @@ use std::alloc::{AllocError, Global};
 use std::marker::{Model, PhantomData};
 use std::snapshot::Snapshot as Ghost;
 use yard_model::laws::slot_law;
-use yard_model::{
-    Cause, Charter, EntityName, Incarnation, Record, ShardEntry, ShardNo, State,
-};
+use yard_model::{Cause, Charter, EntityName, Incarnation, Record, ShardEntry, ShardNo, State};
 
 /// The store of one shard, of the charter that it was made for; seen as that charter's script, the
 /// shard, the list of the shard's slot as facts, and a spare: so many entries more take no memory.
@@ -112,6 +110,20 @@ impl ShardStore {
         ensures { result ≡ epoch self.now.entries }
     {
         self.list.epoch()
+    }
+
+    /// Whether the last grant stands: no entry freed it.
+    pub fn is_leased(&self) -> bool
+        ensures { result ≡ is_held self.now.entries }
+    {
+        self.list.is_leased()
+    }
+
+    /// How many entries there are.
+    pub fn len(&self) -> u32
+        ensures { result ≡ length self.now.entries }
+    {
+        self.list.entries().len() as u32
     }
 
     /// How many entries more take no memory.

@@ -1,0 +1,189 @@
+//! The stores of all slots.
+ghost use Rattle.std.specs.Prelude.{◌≡◌, ◌+◌, ◌-◌, ◌<◌, ◌≤◌, [], nat_lt, map, IfOk, if◌then◌else◌};
+ghost use Rattle.yard_model.specs.declared.incarnation.Slot.TheVariants as slot;
+ghost use Rattle.yard_model.specs.Entry.{shard_fact, coord_fact, queue_fact};
+ghost use Rattle.yard_model.specs.Script.{Script, setting};
+ghost use Rattle.yard_model.specs.Trace.{no_lists};
+ghost use Rattle.shard_store.specs.Stores.{IsNew, AreNew, AreHomes, slot_at, lists_at, entries_at};
+
+use crate::shelf::ShardStore;
+use crate::store::Store;
+use coordinator_state::CoordStore;
+use durable_queue::QueueStore;
+use std::alloc::{AllocError, Global};
+use std::marker::{Model, PhantomData};
+use std::snapshot::Snapshot as Ghost;
+use yard_model::{
+    Charter, CoordEntry, Incarnation, Lists, ProducerNo, QueueEntry, ShardEntry, ShardNo,
+};
+
+/// How many entries a store takes with no memory while it isn't leased.
+const SPARE: u32 = 100;
+
+/// The store of each slot of a charter: the shards, the coordinator, the queues. Each one that isn't
+/// leased takes a hundred entries with no memory taken; seen as the charter's script and the stores
+/// by place.
+#[derive(Drop)]
+pub struct Stores {
+    script: Ghost<Charter>,
+    shards: u8,
+    places: Vec<Option<Store>>,
+    holds: PhantomData<(Incarnation, ShardEntry, CoordEntry, QueueEntry)>,
+}
+
+impl Model for Stores {
+    ghost use Rattle.std.specs.Prelude.{◌≡◌};
+    ghost use Rattle.shard_store.specs.Stores.{Shelves, AreHomes};
+
+    ghost Value = { Shelves };
+
+    ghost view = { λ s. record { script = s.script.value; places = s.places.items } };
+
+    ghost invariant = { λ s. AreHomes s.script.value s.places.items × (s.shards ≡ s.script.value.config.shards) };
+}
+
+impl Stores {
+    /// The empty store of each slot. The only error is want of memory.
+    #[tactic(auto, using(crate::proofs::StoresLaws::homes_of, crate::proofs::StoresLaws::no_entries))]
+    pub fn new(alloc: Global, charter: &Charter) -> Result<Stores, AllocError>
+        ensures script { IfOk result (λ s. s.script ≡ charter.now) }
+        ensures none { IfOk result (λ s. lists_at charter.now.config s.places ≡ no_lists (setting charter.now)) }
+    {
+        let shards = charter.config().shards;
+        let places = new_places(alloc, charter)?;
+        Ok(Stores {
+            script: Ghost::of(charter),
+            shards,
+            places,
+            holds: PhantomData,
+        })
+    }
+}
+
+/// The empty stores, by place. The only error is want of memory.
+#[tactic(auto, using(crate::proofs::StoresLaws::none_yet, crate::proofs::StoresLaws::new_more))]
+fn new_places(alloc: Global, charter: &Charter) -> Result<Vec<Option<Store>>, AllocError>
+    ensures { IfOk result (λ places. AreNew charter.now places.items (charter.now.config.shards + charter.now.config.producers + 1)) }
+{
+    let config = charter.config();
+    let count = config.shards as u32 + config.producers as u32 + 1;
+    let mut places = Vec::new(alloc);
+    for place in 0..count {
+        let store = new_store(alloc, charter, place)?;
+        places.push(Some(store))?;
+    }
+    Ok(places)
+}
+
+/// The empty store of the slot at this place. The only error is want of memory.
+#[tactic(auto, using(crate::proofs::StoresLaws::shard_at, crate::proofs::StoresLaws::coordinator_at, crate::proofs::StoresLaws::queue_at))]
+fn new_store(alloc: Global, charter: &Charter, place: u32) -> Result<Store, AllocError>
+    requires { place < charter.now.config.shards + charter.now.config.producers + 1 }
+    ensures { IfOk result (IsNew charter.now (slot_at charter.now.config place)) }
+{
+    let config = charter.config();
+    let shards = config.shards as u32;
+    if place < shards {
+        return new_shard(alloc, charter, place as u8);
+    }
+    if place == shards {
+        return new_coordinator(alloc, charter);
+    }
+    new_queue(alloc, charter, (place - shards) as u8)
+}
+
+/// The empty store of a shard. The only error is want of memory.
+fn new_shard(alloc: Global, charter: &Charter, s: u8) -> Result<Store, AllocError>
+    requires { s < charter.now.config.shards }
+    ensures { IfOk result (IsNew charter.now (slot.Shard s)) }
+{
+    let shards = charter.config().shards;
+    let Some(shard) = ShardNo::new(s, shards) else {
+        unreachable!()
+    };
+    let mut store = ShardStore::new(alloc, charter, shard)?;
+    store.reserve(SPARE)?;
+    Ok(Store::Shard(store))
+}
+
+/// The empty store of the coordinator. The only error is want of memory.
+fn new_coordinator(alloc: Global, charter: &Charter) -> Result<Store, AllocError>
+    ensures { IfOk result (IsNew charter.now slot.Coordinator) }
+{
+    let mut store = CoordStore::new(alloc, charter)?;
+    store.reserve(SPARE)?;
+    Ok(Store::Coordinator(store))
+}
+
+/// The empty queue of a producer. The only error is want of memory.
+fn new_queue(alloc: Global, charter: &Charter, p: u8) -> Result<Store, AllocError>
+    requires above { 0 < p }
+    requires within { p ≤ charter.now.config.producers }
+    ensures { IfOk result (IsNew charter.now (slot.Queue p)) }
+{
+    charter.config();
+    let Some(producer) = ProducerNo::new(p) else {
+        unreachable!()
+    };
+    let mut store = QueueStore::new(alloc, charter, producer)?;
+    store.reserve(SPARE)?;
+    Ok(Store::Queue(store))
+}
+
+impl Lists for Stores {
+    ghost lists = { λ s. lists_at s.script.config s.places };
+
+    fn shard(&self, s: ShardNo) -> &[ShardEntry] {
+        shard_entries(self.places.as_slice(), self.shards, s)
+    }
+
+    fn coordinator(&self) -> &[CoordEntry] {
+        coordinator_entries(self.places.as_slice(), self.shards)
+    }
+
+    fn queue(&self, p: ProducerNo) -> &[QueueEntry] {
+        queue_entries(self.places.as_slice(), self.shards, p)
+    }
+}
+
+/// The entries of a shard; none where there is no such shard.
+fn shard_entries(places: &[Option<Store>], shards: u8, s: ShardNo) -> &[ShardEntry]
+    requires { (c : Script) × AreHomes c places.now × (shards ≡ c.config.shards) }
+    ensures { map (shard_fact s) result.now ≡ (if nat_lt s shards then entries_at places.now s else []) }
+{
+    let place = s.get() as usize;
+    if s.get() >= shards {
+        return &[];
+    }
+    match &places[place] {
+        Some(Store::Shard(store)) => store.entries(),
+        _ => &[],
+    }
+}
+
+/// The coordinator's entries.
+fn coordinator_entries(places: &[Option<Store>], shards: u8) -> &[CoordEntry]
+    requires { (c : Script) × AreHomes c places.now × (shards ≡ c.config.shards) }
+    ensures { map coord_fact result.now ≡ entries_at places.now shards }
+{
+    match &places[shards as usize] {
+        Some(Store::Coordinator(store)) => store.entries(),
+        _ => &[],
+    }
+}
+
+/// The entries of a producer's queue; none where there is no such producer.
+fn queue_entries(places: &[Option<Store>], shards: u8, p: ProducerNo) -> &[QueueEntry]
+    requires { (c : Script) × AreHomes c places.now × (shards ≡ c.config.shards) }
+    ensures entries { map (queue_fact p) result.now ≡ entries_at places.now (shards + p) }
+    ensures above { 0 < p }
+{
+    let place = shards as usize + p.get() as usize;
+    if place >= places.len() {
+        return &[];
+    }
+    match &places[place] {
+        Some(Store::Queue(store)) => store.entries(),
+        _ => &[],
+    }
+}

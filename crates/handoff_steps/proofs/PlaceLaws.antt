@@ -1,6 +1,6 @@
 -- The places of a round, and the shards that move.
-use Rattle.std.proofs.Common.{◌≡◌, ◌≢◌, ℕ, zero, suc, ◌+◌, ◌<◌, Bool, true, false, not, ◌&&◌, ◌||◌, List, [], ◌∷◌, ◌++◌, length, map, drop, get_or, append-nil, ap, sym, ◌∙◌, refl, arith, if◌then◌else◌, Option, Some, None}
-use Rattle.std.specs.Prelude.{◌==◌, filter, slice_set, option_map, IsSome}
+use Rattle.std.proofs.Common.{◌≡◌, ◌≢◌, ℕ, zero, suc, ◌+◌, ◌<◌, Bool, true, false, not, ◌&&◌, ◌||◌, List, [], ◌∷◌, ◌++◌, length, map, drop, get_or, append-nil, ap, sym, subst, ◌∙◌, refl, arith, if◌then◌else◌, Option, Some, None}
+use Rattle.std.specs.Prelude.{◌==◌, filter, find, slice_set, option_map, IsSome}
 use Rattle.std.specs.List.{list_any}
 use Rattle.std.proofs.lemmas.Bool.{eqb-true, eqb-false, false≢true}
 use Rattle.std.proofs.lemmas.List.{length-map, map-set, map-append, get_or-map, drop_more}
@@ -240,6 +240,19 @@ begun_from picks loads h a (suc n) =
     ap (λ l. l ++ moving_from (a + 1) (map (first_place picks loads) (numbers (a + 1) n))) (first_one a loads (has picks a) (h a))
     ∙ (ap (λ l. (if has picks a then begins loads a ∷ [] else []) ++ l) (begun_from picks loads h (a + 1) n)
     ∙ begun_by (has picks a) a loads (filter (has picks) (numbers (a + 1) n)))
+
+home_by : (l : Load) (b any : Bool) (o : Option Incarnation) → (any ≡ true → IsSome o) → (b || any) ≡ true → IsSome (if b then Some l.region else o)
+home_by l true any o next h = refl
+home_by l false any o next h = next h
+
+home_more : (l : Load) (b : Bool) (o : Option Load) → (if b then Some l.region else option_map (λ l. l.region) o) ≡ option_map (λ l. l.region) (if b then Some l else o)
+home_more l true o = refl
+home_more l false o = refl
+
+-- a shard of some load has a home
+pub home_some : (s : ℕ) (loads : List Load) → list_any (λ l. has l.shards s) loads ≡ true → IsSome (home_in loads s)
+home_some s [] h = h
+home_some s (l ∷ loads) h = subst (λ (o : Option Incarnation). IsSome o) (home_more l (has l.shards s) (find (λ l. has l.shards s) loads)) (home_by l (has l.shards s) _ (home_in loads s) (home_some s loads) h)
 
 pub begun : (picks : ℕ) (loads : List Load) → ((s : ℕ) → has picks s ≡ true → IsSome (home_in loads s)) → moving_from 0 (map (first_place picks loads) all_shards) ≡ map (begins loads) (shards_in picks)
 unfolding all_shards

@@ -1,11 +1,11 @@
 //! The round.
-ghost use Rattle.std.specs.Prelude.{◌≡◌, ℕ, ◌<◌, ◌≤◌, true, false, not, ◌==◌, ◌&&◌, length, take, map, filter, option_map, IsSome, if◌then◌else◌};
+ghost use Rattle.std.specs.Prelude.{◌≡◌, ℕ, ◌<◌, ◌≤◌, true, false, not, ◌==◌, ◌&&◌, length, take, map, filter, option_map, if◌then◌else◌};
 ghost use Rattle.std.specs.List.{list_any};
 ghost use Rattle.yard_model.specs.ShardSet.{has};
 ghost use Rattle.yard_model.specs.Words.{is_among, is_empty};
 ghost use Rattle.yard_model.specs.Coordinator.{not_awaited};
 ghost use Rattle.handoff_steps.specs.declared.step.Step.TheVariants as step;
-ghost use Rattle.handoff_steps.specs.Places.{moving, place_at, with_place, one_of, is_open, is_awaiting, is_owned, acknowledged_by, ended, next_step, place_without, step_without, takes_ack, takes_stop, moving_from, first_place, home_in, regions_of, all_shards, shards_in, begins};
+ghost use Rattle.handoff_steps.specs.Places.{moving, place_at, with_place, one_of, is_open, is_awaiting, is_owned, acknowledged_by, ended, next_step, place_without, step_without, takes_ack, takes_stop, moving_from, first_place, regions_of, all_shards, shards_in, begins};
 ghost use Rattle.handoff_steps.specs.Seen.{seen};
 
 use crate::cell::Cell;
@@ -40,7 +40,7 @@ impl Round {
     /// the loads is awaited.
     pub fn begin(stamp: Stamp, picks: ShardSet, loads: &[Load]) -> Round
         requires fits { length loads.now ≤ 16 }
-        requires homes { (s : ℕ) → has picks s ≡ true → IsSome (home_in loads.now s) }
+        requires homes { (s : ℕ) → has picks s ≡ true → list_any (λ l. has l.shards s) loads.now ≡ true }
         ensures stamp { result.stamp ≡ stamp }
         ensures places { result.places ≡ map (first_place picks loads.now) all_shards }
         ensures moving { moving result ≡ map (begins loads.now) (shards_in picks) }
@@ -95,6 +95,7 @@ impl Round {
     /// Takes an acknowledgement. Where it is waited for, its sender isn't awaited any more; where
     /// nobody else is, the owner is to hand the shard off.
     pub fn acked(&mut self, s: ShardNo, stamp: Stamp, from: Incarnation) -> Step
+        ensures shard { filter (λ x. x.shard == s) (moving self.old) ≡ one_of s (place_at self.old s) }
         ensures ignored { takes_ack self.old s stamp from ≡ false → result ≡ step.Ignored stamp from }
         ensures unchanged { takes_ack self.old s stamp from ≡ false → self.new ≡ self.old }
         ensures answer { takes_ack self.old s stamp from ≡ true → result ≡ next_step (acknowledged_by from (place_at self.old s)) }
@@ -117,6 +118,7 @@ impl Round {
     /// Takes the word of a shard's owner that it has stopped it; where that is waited for, the
     /// shard is done.
     pub fn stopped(&mut self, s: ShardNo, stamp: Stamp, from: Incarnation) -> Step
+        ensures shard { filter (λ x. x.shard == s) (moving self.old) ≡ one_of s (place_at self.old s) }
         ensures ignored { takes_stop self.old s stamp from ≡ false → result ≡ step.Ignored stamp from }
         ensures unchanged { takes_stop self.old s stamp from ≡ false → self.new ≡ self.old }
         ensures answer { takes_stop self.old s stamp from ≡ true → result ≡ step.Done }
@@ -139,6 +141,7 @@ impl Round {
     /// was the last that was awaited, the owner is to hand the shard off.
     pub fn region_gone(&mut self, s: ShardNo, who: Incarnation) -> Step
         requires open { is_open (place_at self.old s) ≡ true }
+        ensures shard { filter (λ x. x.shard == s) (moving self.old) ≡ one_of s (place_at self.old s) }
         ensures answer { result ≡ step_without who (place_at self.old s) }
         ensures place { self.new ≡ with_place self.old s (place_without who (place_at self.old s)) }
         ensures owner { is_owned who (place_at self.old s) ≡ true → moving self.new ≡ filter (λ x. not (x.shard == s)) (moving self.old) }

@@ -28,7 +28,7 @@ pub record IsSome (xs : List Share) : Type 0 where
   pub largest : largest xs ≡ Some top
   pub smallest : smallest xs ≡ Some bottom
 
-abbrev some_of : (x : Share) (xs : List Share) → IsSome (x ∷ xs)
+abbrev pub some_of : (x : Share) (xs : List Share) → IsSome (x ∷ xs)
 some_of x xs = record { top = _; bottom = _; largest = refl; smallest = refl }
 
 pub none_picked : (n : ℕ) (xs : List Share) → AreEvenShares xs → picks n xs ≡ []

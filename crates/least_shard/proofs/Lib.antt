@@ -1,4 +1,5 @@
 pub mod BestLaws
 pub mod EvenLaws
+pub mod HomeLaws
 pub mod MemberLaws
 pub mod PickLaws

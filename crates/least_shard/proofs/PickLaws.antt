@@ -117,7 +117,7 @@ has_rest xs x y fair pick =
     subst (λ (z : Share). z.count ≤ max (length z.rest) (y.count + 1)) x_at (subst (λ (w : Share). (share_at xs pick.largest.place).count ≤ max (length (share_at xs pick.largest.place).rest) (w.count + 1)) y_at there) in
     omega (arith, pick.apart)
 
-abbrev picked_by : Share → Bool → Bool → Share
+abbrev pub picked_by : Share → Bool → Bool → Share
 picked_by z one two =
     if one then record { region = z.region; rest = drop 1 z.rest; count = z.count - 1 }
     else if two then record { region = z.region; rest = z.rest; count = z.count + 1 }

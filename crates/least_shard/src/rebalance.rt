@@ -1,6 +1,7 @@
 //! Which shards a round moves.
-ghost use Rattle.std.specs.Prelude.{◌≡◌, ℕ, ◌+◌, ◌<◌, ◌≤◌, [], ◌∷◌, length, map, take, Some, IfSome, IfNone};
-ghost use Rattle.yard_model.specs.ShardSet.{set_of};
+ghost use Rattle.std.specs.Prelude.{◌≡◌, ℕ, ◌+◌, ◌<◌, ◌≤◌, true, [], ◌∷◌, length, map, take, Some, IfSome, IfNone};
+ghost use Rattle.std.specs.List.{list_any};
+ghost use Rattle.yard_model.specs.ShardSet.{has, set_of};
 ghost use Rattle.yard_model.specs.Coordinator.{largest, smallest, with_pick, picks};
 ghost use Rattle.least_shard.specs.Spread.{shares_of, AreOfDifferentRegions, AreEven};
 ghost use Rattle.least_shard.specs.Fair.{IsFair, CountsWithin, AreEvenShares, moved};
@@ -15,6 +16,7 @@ use yard_model::{Incarnation, Load, NodeNo, ShardNo, ShardSet};
 pub fn round(loads: &[Load], limit: u8) -> ShardSet
     requires fits { length loads.now ≤ 16 }
     ensures picks { AreOfDifferentRegions loads.now → result ≡ set_of (picks limit (shares_of loads.now)) }
+    ensures homes { AreOfDifferentRegions loads.now → (s : ℕ) → has result s ≡ true → list_any (λ l. has l.shards s) loads.now ≡ true }
 
     // It is empty exactly where there is nothing to even out.
     ensures none { AreOfDifferentRegions loads.now → AreEven loads.now → result ≡ 0 }

@@ -1,9 +1,10 @@
 use Rattle.std.proofs.Common.{◌∙◌, ap, sym, subst}
-use Rattle.yard_model.specs.ShardSet.{set_of}
+use Rattle.yard_model.specs.ShardSet.{has, set_of}
 use Rattle.yard_model.specs.Coordinator.{picks}
 use Rattle.least_shard.specs.Spread.{shares_of}
 use Rattle.least_shard.specs.Fair.{IsFair, CountsWithin}
 use Rattle.least_shard.proofs.EvenLaws.{none_picked, even_where_none, few_picks, even_moved, even_loads, even_shares}
+use Rattle.least_shard.proofs.HomeLaws.{picks_of_loads}
 use Rattle.least_shard.proofs.PickLaws.{fair_first, counts_first}
 use Rattle.least_shard.proofs.rebalance.round.Goals as goal
 
@@ -28,3 +29,7 @@ returns-clause-few c = few_picks c.args.limit (shares_of c.args.loads.now)
 
 pub returns-clause-moved : goal.returns-clause-moved
 returns-clause-moved c = even_moved c.args.limit (shares_of c.args.loads.now)
+
+pub returns-clause-homes : goal.returns-clause-homes
+returns-clause-homes c = λ different s h.
+    picks_of_loads s c.args.limit c.args.loads.now different (ap (λ n. has n s) (sym (returns-clause-picks c different)) ∙ h)

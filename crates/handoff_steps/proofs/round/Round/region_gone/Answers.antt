@@ -1,7 +1,7 @@
 use Rattle.std.proofs.Common.{take, get_or, if◌then◌else◌, ap, sym, ◌∙◌, arith}
 use Rattle.handoff_steps.specs.Places.{place_at, with_place, moving, acknowledged_by, ended, place_without}
 use Rattle.handoff_steps.specs.Seen.{seen}
-use Rattle.handoff_steps.proofs.PlaceLaws.{placed, moving_with, all_there, ack, ack_acts, ack_here, stop, stop_acts, stop_here}
+use Rattle.handoff_steps.proofs.PlaceLaws.{found, placed, moving_with, all_there, ack, ack_acts, ack_here, stop, stop_acts, stop_here}
 use Rattle.handoff_steps.proofs.round.Round.region_gone.Goals as goal
 
 pub returns-then-is_owned-clause-place : goal.returns-then-is_owned-clause-place
@@ -41,3 +41,9 @@ returns-clause-other c = λ other.
     let all = all_there (seen (take i.count i.regions)) v i.stamp i.cells c.self.view_is c.self.invariant.2 in
     ap moving (returns-clause-place c ∙ ap (λ b. with_place v s (if b then ended p else acknowledged_by c.args.who p)) other)
     ∙ moving_with v s (ack s c.args.who) (ack_acts s c.args.who) (acknowledged_by c.args.who p) (omega (arith, c.get-place.ensures)) (ack_here s c.args.who p)
+
+pub returns-clause-shard : goal.returns-clause-shard
+returns-clause-shard c = found c.args.s c.args.self.now.places 0 c.args.s (omega arith)
+
+pub returns-then-is_owned-clause-shard : goal.returns-then-is_owned-clause-shard
+returns-then-is_owned-clause-shard c = found c.args.s c.args.self.now.places 0 c.args.s (omega arith)

@@ -48,6 +48,10 @@ walk_length next p (suc n) = ap suc (walk_length next (slice_index next p) n)
 pub chains_at : (next : List ℕ) (cs : List Chain) (k : ℕ) → k < length cs → get_or (chains_of next cs) k [] ≡ places_of next (chain_at cs k)
 chains_at next cs k h = get_or-map (places_of next) cs k no_chain
 
+-- how many places a chain has
+pub chain_len : (next : List ℕ) (cs : List Chain) (k : ℕ) → k < length cs → (chain_at cs k).len ≡ length (get_or (chains_of next cs) k [])
+chain_len next cs k h = sym (ap length (chains_at next cs k h) ∙ walk_length next (chain_at cs k).first (chain_at cs k).len)
+
 same_is : (q p : ℕ) → (q == p) ≡ true → q ≡ p
 same_is q p e = grind (arith, nat_tests)
 
@@ -66,7 +70,7 @@ times_front : (next : List ℕ) (q n f : ℕ) → slice_index (walk next f (suc 
 times_front next q zero f e = ap (λ b. cond b 1 0 + 0) (is_same f q e)
 times_front next q (suc n) f e = ap (λ m. cond (f == q) 1 0 + m) (times_front next q n (slice_index next f) e) ∙ omega arith
 
-none_first : (q f : ℕ) (n : ℕ) → cond (f == q) 1 0 + n ≡ 0 → (f ≢ q) × (n ≡ 0)
+pub none_first : (q f : ℕ) (n : ℕ) → cond (f == q) 1 0 + n ≡ 0 → (f ≢ q) × (n ≡ 0)
 none_first q f n e = step (f == q) refl e
   where
     step : (b : Bool) → (f == q) ≡ b → cond b 1 0 + n ≡ 0 → (f ≢ q) × (n ≡ 0)
@@ -236,13 +240,13 @@ module _ (next : List ℕ) (cs : List Chain) (k p : ℕ) (linked : IsLinked next
       same_lists (chains_of next' (set cs k c)) (set (chains_of next cs) k (get_or (chains_of next cs) k [] ++ p ∷ []))
       (length-map (set cs k c) (places_of next') ∙ (length-set cs k c ∙ sym (length-set (chains_of next cs) k (get_or (chains_of next cs) k [] ++ p ∷ []) ∙ length-map cs (places_of next))))
       (λ j d g.
-          let far : j < length (set cs k c) = omega (arith, length-map (set cs k c) (places_of next')) in
-          let inside : j < length cs = omega (arith, length-set cs k c) in
-          let there : j < length (set (chains_of next cs) k (get_or (chains_of next cs) k [] ++ p ∷ [])) = omega (arith, length-set (chains_of next cs) k (get_or (chains_of next cs) k [] ++ p ∷ []), length-map cs (places_of next)) in
-          get_or_any (chains_of next' (set cs k c)) j d [] g
-          ∙ (chains_at next' (set cs k c) j far
-          ∙ (step j inside (j == k) refl
-          ∙ get_or_any (set (chains_of next cs) k (get_or (chains_of next cs) k [] ++ p ∷ [])) j [] d there)))
+      let far : j < length (set cs k c) = omega (arith, length-map (set cs k c) (places_of next')) in
+      let inside : j < length cs = omega (arith, length-set cs k c) in
+      let there : j < length (set (chains_of next cs) k (get_or (chains_of next cs) k [] ++ p ∷ [])) = omega (arith, length-set (chains_of next cs) k (get_or (chains_of next cs) k [] ++ p ∷ []), length-map cs (places_of next)) in
+      get_or_any (chains_of next' (set cs k c)) j d [] g
+      ∙ (chains_at next' (set cs k c) j far
+      ∙ (step j inside (j == k) refl
+      ∙ get_or_any (set (chains_of next cs) k (get_or (chains_of next cs) k [] ++ p ∷ [])) j [] d there)))
     where
       step : (j : ℕ) → j < length cs → (b : Bool) → (j == k) ≡ b → places_of next' (chain_at (set cs k c) j) ≡ get_or (set (chains_of next cs) k (get_or (chains_of next cs) k [] ++ p ∷ [])) j []
       step j inside true t =

@@ -1,2 +1,2 @@
+pub mod CellLaws
 pub mod ChainLaws
-pub mod PairsLaws

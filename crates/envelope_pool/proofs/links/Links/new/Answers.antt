@@ -1,4 +1,4 @@
-use Rattle.std.proofs.Common.{◌≡◌, sym, ap, ◌∙◌, subst, drop, arith}
+use Rattle.std.proofs.Common.{sym, ap, ◌∙◌, subst, drop, arith}
 use Rattle.envelope_pool.specs.Chains.{chains_of, IsLinked}
 use Rattle.envelope_pool.proofs.ChainLaws.{fresh, none_places}
 use Rattle.envelope_pool.proofs.links.Links.new.Goals as goal

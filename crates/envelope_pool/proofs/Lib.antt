@@ -1,1 +1,2 @@
-pub mod PairsLaws
+pub mod CellLaws
+pub mod ChainLaws

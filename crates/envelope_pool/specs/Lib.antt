@@ -1,2 +1,3 @@
+pub mod Cells
+pub mod Chains
 pub mod Keyed
-pub mod Pairs

@@ -2,6 +2,7 @@
 //! have room for so many items.
 #![tactic(auto)]
 
+mod links;
 mod pool;
 
 pub use pool::{Full, Pool};

@@ -1,10 +1,13 @@
 //! Lists of items by key, with one bound on how many items there are in all.
 ghost use Rattle.std.specs.Prelude.{◌≡◌, ℕ, ◌+◌, ◌-◌, ◌<◌, ◌≤◌, ◌↔◌, [], ◌∷◌, ◌++◌, length, drop, replicate, slice_set, IfOk, IfErr, OnOk, OnErr, MatchOption};
 ghost use Rattle.envelope_pool.specs.Keyed.{list_of, held};
-ghost use Rattle.envelope_pool.specs.Pairs.{items_of, place_of};
 
+use crate::links::Links;
 use std::alloc::{AllocError, Global};
 use std::marker::Model;
+
+/// The chain of the free cells; a key's chain comes after it.
+const FREE: usize = 0;
 
 /// An item that found no free cell, handed back.
 #[derive(Clone, Copy, Debug)]
@@ -17,23 +20,23 @@ pub struct Full<T> {
 /// takes no memory.
 #[derive(Drop)]
 pub struct Pool<T> {
-    pairs: Vec<(u16, T)>,
+    links: Links,
+    items: Vec<Option<T>>,
     cells: u16,
-    keys: u16,
 }
 
 impl<T> Model for Pool<T> {
-    ghost use Rattle.std.specs.Prelude.{vec_capacity};
     ghost use Rattle.envelope_pool.specs.Keyed.{Keyed, keyed, keyed_code};
-    ghost use Rattle.envelope_pool.specs.Pairs.{IsKept, lists_of};
+    ghost use Rattle.envelope_pool.specs.Chains.{chains_of};
+    ghost use Rattle.envelope_pool.specs.Cells.{IsPool, lists_of};
 
     ghost Value = { Keyed T };
 
     ghost coded = { keyed_code T.code };
 
-    ghost view = { λ p. keyed (lists_of p.keys p.pairs.items) p.cells };
+    ghost view = { λ p. keyed (lists_of p.items.items (chains_of p.links.next.items p.links.chains.items)) p.cells };
 
-    ghost invariant = { λ p. IsKept p.pairs.items p.cells p.keys (vec_capacity p.pairs) };
+    ghost invariant = { λ p. IsPool p.links.next.items p.links.chains.items p.items.items p.cells };
 }
 
 impl<T: Copy> Pool<T> {
@@ -43,8 +46,13 @@ impl<T: Copy> Pool<T> {
         ensures keys { IfOk result (λ pool. length pool.lists ≡ keys) }
         ensures cells { IfOk result (λ pool. pool.cells ≡ cells) }
     {
-        let pairs = Vec::with_capacity(alloc, cells as usize)?;
-        Ok(Pool { pairs, cells, keys })
+        let links = Links::new(alloc, cells, keys)?;
+        let items = no_items(alloc, cells)?;
+        Ok(Pool {
+            links,
+            items,
+            cells,
+        })
     }
 
     /// One item more at the end of a key's list. Where all cells are used the item comes back, and
@@ -59,13 +67,13 @@ impl<T: Copy> Pool<T> {
         ensures item { IfErr result (λ full. full.item ≡ item) }
         ensures err { OnErr result (self.new ≡ self.old) }
     {
-        if self.pairs.len() >= self.cells as usize {
+        if self.links.len(FREE) == 0 {
             return Err(Full { item });
         }
-        match self.pairs.push((key, item)) {
-            Ok(()) => Ok(()),
-            Err(_) => unreachable!(),
-        }
+        let place = self.links.take_first(FREE);
+        self.items[place as usize] = Some(item);
+        self.links.put_last(key as usize + 1, place);
+        Ok(())
     }
 
     /// Takes the oldest item of a key's list out; None exactly where that list is empty.
@@ -76,12 +84,13 @@ impl<T: Copy> Pool<T> {
         ensures keys { length self.new.lists ≡ length self.old.lists }
         ensures cells { self.new.cells ≡ self.old.cells }
     {
-        let place = first_place(self.pairs.as_slice(), key);
-        if place >= self.pairs.len() {
+        let chain = key as usize + 1;
+        if self.links.len(chain) == 0 {
             return None;
         }
-        let pair = self.pairs.remove(place);
-        Some(pair.1)
+        let place = self.links.take_first(chain);
+        self.links.put_last(FREE, place);
+        self.items[place as usize]
     }
 
     /// How many items a key's list has.
@@ -89,7 +98,7 @@ impl<T: Copy> Pool<T> {
         requires { key < length self.now.lists }
         ensures { result ≡ length (list_of self.now key) }
     {
-        count(self.pairs.as_slice(), key) as u16
+        self.links.len(key as usize + 1)
     }
 
     /// How many items there are in all.
@@ -97,34 +106,17 @@ impl<T: Copy> Pool<T> {
         ensures count { result ≡ held self.now }
         ensures within { result ≤ self.now.cells }
     {
-        self.pairs.len() as u16
+        self.cells - self.links.len(FREE)
     }
 }
 
-// The place of the first pair of a key, or the length.
-fn first_place<T: Copy>(pairs: &[(u16, T)], key: u16) -> usize
-    ensures { result ≡ place_of key pairs.now }
+/// So many cells with nothing in them.
+fn no_items<T: Copy>(alloc: Global, cells: u16) -> Result<Vec<Option<T>>, AllocError>
+    ensures { IfOk result (λ v. length v.items ≡ cells) }
 {
-    let mut place = 0;
-    while place < pairs.len() {
-        if pairs[place].0 == key {
-            return place;
-        }
-        place += 1;
+    let mut items = Vec::new(alloc);
+    for _ in 0..cells {
+        items.push(None)?;
     }
-    place
-}
-
-// How many pairs are of a key.
-fn count<T: Copy>(pairs: &[(u16, T)], key: u16) -> usize
-    ensures count { result ≡ length (items_of key pairs.now) }
-    ensures within { result ≤ length pairs.now }
-{
-    let mut found = 0;
-    for pair in pairs {
-        if pair.0 == key {
-            found += 1;
-        }
-    }
-    found
+    Ok(items)
 }

@@ -97,10 +97,20 @@ fn each_slot_has_an_empty_store(rt: HostRuntime) -> Result<(), Fail> {
     let charter = one_send(alloc, p, a)?;
     let stores = passed(Stores::new(alloc, &charter)?);
     assert_eq!(rt; stores.shard(shard_of(&a, 10)).len(), 0);
-    assert_eq!(rt; stores.shard(ShardNo::new(10, 128).ok_or("10 is a shard")?).len(), 0);
+    assert_eq!(rt;
+        stores
+            .shard(ShardNo::new(10, 128).ok_or("10 is a shard")?)
+            .len(),
+        0
+    );
     assert_eq!(rt; stores.coordinator().len(), 0);
     assert_eq!(rt; stores.queue(p).len(), 0);
-    assert_eq!(rt; stores.queue(ProducerNo::new(32).ok_or("32 is a producer")?).len(), 0);
+    assert_eq!(rt;
+        stores
+            .queue(ProducerNo::new(32).ok_or("32 is a producer")?)
+            .len(),
+        0
+    );
     let mut store = Store::Shard(ShardStore::new(alloc, &charter, shard_of(&a, 10))?);
     store.reserve(2)?;
     let who = Incarnation {

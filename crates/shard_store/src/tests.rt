@@ -95,7 +95,7 @@ fn each_slot_has_an_empty_store(rt: HostRuntime) -> Result<(), Fail> {
     let p = ProducerNo::new(1).ok_or("1 is a producer")?;
     let a = EntityName::new(b"a").ok_or("a is a name")?;
     let charter = one_send(alloc, p, a)?;
-    let stores = passed(Stores::new(alloc, &charter)?);
+    let stores = Stores::new(alloc, &charter)?;
     assert_eq!(rt; stores.shard(shard_of(&a, 10)).len(), 0);
     assert_eq!(rt;
         stores

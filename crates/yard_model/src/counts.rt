@@ -44,7 +44,7 @@ impl Counts {
     }
 
     /// One send more of a producer to a name, and how many there are now. The only error is want of
-    /// memory, and then the counts are as before.
+    /// memory.
     pub fn add(&mut self, producer: ProducerNo, entity: &EntityName) -> Result<u32, AllocError>
         ensures count { IfOk result (λ n. n ≡ count_of self.new producer entity.now) }
         ensures counts { OnOk result (CountsOneMore self.old self.new producer entity.now) }
@@ -58,7 +58,7 @@ impl Counts {
         Ok(1)
     }
 
-    /// A name more. The only error is want of memory, and then the names are as before.
+    /// A name more. The only error is want of memory.
     pub fn add_name(&mut self, entity: &EntityName) -> Result<(), AllocError>
         ensures counts { OnOk result (CountsTheSame self.old self.new) }
         ensures names { OnOk result (names self.new ≡ insert_key (slice_cmp nat_cmp) (names self.old) entity.now) }

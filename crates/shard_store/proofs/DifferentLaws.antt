@@ -1,6 +1,6 @@
 -- Names in order are different.
-use Rattle.std.proofs.Common.{◌≡◌, ◌≢◌, ℕ, ◌<◌, List, length, sym, ap, subst, ◌∙◌, refl, true, false, nat_lt, arith, true≢false}
-use Rattle.std.specs.Prelude.{Bool, [], ◌∷◌, ◌==◌, zero, suc, slice_index_or}
+use Rattle.std.proofs.Common.{◌≡◌, ◌≢◌, ℕ, ◌<◌, List, length, sym, ap, ◌∙◌, refl, true, false, nat_lt, arith}
+use Rattle.std.specs.Prelude.{Bool, [], ◌∷◌, zero, suc}
 use Rattle.std.specs.List.{AllByRecursion}
 use Rattle.std.specs.List.Sorted.{IsStrictlySortedBy}
 use Rattle.std.specs.Ordering.{nat_cmp}

@@ -18,18 +18,18 @@ use Rattle.yard_model.specs.declared.packet.Record.{Record}
 use Rattle.yard_model.specs.Behaviour.{decide, folded, is_in}
 use Rattle.yard_model.specs.Equal.{is_decision, is_slot}
 use Rattle.yard_model.specs.Genuine.{is_node, is_producer, is_brought}
-use Rattle.yard_model.specs.Lawful.{own, may_follow, is_held, is_leased, is_entry, is_of_shard, is_folded_after, is_merged_after}
+use Rattle.yard_model.specs.Lawful.{own, is_held, is_leased, is_entry, is_of_shard, is_folded_after, is_merged_after}
 use Rattle.yard_model.specs.Script.{Script, IsScript, is_name, setting}
 use Rattle.yard_model.specs.Setting.{shard_of, names_of}
 use Rattle.yard_model.specs.SlotReads.{epoch, journal, position, last_snapshot, is_remembered}
 use Rattle.yard_model.specs.Spared.{Spared}
 use Rattle.entity_snapshot.specs.declared.snapshot.Snapshot.{Snapshot}
 use Rattle.entity_snapshot.specs.Kept.{Kept, last_of}
-use Rattle.shard_store.specs.Shelf.{Shelf, slot_of, may, with_entry}
+use Rattle.shard_store.specs.Shelf.{Shelf, slot_of, may}
 use Rattle.shard_store.specs.Shelved.{no_journal, no_snapshots, name_at, IsSnapshot, AreKept, AreReserved, IsShelf}
 use Rattle.yard_model.proofs.FollowLaws.{own_more}
 use Rattle.shard_store.proofs.NamesLaws.{same_name}
-use Rattle.shard_store.proofs.KeptLaws.{IsOfNone, Marks, kept_none, kept_wrote, kept_saved, kept_marked, kept_reserved, kept_new}
+use Rattle.shard_store.proofs.KeptLaws.{kept_none, kept_wrote, kept_saved, kept_marked, kept_reserved, kept_new}
 
 abbrev pub SameSlot : Type 0
 SameSlot = (a b : Slot) → IsTrue (is_slot a b) ↔ (a ≡ b)

@@ -1,15 +1,14 @@
 -- The stores by place.
-use Rattle.std.proofs.Common.{◌≡◌, ◌≢◌, ℕ, zero, suc, ◌+◌, ◌-◌, ◌<◌, ◌≤◌, List, length, sym, ap, subst, ◌∙◌, refl, true, false, arith, length-append}
+use Rattle.std.proofs.Common.{◌≡◌, ℕ, zero, suc, ◌+◌, ◌-◌, ◌<◌, ◌≤◌, List, length, sym, ap, subst, ◌∙◌, refl, true, false, arith, length-append}
 use Rattle.std.specs.Prelude.{Bool, [], ◌∷◌, ◌++◌, ◌==◌, nat_lt, map, replicate, slice_index_or, Option, Some, None, if◌then◌else◌}
 use Rattle.std.proofs.lemmas.Bool.Decides.{nat_tests}
 use Rattle.std.proofs.lemmas.List.{get_or_append_left, get_or-map, get_or_at, length-map}
 use Rattle.std.proofs.Math.ListN.{get_or-eq_default}
 use Rattle.yard_model.specs.declared.charter.Config.{Config}
 use Rattle.yard_model.specs.declared.fact.Fact.{Fact}
-use Rattle.yard_model.specs.declared.incarnation.Slot.{Slot}
 use Rattle.yard_model.specs.declared.incarnation.Slot.TheVariants as slot
 use Rattle.yard_model.specs.Script.{Script, IsScript, setting}
-use Rattle.yard_model.specs.SlotLists.{SlotLists, shard_list, queue_list}
+use Rattle.yard_model.specs.SlotLists.{shard_list, queue_list}
 use Rattle.yard_model.specs.Trace.{no_lists}
 use Rattle.yard_model.specs.Words.{numbers, at}
 use Rattle.shard_store.specs.declared.store.Store.{Store}

@@ -1,4 +1,3 @@
-use Rattle.std.proofs.Common.{◌≡◌, length}
 use Rattle.shard_store.proofs.PositionsLaws.{CountedTo}
 use Rattle.shard_store.proofs.positions.positions_of.Given as goal
 

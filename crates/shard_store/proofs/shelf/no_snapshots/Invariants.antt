@@ -1,4 +1,4 @@
-use Rattle.std.proofs.Common.{◌≡◌, ◌<◌, [], replicate}
+use Rattle.std.proofs.Common.{◌≡◌, [], replicate}
 use Rattle.shard_store.proofs.shelf.no_snapshots.Given as goal
 
 abbrev pub invariant-loop : goal.invariant-loop

@@ -1,4 +1,4 @@
-use Rattle.std.proofs.Common.{◌≡◌, ◌<◌, ◌≤◌, ℕ, length, slice_index_or}
+use Rattle.std.proofs.Common.{◌<◌, ◌≤◌, ℕ, slice_index_or}
 use Rattle.shard_store.specs.Shelved.{no_journal, AreReserved}
 use Rattle.shard_store.proofs.shelf.reserve_each.Given as goal
 

@@ -1,4 +1,4 @@
-use Rattle.std.proofs.Common.{◌≡◌, sym, subst, true, false}
+use Rattle.std.proofs.Common.{◌≡◌, sym, subst, true}
 use Rattle.yard_model.specs.Lawful.{is_held}
 use Rattle.yard_model.specs.Lawful.{is_of_shard}
 use Rattle.yard_model.specs.SlotReads.{is_remembered}

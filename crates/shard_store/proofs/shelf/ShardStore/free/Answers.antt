@@ -1,4 +1,4 @@
-use Rattle.std.proofs.Common.{◌≡◌, sym, subst, true, false}
+use Rattle.std.proofs.Common.{◌≡◌, sym, subst, true}
 use Rattle.yard_model.specs.Lawful.{is_held}
 use Rattle.shard_store.proofs.ShelfLaws.{shelf_freed}
 use Rattle.shard_store.proofs.shelf.ShardStore.free.Goals as goal

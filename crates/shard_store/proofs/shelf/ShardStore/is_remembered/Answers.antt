@@ -1,4 +1,4 @@
-use Rattle.std.proofs.Common.{◌≡◌, sym, subst, true, false}
+use Rattle.std.proofs.Common.{◌≡◌, sym, subst, true}
 use Rattle.yard_model.specs.Lawful.{is_of_shard}
 use Rattle.shard_store.proofs.ShelfLaws.{among_names}
 use Rattle.shard_store.proofs.shelf.ShardStore.is_remembered.Goals as goal

@@ -1,4 +1,4 @@
-use Rattle.std.proofs.Common.{◌≤◌, ap, arith, sym, subst, ◌∙◌}
+use Rattle.std.proofs.Common.{ap}
 use Rattle.shard_store.specs.Leased.{Listed}
 use Rattle.shard_store.proofs.ShelfLaws.{shelf_reserved}
 use Rattle.shard_store.proofs.shelf.ShardStore.reserve.Goals as goal

@@ -1,4 +1,4 @@
-use Rattle.std.proofs.Common.{◌≡◌, sym, subst, refl, true, false, ◌<◌, length}
+use Rattle.std.proofs.Common.{◌≡◌, sym, subst, refl, true, ◌<◌, length}
 use Rattle.yard_model.specs.Behaviour.{folded}
 use Rattle.yard_model.specs.Lawful.{is_held}
 use Rattle.yard_model.specs.Lawful.{is_of_shard}

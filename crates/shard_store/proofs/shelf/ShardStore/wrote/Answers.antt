@@ -1,4 +1,4 @@
-use Rattle.std.proofs.Common.{◌≡◌, sym, subst, true, false}
+use Rattle.std.proofs.Common.{◌≡◌, sym, subst, true}
 use Rattle.shard_store.specs.Shelf.{may}
 use Rattle.yard_model.specs.declared.fact.Fact.TheVariants as fact
 use Rattle.shard_store.proofs.ShelfLaws.{among_names, may_write, journal_number, shelf_wrote}

@@ -1,8 +1,7 @@
 -- What is kept beside a list, after one entry more.
 use Rattle.std.proofs.Common.{◌≡◌, ◌<◌, ◌≤◌, ℕ, ◌+◌, sym, ap, ◌∙◌, refl, arith, length, length-append}
 use Rattle.std.specs.Prelude.{Bool, true, false, ◌==◌, ◌&&◌, not, nat_lt, List, [], ◌∷◌, ◌++◌, map, Option, Some, None, is_some, is_none, slice_set, if◌then◌else◌}
-use Rattle.std.proofs.Math.Bool.{and-true, and_assoc}
-use Rattle.std.proofs.lemmas.List.{append-nil, append_assoc, map-append, get_or-set_same, get_or-set_other}
+use Rattle.std.proofs.lemmas.List.{map-append, get_or-set_same, get_or-set_other}
 use Rattle.std.proofs.lemmas.List.Sums.{fold-append}
 use Rattle.std.proofs.lemmas.Bool.Decides.{Decides-eqb, nat_tests}
 use Rattle.yard_model.specs.declared.fact.Fact.{Fact}
@@ -14,9 +13,8 @@ use Rattle.yard_model.specs.declared.incarnation.Slot.TheVariants as slot
 use Rattle.yard_model.specs.Script.{Script}
 use Rattle.yard_model.specs.Words.{is_among, without, at}
 use Rattle.yard_model.specs.Entry.{coord_fact}
-use Rattle.yard_model.specs.Follow.{each_follows}
 use Rattle.yard_model.specs.Genuine.{is_node, is_shard}
-use Rattle.yard_model.specs.Lawful.{own, is_held, is_coordinator_entry, may_follow}
+use Rattle.yard_model.specs.Lawful.{is_held, is_coordinator_entry, may_follow}
 use Rattle.yard_model.specs.SlotReads.{holder, holder_step, epoch, epoch_step, regions, regions_step, allocation, allocation_step}
 use Rattle.yard_model.proofs.FollowLaws.{own_more}
 use Rattle.coordinator_state.specs.Homes.{Placed, home_without}

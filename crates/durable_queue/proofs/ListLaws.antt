@@ -2,9 +2,7 @@
 use Rattle.std.proofs.Common.{◌≡◌, ◌<◌, ◌≤◌, ℕ, ◌+◌, sym, ap, ◌∙◌, refl, arith, take}
 use Rattle.std.specs.Prelude.{Bool, true, false, ◌&&◌, ◌==◌, not, nat_lt, nat_le, List, [], ◌∷◌, ◌++◌, Some, None, is_some, slice_get, if◌then◌else◌}
 use Rattle.std.specs.Option.{option_map_or}
-use Rattle.std.proofs.Math.Bool.{and-true, and_assoc}
 use Rattle.std.proofs.lemmas.Bool.Decides.{Decides-eqb, nat_tests}
-use Rattle.std.proofs.lemmas.List.{append-nil, append_assoc}
 use Rattle.std.proofs.lemmas.List.Sums.{fold-append}
 use Rattle.std.proofs.lemmas.Option.{slice_get_within, get_or_from_slice_get}
 use Rattle.yard_model.specs.declared.charter.Sending.{Sending}
@@ -14,9 +12,8 @@ use Rattle.yard_model.specs.declared.incarnation.Cause.{Cause}
 use Rattle.yard_model.specs.declared.incarnation.Incarnation.{Incarnation}
 use Rattle.yard_model.specs.declared.incarnation.Slot.TheVariants as slot
 use Rattle.yard_model.specs.Equal.{is_slot, is_sending}
-use Rattle.yard_model.specs.Follow.{each_follows}
 use Rattle.yard_model.specs.Genuine.{is_node}
-use Rattle.yard_model.specs.Lawful.{own, may_follow, is_held}
+use Rattle.yard_model.specs.Lawful.{is_held}
 use Rattle.yard_model.specs.Script.{Script, is_name, sends}
 use Rattle.yard_model.specs.SlotReads as reads
 use Rattle.yard_model.proofs.FollowLaws.{own_more}

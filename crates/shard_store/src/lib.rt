@@ -11,7 +11,7 @@ mod stores;
 
 pub use shelf::ShardStore;
 pub use store::{Store, StoreRef};
-pub use stores::Stores;
+pub use stores::{Parts, Stores};
 
 #[cfg(test)]
 mod tests;

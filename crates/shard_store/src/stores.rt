@@ -58,6 +58,58 @@ impl Stores {
             holds: PhantomData,
         })
     }
+
+    /// The stores of these parts, where each slot has its store.
+    pub fn from_parts(parts: Parts) -> Stores
+        requires homes { AreHomes parts.script.value parts.places.items }
+        requires shards { parts.shards ≡ parts.script.value.config.shards }
+        ensures script { result.script ≡ parts.script.value }
+        ensures places { result.places ≡ parts.places.items }
+    {
+        let Parts {
+            script,
+            shards,
+            places,
+        } = parts;
+        Stores {
+            script,
+            shards,
+            places,
+            holds: PhantomData,
+        }
+    }
+
+    /// Its parts.
+    pub fn into_parts(self) -> Parts
+        ensures homes { AreHomes result.script.value result.places.items }
+        ensures shards { result.shards ≡ result.script.value.config.shards }
+        ensures script { result.script.value ≡ self.script }
+        ensures places { result.places.items ≡ self.places }
+    {
+        let Stores {
+            script,
+            shards,
+            places,
+            holds: _,
+        } = self;
+        Parts {
+            script,
+            shards,
+            places,
+        }
+    }
+}
+
+/// What stores are kept as: the script that contracts see, how many shards there are, and the stores
+/// by place.
+#[derive(Drop)]
+pub struct Parts {
+    /// The script of the charter that they were made for.
+    pub script: Ghost<Charter>,
+    /// How many shards there are.
+    pub shards: u8,
+    /// The store of each slot: the shards, the coordinator, the queues.
+    pub places: Vec<Option<Store>>,
 }
 
 /// The empty stores, by place. The only error is want of memory.

@@ -1,0 +1,148 @@
+//! The plain form of leases: a book of all slots.
+ghost use Rattle.std.specs.Prelude.{◌≡◌, ℕ, ◌<◌, false, Some, None, length, replicate, slice_set, IfOk, IsTrue};
+ghost use Rattle.yard_model.specs.Lawful.{is_held};
+ghost use Rattle.yard_model.specs.Words.{at};
+ghost use Rattle.yard_model.specs.Genuine.{is_slot_of};
+ghost use Rattle.yard_model.specs.Script.{Script};
+ghost use Rattle.shard_store.specs.Stores.{place_of, entries_at};
+
+use crate::leases::{Acquire, Leases};
+use shard_store::{Parts, Store, Stores};
+use std::alloc::{AllocError, Global};
+use std::marker::{Model, PhantomData};
+use std::snapshot::Snapshot as Ghost;
+use yard_model::{Cause, Charter, Incarnation, Slot};
+
+/// The stores of the slots that nobody holds, and who holds the others; seen as both, by place.
+#[derive(Drop)]
+pub struct LeaseBook {
+    script: Ghost<Charter>,
+    shards: u8,
+    places: Vec<Option<Store>>,
+    holders: Vec<Option<Incarnation>>,
+    holds: PhantomData<(Incarnation, Slot)>,
+}
+
+impl Model for LeaseBook {
+    ghost use Rattle.std.specs.Prelude.{◌≡◌};
+    ghost use Rattle.shard_lease.specs.Book.{Book, IsBook};
+
+    ghost Value = { Book };
+
+    ghost view = { λ b. record { script = b.script.value; places = b.places.items; holders = b.holders.items } };
+
+    ghost invariant = { λ b. IsBook (record { script = b.script.value; places = b.places.items; holders = b.holders.items }) × (b.shards ≡ b.script.value.config.shards) };
+}
+
+impl LeaseBook {
+    /// The book of these stores, none of which is leased. The only error is want of memory.
+    #[tactic(auto, using(crate::proofs::BookLaws::book_new))]
+    pub fn new(alloc: Global, stores: Stores) -> Result<LeaseBook, AllocError>
+        requires { (k : ℕ) → k < length stores.places → is_held (entries_at stores.places k) ≡ false }
+        ensures script { IfOk result (λ b. b.script ≡ stores.script) }
+        ensures places { IfOk result (λ b. b.places ≡ stores.places) }
+        ensures holders { IfOk result (λ b. b.holders ≡ replicate (length stores.places) None) }
+    {
+        let Parts {
+            script,
+            shards,
+            places,
+        } = stores.into_parts();
+        let holders = vec![in alloc; None; places.len()]?;
+        Ok(LeaseBook {
+            script,
+            shards,
+            places,
+            holders,
+            holds: PhantomData,
+        })
+    }
+
+    /// The stores, where nobody holds a slot.
+    #[tactic(auto, using(crate::proofs::BookLaws::book_homes))]
+    pub fn into_stores(self) -> Stores
+        requires { (k : ℕ) → k < length self.holders → at self.holders k ≡ None }
+        ensures script { result.script ≡ self.script }
+        ensures places { result.places ≡ self.places }
+    {
+        let LeaseBook {
+            script,
+            shards,
+            places,
+            holders: _,
+            holds: _,
+        } = self;
+        Stores::from_parts(Parts {
+            script,
+            shards,
+            places,
+        })
+    }
+}
+
+impl Leases for LeaseBook {
+    ghost use Rattle.shard_lease.specs.Book.{meaning_of};
+
+    ghost meaning = { meaning_of };
+
+    fn acquire(&mut self, who: Incarnation, slot: Slot) -> Acquire {
+        let who = &who;
+        let place = place_in(self.shards, slot);
+        if let Some(holder) = holder_at(self.holders.as_slice(), place) {
+            return Acquire::Held(holder.node);
+        }
+        let Some(mut store) = take_out(&mut self.places, place) else {
+            unreachable!()
+        };
+        store.grant(*who);
+        let _own = store.is_leased();
+        self.holders[place] = Some(*who);
+        Acquire::Granted(store)
+    }
+
+    fn release(&mut self, who: Incarnation, slot: Slot, store: Store, cause: Cause) {
+        let _ = who;
+        let mut store = store;
+        let place = place_in(self.shards, slot);
+        store.free(cause);
+        self.holders[place] = None;
+        put_back(&mut self.places, place, store);
+    }
+}
+
+/// Who stands at a place.
+fn holder_at(holders: &[Option<Incarnation>], place: usize) -> Option<Incarnation>
+    requires { place < length holders.now }
+    ensures { result ≡ at holders.now place }
+{
+    holders[place]
+}
+
+/// Takes what stands at a place.
+fn take_out(places: &mut Vec<Option<Store>>, place: usize) -> Option<Store>
+    requires { place < length places.old.items }
+    ensures taken { result ≡ at places.old.items place }
+    ensures places { places.new.items ≡ slice_set places.old.items place None }
+{
+    places[place].take()
+}
+
+/// Puts a store at a place.
+fn put_back(places: &mut Vec<Option<Store>>, place: usize, store: Store)
+    requires { place < length places.old.items }
+    ensures { places.new.items ≡ slice_set places.old.items place (Some store) }
+{
+    places[place] = Some(store);
+}
+
+/// The place of a slot.
+fn place_in(shards: u8, slot: Slot) -> usize
+    requires { (c : Script) × (shards ≡ c.config.shards) × IsTrue (is_slot_of c slot) }
+    ensures { (c : Script) → shards ≡ c.config.shards → result ≡ place_of c.config slot }
+{
+    match slot {
+        Slot::Shard(s) => s.get() as usize,
+        Slot::Coordinator => shards as usize,
+        Slot::Queue(p) => shards as usize + p.get() as usize,
+    }
+}

@@ -1,0 +1,37 @@
+//! The trait of those that give out leases.
+use shard_store::Store;
+use yard_model::{Cause, Incarnation, NodeNo, Slot};
+
+/// What comes of asking for a slot.
+#[derive(Drop)]
+pub enum Acquire {
+    /// The slot is leased to the one that asked; this is its store.
+    Granted(Store),
+    /// This node held it.
+    Held(NodeNo),
+}
+
+/// What gives out the leases of the slots, each with the slot's store, and takes them back.
+pub trait Leases {
+    ghost use Rattle.std.specs.Prelude.{◌≡◌, false};
+    ghost use Rattle.shard_lease.specs.Meaning.{Meaning, Serves, Stays, Acquired, Returns, Released};
+
+    ghost meaning: { Self → Meaning };
+
+    /// Asks for a slot, for an incarnation that is served and whose node doesn't hold it. Held(h)
+    /// only where another node h held it at a step of this call; Granted gives the slot's store with
+    /// the grant as its last entry.
+    fn acquire(&mut self, who: Incarnation, slot: Slot) -> Acquire
+        requires serves { Serves (meaning self.old) who slot }
+        requires free { (meaning self.old).holds who.node slot ≡ false }
+        ensures stays { Stays (meaning self.old) (meaning self.new) }
+        ensures answer { Acquired (meaning self.old) who slot result (meaning self.new) };
+
+    /// Gives a slot back that the node holds: its store, which is leased and extends what is told of
+    /// the slot; it gets the entry that frees it.
+    fn release(&mut self, who: Incarnation, slot: Slot, store: Store, cause: Cause)
+        requires serves { Serves (meaning self.old) who slot }
+        requires store { Returns (meaning self.old) who slot store }
+        ensures stays { Stays (meaning self.old) (meaning self.new) }
+        ensures released { Released (meaning self.old) who slot store cause (meaning self.new) };
+}

@@ -24,7 +24,7 @@ use Rattle.yard_model.specs.Words.{at}
 use Rattle.shard_store.specs.declared.store.Store.{Store}
 use Rattle.shard_store.specs.Stores.{script_of, slot_of, entries_of, spare_of, entries_in, entries_at, place_of, slot_at, IsHome, IsThere, AreHomes}
 use Rattle.shard_lease.specs.Book.{Book, IsPlace, IsBook, known_at, is_of_node, tells_of, holds_of, meaning_of}
-use Rattle.shard_lease.specs.Meaning.{Known, Meaning, Apart, Still, Begins, IsVouched, is_taken, Serves, Hands, Refuses, Returns, Released}
+use Rattle.shard_lease.specs.Meaning.{Known, Meaning, Apart, Still, Begins, IsVouched, is_taken, confirms, Serves, Stays, Hands, Refuses, Returns, Released}
 
 and_both : (a b : Bool) → (a && b) ≡ true → (a ≡ true) × (b ≡ true)
 and_both true b e = (refl, e)
@@ -196,36 +196,40 @@ hands b who s x y n is node slot_is there nobody number script_same slot_same li
     let known : tells_of b s ≡ Some (known_at b k) = ap (λ v. if v then Some (known_at b k) else None) slot_is in
     let after : Book = record { script = b.script; places = slice_set b.places k None; holders = slice_set b.holders k (Some who) } in
     let known_after : tells_of after s ≡ Some (record { holder = Some who; list = [] }) =
-        ap (λ v. if v then Some (known_at after k) else None) slot_is
-        ∙ (ap (λ h. Some (record { holder = h; list = entries_in (at (slice_set b.places k None) k) })) (get_or-set_same b.holders k (Some who) None inside)
-        ∙ ap (λ o. Some (record { holder = Some who; list = entries_in o })) (get_or-set_same b.places k None None (subst (λ i. k < i) is.holders_all inside))) in
-    (record {
-      script_is = script_same ∙ home.0.script_is;
-      slot_is = slot_same ∙ home.0.slot_is;
-      spare_is = omega (arith, home.0.spare_is home.1, less);
-      before = entries_of x;
-      free = home.1;
-      list_is = entries_is;
-      own_is = own_is;
-      taken = follows_each (may_follow b.script s) (is_taken (meaning_of b) s) (taken_entry b s slot_is) [] (entries_of y) own_is;
-      holds_is = both (is_slot_of b.script s) (is_of_node who.node (at (slice_set b.holders k (Some who)) k)) slot_is (ap (is_of_node who.node) (get_or-set_same b.holders k (Some who) None inside) ∙ of_node_itself who);
-      extends = record { rest = entries_of y; is = refl };
-      vouched = λ e p i h. inr refl;
-      tells_is = subst (λ o. MatchOption o (tells_of after s ≡ None) (λ t. (t.holder ≡ None) × (t.list ≡ entries_of x) × (tells_of after s ≡ Some (record { holder = Some who; list = [] })))) (sym known)
-          (nobody, ap entries_in there, known_after);
-    }, book_apart b s who.node None (Some who) is slot_is (λ i ne. of_other_node i who ne ∙ sym (ap (is_of_node i) nobody)))
+    ap (λ v. if v then Some (known_at after k) else None) slot_is
+    ∙ (ap (λ h. Some (record { holder = h; list = entries_in (at (slice_set b.places k None) k) })) (get_or-set_same b.holders k (Some who) None inside)
+    ∙ ap (λ o. Some (record { holder = Some who; list = entries_in o })) (get_or-set_same b.places k None None (subst (λ i. k < i) is.holders_all inside))) in (
+      record {
+        script_is = script_same ∙ home.0.script_is;
+        slot_is = slot_same ∙ home.0.slot_is;
+        spare_is = omega (arith, home.0.spare_is home.1, less);
+        before = entries_of x;
+        free = home.1;
+        list_is = entries_is;
+        own_is = own_is;
+        taken = follows_each (may_follow b.script s) (is_taken (meaning_of after) s) (taken_entry after s slot_is) [] (entries_of y) own_is;
+        holds_is = both (is_slot_of b.script s) (is_of_node who.node (at (slice_set b.holders k (Some who)) k)) slot_is (ap (is_of_node who.node) (get_or-set_same b.holders k (Some who) None inside) ∙ of_node_itself who);
+        extends = record { rest = entries_of y; is = refl };
+        vouched = λ e p i h. inr refl;
+        tells_is = subst (λ o. MatchOption o (tells_of after s ≡ None) (λ t. (t.holder ≡ None) × (t.list ≡ entries_of x) × (tells_of after s ≡ Some (record { holder = Some who; list = [] })))) (sym known)
+            (nobody, ap entries_in there, known_after);
+      },
+      book_apart b s who.node None (Some who) is slot_is (λ i ne. of_other_node i who ne ∙ sym (ap (is_of_node i) nobody)),
+    )
 
 -- another held it
 pub refuses : (b : Book) (who h : Incarnation) (s : Slot) → IsBook b → is_slot_of b.script s ≡ true → holds_of b who.node s ≡ false → at b.holders (place_of b.script.config s) ≡ Some h
     → Refuses (meaning_of b) who s h.node × Still (meaning_of b) (meaning_of b)
 refuses b who h s is slot_is free there =
     let k : ℕ = place_of b.script.config s in
-    let known : tells_of b s ≡ Some (known_at b k) = ap (λ v. if v then Some (known_at b k) else None) slot_is in
-    (record {
-      other = λ same. true≢false (sym (both (is_slot_of b.script s) (is_of_node who.node (at b.holders k)) slot_is (ap (is_of_node who.node) there ∙ eq_is h.node who.node same)) ∙ free);
-      admitted = both (is_in 1 b.script.config.nodes h.node) (is_slot_of b.script s) (node (at b.places k) (subst (λ x. IsPlace b.script s (at b.places k) x) there (place_is b s is slot_is))) slot_is;
-      tells_is = subst (λ o. MatchOption o (Unit {0}) (λ t. (x : Incarnation) × (t.holder ≡ Some x) × (x.node ≡ h.node))) (sym known) (h, there, refl);
-    }, record { holds_is = λ n t. refl; told_is = λ t. refl; tells_is = λ t. refl })
+    let known : tells_of b s ≡ Some (known_at b k) = ap (λ v. if v then Some (known_at b k) else None) slot_is in (
+      record {
+        other = λ same. true≢false (sym (both (is_slot_of b.script s) (is_of_node who.node (at b.holders k)) slot_is (ap (is_of_node who.node) there ∙ eq_is h.node who.node same)) ∙ free);
+        admitted = both (is_in 1 b.script.config.nodes h.node) (is_slot_of b.script s) (node (at b.places k) (subst (λ x. IsPlace b.script s (at b.places k) x) there (place_is b s is slot_is))) slot_is;
+        tells_is = subst (λ o. MatchOption o (Unit {0}) (λ t. (x : Incarnation) × (t.holder ≡ Some x) × (x.node ≡ h.node))) (sym known) (h, there, refl);
+      },
+      record { holds_is = λ n t. refl; told_is = λ t. refl; tells_is = λ t. refl },
+    )
   where
     node : (o : Option Store) → IsPlace b.script s o (Some h) → is_node b.script h ≡ true
     node None e = e
@@ -328,3 +332,17 @@ book_homes b is nobody = record {
     there : (s : Slot) (o : Option Store) → IsPlace b.script s o None → IsThere b.script s o
     there s None h = h
     there s (Some x) h = h.0
+
+-- A store that was handed out, and reserved, may be given back.
+
+pub may_return : (old new : Meaning) (who : Incarnation) (s : Slot) (x y : Store) → Stays old new → Hands old who s x new → script_of y ≡ script_of x → slot_of y ≡ slot_of x → entries_of y ≡ entries_of x → 101 ≤ spare_of y → Returns new who s y
+may_return old new who s x y stays h script_same slot_same same enough = record {
+  holds_is = h.holds_is;
+  script_is = script_same ∙ (h.script_is ∙ sym stays.script_is);
+  slot_is = slot_same ∙ h.slot_is;
+  extends = subst (Begins (new.told s)) (sym same) h.extends;
+  taken = ap (list_all (is_taken new s)) same ∙ h.taken;
+  vouched = λ e p n c. h.vouched e p n (ap (confirms e p n) (sym same) ∙ c);
+  leased = ap is_held (same ∙ h.list_is) ∙ ap is_some (fold-append holder_step None h.before (fact.Granted s (epoch h.before + 1) who ∷ []));
+  spare_is = enough;
+}

@@ -94,7 +94,7 @@ pub record Hands (old : Meaning) (who : Incarnation) (s : Slot) (x : Store) (new
   pub free : is_held before ≡ false
   pub list_is : entries_of x ≡ before ++ fact.Granted s (epoch before + 1) who ∷ []
   pub own_is : own old.script s (entries_of x) ≡ true
-  pub taken : list_all (is_taken old s) (entries_of x) ≡ true
+  pub taken : list_all (is_taken new s) (entries_of x) ≡ true
   pub holds_is : new.holds who.node s ≡ true
   pub extends : Begins (new.told s) (entries_of x)
   pub vouched : IsVouched new (new.told s) (entries_of x)

@@ -1,4 +1,11 @@
 //! The trait of those that give out leases.
+ghost use Rattle.std.specs.Prelude.{◌≡◌, ◌≤◌};
+ghost use Rattle.yard_model.specs.declared.incarnation.Incarnation.{Incarnation};
+ghost use Rattle.yard_model.specs.declared.incarnation.Slot.{Slot};
+ghost use Rattle.shard_store.specs.declared.store.Store.{Store};
+ghost use Rattle.shard_store.specs.Stores.{script_of, slot_of, entries_of, spare_of};
+ghost use Rattle.shard_lease.specs.Meaning.{Meaning, Stays, Hands, Returns};
+
 use shard_store::Store;
 use yard_model::{Cause, Incarnation, NodeNo, Slot};
 
@@ -35,3 +42,9 @@ pub trait Leases {
         ensures stays { Stays (meaning self.old) (meaning self.new) }
         ensures released { Released (meaning self.old) who slot store cause (meaning self.new) };
 }
+
+/// A law: a store that was handed out, and whose spare was made 101, may be given back.
+#[tactic(auto, using(crate::proofs::BookLaws::may_return))]
+pub fn handed_out_may_return()
+    ensures { (old new : Meaning) (who : Incarnation) (s : Slot) (x y : Store) → Stays old new → Hands old who s x new → script_of y ≡ script_of x → slot_of y ≡ slot_of x → entries_of y ≡ entries_of x → 101 ≤ spare_of y → Returns new who s y }
+{}

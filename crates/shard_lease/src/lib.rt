@@ -6,4 +6,7 @@ mod book;
 mod leases;
 
 pub use book::LeaseBook;
-pub use leases::{Acquire, Leases};
+pub use leases::{Acquire, Leases, handed_out_may_return};
+
+#[cfg(test)]
+mod tests;

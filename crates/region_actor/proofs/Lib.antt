@@ -1,0 +1,2 @@
+mod RegionLaws
+mod EachLaws

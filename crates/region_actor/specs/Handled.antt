@@ -1,11 +1,15 @@
--- The region's part of a packet, and what the node is to do then.
-use Rattle.std.specs.Prelude.{ℕ, ◌&&◌, nat_le, List, [], if◌then◌else◌}
+-- The region's part of a packet and of a message, and what the node is to do then.
+use Rattle.std.specs.Prelude.{ℕ, Bool, ◌&&◌, nat_le, List, [], if◌then◌else◌}
 use Rattle.yard_model.specs.declared.incarnation.Incarnation.{Incarnation}
 use Rattle.yard_model.specs.declared.packet.Body.{Body}
 use Rattle.yard_model.specs.declared.packet.Body.TheVariants as body
+use Rattle.yard_model.specs.declared.packet.Message.{Message}
 use Rattle.yard_model.specs.Move.{Move}
-use Rattle.yard_model.specs.Region.{Region, take_view, registered_by, takes_home, takes_host, learn, begin_hand_off, takes_hand_off}
+use Rattle.yard_model.specs.Region.{Region, take_view, registered_by, takes_home, takes_host, learn, begin_hand_off, takes_hand_off, is_home, is_some_home, route_away, post_oldest}
+use Rattle.yard_model.specs.Setting.{shard_of}
 use Rattle.yard_model.specs.Words.{is_same}
+use Rattle.region_actor.specs.declared.answers.Route.{Route}
+use Rattle.region_actor.specs.declared.answers.Route.TheVariants as route
 use Rattle.region_actor.specs.declared.answers.Todo.{Todo}
 use Rattle.region_actor.specs.declared.answers.Todo.TheVariants as todo
 
@@ -24,3 +28,17 @@ to_do from (body.ShardHome s h stamp) st = if takes_home s h stamp st && is_same
 to_do from (body.HostShard s stamp) st = if takes_host s stamp st then todo.Start s else todo.Nothing
 to_do from (body.HandOff s stamp) st = if takes_hand_off s stamp st then todo.HandOff s stamp from else todo.Nothing
 to_do from b st = todo.Nothing
+
+-- Route of a message: delivered here where its shard's home is this node and the shard is running; else routed away
+abbrev pub is_local : Message → Bool → Region → Bool
+is_local m running st = is_home st (shard_of st.set m.entity) && running
+
+abbrev pub routed : Message → Bool → Region → List Move
+routed m running st = if is_local m running st then [] else route_away m st
+
+abbrev pub route_of : Message → Bool → Region → Route
+route_of m running st = if is_local m running st then route.Local m else route.Gone
+
+-- the second part of the tick
+abbrev pub ask_to_leave : Region → List Move
+ask_to_leave st = if st.leaving && is_some_home st then post_oldest body.GracefulShutdownReq st else []

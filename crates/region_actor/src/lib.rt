@@ -3,8 +3,12 @@
 #![tactic(auto)]
 
 mod answers;
+mod homes;
 mod members;
+mod packets;
 mod region;
+mod routing;
+mod timer;
 
 pub use answers::{Route, Todo};
 pub use region::Region;

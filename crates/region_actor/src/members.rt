@@ -11,12 +11,11 @@ use yard_model::{Body, Incarnation, Members, Out, ShardNo};
 impl Region {
     /// Asks the oldest member to register the region, where it is registered with another or with
     /// none. Nothing happens where there is no view.
-    pub fn register(&mut self, out: &mut Out)
-        requires room { length (flat_map item_of (register self.old.state)) ≤ out.old.spare }
-        ensures items { out.new.items ≡ out.old.items ++ flat_map item_of (register self.old.state) }
-        ensures state { self.new.state ≡ fold region_after self.old.state (register self.old.state) }
-        ensures script { self.new.script ≡ self.old.script }
-        ensures spare { out.new.spare + length (flat_map item_of (register self.old.state)) ≡ out.old.spare }
+    pub fn register(&self, out: &mut Out)
+        requires room { length (flat_map item_of (register self.now.state)) ≤ out.old.spare }
+        ensures items { out.new.items ≡ out.old.items ++ flat_map item_of (register self.now.state) }
+        ensures state { self.now.state ≡ fold region_after self.now.state (register self.now.state) }
+        ensures spare { out.new.spare + length (flat_map item_of (register self.now.state)) ≡ out.old.spare }
     {
         if let Some(oldest) = self.oldest() {
             let oldest = &oldest;

@@ -1,6 +1,5 @@
 use Rattle.std.proofs.Common.{◌≡◌, ◌∙◌, arith}
-use Rattle.yard_model.specs.Script.{Setting}
-use Rattle.region_actor.proofs.EachLaws.{lost, lost_apart, first_each, next_each, room_each, last_items, last_state, last_spare}
+use Rattle.region_actor.proofs.EachLaws.{lost, lost_apart, next_each}
 use Rattle.region_actor.proofs.region.Region.forget_all_lost.Goals as goal
 
 pub loop-i-preserved : goal.loop-i-preserved

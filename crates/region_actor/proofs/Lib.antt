@@ -1,2 +1,3 @@
 mod RegionLaws
 mod EachLaws
+mod RoomLaws

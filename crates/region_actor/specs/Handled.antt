@@ -1,11 +1,13 @@
 -- The region's part of a packet and of a message, and what the node is to do then.
-use Rattle.std.specs.Prelude.{ℕ, Bool, ◌&&◌, nat_le, List, [], if◌then◌else◌}
+use Rattle.std.specs.Prelude.{ℕ, Bool, true, ◌&&◌, nat_le, List, [], if◌then◌else◌}
 use Rattle.yard_model.specs.declared.incarnation.Incarnation.{Incarnation}
 use Rattle.yard_model.specs.declared.packet.Body.{Body}
 use Rattle.yard_model.specs.declared.packet.Body.TheVariants as body
 use Rattle.yard_model.specs.declared.packet.Message.{Message}
+use Rattle.yard_model.specs.Genuine.{is_node, is_shard}
 use Rattle.yard_model.specs.Move.{Move}
 use Rattle.yard_model.specs.Region.{Region, take_view, registered_by, takes_home, takes_host, learn, begin_hand_off, takes_hand_off, is_home, is_some_home, route_away, post_oldest}
+use Rattle.yard_model.specs.Script.{Script}
 use Rattle.yard_model.specs.Setting.{shard_of}
 use Rattle.yard_model.specs.Words.{is_same}
 use Rattle.region_actor.specs.declared.answers.Route.{Route}
@@ -29,6 +31,12 @@ to_do from (body.HostShard s stamp) st = if takes_host s stamp st then todo.Star
 to_do from (body.HandOff s stamp) st = if takes_hand_off s stamp st then todo.HandOff s stamp from else todo.Nothing
 to_do from b st = todo.Nothing
 
+-- it names a shard and a node of the script, where it names any
+abbrev pub is_genuine_todo : Script → Todo → Bool
+is_genuine_todo c (todo.Start s) = is_shard c s
+is_genuine_todo c (todo.HandOff s stamp x) = is_shard c s && is_node c x
+is_genuine_todo c todo.Nothing = true
+
 -- Route of a message: delivered here where its shard's home is this node and the shard is running; else routed away
 abbrev pub is_local : Message → Bool → Region → Bool
 is_local m running st = is_home st (shard_of st.set m.entity) && running
@@ -42,3 +50,8 @@ route_of m running st = if is_local m running st then route.Local m else route.G
 -- the second part of the tick
 abbrev pub ask_to_leave : Region → List Move
 ask_to_leave st = if st.leaving && is_some_home st then post_oldest body.GracefulShutdownReq st else []
+
+-- P of the message that is to be delivered here, if it is
+abbrev pub IfLocal : Route → (Message → Type 0) → Type 0
+IfLocal (route.Local m) P = P m
+IfLocal route.Gone P = Unit {0}

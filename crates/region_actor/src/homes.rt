@@ -10,23 +10,25 @@ use yard_model::{Body, Incarnation, Out, ShardNo, Stamp};
 impl Region {
     /// Whether it takes a word of the coordinator that this is a shard's home: the stamp is no older
     /// than the last that was taken, and the home is in the view.
-    pub(crate) fn takes_home(&self, s: ShardNo, home: &Incarnation, stamp: &Stamp) -> bool
+    pub fn takes_home(&self, s: ShardNo, home: &Incarnation, stamp: &Stamp) -> bool
         requires { s < self.now.script.config.shards }
         ensures { result ≡ takes_home s home.now stamp.now self.now.state }
     {
         !self.is_old(s, stamp) && self.has(home)
     }
 
-    /// Whether it takes a word of the coordinator that this node is a shard's home.
-    pub(crate) fn takes_host(&self, s: ShardNo, stamp: &Stamp) -> bool
+    /// Whether it takes a word of the coordinator that this node is a shard's home: the stamp is no
+    /// older than the last that was taken.
+    pub fn takes_host(&self, s: ShardNo, stamp: &Stamp) -> bool
         requires { s < self.now.script.config.shards }
         ensures { result ≡ takes_host s stamp.now self.now.state }
     {
         !self.is_old(s, stamp)
     }
 
-    /// Whether it takes a word of the coordinator that a shard is to stop here.
-    pub(crate) fn takes_hand_off(&self, s: ShardNo, stamp: &Stamp) -> bool
+    /// Whether it takes a word of the coordinator that a shard is to stop here: the stamp is no
+    /// older than the last that was taken, and the home isn't this node any more.
+    pub fn takes_hand_off(&self, s: ShardNo, stamp: &Stamp) -> bool
         requires { s < self.now.script.config.shards }
         ensures { result ≡ takes_hand_off s stamp.now self.now.state }
     {

@@ -4,6 +4,7 @@
 
 mod answers;
 mod homes;
+pub mod laws;
 mod members;
 mod packets;
 mod region;

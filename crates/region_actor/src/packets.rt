@@ -4,7 +4,7 @@ ghost use Rattle.std.specs.List.{flat_map};
 ghost use Rattle.yard_model.specs.Genuine.{is_genuine_packet};
 ghost use Rattle.yard_model.specs.Move.{item_of};
 ghost use Rattle.yard_model.specs.Region.{region_after};
-ghost use Rattle.region_actor.specs.Handled.{handled, to_do};
+ghost use Rattle.region_actor.specs.Handled.{handled, to_do, is_genuine_todo};
 
 use crate::answers::Todo;
 use crate::region::Region;
@@ -22,6 +22,7 @@ impl Region {
         ensures script { self.new.script ≡ self.old.script }
         ensures spare { out.new.spare + length (flat_map item_of (handled packet.now.from packet.now.body self.old.state)) ≡ out.old.spare }
         ensures todo { result ≡ to_do packet.now.from packet.now.body self.old.state }
+        ensures genuine { IsTrue (is_genuine_todo self.old.script result) }
     {
         match &packet.body {
             Body::View { version, members } => {

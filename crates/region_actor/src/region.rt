@@ -158,9 +158,9 @@ impl Region {
 
     /// Whether messages of a shard can be routed: its home is another node, or is this node where
     /// the shard is running.
-    pub fn is_routable(&self, s: ShardNo, running: &ShardSet) -> bool
+    pub fn is_routable(&self, s: ShardNo, running: ShardSet) -> bool
         requires { s < self.now.script.config.shards }
-        ensures { result ≡ is_routable self.now.state s (has running.now s) }
+        ensures { result ≡ is_routable self.now.state s (has running s) }
     {
         match self.home(s) {
             Some(_) => !self.is_home(s) || running.has(s),

@@ -7,7 +7,7 @@ ghost use Rattle.yard_model.specs.Move.{item_of};
 ghost use Rattle.yard_model.specs.Region.{region_after, ask, post_oldest, route_away};
 ghost use Rattle.yard_model.specs.Setting.{shard_of};
 ghost use Rattle.yard_model.specs.ShardSet.{has};
-ghost use Rattle.region_actor.specs.Handled.{routed, route_of};
+ghost use Rattle.region_actor.specs.Handled.{routed, route_of, IfLocal};
 
 use crate::answers::Route;
 use crate::region::Region;
@@ -26,6 +26,7 @@ impl Region {
         ensures script { self.new.script ≡ self.old.script }
         ensures spare { out.new.spare + length (flat_map item_of (routed message (has running (shard_of self.old.state.set message.entity)) self.old.state)) ≡ out.old.spare }
         ensures route { result ≡ route_of message (has running (shard_of self.old.state.set message.entity)) self.old.state }
+        ensures message { IfLocal result (λ m. m ≡ message) }
     {
         let message = &message;
         let s = self.shard_of(message);

@@ -1,3 +1,4 @@
 mod RegionLaws
 mod EachLaws
 mod RoomLaws
+mod FirstLaws

@@ -13,3 +13,6 @@ mod timer;
 
 pub use answers::{Route, Todo};
 pub use region::Region;
+
+#[cfg(test)]
+mod tests;

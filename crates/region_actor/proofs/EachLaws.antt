@@ -94,7 +94,6 @@ by_bool P x y h k false = k
 abbrev pub lost : Each
 lost st s = forget_lost st.view st s
 
-
 lost_cases : (P : List Move → Type 0) (st : Region) (s : ℕ) → P [] → P (told (fact.Forget st.who s) ∷ []) → (o : Option Incarnation) → P (where_some (λ h. if is_among h st.view then [] else (if is_none o then [] else told (fact.Forget st.who s) ∷ [])) o)
 lost_cases P st s a b None = a
 lost_cases P st s a b (Some h) = by_bool P [] (told (fact.Forget st.who s) ∷ []) a b (is_among h st.view)
@@ -103,8 +102,8 @@ pub lost_apart : IsApart lost
 lost_apart st s t h =
     let other : t ≢ s = omega arith in
     lost_cases (λ ms. lost (fold region_after st ms) t ≡ lost st t) st s refl
-        (ap (λ (o : Option Incarnation). where_some (λ h. if is_among h st.view then [] else (if is_none o then [] else told (fact.Forget st.who t) ∷ [])) o) (get_or-set_other st.homes s t None None other))
-        (home st s)
+    (ap (λ (o : Option Incarnation). where_some (λ h. if is_among h st.view then [] else (if is_none o then [] else told (fact.Forget st.who t) ∷ [])) o) (get_or-set_other st.homes s t None None other))
+    (home st s)
 
 -- the homes that are asked for again
 
@@ -116,4 +115,4 @@ pub ask_apart : IsApart ask_again
 ask_apart st s t h =
     let P : List Move → Type 0 = λ ms. ask_again (fold region_after st ms) t ≡ ask_again st t in
     by_bool P (where_some (λ x. post st.who x (body.GetShardHome s) ∷ []) (oldest st)) [] (ask_cases P st s refl (λ x. refl) (oldest st)) refl
-        (is_none (home st s) && not (is_empty (kept_of st.kept s)))
+    (is_none (home st s) && not (is_empty (kept_of st.kept s)))

@@ -97,7 +97,7 @@ module _ (c : Script) (shards : ℕ) (homes : List (Option Incarnation)) (marks 
       let inside : s < length kept.lists = omega (arith, k.lists_there, h) in
       let one : is_kept c s m ≡ true = both (is_genuine c m) (shard_of (setting c) m.entity == s) genuine (eq-eqb (shard_of (setting c) m.entity) s (sym own)) in
       with_kept k l b (λ t. rw e (at_set (λ t xs. IsTrue (list_all (is_kept c t) xs)) kept.lists s (kept_of kept.lists s ++ m ∷ []) inside k.kept_are
-          (list_all-append (is_kept c s) (kept_of kept.lists s) (m ∷ []) ∙ both (list_all (is_kept c s) (kept_of kept.lists s)) (list_all (is_kept c s) (m ∷ [])) (k.kept_are s) (both (is_kept c s m) true one refl)) t))
+      (list_all-append (is_kept c s) (kept_of kept.lists s) (m ∷ []) ∙ both (list_all (is_kept c s) (kept_of kept.lists s)) (list_all (is_kept c s) (m ∷ [])) (k.kept_are s) (both (is_kept c s m) true one refl)) t))
 
   -- the oldest of a shard is taken out
   pub region_releases : IsRegion c shards homes marks asked kept → (s : ℕ) → s < shards
@@ -105,7 +105,7 @@ module _ (c : Script) (shards : ℕ) (homes : List (Option Incarnation)) (marks 
   region_releases k s h e l b =
       let inside : s < length kept.lists = omega (arith, k.lists_there, h) in
       with_kept k l b (λ t. rw e (at_set (λ t xs. IsTrue (list_all (is_kept c t) xs)) kept.lists s (drop 1 (kept_of kept.lists s)) inside k.kept_are
-          (rest_passes (is_kept c s) (kept_of kept.lists s) (k.kept_are s)) t))
+      (rest_passes (is_kept c s) (kept_of kept.lists s) (k.kept_are s)) t))
 
 -- what is kept of a shard belongs to it
 pub kept_shard : (c : Script) (s : ℕ) (m : Message) (xs rest : List Message) → IsTrue (list_all (is_kept c s) xs) → xs ≡ m ∷ rest → shard_of (setting c) m.entity ≡ s

@@ -76,12 +76,12 @@ route_room m running st = if_gives 2 [] (route_away m st) (omega arith) (by_give
 pub tick_room : (st : Region) → Gives (st.set.config.shards + 2) (tick_region st)
 tick_room st =
     let last : Gives st.set.config.shards (flat_map (ask_again st) (shards st.set)) = each_gives (ask_again st)
-        (λ s. if_gives 1 (post_oldest (body.GetShardHome s) st) [] (post_gives (body.GetShardHome s) st) (omega arith) (is_none (home st s) && not (is_empty (kept_of st.kept s)))) 0 st.set.config.shards in
+    (λ s. if_gives 1 (post_oldest (body.GetShardHome s) st) [] (post_gives (body.GetShardHome s) st) (omega arith) (is_none (home st s) && not (is_empty (kept_of st.kept s)))) 0 st.set.config.shards in
     let second : List Move = if st.leaving && is_some_home st then post_oldest body.GracefulShutdownReq st else [] in
     let two : Gives 1 second = if_gives 1 (post_oldest body.GracefulShutdownReq st) [] (post_gives body.GracefulShutdownReq st) (omega arith) (st.leaving && is_some_home st) in
     let first : Gives 2 (register st ++ second) = both_give 1 1 (register st) second (register_room st) two in
     more (2 + st.set.config.shards) (st.set.config.shards + 2) (tick_region st) (omega arith)
-        (both_give 2 st.set.config.shards (register st ++ second) (flat_map (ask_again st) (shards st.set)) first last)
+    (both_give 2 st.set.config.shards (register st ++ second) (flat_map (ask_again st) (shards st.set)) first last)
 
 forget_gives : (s : ℕ) (st : Region) → Gives 1 (forget s st)
 forget_gives s st = if_gives 1 [] (told (fact.Forget st.who s) ∷ []) (omega arith) (omega arith) (is_none (home st s))
@@ -89,7 +89,7 @@ forget_gives s st = if_gives 1 [] (told (fact.Forget st.who s) ∷ []) (omega ar
 view_gives : (v : ℕ) (xs : List Incarnation) (st : Region) → Gives (1 + st.set.config.shards) (take_view v xs st)
 view_gives v xs st =
     both_give 1 st.set.config.shards (told (fact.View st.who v) ∷ []) (flat_map (forget_lost xs st) (shards st.set)) (omega arith)
-        (each_gives (forget_lost xs st) (λ s. some_gives 1 (λ h. if is_among h xs then [] else forget s st) (λ h. if_gives 1 [] (forget s st) (omega arith) (forget_gives s st) (is_among h xs)) (home st s)) 0 st.set.config.shards)
+    (each_gives (forget_lost xs st) (λ s. some_gives 1 (λ h. if is_among h xs then [] else forget s st) (λ h. if_gives 1 [] (forget s st) (omega arith) (forget_gives s st) (is_among h xs)) (home st s)) 0 st.set.config.shards)
 
 learn_gives : (s : ℕ) (h : Incarnation) (stamp : Stamp) (st : Region) → Gives 1 (learn s h stamp st)
 learn_gives s h stamp st = if_gives 1 [] (told (fact.Home st.who s h) ∷ []) (omega arith) (omega arith) (is_at h (home st s))
@@ -99,8 +99,8 @@ begin_gives s stamp from st =
     let first : List Move = if is_below (mark st s) stamp then marked s stamp ∷ forget s st else [] in
     let last : List Move = post st.who from (body.BeginHandOffAck s stamp) ∷ [] in
     if_gives 2 [] (first ++ last) (omega arith)
-        (both_give 1 1 first last (if_gives 1 (marked s stamp ∷ forget s st) [] (forget_gives s st) (omega arith) (is_below (mark st s) stamp)) (omega arith))
-        (is_below stamp (mark st s))
+    (both_give 1 1 first last (if_gives 1 (marked s stamp ∷ forget s st) [] (forget_gives s st) (omega arith) (is_below (mark st s) stamp)) (omega arith))
+    (is_below stamp (mark st s))
 
 pub handle_room : (from : Incarnation) (b : Body) (st : Region) → Gives (st.set.config.shards + 2) (handled from b st)
 handle_room from (body.View v xs) st = if_gives (st.set.config.shards + 2) [] (take_view v xs st) (omega arith) (more (1 + st.set.config.shards) (st.set.config.shards + 2) (take_view v xs st) (omega arith) (view_gives v xs st)) (nat_le v st.version)

@@ -49,19 +49,19 @@ impl Model for Region {
     ghost Value = { Made };
 
     ghost view = { λ r. record {
-        script = r.script.value;
-        state = record {
-            who = r.who;
-            set = setting r.script.value;
-            version = r.seen.version;
-            view = r.seen.members;
-            registered = r.registered;
-            leaving = r.leaving;
-            homes = r.homes.items;
-            marks = r.marks.items;
-            asked = r.asked.items;
-            kept = r.kept.lists;
-        };
+      script = r.script.value;
+      state = record {
+        who = r.who;
+        set = setting r.script.value;
+        version = r.seen.version;
+        view = r.seen.members;
+        registered = r.registered;
+        leaving = r.leaving;
+        homes = r.homes.items;
+        marks = r.marks.items;
+        asked = r.asked.items;
+        kept = r.kept.lists;
+      };
     } };
 
     ghost invariant = { λ r. IsRegion r.script.value r.shards r.homes.items r.marks.items r.asked.items r.kept };

@@ -1,10 +1,10 @@
 //! What no clause says: that memory is there where there is plenty; and one way through each call.
-ghost use Rattle.std.specs.Prelude.{◌≡◌, IfOk, IsTrue, [], ◌∷◌};
+ghost use Rattle.std.specs.Prelude.{◌≡◌, IfOk, IfSome, IsTrue, [], ◌∷◌};
 ghost use Rattle.yard_model.specs.declared.charter.Order.TheVariants as order;
 ghost use Rattle.yard_model.specs.declared.event.Command.TheVariants as command;
 ghost use Rattle.yard_model.specs.Genuine.{is_genuine, is_genuine_body};
 
-use crate::laws::{handle_room, leave_room, register_room, route_room, tick_room};
+use crate::laws::{handle_room, route_room, tick_room};
 use crate::{Region, Route, Todo};
 use std::alloc::{AllocError, Global};
 use std::test::Fail;
@@ -45,6 +45,35 @@ fn one_send(alloc: Global, p: ProducerNo, entity: EntityName) -> Result<Charter,
     Charter::new(alloc, SETTINGS, orders)
 }
 
+/// A region of this script that knows nothing.
+fn new_region(alloc: Global) -> Result<Region, Fail>
+    ensures nodes { IfOk result (λ r. r.script.config.nodes ≡ 2) }
+    ensures shards { IfOk result (λ r. r.script.config.shards ≡ 2) }
+    ensures orders { IfOk result (λ r. r.script.orders ≡ record { number = 2; order = order.Send 1 (97 ∷ []) (command.Add 7) } ∷ []) }
+{
+    let p = ProducerNo::new(1).ok_or("1 is a producer")?;
+    let entity = EntityName::new(b"a").ok_or("a is a name")?;
+    let charter = one_send(alloc, p, entity)?;
+    Ok(Region::new(alloc, WHO, &charter)?)
+}
+
+/// The message of that send.
+#[tactic(auto, using(crate::proofs::FirstLaws::genuine_first))]
+fn first_message(region: &Region) -> Option<Message>
+    requires nodes { region.now.script.config.nodes ≡ 2 }
+    requires orders { region.now.script.orders ≡ record { number = 2; order = order.Send 1 (97 ∷ []) (command.Add 7) } ∷ [] }
+    ensures genuine { IfSome result (λ m. IsTrue (is_genuine region.now.script m)) }
+{
+    let _version = region.version();
+    Some(Message {
+        producer: ProducerNo::new(1)?,
+        entity: EntityName::new(b"a")?,
+        number: 1,
+        command: Command::Add(7),
+        origin: WHO,
+    })
+}
+
 /// A packet from the node to itself.
 fn hand(region: &mut Region, body: &Body, out: &mut Out) -> Result<Todo, AllocError>
     requires genuine { IsTrue (is_genuine_body region.old.script body.now) }
@@ -63,7 +92,12 @@ fn hand(region: &mut Region, body: &Body, out: &mut Out) -> Result<Todo, AllocEr
 }
 
 /// A message, where it goes.
-fn route(region: &mut Region, message: &Message, running: ShardSet, out: &mut Out) -> Result<Route, AllocError>
+fn route(
+    region: &mut Region,
+    message: &Message,
+    running: ShardSet,
+    out: &mut Out,
+) -> Result<Route, AllocError>
     requires genuine { IsTrue (is_genuine region.old.script message.now) }
     ensures script { region.new.script ≡ region.old.script }
 {
@@ -84,79 +118,50 @@ fn tick(region: &mut Region, out: &mut Out) -> Result<(), AllocError>
 }
 
 #[test]
-fn a_home_is_learned_and_moves(rt: HostRuntime) -> Result<(), Fail> {
-    let alloc = rt.alloc();
-    let p = ProducerNo::new(1).ok_or("1 is a producer")?;
-    let entity = EntityName::new(b"a").ok_or("a is a name")?;
-    let s = ShardNo::new(1, 2).ok_or("1 is a shard")?;
-    let charter = one_send(alloc, p, entity)?;
-    let mut region = Region::new(alloc, WHO, &charter)?;
-    let mut out = Out::new(alloc);
-    assert!(rt; region.oldest() == None);
+fn a_view_is_taken(rt: HostRuntime) -> Result<(), Fail> {
+    let mut region = new_region(rt.alloc())?;
+    let mut out = Out::new(rt.alloc());
     let members = Members::empty().with(WHO);
-    let view = Body::View { version: 3, members };
-    assert!(rt; matches!(hand(&mut region, &view, &mut out)?, Todo::Nothing));
+    let view = Body::View {
+        version: 3,
+        members,
+    };
+    let todo = hand(&mut region, &view, &mut out)?;
+    assert!(rt; matches!(todo, Todo::Nothing));
     assert!(rt; out.take() == Some(Item::Fact(Fact::View(WHO, 3))));
-    assert_eq!(rt; region.version(), 3);
-    assert!(rt; region.has(&WHO));
-    register_room();
-    out.reserve(1)?;
-    region.register(&mut out);
-    assert!(rt; out.take() == Some(Item::Post(Packet { from: WHO, to: WHO, body: Body::Register })));
-    assert!(rt; matches!(hand(&mut region, &Body::RegisterAck, &mut out)?, Todo::Nothing));
-    out.reserve(1)?;
-    region.register(&mut out);
-    assert!(rt; out.take() == None);
-    let first = Stamp { epoch: 1, round: 0 };
-    let host = Body::HostShard(s, first);
-    assert!(rt; matches!(hand(&mut region, &host, &mut out)?, Todo::Start(_)));
-    assert!(rt; out.take() == Some(Item::Fact(Fact::Home(WHO, s, WHO))));
-    assert!(rt; region.is_home(s));
-    assert!(rt; !region.is_routable(s, ShardSet::empty()));
-    let second = Stamp { epoch: 1, round: 1 };
-    let begin = Body::BeginHandOff(s, second);
-    assert!(rt; matches!(hand(&mut region, &begin, &mut out)?, Todo::Nothing));
-    assert!(rt; out.take() == Some(Item::Fact(Fact::Forget(WHO, s))));
-    assert!(rt; region.home(s) == None);
-    let hand_off = Body::HandOff(s, second);
-    assert!(rt; matches!(hand(&mut region, &hand_off, &mut out)?, Todo::HandOff(..)));
-    leave_room();
-    out.reserve(1)?;
-    region.leave(&mut out);
-    assert!(rt; region.is_leaving());
     Ok(())
 }
 
 #[test]
-fn a_message_waits_for_its_home(rt: HostRuntime) -> Result<(), Fail> {
-    let alloc = rt.alloc();
-    let p = ProducerNo::new(1).ok_or("1 is a producer")?;
-    let entity = EntityName::new(b"a").ok_or("a is a name")?;
+fn a_home_is_learned(rt: HostRuntime) -> Result<(), Fail> {
     let s = ShardNo::new(1, 2).ok_or("1 is a shard")?;
-    let charter = one_send(alloc, p, entity)?;
-    let mut region = Region::new(alloc, WHO, &charter)?;
-    let mut out = Out::new(alloc);
-    let message = Message {
-        producer: p,
-        entity,
-        number: 1,
-        command: Command::Add(7),
-        origin: WHO,
-    };
+    let mut region = new_region(rt.alloc())?;
+    let mut out = Out::new(rt.alloc());
+    let host = Body::HostShard(s, Stamp { epoch: 1, round: 0 });
+    let todo = hand(&mut region, &host, &mut out)?;
+    assert!(rt; matches!(todo, Todo::Start(_)));
+    assert!(rt; out.take() == Some(Item::Fact(Fact::Home(WHO, s, WHO))));
+    Ok(())
+}
+
+#[test]
+fn a_second_message_is_dropped(rt: HostRuntime) -> Result<(), Fail> {
+    let mut region = new_region(rt.alloc())?;
+    let mut out = Out::new(rt.alloc());
+    let message = first_message(&region).ok_or("a message")?;
     let message = &message;
-    assert!(rt; matches!(route(&mut region, message, ShardSet::empty(), &mut out)?, Route::Gone));
+    route(&mut region, message, ShardSet::empty(), &mut out)?;
+    route(&mut region, message, ShardSet::empty(), &mut out)?;
     assert!(rt; matches!(out.take(), Some(Item::Fact(Fact::Kept(..)))));
-    assert!(rt; out.take() == None);
-    assert!(rt; matches!(route(&mut region, message, ShardSet::empty(), &mut out)?, Route::Gone));
     assert!(rt; matches!(out.take(), Some(Item::Fact(Fact::Dropped(..)))));
+    Ok(())
+}
+
+#[test]
+fn nothing_is_asked_without_a_view(rt: HostRuntime) -> Result<(), Fail> {
+    let mut region = new_region(rt.alloc())?;
+    let mut out = Out::new(rt.alloc());
     tick(&mut region, &mut out)?;
     assert!(rt; out.take() == None);
-    let host = Body::HostShard(s, Stamp { epoch: 1, round: 0 });
-    assert!(rt; matches!(hand(&mut region, &host, &mut out)?, Todo::Start(_)));
-    let running = ShardSet::empty().with(s);
-    assert!(rt; region.is_routable(s, running));
-    assert!(rt; region.next_kept(s) == Some(*message));
-    assert!(rt; region.next_kept(s) == None);
-    assert!(rt; matches!(route(&mut region, message, running, &mut out)?, Route::Local(_)));
     Ok(())
 }

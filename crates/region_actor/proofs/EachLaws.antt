@@ -1,7 +1,7 @@
 -- A rule for each shard, rising, each of which reads what those before it leave as it was.
-use Rattle.std.proofs.Common.{◌≡◌, ◌≢◌, ℕ, ◌+◌, ◌-◌, ◌<◌, ◌≤◌, List, [], ◌∷◌, ◌++◌, length, sym, ap, subst, ◌∙◌, refl, arith, append_assoc, append-nil, length-append, get_or-set_other}
-use Rattle.std.specs.Prelude.{Bool, true, false, ◌&&◌, not, zero, suc, fold, Option, Some, None, is_none, if◌then◌else◌, slice_index_or}
-use Rattle.std.specs.List.{flat_map, slice_get}
+use Rattle.std.proofs.Common.{◌≡◌, ◌≢◌, ℕ, ◌+◌, ◌-◌, ◌<◌, ◌≤◌, List, [], ◌∷◌, ◌++◌, length, sym, ap, ◌∙◌, refl, arith, append_assoc, append-nil, length-append, get_or-set_other}
+use Rattle.std.specs.Prelude.{Bool, true, false, ◌&&◌, not, zero, suc, fold, Option, Some, None, is_none, if◌then◌else◌}
+use Rattle.std.specs.List.{flat_map}
 use Rattle.std.proofs.lemmas.List.Sums.{fold-append}
 use Rattle.std.proofs.lemmas.Grind.{flat_map-append}
 use Rattle.yard_model.specs.declared.fact.Fact.TheVariants as fact
@@ -9,9 +9,9 @@ use Rattle.yard_model.specs.declared.incarnation.Incarnation.{Incarnation}
 use Rattle.yard_model.specs.declared.out.Item.{Item}
 use Rattle.yard_model.specs.declared.packet.Body.TheVariants as body
 use Rattle.yard_model.specs.Move.{Move, told, post, item_of}
-use Rattle.yard_model.specs.Region.{Region, region_after, home, oldest, forget, forget_lost, ask_again, kept_of}
+use Rattle.yard_model.specs.Region.{Region, region_after, home, oldest, forget_lost, ask_again, kept_of}
 use Rattle.yard_model.specs.Turns.{where_some}
-use Rattle.yard_model.specs.Words.{numbers, is_among, is_empty, at}
+use Rattle.yard_model.specs.Words.{numbers, is_among, is_empty}
 
 abbrev pub Each : Type 0
 Each = Region → ℕ → List Move

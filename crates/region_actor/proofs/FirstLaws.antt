@@ -1,7 +1,6 @@
 -- The first send of a script is a genuine message.
-use Rattle.std.proofs.Common.{◌≡◌, ℕ, List, [], ◌∷◌, sym, ap, subst, ◌∙◌, refl, true}
-use Rattle.std.specs.Prelude.{Bool, ◌&&◌, nat_le, IsTrue}
-use Rattle.yard_model.specs.declared.charter.Config.{Config}
+use Rattle.std.proofs.Common.{◌≡◌, List, [], ◌∷◌, sym, ap, subst}
+use Rattle.std.specs.Prelude.{nat_le, IsTrue}
 use Rattle.yard_model.specs.declared.charter.Line.{Line}
 use Rattle.yard_model.specs.declared.charter.Order.TheVariants as order
 use Rattle.yard_model.specs.declared.event.Command.TheVariants as command

@@ -1,6 +1,6 @@
 -- What a region keeps, and that each move keeps it.
-use Rattle.std.proofs.Common.{◌≡◌, ◌≢◌, ℕ, ◌+◌, ◌%◌, ◌<◌, ◌≤◌, List, [], ◌∷◌, ◌++◌, length, drop, replicate, sym, ap, subst, ◌∙◌, refl, true, false, arith, true≢false, get_or-set_same, get_or-set_other, eq-eqb}
-use Rattle.std.specs.Prelude.{Bool, zero, suc, ◌==◌, ◌&&◌, nat_le, nat_lt, slice_set, slice_index_or, Option, None, Some, IsTrue, IfSome, MatchOption}
+use Rattle.std.proofs.Common.{◌≡◌, ◌≢◌, ℕ, ◌<◌, ◌≤◌, List, [], ◌∷◌, ◌++◌, length, drop, replicate, sym, ap, subst, ◌∙◌, refl, true, false, arith, true≢false, get_or-set_same, get_or-set_other, eq-eqb}
+use Rattle.std.specs.Prelude.{Bool, zero, suc, ◌==◌, ◌&&◌, nat_le, slice_set, Option, None, Some, IsTrue, IfSome, MatchOption}
 use Rattle.std.specs.List.{list_all}
 use Rattle.std.proofs.lemmas.Bool.Decides.{nat_tests}
 use Rattle.std.proofs.lemmas.List.{length-replicate}

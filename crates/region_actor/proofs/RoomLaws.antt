@@ -1,18 +1,16 @@
 -- What never changes, and how many items a rule gives at most.
-use Rattle.std.proofs.Common.{◌≡◌, ℕ, ◌+◌, ◌-◌, ◌<◌, ◌≤◌, List, [], ◌∷◌, ◌++◌, length, sym, ap, subst, ◌∙◌, refl, arith, length-append}
+use Rattle.std.proofs.Common.{◌≡◌, ℕ, ◌+◌, ◌≤◌, List, [], ◌∷◌, ◌++◌, length, ap, ◌∙◌, refl, arith, length-append}
 use Rattle.std.specs.Prelude.{Bool, true, false, ◌&&◌, not, nat_le, zero, suc, fold, Option, Some, None, is_none, if◌then◌else◌, slice_index_or, nat_lt, sum_by}
-use Rattle.std.specs.List.{flat_map, slice_get, list_any}
+use Rattle.std.specs.List.{flat_map}
 use Rattle.std.proofs.lemmas.Grind.{flat_map-append}
 use Rattle.yard_model.specs.declared.fact.Fact.TheVariants as fact
 use Rattle.yard_model.specs.declared.incarnation.Incarnation.{Incarnation}
 use Rattle.yard_model.specs.declared.incarnation.Stamp.{Stamp}
-use Rattle.yard_model.specs.declared.out.Item.{Item}
 use Rattle.yard_model.specs.declared.packet.Body.{Body}
 use Rattle.yard_model.specs.declared.packet.Body.TheVariants as body
 use Rattle.yard_model.specs.declared.packet.Message.{Message}
 use Rattle.yard_model.specs.Move.{Move, told, post, marked, item_of}
-use Rattle.yard_model.specs.Region.{Region, region_after, home, mark, oldest, is_home, register, leave, keep, ask, route_away, route_by, post_oldest, forget, forget_lost, take_view, learn, takes_home, takes_host, begin_hand_off, ask_again, is_some_home, tick_region, kept_of}
-use Rattle.yard_model.specs.Script.{Setting}
+use Rattle.yard_model.specs.Region.{Region, region_after, home, mark, oldest, register, leave, keep, ask, route_away, route_by, post_oldest, forget, forget_lost, take_view, learn, takes_home, takes_host, begin_hand_off, ask_again, is_some_home, tick_region, kept_of}
 use Rattle.yard_model.specs.Setting.{shards, shard_of}
 use Rattle.yard_model.specs.Turns.{where_some}
 use Rattle.yard_model.specs.Words.{numbers, is_at, is_same, is_among, is_below, is_empty}

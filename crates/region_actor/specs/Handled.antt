@@ -1,5 +1,5 @@
 -- The region's part of a packet and of a message, and what the node is to do then.
-use Rattle.std.specs.Prelude.{ℕ, Bool, true, ◌&&◌, nat_le, List, [], if◌then◌else◌}
+use Rattle.std.specs.Prelude.{Bool, true, ◌&&◌, nat_le, List, [], if◌then◌else◌}
 use Rattle.yard_model.specs.declared.incarnation.Incarnation.{Incarnation}
 use Rattle.yard_model.specs.declared.packet.Body.{Body}
 use Rattle.yard_model.specs.declared.packet.Body.TheVariants as body

@@ -1,4 +1,4 @@
-use Rattle.std.proofs.Common.{◌≡◌, ◌∙◌, arith}
+use Rattle.std.proofs.Common.{◌∙◌}
 use Rattle.yard_model.specs.Region.{ask_again}
 use Rattle.region_actor.proofs.EachLaws.{ask_apart, next_each}
 use Rattle.region_actor.proofs.region.Region.ask_all_again.Goals as goal

@@ -1,4 +1,4 @@
-use Rattle.std.proofs.Common.{◌≡◌, ◌∙◌, arith}
+use Rattle.std.proofs.Common.{◌∙◌}
 use Rattle.region_actor.proofs.EachLaws.{lost, lost_apart, next_each}
 use Rattle.region_actor.proofs.region.Region.forget_all_lost.Goals as goal
 

@@ -1,4 +1,4 @@
-use Rattle.std.proofs.Common.{◌≡◌, ◌<◌, ap, sym, arith}
+use Rattle.std.proofs.Common.{ap, sym, arith}
 use Rattle.region_actor.specs.Made.{Made}
 use Rattle.region_actor.proofs.RegionLaws.{region_releases, kept_first}
 use Rattle.region_actor.proofs.region.Region.next_kept.Goals as goal

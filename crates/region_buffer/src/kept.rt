@@ -1,5 +1,5 @@
 //! Messages by shard, with one bound on how many are kept in all.
-ghost use Rattle.std.specs.Prelude.{◌≡◌, ℕ, ◌<◌, ◌≤◌, [], ◌∷◌, ◌++◌, length, drop, replicate, slice_set, IfOk, IfErr, OnOk, OnErr, MatchOption};
+ghost use Rattle.std.specs.Prelude.{◌≡◌, ℕ, ◌<◌, ◌≤◌, [], ◌∷◌, ◌++◌, length, drop, replicate, slice_set, IfOk, IfErr, OnOk, OnErr, MatchOption, IsTrue, ◌↔◌};
 ghost use Rattle.envelope_pool.specs.Keyed.{list_of, held};
 
 use envelope_pool::{Full, Pool};
@@ -59,5 +59,13 @@ impl Kept {
         ensures buffer { self.new.cells ≡ self.old.cells }
     {
         self.pool.pop(s.get() as u16)
+    }
+
+    /// Whether none of a shard is kept.
+    pub fn is_empty(&self, s: ShardNo) -> bool
+        requires { s < length self.now.lists }
+        ensures { IsTrue result ↔ (list_of self.now s ≡ []) }
+    {
+        self.pool.len(s.get() as u16) == 0
     }
 }

@@ -1,0 +1,4 @@
+mod RegionLaws
+mod EachLaws
+mod RoomLaws
+mod FirstLaws

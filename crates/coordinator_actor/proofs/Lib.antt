@@ -1,1 +1,5 @@
+pub mod Same
 pub mod HeldLaws
+pub mod Differ
+pub mod RestLaws
+pub mod MoveLaws

@@ -1,6 +1,6 @@
 -- A coordinator as it stands: its state, the script that its list is of, and how much it may still write.
-use Rattle.std.specs.Prelude.{◌≡◌, ℕ, ◌≤◌, Bool, not, List, [], length, filter, Option, Some}
-use Rattle.std.specs.List.{All}
+use Rattle.std.specs.Prelude.{◌≡◌, ℕ, Bool, List, length, Some}
+use Rattle.std.specs.List.{All, list_all}
 use Rattle.yard_model.specs.declared.fact.Fact.{Fact}
 use Rattle.yard_model.specs.declared.incarnation.Incarnation.{Incarnation}
 use Rattle.yard_model.specs.Coordinator.{Coordinator, Moving}
@@ -24,10 +24,6 @@ pub record IsHeld (c : Script) (who : Incarnation) (entries : List Fact) (starte
   pub started_there : length started ≡ c.config.shards
   pub at_home : All (IsAtHome entries) moving
 
--- the registered regions that are not in a view, in order of registration
-abbrev pub lost : List Incarnation → List Fact → List Incarnation
-lost view entries = filter (λ r. not (is_among r view)) (regions entries)
-
 -- every registered region is in the view
-abbrev pub AreViewed : List Incarnation → List Fact → Type 0
-AreViewed view entries = lost view entries ≡ []
+abbrev pub are_viewed : List Incarnation → List Fact → Bool
+are_viewed view entries = list_all (λ r. is_among r view) (regions entries)

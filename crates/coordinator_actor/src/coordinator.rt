@@ -3,7 +3,9 @@ ghost use Rattle.std.specs.Prelude.{◌≡◌, ℕ, ◌+◌, ◌<◌, ◌≤◌,
 ghost use Rattle.yard_model.specs.declared.fact.Fact.TheVariants as fact;
 ghost use Rattle.yard_model.specs.declared.out.Item.TheVariants as item;
 ghost use Rattle.yard_model.specs.Coordinator.{coordinator_after, new_coordinator, registered, home_of, stamp};
+ghost use Rattle.yard_model.specs.declared.incarnation.Slot.TheVariants as slot;
 ghost use Rattle.yard_model.specs.Genuine.{is_node};
+ghost use Rattle.yard_model.specs.Lawful.{own};
 ghost use Rattle.yard_model.specs.Move.{told};
 ghost use Rattle.yard_model.specs.Script.{setting, IsScript};
 ghost use Rattle.yard_model.specs.SlotReads.{holder, regions};
@@ -13,10 +15,11 @@ ghost use Rattle.coordinator_actor.specs.Held.{Held};
 use crate::flags::Flags;
 use crate::moving::Round;
 use crate::quitters::Quitters;
+use crate::regions::{Regions, of_loads};
 use coordinator_state::CoordStore;
 use std::alloc::{AllocError, Global};
 use std::marker::{Model, PhantomData};
-use yard_model::{Body, Charter, Fact, Incarnation, Item, Loads, Out, Packet, Slot, Stamp, State};
+use yard_model::{Body, Charter, Fact, Incarnation, Item, Out, Packet, Slot, Stamp, State};
 
 /// The shard coordinator of a node that holds its slot (Akka 2.6, Cluster Sharding concepts): the
 /// store of the slot, which regions leave, which shards are started, and the round of handoffs that
@@ -129,6 +132,16 @@ impl Coordinator {
         ensures { result ≡ is_among r.now (registered self.now.state) }
     {
         self.store.is_registered(*r)
+    }
+
+    /// The registered regions, in order of registration.
+    pub(crate) fn regions(&self) -> Regions
+        ensures regions { result ≡ registered self.now.state }
+        ensures lawful { IsTrue (own self.now.script slot.Coordinator self.now.state.entries) }
+    {
+        self.store.entries();
+        let loads = self.store.loads();
+        of_loads(&loads)
     }
 
     /// The stamp of its words: the epoch of its lease, and how many rounds have begun.

@@ -1,6 +1,6 @@
 //! The round of handoffs that is open.
-ghost use Rattle.std.specs.Prelude.{◌≡◌, ℕ, ◌<◌, ◌≤◌, Option, not, [], ◌∷◌, ◌++◌, length, map, filter};
-ghost use Rattle.yard_model.specs.Words.{is_at};
+ghost use Rattle.std.specs.Prelude.{◌≡◌, ◌&&◌, ℕ, ◌<◌, ◌≤◌, Option, not, [], ◌∷◌, ◌++◌, length, map, filter};
+ghost use Rattle.yard_model.specs.Words.{is_at, is_among, is_empty, without};
 ghost use Rattle.yard_model.specs.Coordinator.{not_awaited};
 
 use crate::regions::{Regions, is_same};
@@ -55,6 +55,17 @@ impl MovingShard {
         ensures { result.now ≡ self.now.awaited }
     {
         &self.awaited
+    }
+
+    /// Whether this region is the last that is awaited.
+    pub(crate) fn is_last(&self, r: &Incarnation) -> bool
+        ensures { result ≡ (is_among r.now self.now.awaited && is_empty (without r.now self.now.awaited)) }
+    {
+        if !self.awaited.has(r) {
+            return false;
+        }
+        let others = self.awaited.without(r);
+        others.is_empty()
     }
 
     /// This region isn't awaited any more.

@@ -1,9 +1,10 @@
 //! A short list of regions.
 ghost use Rattle.std.specs.Prelude.{◌≡◌, ℕ, ◌<◌, ◌≤◌, [], ◌∷◌, ◌++◌, length};
-ghost use Rattle.yard_model.specs.Words.{is_same as same, is_among, without};
+ghost use Rattle.yard_model.specs.Words.{is_same as same, is_among, is_empty, without};
+ghost use Rattle.coordinator_state.specs.Homes.{regions_of};
 
 use std::marker::Model;
-use yard_model::{Incarnation, NodeNo};
+use yard_model::{Incarnation, Loads, NodeNo};
 
 /// At most 16 regions, in order of registration; seen as their list.
 #[derive(Clone, Copy)]
@@ -62,6 +63,16 @@ impl Regions {
         &self.cells[..self.len as usize]
     }
 
+    /// Whether there are none.
+    pub(crate) fn is_empty(&self) -> bool
+        ensures { result ≡ is_empty self.now }
+    {
+        match self.as_slice().first() {
+            Some(_) => false,
+            None => true,
+        }
+    }
+
     /// Whether this region is among them.
     pub(crate) fn has(&self, r: &Incarnation) -> bool
         ensures { result ≡ is_among r.now self.now }
@@ -93,4 +104,15 @@ pub(crate) fn is_same(r: &Incarnation, other: &Incarnation) -> bool
     ensures { result ≡ same r.now other.now }
 {
     *r == *other
+}
+
+/// The regions of these loads.
+pub(crate) fn of_loads(loads: &Loads) -> Regions
+    ensures { result ≡ regions_of loads.now }
+{
+    let mut regions = Regions::empty();
+    for load in loads.as_slice() {
+        regions.push(load.region);
+    }
+    regions
 }

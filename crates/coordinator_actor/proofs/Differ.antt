@@ -70,7 +70,7 @@ differ_step c list (fact.Registered r) e may =
 differ_step c list (fact.Terminated r) e may = differ_filter (λ y. not (is_same r y)) (regions list) e
 differ_step c list f e may = e
 
-follows_to : {A : Type 0} (may : List A → A → Bool) (P : List A → Type 0) → ((before : List A) (x : A) → P before → may before x ≡ true → P (before ++ x ∷ []))
+pub follows_to : {A : Type 0} (may : List A → A → Bool) (P : List A → Type 0) → ((before : List A) (x : A) → P before → may before x ≡ true → P (before ++ x ∷ []))
     → (before xs : List A) → P before → each_follows may before xs ≡ true → P (before ++ xs)
 follows_to may P step before [] p e = subst P (sym (append-nil before)) p
 follows_to may P step before (x ∷ xs) p e =

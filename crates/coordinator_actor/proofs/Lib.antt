@@ -3,3 +3,4 @@ pub mod HeldLaws
 pub mod Differ
 pub mod RestLaws
 pub mod MoveLaws
+pub mod ShareLaws

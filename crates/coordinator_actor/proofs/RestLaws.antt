@@ -18,7 +18,7 @@ all_to : (p q : Incarnation → Bool) → ((x : Incarnation) → p x ≡ true �
 all_to p q h [] e = refl
 all_to p q h (x ∷ xs) e = both (q x) (list_all q xs) (h x (and_both (p x) (list_all p xs) e).0) (all_to p q h xs (and_both (p x) (list_all p xs) e).1)
 
-each_among : (xs : List Incarnation) → list_all (λ r. is_among r xs) xs ≡ true
+pub each_among : (xs : List Incarnation) → list_all (λ r. is_among r xs) xs ≡ true
 each_among [] = refl
 each_among (x ∷ xs) =
     both (is_among x (x ∷ xs)) (list_all (λ r. is_among r (x ∷ xs)) xs) (or_left (is_same x x) (is_among x xs) (same_itself x))

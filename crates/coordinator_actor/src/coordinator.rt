@@ -1,25 +1,30 @@
 //! The state of a coordinator, and the moves that change it.
-ghost use Rattle.std.specs.Prelude.{◌≡◌, ℕ, ◌+◌, ◌<◌, ◌≤◌, [], ◌∷◌, ◌++◌, length, Some, OnOk, OnErr, IsTrue, true, false};
+ghost use Rattle.std.specs.Prelude.{◌≡◌, ℕ, ◌+◌, ◌<◌, ◌≤◌, [], ◌∷◌, ◌++◌, length, Some, OnOk, OnErr, IsTrue, IfSome, true, false, is_none, is_some};
+ghost use Rattle.std.specs.List.{All, list_all};
+ghost use Rattle.yard_model.specs.declared.load.Load.{Load};
 ghost use Rattle.yard_model.specs.declared.fact.Fact.TheVariants as fact;
 ghost use Rattle.yard_model.specs.declared.out.Item.TheVariants as item;
-ghost use Rattle.yard_model.specs.Coordinator.{coordinator_after, new_coordinator, registered, home_of, stamp};
+ghost use Rattle.yard_model.specs.Coordinator.{coordinator_after, new_coordinator, registered, home_of, stamp, shares, is_moving};
 ghost use Rattle.yard_model.specs.declared.incarnation.Slot.TheVariants as slot;
-ghost use Rattle.yard_model.specs.Genuine.{is_node};
+ghost use Rattle.yard_model.specs.Genuine.{is_node, is_shard};
 ghost use Rattle.yard_model.specs.Lawful.{own};
-ghost use Rattle.yard_model.specs.Move.{told};
+ghost use Rattle.yard_model.specs.Move.{told, started, acknowledged};
 ghost use Rattle.yard_model.specs.Script.{setting, IsScript};
 ghost use Rattle.yard_model.specs.SlotReads.{holder, regions};
-ghost use Rattle.yard_model.specs.Words.{is_among};
-ghost use Rattle.coordinator_actor.specs.Held.{Held};
+ghost use Rattle.yard_model.specs.Words.{is_among, is_at};
+ghost use Rattle.least_shard.specs.Spread.{shares_of};
+ghost use Rattle.coordinator_actor.specs.Held.{Held, IsAtHome};
 
 use crate::flags::Flags;
 use crate::moving::Round;
 use crate::quitters::Quitters;
-use crate::regions::{Regions, of_loads};
+use crate::regions::{Regions, is_same, of_loads};
 use coordinator_state::CoordStore;
 use std::alloc::{AllocError, Global};
 use std::marker::{Model, PhantomData};
-use yard_model::{Body, Charter, Fact, Incarnation, Item, Out, Packet, Slot, Stamp, State};
+use yard_model::{
+    Body, Charter, Fact, Incarnation, Item, Loads, Out, Packet, ShardNo, Slot, Stamp, State,
+};
 
 /// The shard coordinator of a node that holds its slot (Akka 2.6, Cluster Sharding concepts): the
 /// store of the slot, which regions leave, which shards are started, and the round of handoffs that
@@ -134,6 +139,34 @@ impl Coordinator {
         self.store.is_registered(*r)
     }
 
+    /// The home of a shard, a registered region; None exactly where it has none.
+    pub fn home(&self, s: ShardNo) -> Option<Incarnation>
+        ensures value { result ≡ home_of self.now.state s }
+        ensures registered { IfSome result (λ r. is_among r (registered self.now.state) ≡ true) }
+    {
+        self.store.home(s)
+    }
+
+    /// Whether this region is the home of a shard.
+    pub fn is_home(&self, r: &Incarnation, s: ShardNo) -> bool
+        ensures { result ≡ is_at r.now (home_of self.now.state s) }
+    {
+        match &self.home(s) {
+            Some(home) => is_same(r, home),
+            None => false,
+        }
+    }
+
+    /// The loads of the registered regions that don't leave, in order of registration.
+    pub(crate) fn staying(&self) -> Loads
+        ensures shares { shares_of result ≡ shares self.now.state }
+        ensures registered { list_all (λ (l : Load). is_among l.region (registered self.now.state)) result ≡ true }
+    {
+        self.store.entries();
+        let loads = self.store.loads();
+        self.quitting.staying(&loads)
+    }
+
     /// The registered regions, in order of registration.
     pub(crate) fn regions(&self) -> Regions
         ensures regions { result ≡ registered self.now.state }
@@ -156,7 +189,8 @@ impl Coordinator {
 
     /// The open round.
     pub(crate) fn round(&self) -> &Round
-        ensures { result.now ≡ self.now.state.moving }
+        ensures round { result.now ≡ self.now.state.moving }
+        ensures at_home { All (IsAtHome self.now.state.entries) self.now.state.moving }
     {
         &self.moving
     }
@@ -193,6 +227,66 @@ impl Coordinator {
     {
         self.store.terminated(*r);
         self.moving.lose(r);
+    }
+
+    /// A shard that isn't moving gets a home, where it isn't started yet.
+    pub(crate) fn place(&mut self, s: ShardNo, r: &Incarnation, out: &mut Out)
+        requires room { 0 < out.old.spare }
+        requires spare { 0 < self.old.spare }
+        requires shard { is_shard self.old.script s ≡ true }
+        requires registered { is_among r.now (registered self.old.state) ≡ true }
+        requires homeless { is_none (home_of self.old.state s) ≡ true }
+        requires still { is_moving self.old.state s ≡ false }
+        ensures items { out.new.items ≡ out.old.items ++ item.Fact (fact.Allocated s r.now) ∷ [] }
+        ensures state { self.new.state ≡ coordinator_after self.old.state (told (fact.Allocated s r.now)) }
+        ensures script { self.new.script ≡ self.old.script }
+        ensures spare { out.new.spare + 1 ≡ out.old.spare }
+        ensures entries { self.new.spare + 1 ≡ self.old.spare }
+        ensures places { self.new.places ≡ self.old.places }
+    {
+        self.store.allocated(s, *r);
+        self.started.set(s, false);
+        out.push(Item::Fact(Fact::Allocated(s, *r)));
+    }
+
+    /// A shard has no home any more; its part in the round is done.
+    pub(crate) fn remove(&mut self, s: ShardNo, out: &mut Out)
+        requires room { 0 < out.old.spare }
+        requires spare { 0 < self.old.spare }
+        requires shard { is_shard self.old.script s ≡ true }
+        requires home { is_some (home_of self.old.state s) ≡ true }
+        ensures items { out.new.items ≡ out.old.items ++ item.Fact (fact.Deallocated s) ∷ [] }
+        ensures state { self.new.state ≡ coordinator_after self.old.state (told (fact.Deallocated s)) }
+        ensures script { self.new.script ≡ self.old.script }
+        ensures spare { out.new.spare + 1 ≡ out.old.spare }
+        ensures entries { self.new.spare + 1 ≡ self.old.spare }
+        ensures places { self.new.places ≡ self.old.places }
+    {
+        self.store.deallocated(s);
+        self.started.set(s, false);
+        self.moving.finish(s);
+        out.push(Item::Fact(Fact::Deallocated(s)));
+    }
+
+    /// A shard is started.
+    pub(crate) fn mark_started(&mut self, s: ShardNo)
+        requires shard { is_shard self.old.script s ≡ true }
+        ensures state { self.new.state ≡ coordinator_after self.old.state (started s) }
+        ensures script { self.new.script ≡ self.old.script }
+        ensures entries { self.new.spare ≡ self.old.spare }
+        ensures places { self.new.places ≡ self.old.places }
+    {
+        self.started.set(s, true);
+    }
+
+    /// A region isn't awaited for a shard any more.
+    pub(crate) fn mark_acknowledged(&mut self, s: ShardNo, r: &Incarnation)
+        ensures state { self.new.state ≡ coordinator_after self.old.state (acknowledged s r.now) }
+        ensures script { self.new.script ≡ self.old.script }
+        ensures entries { self.new.spare ≡ self.old.spare }
+        ensures places { self.new.places ≡ self.old.places }
+    {
+        self.moving.acknowledge(r, s);
     }
 
     /// A packet is posted; the state stays.

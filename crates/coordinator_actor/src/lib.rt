@@ -5,11 +5,13 @@
 #![tactic(auto)]
 
 mod coordinator;
+mod homes;
 mod flags;
 mod lost;
 mod moving;
 mod quitters;
 mod regions;
 mod register;
+mod stopped;
 
 pub use coordinator::Coordinator;

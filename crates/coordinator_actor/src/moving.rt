@@ -1,5 +1,6 @@
 //! The round of handoffs that is open.
-ghost use Rattle.std.specs.Prelude.{◌≡◌, ◌&&◌, ℕ, ◌<◌, ◌≤◌, Option, not, [], ◌∷◌, ◌++◌, length, map, filter};
+ghost use Rattle.std.specs.Prelude.{◌≡◌, ◌&&◌, ℕ, ◌<◌, ◌≤◌, ◌==◌, Option, not, if◌then◌else◌, [], ◌∷◌, ◌++◌, length, map, filter};
+ghost use Rattle.std.specs.List.{list_any};
 ghost use Rattle.yard_model.specs.Words.{is_at, is_among, is_empty, without};
 ghost use Rattle.yard_model.specs.Coordinator.{not_awaited};
 
@@ -48,6 +49,41 @@ impl MovingShard {
             Some(owner) => is_same(r, owner),
             None => false,
         }
+    }
+
+    /// Whether it is this shard.
+    pub(crate) fn is_shard(&self, s: ShardNo) -> bool
+        ensures { result ≡ (self.now.shard == s) }
+    {
+        self.shard.get() == s.get()
+    }
+
+    /// Whether nobody is awaited, and this region is the owner.
+    pub(crate) fn is_stopping(&self, r: &Incarnation) -> bool
+        ensures { result ≡ (is_empty self.now.awaited && is_at r.now self.now.owner) }
+    {
+        self.awaited.is_empty() && self.is_of(r)
+    }
+
+    /// Whether it is this shard and this region is awaited.
+    fn is_awaiting(&self, r: &Incarnation, s: ShardNo) -> bool
+        ensures { result ≡ (self.now.shard == s && is_among r.now self.now.awaited) }
+    {
+        self.is_shard(s) && self.awaited.has(r)
+    }
+
+    /// Whether it is this shard, nobody is awaited, and this region is the owner.
+    fn is_stopping_at(&self, r: &Incarnation, s: ShardNo) -> bool
+        ensures { result ≡ (self.now.shard == s && (is_empty self.now.awaited && is_at r.now self.now.owner)) }
+    {
+        self.is_shard(s) && self.is_stopping(r)
+    }
+
+    /// As it is once this region has acknowledged for that shard.
+    fn acknowledged(&self, r: &Incarnation, s: ShardNo) -> MovingShard
+        ensures { result ≡ (if self.now.shard == s then not_awaited r.now self.now else self.now) }
+    {
+        if self.is_shard(s) { self.without(r) } else { *self }
     }
 
     /// The regions that haven't acknowledged.
@@ -143,6 +179,66 @@ impl Round {
             }
         }
         *self = left;
+    }
+
+    /// Whether this shard is one of them.
+    pub(crate) fn has(&self, s: ShardNo) -> bool
+        ensures { result ≡ list_any (λ x. x.shard == s) self.now }
+    {
+        for shard in self.as_slice() {
+            if shard.is_shard(s) {
+                return true;
+            }
+        }
+        false
+    }
+
+    /// Whether this shard is one of them, and this region is awaited for it.
+    pub(crate) fn is_awaiting(&self, r: &Incarnation, s: ShardNo) -> bool
+        ensures { result ≡ list_any (λ x. x.shard == s && is_among r.now x.awaited) self.now }
+    {
+        for shard in self.as_slice() {
+            if shard.is_awaiting(r, s) {
+                return true;
+            }
+        }
+        false
+    }
+
+    /// Whether this shard is one of them, nobody is awaited for it, and this region is its owner.
+    pub(crate) fn is_stopping(&self, r: &Incarnation, s: ShardNo) -> bool
+        ensures { result ≡ list_any (λ x. x.shard == s && (is_empty x.awaited && is_at r.now x.owner)) self.now }
+    {
+        for shard in self.as_slice() {
+            if shard.is_stopping_at(r, s) {
+                return true;
+            }
+        }
+        false
+    }
+
+    /// A shard is done.
+    pub(crate) fn finish(&mut self, s: ShardNo)
+        ensures { self.new ≡ filter (λ x. not (x.shard == s)) self.old }
+    {
+        let mut left = Round::empty();
+        for shard in self.as_slice() {
+            if !shard.is_shard(s) {
+                left.push(*shard);
+            }
+        }
+        *self = left;
+    }
+
+    /// A region isn't awaited for a shard any more.
+    pub(crate) fn acknowledge(&mut self, r: &Incarnation, s: ShardNo)
+        ensures { self.new ≡ map (λ x. if x.shard == s then not_awaited r.now x else x) self.old }
+    {
+        let mut round = Round::empty();
+        for shard in self.as_slice() {
+            round.push(shard.acknowledged(r, s));
+        }
+        *self = round;
     }
 }
 

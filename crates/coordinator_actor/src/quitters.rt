@@ -1,11 +1,12 @@
 //! The regions that leave.
 ghost use Rattle.std.specs.Prelude.{◌≡◌, ℕ, ◌+◌, ◌<◌, ◌≤◌, [], ◌∷◌, ◌++◌, length, OnOk, OnErr};
 ghost use Rattle.yard_model.specs.Words.{is_among};
+ghost use Rattle.coordinator_actor.specs.Parts.{staying_of};
 
 use crate::regions::is_same;
 use std::alloc::{AllocError, Global};
 use std::marker::Model;
-use yard_model::Incarnation;
+use yard_model::{Incarnation, Loads};
 
 /// The regions that have said that they leave, in that order, with a spare.
 #[derive(Drop)]
@@ -76,5 +77,18 @@ impl Quitters {
             }
         }
         false
+    }
+
+    /// The loads of the regions that don't leave.
+    pub(crate) fn staying(&self, loads: &Loads) -> Loads
+        ensures { result ≡ staying_of self.now.items loads.now }
+    {
+        let mut staying = Loads::empty();
+        for load in loads.as_slice() {
+            if !self.has(&load.region) {
+                staying = staying.with(*load);
+            }
+        }
+        staying
     }
 }

@@ -15,3 +15,6 @@ mod register;
 mod stopped;
 
 pub use coordinator::Coordinator;
+
+#[cfg(test)]
+mod tests;

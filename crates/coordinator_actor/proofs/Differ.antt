@@ -1,5 +1,5 @@
 -- Regions are registered once, so that those of a view and no others are at most as many as the view has members.
-use Rattle.std.proofs.Common.{◌≡◌, ◌<◌, ◌≤◌, ◌+◌, ℕ, suc, sym, subst, ap, ◌∙◌, refl, arith, length}
+use Rattle.std.proofs.Common.{◌≡◌, ◌<◌, ◌≤◌, suc, sym, subst, ap, ◌∙◌, refl, arith, length}
 use Rattle.std.specs.Prelude.{Bool, true, false, ◌&&◌, ◌||◌, not, cond, List, [], ◌∷◌, ◌++◌, filter}
 use Rattle.std.specs.List.{list_all}
 use Rattle.std.proofs.lemmas.List.{append-nil, append_assoc}
@@ -14,7 +14,7 @@ use Rattle.yard_model.specs.Lawful.{own, is_leased, is_entry, may_follow}
 use Rattle.yard_model.specs.Script.{Script}
 use Rattle.yard_model.specs.SlotReads.{regions, regions_step}
 use Rattle.yard_model.specs.Words.{is_same, is_among, without}
-use Rattle.coordinator_actor.proofs.Same.{true_is_not_false, and_both, both, same_itself, same_turned, among_without}
+use Rattle.coordinator_actor.proofs.Same.{true_is_not_false, and_both, both, same_turned, among_without}
 use Rattle.coordinator_actor.specs.Held.{are_viewed}
 
 -- no region stands twice
@@ -111,6 +111,6 @@ pub room_for : (c : Script) (list : List Fact) (view : List Incarnation) (r : In
     → length (regions list) < 16
 room_for c list view r o viewed seen fresh few =
     let all : length (r ∷ regions list) ≤ length view = fewer (r ∷ regions list) view
-        (both (not (is_among r (regions list))) (differ (regions list)) (ap not fresh) (regions_differ c list o))
-        (both (is_among r view) (list_all (λ x. is_among x view) (regions list)) seen viewed) in
+    (both (not (is_among r (regions list))) (differ (regions list)) (ap not fresh) (regions_differ c list o))
+    (both (is_among r view) (list_all (λ x. is_among x view) (regions list)) seen viewed) in
     omega (arith, all, few)

@@ -1,5 +1,5 @@
 -- What a coordinator's type keeps, move by move.
-use Rattle.std.proofs.Common.{◌≡◌, ◌<◌, ◌≤◌, ℕ, suc, arith, length, sym, ap, ◌∙◌, refl}
+use Rattle.std.proofs.Common.{◌≡◌, ◌≤◌, ℕ, suc, arith, sym, ap, ◌∙◌, refl}
 use Rattle.std.specs.Prelude.{Bool, true, false, not, cond, ◌==◌, ◌&&◌, ◌||◌, slice_set, is_some, List, [], ◌∷◌, ◌++◌, map, filter, Option, Some, None, slice_index_or, if◌then◌else◌}
 use Rattle.std.specs.List.{All, list_any}
 use Rattle.std.specs.Cmp.{nat_eq_equiv}
@@ -12,7 +12,7 @@ use Rattle.yard_model.specs.declared.fact.Fact.TheVariants as fact
 use Rattle.yard_model.specs.declared.incarnation.Incarnation.{Incarnation}
 use Rattle.yard_model.specs.Coordinator.{Moving, not_awaited}
 use Rattle.yard_model.specs.Script.{Script, IsScript}
-use Rattle.yard_model.specs.SlotReads.{holder, holder_step, allocation, allocation_step}
+use Rattle.yard_model.specs.SlotReads.{holder_step, allocation, allocation_step}
 use Rattle.yard_model.specs.Words.{is_at, is_empty}
 use Rattle.coordinator_actor.specs.Held.{IsAtHome, IsHeld}
 use Rattle.coordinator_actor.proofs.Same.{true_is_not_false}

@@ -1,10 +1,10 @@
 -- The registered regions, looked at one after the other: who is in the view stays, who isn't is terminated.
-use Rattle.std.proofs.Common.{◌≡◌, ℕ, sym, ap, ◌∙◌, refl}
-use Rattle.std.specs.Prelude.{Bool, true, false, ◌&&◌, ◌||◌, not, cond, List, [], ◌∷◌, ◌++◌, filter, if◌then◌else◌}
+use Rattle.std.proofs.Common.{◌≡◌, sym, ap, ◌∙◌, refl}
+use Rattle.std.specs.Prelude.{Bool, true, false, ◌||◌, not, cond, List, [], ◌∷◌, if◌then◌else◌}
 use Rattle.std.specs.List.{list_all}
 use Rattle.yard_model.specs.declared.incarnation.Incarnation.{Incarnation}
 use Rattle.yard_model.specs.Words.{is_same, is_among, without}
-use Rattle.coordinator_actor.proofs.Same.{true_is_not_false, and_both, both, or_left, or_right, same_is, same_itself, same_turned}
+use Rattle.coordinator_actor.proofs.Same.{and_both, both, or_left, or_right, same_is, same_itself, same_turned}
 use Rattle.coordinator_actor.specs.Parts.{stay}
 use Rattle.coordinator_actor.proofs.Differ.{differ, of_not, left_among}
 

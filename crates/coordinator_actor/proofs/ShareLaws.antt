@@ -1,8 +1,7 @@
 -- The loads that the store tells are the shares of the definition.
-use Rattle.std.proofs.Common.{◌≡◌, ◌<◌, ◌≤◌, ◌+◌, ℕ, zero, suc, sym, subst, ap, ◌∙◌, refl, arith, length}
-use Rattle.std.specs.Prelude.{Bool, true, false, ◌==◌, ◌&&◌, not, nat_lt, cond, List, [], ◌∷◌, ◌++◌, map, filter, Option, Some, None, is_none, option_map, slice_index_or, if◌then◌else◌}
+use Rattle.std.proofs.Common.{◌≡◌, ◌<◌, ◌≤◌, ◌+◌, ℕ, zero, suc, sym, ap, ◌∙◌, refl, arith, length}
+use Rattle.std.specs.Prelude.{Bool, true, false, ◌==◌, ◌&&◌, not, nat_lt, cond, List, [], ◌∷◌, map, filter, Option, Some, None, is_none, option_map, if◌then◌else◌}
 use Rattle.std.specs.List.{All, list_all}
-use Rattle.std.specs.Option.{ForSome}
 use Rattle.std.proofs.lemmas.Bool.Decides.{Decides-eqb, nat_tests}
 use Rattle.std.proofs.lemmas.List.Folds.{list_all-map}
 use Rattle.std.proofs.lemmas.List.Sums.{fold-append}
@@ -15,7 +14,7 @@ use Rattle.yard_model.specs.declared.load.Load.{Load}
 use Rattle.yard_model.specs.Coordinator.{Coordinator, Share, shares, homes_at, stamp, smallest, allocate}
 use Rattle.yard_model.specs.Genuine.{is_shard}
 use Rattle.yard_model.specs.Lawful.{own, is_leased, is_entry, may_follow}
-use Rattle.yard_model.specs.Move.{Move, told, post}
+use Rattle.yard_model.specs.Move.{told, post}
 use Rattle.yard_model.specs.Turns.{where_some}
 use Rattle.yard_model.specs.Script.{Script}
 use Rattle.yard_model.specs.ShardSet.{has}
@@ -27,7 +26,7 @@ use Rattle.least_shard.specs.Spread.{members, members_below, share_of, shares_of
 use Rattle.coordinator_actor.specs.Parts.{staying_of, allocate_to}
 use Rattle.coordinator_actor.proofs.Differ.{follows_to}
 use Rattle.coordinator_actor.proofs.RestLaws.{each_among}
-use Rattle.coordinator_actor.proofs.Same.{true_is_not_false, and_both, both, not_so}
+use Rattle.coordinator_actor.proofs.Same.{and_both, both, not_so}
 
 -- A shard that there isn't has no home.
 

@@ -47,18 +47,18 @@ impl Model for Coordinator {
     ghost Value = { Held };
 
     ghost view = { λ c. record {
-        script = c.store.script;
-        state = record {
-            who = c.who;
-            set = setting c.store.script;
-            entries = c.store.entries;
-            quitting = c.quitting.items;
-            started = c.started;
-            moving = c.moving;
-            begun = c.begun;
-        };
-        spare = c.store.spare;
-        places = c.quitting.spare;
+      script = c.store.script;
+      state = record {
+        who = c.who;
+        set = setting c.store.script;
+        entries = c.store.entries;
+        quitting = c.quitting.items;
+        started = c.started;
+        moving = c.moving;
+        begun = c.begun;
+      };
+      spare = c.store.spare;
+      places = c.quitting.spare;
     } };
 
     ghost invariant = { λ c. IsHeld c.store.script c.who c.store.entries c.started c.moving };
@@ -67,12 +67,7 @@ impl Model for Coordinator {
 impl Coordinator {
     /// The coordinator of a node that has been granted the slot, over the slot's store: nobody
     /// leaves, no shard is started and no round is open. It takes no memory.
-    pub fn new(
-        alloc: Global,
-        who: Incarnation,
-        charter: &Charter,
-        store: CoordStore,
-    ) -> Coordinator
+    pub fn new(alloc: Global, who: Incarnation, charter: &Charter, store: CoordStore) -> Coordinator
         requires script { store.script ≡ charter.now }
         requires leased { holder store.entries ≡ Some who }
         ensures { result ≡ record { script = store.script; state = new_coordinator (setting store.script) who store.entries; spare = store.spare; places = 0 } }

@@ -5,8 +5,8 @@
 #![tactic(auto)]
 
 mod coordinator;
-mod homes;
 mod flags;
+mod homes;
 mod lost;
 mod moving;
 mod quitters;

@@ -83,7 +83,11 @@ impl MovingShard {
     fn acknowledged(&self, r: &Incarnation, s: ShardNo) -> MovingShard
         ensures { result ≡ (if self.now.shard == s then not_awaited r.now self.now else self.now) }
     {
-        if self.is_shard(s) { self.without(r) } else { *self }
+        if self.is_shard(s) {
+            self.without(r)
+        } else {
+            *self
+        }
     }
 
     /// The regions that haven't acknowledged.

@@ -1,10 +1,9 @@
 use Rattle.std.proofs.Common.{◌≡◌, ◌≤◌, ◌+◌, ◌++◌, ap, sym, subst, ◌∙◌, true, length}
 use Rattle.std.specs.Prelude.{List, fold}
 use Rattle.std.specs.List.{flat_map}
-use Rattle.yard_model.specs.Coordinator.{acknowledge, coordinator_after, stamp}
+use Rattle.yard_model.specs.Coordinator.{coordinator_after, stamp}
 use Rattle.yard_model.specs.Move.{Move, item_of}
 use Rattle.yard_model.specs.Words.{is_stamp}
-use Rattle.coordinator_actor.specs.Parts.{acknowledge_one}
 use Rattle.coordinator_actor.proofs.MoveLaws.{acknowledge_is}
 use Rattle.coordinator_actor.proofs.coordinator.Coordinator.acknowledge.Goals as goal
 

@@ -1,4 +1,4 @@
-use Rattle.std.proofs.Common.{◌≡◌, ap, sym, ◌∙◌, true}
+use Rattle.std.proofs.Common.{ap, sym, ◌∙◌}
 use Rattle.std.specs.Prelude.{List, ◌==◌, ◌&&◌}
 use Rattle.std.specs.List.{list_any}
 use Rattle.yard_model.specs.Coordinator.{Moving}

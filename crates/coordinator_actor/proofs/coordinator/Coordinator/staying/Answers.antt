@@ -1,4 +1,4 @@
-use Rattle.std.proofs.Common.{◌≡◌, ap, sym, ◌∙◌, subst, true}
+use Rattle.std.proofs.Common.{◌≡◌, ap, ◌∙◌, subst, true}
 use Rattle.std.specs.Prelude.{List, refl}
 use Rattle.std.specs.List.{list_all}
 use Rattle.yard_model.specs.declared.load.Load.{Load}

@@ -1,15 +1,14 @@
 use Rattle.std.proofs.Common.{◌≡◌, ◌≤◌, ◌+◌, ◌++◌, List, ◌∷◌, drop, length, sym, ap, subst, ◌∙◌, refl, arith}
-use Rattle.std.specs.Prelude.{fold, slice_index_or}
+use Rattle.std.specs.Prelude.{fold}
 use Rattle.std.specs.List.{flat_map}
 use Rattle.std.proofs.lemmas.List.{drop_more}
 use Rattle.yard_model.specs.declared.incarnation.Incarnation.{Incarnation}
 use Rattle.yard_model.specs.Coordinator.{Coordinator, coordinator_after, registered, terminate_lost}
 use Rattle.yard_model.specs.Move.{item_of}
-use Rattle.yard_model.specs.SlotReads.{regions}
-use Rattle.coordinator_actor.specs.Parts.{stay, terminate_if_lost}
-use Rattle.coordinator_actor.proofs.Differ.{differ, regions_differ}
+use Rattle.coordinator_actor.specs.Parts.{terminate_if_lost}
+use Rattle.coordinator_actor.proofs.Differ.{regions_differ}
 use Rattle.coordinator_actor.proofs.MoveLaws.{rest_of, rest_items, rest_state, rest_length}
-use Rattle.coordinator_actor.proofs.RestLaws.{IsRest, rest_all, rest_next, rest_none}
+use Rattle.coordinator_actor.proofs.RestLaws.{IsRest, rest_all, rest_next}
 use Rattle.coordinator_actor.proofs.coordinator.Coordinator.view_taken.Goals as goal
 
 pub loop-region-init : goal.loop-region-init

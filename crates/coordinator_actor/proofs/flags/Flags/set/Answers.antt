@@ -1,4 +1,4 @@
-use Rattle.std.proofs.Common.{◌∙◌, ◌<◌, length, ap, arith, min, length-take}
+use Rattle.std.proofs.Common.{◌∙◌, ◌<◌, length, ap, arith, length-take}
 use Rattle.std.specs.Prelude.{slice_set}
 use Rattle.std.proofs.Math.Seq.{take-set-lt}
 use Rattle.coordinator_actor.proofs.flags.Flags.set.Goals as goal

@@ -1,0 +1,6 @@
+pub mod Same
+pub mod HeldLaws
+pub mod Differ
+pub mod RestLaws
+pub mod MoveLaws
+pub mod ShareLaws

@@ -1,0 +1,26 @@
+use Rattle.std.proofs.Common.{◌≡◌, ap, ◌∙◌, subst, true}
+use Rattle.std.specs.Prelude.{List, refl}
+use Rattle.std.specs.List.{list_all}
+use Rattle.yard_model.specs.declared.load.Load.{Load}
+use Rattle.yard_model.specs.Coordinator.{Coordinator, registered, shares}
+use Rattle.yard_model.specs.Script.{setting}
+use Rattle.yard_model.specs.SlotReads.{regions}
+use Rattle.yard_model.specs.Words.{is_among}
+use Rattle.least_shard.specs.Spread.{shares_of}
+use Rattle.coordinator_actor.specs.Held.{Held}
+use Rattle.coordinator_actor.proofs.HeldLaws.{few_shards}
+use Rattle.coordinator_actor.proofs.ShareLaws.{shares_are, staying_registered}
+use Rattle.coordinator_actor.proofs.coordinator.Coordinator.staying.Goals as goal
+
+pub returns-clause-shares : goal.returns-clause-shares
+returns-clause-shares c =
+    let old = c.self.inside in
+    let st : Coordinator = record { who = old.who; set = setting old.store.script; entries = old.store.entries; quitting = old.quitting.items; started = old.started; moving = old.moving; begun = old.begun } in
+    subst (λ (h : Held). shares_of c.staying.result ≡ shares h.state) c.self.view_is
+    (ap (λ (l : List Load). shares_of l) c.staying.ensures ∙ shares_are old.store.script st c.loads-loads.result c.entries.ensures.lawful refl (few_shards old.store.script c.self.invariant.script_is) c.loads-loads.ensures.regions c.loads-loads.ensures.shards)
+
+pub returns-clause-registered : goal.returns-clause-registered
+returns-clause-registered c =
+    let old = c.self.inside in
+    subst (λ (h : Held). list_all (λ (l : Load). is_among l.region (registered h.state)) c.staying.result ≡ true) c.self.view_is
+    (ap (λ (ls : List Load). list_all (λ (l : Load). is_among l.region (regions old.store.entries)) ls) c.staying.ensures ∙ staying_registered old.quitting.items (regions old.store.entries) c.loads-loads.result c.loads-loads.ensures.regions)

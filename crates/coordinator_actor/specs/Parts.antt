@@ -1,0 +1,46 @@
+-- Parts of the rules that the code has functions for.
+use Rattle.std.specs.Prelude.{ℕ, ◌==◌, not, List, [], ◌∷◌, filter, Option, is_none, if◌then◌else◌}
+use Rattle.yard_model.specs.declared.fact.Fact.TheVariants as fact
+use Rattle.yard_model.specs.declared.packet.Body.TheVariants as body
+use Rattle.yard_model.specs.declared.incarnation.Incarnation.{Incarnation}
+use Rattle.yard_model.specs.declared.load.Load.{Load}
+use Rattle.yard_model.specs.Coordinator.{Coordinator, Moving, coordinator_after, tell_home, registered, home_of, stamp, hand_off_if_last, terminate, allocate}
+use Rattle.yard_model.specs.Move.{Move, told, post, acknowledged}
+use Rattle.yard_model.specs.Turns.{in_turn, where_some}
+use Rattle.yard_model.specs.Words.{is_at, is_among, without}
+
+-- it is registered, unless it is so already
+abbrev pub enter_new : Incarnation → Coordinator → List Move
+enter_new r st = if is_among r (registered st) then [] else told (fact.Registered r) ∷ []
+
+-- of a shard of the round, as r is lost: where r isn't the owner but the last that is awaited, HandOff
+abbrev pub hand_off_without : Incarnation → Coordinator → Moving → List Move
+hand_off_without r st x = if is_at r x.owner then [] else hand_off_if_last r st x
+
+-- it is terminated, unless it is in the view
+abbrev pub terminate_if_lost : List Incarnation → Incarnation → Coordinator → List Move
+terminate_if_lost view r st = if is_among r view then [] else terminate r st
+
+-- the registered regions that stay as r is looked at
+abbrev pub stay : List Incarnation → Incarnation → List Incarnation → List Incarnation
+stay view r regions = if is_among r view then regions else without r regions
+
+-- the loads of the regions that stay, with these that leave
+abbrev pub staying_of : List Incarnation → List Load → List Load
+staying_of quitting loads = filter (λ (l : Load). not (is_among l.region quitting)) loads
+
+-- the shard is allocated to that region, if there is one
+abbrev pub allocate_to : ℕ → Option Incarnation → Coordinator → List Move
+allocate_to s o st = where_some (λ r. told (fact.Allocated s r) ∷ post st.who r (body.HostShard s (stamp st)) ∷ []) o
+
+-- it is allocated, where it has no home
+abbrev pub allocate_new : ℕ → Coordinator → List Move
+allocate_new s st = if is_none (home_of st s) then allocate s st else []
+
+-- then this region is told its home, if it has one now
+abbrev pub allocate_and_tell : Incarnation → ℕ → Coordinator → List Move
+allocate_and_tell from s st = in_turn coordinator_after (allocate_new s) (tell_home from s) st
+
+-- of a shard of the round, as this region acknowledges s
+abbrev pub acknowledge_one : Incarnation → ℕ → Coordinator → Moving → List Move
+acknowledge_one from s st x = if x.shard == s then (if is_among from x.awaited then acknowledged s from ∷ hand_off_if_last from st x else []) else []

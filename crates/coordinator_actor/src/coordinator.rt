@@ -1,0 +1,299 @@
+//! The state of a coordinator, and the moves that change it.
+ghost use Rattle.std.specs.Prelude.{◌≡◌, ℕ, ◌+◌, ◌<◌, ◌≤◌, [], ◌∷◌, ◌++◌, length, Some, OnOk, OnErr, IsTrue, IfSome, true, false, is_none, is_some};
+ghost use Rattle.std.specs.List.{All, list_all};
+ghost use Rattle.yard_model.specs.declared.load.Load.{Load};
+ghost use Rattle.yard_model.specs.declared.fact.Fact.TheVariants as fact;
+ghost use Rattle.yard_model.specs.declared.out.Item.TheVariants as item;
+ghost use Rattle.yard_model.specs.Coordinator.{coordinator_after, new_coordinator, registered, home_of, stamp, shares, is_moving};
+ghost use Rattle.yard_model.specs.declared.incarnation.Slot.TheVariants as slot;
+ghost use Rattle.yard_model.specs.Genuine.{is_node, is_shard};
+ghost use Rattle.yard_model.specs.Lawful.{own};
+ghost use Rattle.yard_model.specs.Move.{told, started, acknowledged};
+ghost use Rattle.yard_model.specs.Script.{setting, IsScript};
+ghost use Rattle.yard_model.specs.SlotReads.{holder, regions};
+ghost use Rattle.yard_model.specs.Words.{is_among, is_at};
+ghost use Rattle.least_shard.specs.Spread.{shares_of};
+ghost use Rattle.coordinator_actor.specs.Held.{Held, IsAtHome};
+
+use crate::flags::Flags;
+use crate::moving::Round;
+use crate::quitters::Quitters;
+use crate::regions::{Regions, is_same, of_loads};
+use coordinator_state::CoordStore;
+use std::alloc::{AllocError, Global};
+use std::marker::{Model, PhantomData};
+use yard_model::{
+    Body, Charter, Fact, Incarnation, Item, Loads, Out, Packet, ShardNo, Slot, Stamp, State,
+};
+
+/// The shard coordinator of a node that holds its slot (Akka 2.6, Cluster Sharding concepts): the
+/// store of the slot, which regions leave, which shards are started, and the round of handoffs that
+/// is open. Stamps, and that a round moves several shards at once, are this project's own.
+#[derive(Drop)]
+pub struct Coordinator {
+    who: Incarnation,
+    store: CoordStore,
+    quitting: Quitters,
+    started: Flags,
+    moving: Round,
+    begun: u32,
+    holds: PhantomData<(Fact, Packet, Body, State, Slot)>,
+}
+
+impl Model for Coordinator {
+    ghost use Rattle.yard_model.specs.Script.{setting};
+    ghost use Rattle.coordinator_actor.specs.Held.{Held, IsHeld};
+
+    ghost Value = { Held };
+
+    ghost view = { λ c. record {
+      script = c.store.script;
+      state = record {
+        who = c.who;
+        set = setting c.store.script;
+        entries = c.store.entries;
+        quitting = c.quitting.items;
+        started = c.started;
+        moving = c.moving;
+        begun = c.begun;
+      };
+      spare = c.store.spare;
+      places = c.quitting.spare;
+    } };
+
+    ghost invariant = { λ c. IsHeld c.store.script c.who c.store.entries c.started c.moving };
+}
+
+impl Coordinator {
+    /// The coordinator of a node that has been granted the slot, over the slot's store: nobody
+    /// leaves, no shard is started and no round is open. It takes no memory.
+    pub fn new(alloc: Global, who: Incarnation, charter: &Charter, store: CoordStore) -> Coordinator
+        requires script { store.script ≡ charter.now }
+        requires leased { holder store.entries ≡ Some who }
+        ensures { result ≡ record { script = store.script; state = new_coordinator (setting store.script) who store.entries; spare = store.spare; places = 0 } }
+    {
+        let shards = charter.config().shards;
+        Coordinator {
+            who,
+            store,
+            quitting: Quitters::new(alloc),
+            started: Flags::none(shards),
+            moving: Round::empty(),
+            begun: 0,
+            holds: PhantomData,
+        }
+    }
+
+    /// Gives the store back; what isn't in it is gone.
+    pub fn into_store(self) -> CoordStore
+        ensures script { result.script ≡ self.script }
+        ensures entries { result.entries ≡ self.state.entries }
+        ensures spare { result.spare ≡ self.spare }
+        ensures leased { holder result.entries ≡ Some self.state.who }
+    {
+        self.store
+    }
+
+    /// The store.
+    pub fn store(&self) -> &CoordStore
+        ensures script { result.now.script ≡ self.now.script }
+        ensures entries { result.now.entries ≡ self.now.state.entries }
+        ensures spare { result.now.spare ≡ self.now.spare }
+    {
+        &self.store
+    }
+
+    /// Makes the store's spare at least 300 entries, and room for one region more that leaves. The
+    /// only error is want of memory; then its state is as before.
+    pub fn reserve(&mut self) -> Result<(), AllocError>
+        ensures script { self.new.script ≡ self.old.script }
+        ensures state { self.new.state ≡ self.old.state }
+        ensures spare { self.old.spare ≤ self.new.spare }
+        ensures places { self.old.places ≤ self.new.places }
+        ensures enough { OnOk result (300 ≤ self.new.spare) }
+        ensures place { OnOk result (1 ≤ self.new.places) }
+    {
+        self.quitting.reserve(1)?;
+        self.store.reserve(300)
+    }
+
+    /// Whose coordinator it is.
+    pub fn who(&self) -> Incarnation
+        ensures value { result ≡ self.now.state.who }
+        ensures leased { holder self.now.state.entries ≡ Some result }
+        ensures script { IsScript self.now.script }
+        ensures set { self.now.state.set ≡ setting self.now.script }
+    {
+        self.who
+    }
+
+    /// Whether this region is registered.
+    pub fn is_registered(&self, r: &Incarnation) -> bool
+        ensures { result ≡ is_among r.now (registered self.now.state) }
+    {
+        self.store.is_registered(*r)
+    }
+
+    /// The home of a shard, a registered region; None exactly where it has none.
+    pub fn home(&self, s: ShardNo) -> Option<Incarnation>
+        ensures value { result ≡ home_of self.now.state s }
+        ensures registered { IfSome result (λ r. is_among r (registered self.now.state) ≡ true) }
+    {
+        self.store.home(s)
+    }
+
+    /// Whether this region is the home of a shard.
+    pub fn is_home(&self, r: &Incarnation, s: ShardNo) -> bool
+        ensures { result ≡ is_at r.now (home_of self.now.state s) }
+    {
+        match &self.home(s) {
+            Some(home) => is_same(r, home),
+            None => false,
+        }
+    }
+
+    /// The loads of the registered regions that don't leave, in order of registration.
+    pub(crate) fn staying(&self) -> Loads
+        ensures shares { shares_of result ≡ shares self.now.state }
+        ensures registered { list_all (λ (l : Load). is_among l.region (registered self.now.state)) result ≡ true }
+    {
+        self.store.entries();
+        let loads = self.store.loads();
+        self.quitting.staying(&loads)
+    }
+
+    /// The registered regions, in order of registration.
+    pub(crate) fn regions(&self) -> Regions
+        ensures regions { result ≡ registered self.now.state }
+        ensures lawful { IsTrue (own self.now.script slot.Coordinator self.now.state.entries) }
+    {
+        self.store.entries();
+        let loads = self.store.loads();
+        of_loads(&loads)
+    }
+
+    /// The stamp of its words: the epoch of its lease, and how many rounds have begun.
+    pub(crate) fn stamp(&self) -> Stamp
+        ensures { result ≡ stamp self.now.state }
+    {
+        Stamp {
+            epoch: self.store.epoch(),
+            round: self.begun,
+        }
+    }
+
+    /// The open round.
+    pub(crate) fn round(&self) -> &Round
+        ensures round { result.now ≡ self.now.state.moving }
+        ensures at_home { All (IsAtHome self.now.state.entries) self.now.state.moving }
+    {
+        &self.moving
+    }
+}
+
+// The moves.
+impl Coordinator {
+    /// A region is registered.
+    pub(crate) fn enter(&mut self, r: &Incarnation, out: &mut Out)
+        requires room { 0 < out.old.spare }
+        requires spare { 0 < self.old.spare }
+        requires node { is_node self.old.script r.now ≡ true }
+        requires fresh { is_among r.now (registered self.old.state) ≡ false }
+        requires few { length (registered self.old.state) < 16 }
+        ensures items { out.new.items ≡ out.old.items ++ item.Fact (fact.Registered r.now) ∷ [] }
+        ensures state { self.new.state ≡ coordinator_after self.old.state (told (fact.Registered r.now)) }
+        ensures script { self.new.script ≡ self.old.script }
+        ensures spare { out.new.spare + 1 ≡ out.old.spare }
+        ensures entries { self.new.spare + 1 ≡ self.old.spare }
+        ensures places { self.new.places ≡ self.old.places }
+    {
+        self.store.registered(*r);
+        out.push(Item::Fact(Fact::Registered(*r)));
+    }
+
+    /// A region is lost: its shards have no homes, and those of the round are done.
+    pub(crate) fn lose(&mut self, r: &Incarnation)
+        requires spare { 0 < self.old.spare }
+        requires registered { is_among r.now (registered self.old.state) ≡ true }
+        ensures state { self.new.state ≡ coordinator_after self.old.state (told (fact.Terminated r.now)) }
+        ensures script { self.new.script ≡ self.old.script }
+        ensures entries { self.new.spare + 1 ≡ self.old.spare }
+        ensures places { self.new.places ≡ self.old.places }
+    {
+        self.store.terminated(*r);
+        self.moving.lose(r);
+    }
+
+    /// A shard that isn't moving gets a home, where it isn't started yet.
+    pub(crate) fn place(&mut self, s: ShardNo, r: &Incarnation, out: &mut Out)
+        requires room { 0 < out.old.spare }
+        requires spare { 0 < self.old.spare }
+        requires shard { is_shard self.old.script s ≡ true }
+        requires registered { is_among r.now (registered self.old.state) ≡ true }
+        requires homeless { is_none (home_of self.old.state s) ≡ true }
+        requires still { is_moving self.old.state s ≡ false }
+        ensures items { out.new.items ≡ out.old.items ++ item.Fact (fact.Allocated s r.now) ∷ [] }
+        ensures state { self.new.state ≡ coordinator_after self.old.state (told (fact.Allocated s r.now)) }
+        ensures script { self.new.script ≡ self.old.script }
+        ensures spare { out.new.spare + 1 ≡ out.old.spare }
+        ensures entries { self.new.spare + 1 ≡ self.old.spare }
+        ensures places { self.new.places ≡ self.old.places }
+    {
+        self.store.allocated(s, *r);
+        self.started.set(s, false);
+        out.push(Item::Fact(Fact::Allocated(s, *r)));
+    }
+
+    /// A shard has no home any more; its part in the round is done.
+    pub(crate) fn remove(&mut self, s: ShardNo, out: &mut Out)
+        requires room { 0 < out.old.spare }
+        requires spare { 0 < self.old.spare }
+        requires shard { is_shard self.old.script s ≡ true }
+        requires home { is_some (home_of self.old.state s) ≡ true }
+        ensures items { out.new.items ≡ out.old.items ++ item.Fact (fact.Deallocated s) ∷ [] }
+        ensures state { self.new.state ≡ coordinator_after self.old.state (told (fact.Deallocated s)) }
+        ensures script { self.new.script ≡ self.old.script }
+        ensures spare { out.new.spare + 1 ≡ out.old.spare }
+        ensures entries { self.new.spare + 1 ≡ self.old.spare }
+        ensures places { self.new.places ≡ self.old.places }
+    {
+        self.store.deallocated(s);
+        self.started.set(s, false);
+        self.moving.finish(s);
+        out.push(Item::Fact(Fact::Deallocated(s)));
+    }
+
+    /// A shard is started.
+    pub(crate) fn mark_started(&mut self, s: ShardNo)
+        requires shard { is_shard self.old.script s ≡ true }
+        ensures state { self.new.state ≡ coordinator_after self.old.state (started s) }
+        ensures script { self.new.script ≡ self.old.script }
+        ensures entries { self.new.spare ≡ self.old.spare }
+        ensures places { self.new.places ≡ self.old.places }
+    {
+        self.started.set(s, true);
+    }
+
+    /// A region isn't awaited for a shard any more.
+    pub(crate) fn mark_acknowledged(&mut self, s: ShardNo, r: &Incarnation)
+        ensures state { self.new.state ≡ coordinator_after self.old.state (acknowledged s r.now) }
+        ensures script { self.new.script ≡ self.old.script }
+        ensures entries { self.new.spare ≡ self.old.spare }
+        ensures places { self.new.places ≡ self.old.places }
+    {
+        self.moving.acknowledge(r, s);
+    }
+
+    /// A packet is posted; the state stays.
+    pub(crate) fn post(&self, to: &Incarnation, body: &Body, out: &mut Out)
+        requires room { 0 < out.old.spare }
+        ensures items { out.new.items ≡ out.old.items ++ item.Post (record { from = self.now.state.who; to = to.now; body = body.now }) ∷ [] }
+        ensures spare { out.new.spare + 1 ≡ out.old.spare }
+    {
+        out.push(Item::Post(Packet {
+            from: self.who,
+            to: *to,
+            body: *body,
+        }));
+    }
+}

@@ -1,0 +1,20 @@
+//! The shard coordinator (Akka 2.6, Cluster Sharding concepts) while a node holds its slot: which
+//! regions are registered, which of them leave, where shards live, and the round of handoffs that
+//! is open. What it makes known is written into its store first, so that the next holder goes on
+//! from there.
+#![tactic(auto)]
+
+mod coordinator;
+mod flags;
+mod homes;
+mod lost;
+mod moving;
+mod quitters;
+mod regions;
+mod register;
+mod stopped;
+
+pub use coordinator::Coordinator;
+
+#[cfg(test)]
+mod tests;

@@ -301,8 +301,7 @@ impl Coordinator {
         let home = self.home(s);
         let regions = self.regions();
         self.begun = number_of(self.begun, joins);
-        self.moving
-            .join(joins, MovingShard::new(s, home, regions));
+        self.moving.join(joins, MovingShard::new(s, home, regions));
         out.push(Item::Fact(Fact::Moving(s, *next)));
     }
 

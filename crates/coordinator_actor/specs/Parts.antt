@@ -1,8 +1,9 @@
 -- Parts of the rules that the code has functions for.
-use Rattle.std.specs.Prelude.{ℕ, ◌==◌, not, List, [], ◌∷◌, filter, Option, is_none, if◌then◌else◌}
+use Rattle.std.specs.Prelude.{ℕ, ◌==◌, not, List, [], ◌∷◌, map, filter, Option, is_none, if◌then◌else◌}
 use Rattle.yard_model.specs.declared.fact.Fact.TheVariants as fact
 use Rattle.yard_model.specs.declared.packet.Body.TheVariants as body
 use Rattle.yard_model.specs.declared.incarnation.Incarnation.{Incarnation}
+use Rattle.yard_model.specs.declared.incarnation.Stamp.{Stamp}
 use Rattle.yard_model.specs.declared.load.Load.{Load}
 use Rattle.yard_model.specs.Coordinator.{Coordinator, Moving, coordinator_after, tell_home, registered, home_of, stamp, hand_off_if_last, terminate, allocate}
 use Rattle.yard_model.specs.Move.{Move, told, post, acknowledged}
@@ -24,6 +25,13 @@ terminate_if_lost view r st = if is_among r view then [] else terminate r st
 -- the registered regions that stay as r is looked at
 abbrev pub stay : List Incarnation → Incarnation → List Incarnation → List Incarnation
 stay view r regions = if is_among r view then regions else without r regions
+
+-- a shard begins to move in the round of this stamp, and every registered region is asked to let it go
+abbrev pub ask_all : ℕ → Stamp → Coordinator → List Move
+ask_all s next st = map (λ r. post st.who r (body.BeginHandOff s next)) (registered st)
+
+abbrev pub begin_one : ℕ → Stamp → Coordinator → List Move
+begin_one s next st = told (fact.Moving s next) ∷ ask_all s next st
 
 -- the loads of the regions that stay, with these that leave
 abbrev pub staying_of : List Incarnation → List Load → List Load

@@ -1,5 +1,5 @@
 //! The state of a coordinator, and the moves that change it.
-ghost use Rattle.std.specs.Prelude.{◌≡◌, ℕ, ◌+◌, ◌<◌, ◌≤◌, [], ◌∷◌, ◌++◌, length, Some, OnOk, OnErr, IsTrue, IfSome, true, false, is_none, is_some};
+ghost use Rattle.std.specs.Prelude.{◌≡◌, ℕ, ◌+◌, ◌<◌, ◌≤◌, [], ◌∷◌, ◌++◌, ◌||◌, ◌^◌, length, if◌then◌else◌, Some, OnOk, OnErr, IsTrue, IfSome, true, false, is_none, is_some};
 ghost use Rattle.std.specs.List.{All, list_all};
 ghost use Rattle.yard_model.specs.declared.load.Load.{Load};
 ghost use Rattle.yard_model.specs.declared.fact.Fact.TheVariants as fact;
@@ -11,12 +11,12 @@ ghost use Rattle.yard_model.specs.Lawful.{own};
 ghost use Rattle.yard_model.specs.Move.{told, started, acknowledged};
 ghost use Rattle.yard_model.specs.Script.{setting, IsScript};
 ghost use Rattle.yard_model.specs.SlotReads.{holder, regions};
-ghost use Rattle.yard_model.specs.Words.{is_among, is_at};
+ghost use Rattle.yard_model.specs.Words.{is_among, is_at, is_empty, is_stamp};
 ghost use Rattle.least_shard.specs.Spread.{shares_of};
 ghost use Rattle.coordinator_actor.specs.Held.{Held, IsAtHome};
 
 use crate::flags::Flags;
-use crate::moving::Round;
+use crate::moving::{MovingShard, Round};
 use crate::quitters::Quitters;
 use crate::regions::{Regions, is_same, of_loads};
 use coordinator_state::CoordStore;
@@ -61,7 +61,7 @@ impl Model for Coordinator {
       places = c.quitting.spare;
     } };
 
-    ghost invariant = { λ c. IsHeld c.store.script c.who c.store.entries c.started c.moving };
+    ghost invariant = { λ c. IsHeld c.store.script c.who c.store.entries c.started c.moving c.begun };
 }
 
 impl Coordinator {
@@ -284,6 +284,27 @@ impl Coordinator {
         self.moving.acknowledge(r, s);
     }
 
+    /// A shard joins the round of this stamp, or begins that round where none is open.
+    pub(crate) fn move_shard(&mut self, s: ShardNo, next: &Stamp, out: &mut Out)
+        requires room { 0 < out.old.spare }
+        requires few { length self.old.state.moving < 128 }
+        requires joins { (is_stamp next.now (stamp self.old.state) || is_empty self.old.state.moving) ≡ true }
+        ensures items { out.new.items ≡ out.old.items ++ item.Fact (fact.Moving s next.now) ∷ [] }
+        ensures state { self.new.state ≡ coordinator_after self.old.state (told (fact.Moving s next.now)) }
+        ensures script { self.new.script ≡ self.old.script }
+        ensures spare { out.new.spare + 1 ≡ out.old.spare }
+        ensures entries { self.new.spare ≡ self.old.spare }
+        ensures places { self.new.places ≡ self.old.places }
+    {
+        self.store.spare();
+        let joins = is_same_stamp(next, &self.stamp());
+        let home = self.home(s);
+        let regions = self.regions();
+        self.begun = number_of(self.begun, joins);
+        self.moving.join(joins, MovingShard::new(s, home, regions));
+        out.push(Item::Fact(Fact::Moving(s, *next)));
+    }
+
     /// A packet is posted; the state stays.
     pub(crate) fn post(&self, to: &Incarnation, body: &Body, out: &mut Out)
         requires room { 0 < out.old.spare }
@@ -296,4 +317,19 @@ impl Coordinator {
             body: *body,
         }));
     }
+}
+
+/// How many rounds have begun once a shard joins the last one, or begins another.
+fn number_of(begun: u32, joins: bool) -> u32
+    requires { joins ≡ false → begun + 1 < 2 ^ 32 }
+    ensures { result ≡ (if joins then begun else begun + 1) }
+{
+    if joins { begun } else { begun + 1 }
+}
+
+/// Whether the stamps are the same.
+pub(crate) fn is_same_stamp(a: &Stamp, b: &Stamp) -> bool
+    ensures { result ≡ is_stamp a.now b.now }
+{
+    a.epoch == b.epoch && a.round == b.round
 }

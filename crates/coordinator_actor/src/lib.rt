@@ -12,6 +12,7 @@ mod moving;
 mod quitters;
 mod regions;
 mod register;
+mod rounds;
 mod stopped;
 
 pub use coordinator::Coordinator;

@@ -27,6 +27,17 @@ impl Model for MovingShard {
 }
 
 impl MovingShard {
+    /// A shard that begins to move.
+    pub(crate) fn new(shard: ShardNo, owner: Option<Incarnation>, awaited: Regions) -> MovingShard
+        ensures { result ≡ record { shard = shard; owner = owner; awaited = awaited } }
+    {
+        MovingShard {
+            shard,
+            owner,
+            awaited,
+        }
+    }
+
     /// The shard.
     pub(crate) fn shard(&self) -> ShardNo
         ensures { result ≡ self.now.shard }
@@ -183,6 +194,17 @@ impl Round {
             }
         }
         *self = left;
+    }
+
+    /// A shard joins the round, or is the first of another.
+    pub(crate) fn join(&mut self, joins: bool, shard: MovingShard)
+        requires { length self.old < 128 }
+        ensures { self.new ≡ (if joins then self.old else []) ++ shard ∷ [] }
+    {
+        if !joins {
+            *self = Round::empty();
+        }
+        self.push(shard);
     }
 
     /// Whether this shard is one of them.

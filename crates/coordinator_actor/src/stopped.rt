@@ -4,10 +4,10 @@ ghost use Rattle.std.specs.List.{flat_map, list_any};
 ghost use Rattle.yard_model.specs.Coordinator.{coordinator_after, home_of, acknowledge, shard_stopped, moving_at, hand_off_if_last};
 ghost use Rattle.yard_model.specs.Genuine.{is_shard};
 ghost use Rattle.yard_model.specs.Move.{item_of};
-ghost use Rattle.yard_model.specs.Words.{is_among, is_at, is_empty, is_stamp as same_stamp};
+ghost use Rattle.yard_model.specs.Words.{is_among, is_at, is_empty};
 ghost use Rattle.coordinator_actor.specs.Parts.{acknowledge_one};
 
-use crate::coordinator::Coordinator;
+use crate::coordinator::{Coordinator, is_same_stamp};
 use crate::moving::MovingShard;
 use yard_model::{Incarnation, Out, ShardNo, Stamp};
 
@@ -24,7 +24,7 @@ impl Coordinator {
         ensures entries { self.new.spare ≡ self.old.spare }
         ensures places { self.new.places ≡ self.old.places }
     {
-        if !is_stamp(given, &self.stamp()) {
+        if !is_same_stamp(given, &self.stamp()) {
             return;
         }
         self.acknowledge_round(from, s, out);
@@ -104,7 +104,7 @@ impl Coordinator {
         ensures value { result ≡ list_any (λ x. is_empty x.awaited && is_at from.now x.owner) (moving_at s given.now self.now.state) }
         ensures home { result ≡ true → is_some (home_of self.now.state s) ≡ true }
     {
-        if !is_stamp(given, &self.stamp()) {
+        if !is_same_stamp(given, &self.stamp()) {
             return false;
         }
         self.is_stopping_now(from, s)
@@ -118,11 +118,4 @@ impl Coordinator {
         let round = self.round();
         round.is_stopping(from, s)
     }
-}
-
-/// Whether the stamps are the same.
-fn is_stamp(a: &Stamp, b: &Stamp) -> bool
-    ensures { result ≡ same_stamp a.now b.now }
-{
-    a.epoch == b.epoch && a.round == b.round
 }

@@ -7,6 +7,7 @@ use Rattle.std.proofs.lemmas.List.Sums.{fold-append}
 use Rattle.std.proofs.lemmas.Grind.{flat_map-append}
 use Rattle.yard_model.specs.declared.out.Item.{Item}
 use Rattle.yard_model.specs.declared.fact.Fact.TheVariants as fact
+use Rattle.yard_model.specs.declared.packet.Body.{Body}
 use Rattle.yard_model.specs.declared.packet.Body.TheVariants as body
 use Rattle.yard_model.specs.declared.incarnation.Incarnation.{Incarnation}
 use Rattle.yard_model.specs.declared.incarnation.Stamp.{Stamp}
@@ -190,3 +191,8 @@ turn_items p q st next old mid new is first last =
 
 pub turn_state : (p q : Coordinator → List Move) (st next last : Coordinator) → next ≡ fold coordinator_after st (p st) → last ≡ fold coordinator_after next (q next) → last ≡ fold coordinator_after st (in_turn coordinator_after p q st)
 turn_state p q st next last is ends = ends ∙ (ap (λ k. fold coordinator_after k (q k)) is ∙ sym (fold-append coordinator_after st (p st) (q (fold coordinator_after st (p st)))))
+
+-- the same packet to each of these
+pub asked_state : (who : Incarnation) (b : Body) (rs : List Incarnation) (now : Coordinator) → fold coordinator_after now (map (λ r. post who r b) rs) ≡ now
+asked_state who b [] now = refl
+asked_state who b (r ∷ rs) now = asked_state who b rs now

@@ -4,3 +4,4 @@ pub mod Differ
 pub mod RestLaws
 pub mod MoveLaws
 pub mod ShareLaws
+pub mod RoundLaws

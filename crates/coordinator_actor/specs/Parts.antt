@@ -1,12 +1,15 @@
 -- Parts of the rules that the code has functions for.
-use Rattle.std.specs.Prelude.{ℕ, ◌==◌, not, List, [], ◌∷◌, map, filter, Option, is_none, if◌then◌else◌}
+use Rattle.std.specs.Prelude.{ℕ, ◌+◌, ◌==◌, not, List, [], ◌∷◌, map, filter, Option, is_none, if◌then◌else◌}
+use Rattle.std.specs.List.{flat_map}
 use Rattle.yard_model.specs.declared.fact.Fact.TheVariants as fact
 use Rattle.yard_model.specs.declared.packet.Body.TheVariants as body
 use Rattle.yard_model.specs.declared.incarnation.Incarnation.{Incarnation}
 use Rattle.yard_model.specs.declared.incarnation.Stamp.{Stamp}
 use Rattle.yard_model.specs.declared.load.Load.{Load}
-use Rattle.yard_model.specs.Coordinator.{Coordinator, Moving, coordinator_after, tell_home, registered, home_of, stamp, hand_off_if_last, terminate, allocate}
+use Rattle.yard_model.specs.Coordinator.{Coordinator, Moving, coordinator_after, tell_home, registered, home_of, stamp, stamp_of, hand_off_if_last, terminate, allocate}
 use Rattle.yard_model.specs.Move.{Move, told, post, acknowledged}
+use Rattle.yard_model.specs.Setting.{shards}
+use Rattle.yard_model.specs.ShardSet.{has}
 use Rattle.yard_model.specs.Turns.{in_turn, where_some}
 use Rattle.yard_model.specs.Words.{is_at, is_among, without}
 
@@ -52,3 +55,19 @@ allocate_and_tell from s st = in_turn coordinator_after (allocate_new s) (tell_h
 -- of a shard of the round, as this region acknowledges s
 abbrev pub acknowledge_one : Incarnation → ℕ → Coordinator → Moving → List Move
 acknowledge_one from s st x = if x.shard == s then (if is_among from x.awaited then acknowledged s from ∷ hand_off_if_last from st x else []) else []
+
+-- the stamp of the next round
+abbrev pub next_stamp : Coordinator → Stamp
+next_stamp st = stamp_of st.entries (st.begun + 1)
+
+-- the shards of a set, rising
+abbrev pub shards_in : ℕ → Coordinator → List ℕ
+shards_in set st = filter (has set) (shards st.set)
+
+-- it begins to move, where it is in the set
+abbrev pub begin_if : ℕ → Stamp → Coordinator → ℕ → List Move
+begin_if set next st s = if has set s then begin_one s next st else []
+
+-- each shard of the set begins to move
+abbrev pub begin_each : ℕ → Stamp → Coordinator → List Move
+begin_each set next st = flat_map (begin_if set next st) (shards st.set)

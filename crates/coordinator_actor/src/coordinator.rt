@@ -14,6 +14,7 @@ ghost use Rattle.yard_model.specs.SlotReads.{holder, regions};
 ghost use Rattle.yard_model.specs.Words.{is_among, is_at, is_empty, is_stamp};
 ghost use Rattle.least_shard.specs.Spread.{shares_of};
 ghost use Rattle.coordinator_actor.specs.Held.{Held, IsAtHome};
+ghost use Rattle.coordinator_actor.specs.Parts.{next_stamp};
 
 use crate::flags::Flags;
 use crate::moving::{MovingShard, Round};
@@ -180,6 +181,26 @@ impl Coordinator {
             epoch: self.store.epoch(),
             round: self.begun,
         }
+    }
+
+    /// The stamp of the next round, where none is open.
+    pub(crate) fn next_stamp(&self) -> Stamp
+        requires closed { is_empty self.now.state.moving ≡ true }
+        ensures { result ≡ next_stamp self.now.state }
+    {
+        self.store.spare();
+        Stamp {
+            epoch: self.store.epoch(),
+            round: number_of(self.begun, false),
+        }
+    }
+
+    /// How many shards there are.
+    pub(crate) fn shards(&self) -> u8
+        ensures value { result ≡ self.now.state.set.config.shards }
+        ensures few { result ≤ 128 }
+    {
+        self.started.len()
     }
 
     /// The open round.

@@ -62,6 +62,7 @@ begin_is set next st e = each_in (λ s. begin_one s (next_stamp st) st) (has set
 pub record IsOn (first : Coordinator) (next : Stamp) (i : ℕ) (now : Coordinator) : Type 0 where
   pub who : now.who ≡ first.who
   pub entries : now.entries ≡ first.entries
+  pub quitting : now.quitting ≡ first.quitting
   pub joins : (is_stamp next (stamp now) || (is_empty now.moving && (now.begun == first.begun))) ≡ true
   pub few : length now.moving ≤ i
 
@@ -69,6 +70,7 @@ pub on_first : (st : Coordinator) (next : Stamp) → is_empty st.moving ≡ true
 on_first st next e = record {
   who = refl;
   entries = refl;
+  quitting = refl;
   joins = or_right (is_stamp next (stamp st)) (is_empty st.moving && (st.begun == st.begun)) (both (is_empty st.moving) (st.begun == st.begun) e ((Decides-eqb st.begun st.begun).1 refl));
   few = none st.moving e;
 }
@@ -96,6 +98,7 @@ on_moved : (first : Coordinator) (next : Stamp) (i s : ℕ) (now : Coordinator) 
 on_moved first next i s now is k = record {
   who = k.who;
   entries = k.entries;
+  quitting = k.quitting;
   joins = joins (is_stamp next (stamp now)) (is_empty now.moving) (now.begun == first.begun) refl refl k.joins;
   few = few (is_stamp next (stamp now));
 }
@@ -127,7 +130,7 @@ begun_state set s next st = step (has set s)
 
 on_by : (first : Coordinator) (next : Stamp) (i s : ℕ) (now : Coordinator) (b : Bool) → next ≡ next_stamp first → IsOn first next i now → IsOn first next (i + 1) (if b then coordinator_after now (told (fact.Moving s next)) else now)
 on_by first next i s now true is k = on_moved first next i s now is k
-on_by first next i s now false is k = record { who = k.who; entries = k.entries; joins = k.joins; few = omega (arith, k.few) }
+on_by first next i s now false is k = record { who = k.who; entries = k.entries; quitting = k.quitting; joins = k.joins; few = omega (arith, k.few) }
 
 pub on_next : (first : Coordinator) (next : Stamp) (set i : ℕ) (now later : Coordinator) → next ≡ next_stamp first → later ≡ fold coordinator_after now (begin_if set next now i) → IsOn first next i now → IsOn first next (i + 1) later
 on_next first next set i now later is made k = rw (made ∙ begun_state set i next now) (on_by first next i i now (has set i) is k)

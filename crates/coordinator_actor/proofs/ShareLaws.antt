@@ -57,7 +57,7 @@ past c list o t h = follows_to (may_follow c slot.Coordinator) (λ l. allocation
 
 -- Shards of a region.
 
-same_filter : (p q : ℕ → Bool) (a k : ℕ) → ((t : ℕ) → a ≤ t → t < a + k → p t ≡ q t) → filter p (numbers a k) ≡ filter q (numbers a k)
+pub same_filter : (p q : ℕ → Bool) (a k : ℕ) → ((t : ℕ) → a ≤ t → t < a + k → p t ≡ q t) → filter p (numbers a k) ≡ filter q (numbers a k)
 same_filter p q a zero h = refl
 same_filter p q a (suc k) h =
     ap (λ b. cond b (a ∷ filter p (numbers (a + 1) k)) (filter p (numbers (a + 1) k))) (h a (omega arith) (omega arith))

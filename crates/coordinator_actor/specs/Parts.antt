@@ -1,17 +1,17 @@
 -- Parts of the rules that the code has functions for.
-use Rattle.std.specs.Prelude.{ℕ, ◌+◌, ◌==◌, not, List, [], ◌∷◌, map, filter, Option, is_none, if◌then◌else◌}
+use Rattle.std.specs.Prelude.{ℕ, ◌+◌, ◌==◌, ◌&&◌, Bool, not, List, [], ◌∷◌, map, filter, Option, is_none, if◌then◌else◌}
 use Rattle.std.specs.List.{flat_map}
 use Rattle.yard_model.specs.declared.fact.Fact.TheVariants as fact
 use Rattle.yard_model.specs.declared.packet.Body.TheVariants as body
 use Rattle.yard_model.specs.declared.incarnation.Incarnation.{Incarnation}
 use Rattle.yard_model.specs.declared.incarnation.Stamp.{Stamp}
 use Rattle.yard_model.specs.declared.load.Load.{Load}
-use Rattle.yard_model.specs.Coordinator.{Coordinator, Moving, coordinator_after, tell_home, registered, home_of, stamp, stamp_of, hand_off_if_last, terminate, allocate}
-use Rattle.yard_model.specs.Move.{Move, told, post, acknowledged}
+use Rattle.yard_model.specs.Coordinator.{Coordinator, Moving, coordinator_after, tell_home, registered, home_of, stamp, stamp_of, staying, homes_at, begin, hand_off_if_last, terminate, allocate}
+use Rattle.yard_model.specs.Move.{Move, told, post, acknowledged, quits}
 use Rattle.yard_model.specs.Setting.{shards}
 use Rattle.yard_model.specs.ShardSet.{has}
 use Rattle.yard_model.specs.Turns.{in_turn, where_some}
-use Rattle.yard_model.specs.Words.{is_at, is_among, without}
+use Rattle.yard_model.specs.Words.{is_at, is_among, is_empty, without}
 
 -- it is registered, unless it is so already
 abbrev pub enter_new : Incarnation → Coordinator → List Move
@@ -71,3 +71,15 @@ begin_if set next st s = if has set s then begin_one s next st else []
 -- each shard of the set begins to move
 abbrev pub begin_each : ℕ → Stamp → Coordinator → List Move
 begin_each set next st = flat_map (begin_if set next st) (shards st.set)
+
+-- no round is open, and some registered region doesn't leave
+abbrev pub may_begin : Coordinator → Bool
+may_begin st = is_empty st.moving && not (is_empty (staying st))
+
+-- the shards of this region begin to move, where they may
+abbrev pub begin_leaving : Incarnation → Coordinator → List Move
+begin_leaving from st = if may_begin st then begin (homes_at st from) st else []
+
+-- a registered region leaves
+abbrev pub quit_registered : Incarnation → Coordinator → List Move
+quit_registered from st = in_turn coordinator_after (λ st. quits from ∷ []) (begin_leaving from) st

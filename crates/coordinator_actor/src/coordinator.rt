@@ -1,14 +1,14 @@
 //! The state of a coordinator, and the moves that change it.
-ghost use Rattle.std.specs.Prelude.{◌≡◌, ℕ, ◌+◌, ◌<◌, ◌≤◌, [], ◌∷◌, ◌++◌, ◌||◌, ◌^◌, length, if◌then◌else◌, Some, OnOk, OnErr, IsTrue, IfSome, true, false, is_none, is_some};
+ghost use Rattle.std.specs.Prelude.{◌≡◌, ℕ, ◌+◌, ◌<◌, ◌≤◌, [], ◌∷◌, ◌++◌, ◌||◌, ◌^◌, not, length, if◌then◌else◌, Some, OnOk, OnErr, IsTrue, IfSome, true, false, is_none, is_some};
 ghost use Rattle.std.specs.List.{All, list_all};
 ghost use Rattle.yard_model.specs.declared.load.Load.{Load};
 ghost use Rattle.yard_model.specs.declared.fact.Fact.TheVariants as fact;
 ghost use Rattle.yard_model.specs.declared.out.Item.TheVariants as item;
-ghost use Rattle.yard_model.specs.Coordinator.{coordinator_after, new_coordinator, registered, home_of, stamp, shares, is_moving};
+ghost use Rattle.yard_model.specs.Coordinator.{coordinator_after, new_coordinator, registered, home_of, stamp, shares, staying, is_moving};
 ghost use Rattle.yard_model.specs.declared.incarnation.Slot.TheVariants as slot;
 ghost use Rattle.yard_model.specs.Genuine.{is_node, is_shard};
 ghost use Rattle.yard_model.specs.Lawful.{own};
-ghost use Rattle.yard_model.specs.Move.{told, started, acknowledged};
+ghost use Rattle.yard_model.specs.Move.{told, started, acknowledged, quits};
 ghost use Rattle.yard_model.specs.Script.{setting, IsScript};
 ghost use Rattle.yard_model.specs.SlotReads.{holder, regions};
 ghost use Rattle.yard_model.specs.Words.{is_among, is_at, is_empty, is_stamp};
@@ -163,6 +163,24 @@ impl Coordinator {
         self.quitting.staying(&loads)
     }
 
+    /// Whether some registered region doesn't leave.
+    pub(crate) fn has_staying(&self) -> bool
+        ensures { result ≡ not (is_empty (staying self.now.state)) }
+    {
+        let loads = self.staying();
+        match loads.as_slice().first() {
+            Some(_) => true,
+            None => false,
+        }
+    }
+
+    /// Whether this region has said that it leaves.
+    pub(crate) fn is_leaving(&self, r: &Incarnation) -> bool
+        ensures { result ≡ is_among r.now self.now.state.quitting }
+    {
+        self.quitting.has(r)
+    }
+
     /// The registered regions, in order of registration.
     pub(crate) fn regions(&self) -> Regions
         ensures regions { result ≡ registered self.now.state }
@@ -293,6 +311,20 @@ impl Coordinator {
         ensures places { self.new.places ≡ self.old.places }
     {
         self.started.set(s, true);
+    }
+
+    /// A region leaves, unless it does so already.
+    pub(crate) fn mark_leaving(&mut self, r: &Incarnation)
+        requires place { 1 ≤ self.old.places }
+        ensures state { self.new.state ≡ coordinator_after self.old.state (quits r.now) }
+        ensures script { self.new.script ≡ self.old.script }
+        ensures entries { self.new.spare ≡ self.old.spare }
+        ensures places { length self.new.state.quitting + self.new.places ≡ length self.old.state.quitting + self.old.places }
+        ensures least { self.old.places ≤ self.new.places + 1 }
+    {
+        if !self.quitting.has(r) {
+            self.quitting.push(r);
+        }
     }
 
     /// A region isn't awaited for a shard any more.

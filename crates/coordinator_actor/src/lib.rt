@@ -7,6 +7,7 @@
 mod coordinator;
 mod flags;
 mod homes;
+mod leaving;
 mod lost;
 mod moving;
 mod quitters;

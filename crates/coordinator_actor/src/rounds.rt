@@ -17,6 +17,7 @@ impl Coordinator {
         requires room { length (flat_map item_of (begin (shards_in shards.now self.old.state) self.old.state)) ≤ out.old.spare }
         ensures items { out.new.items ≡ out.old.items ++ flat_map item_of (begin (shards_in shards.now self.old.state) self.old.state) }
         ensures state { self.new.state ≡ fold coordinator_after self.old.state (begin (shards_in shards.now self.old.state) self.old.state) }
+        ensures quitting { self.new.state.quitting ≡ self.old.state.quitting }
         ensures script { self.new.script ≡ self.old.script }
         ensures spare { out.new.spare + length (flat_map item_of (begin (shards_in shards.now self.old.state) self.old.state)) ≡ out.old.spare }
         ensures entries { self.new.spare ≡ self.old.spare }
@@ -33,6 +34,7 @@ impl Coordinator {
         requires room { length (flat_map item_of (begin_each shards.now next.now self.old.state)) ≤ out.old.spare }
         ensures items { out.new.items ≡ out.old.items ++ flat_map item_of (begin_each shards.now next.now self.old.state) }
         ensures state { self.new.state ≡ fold coordinator_after self.old.state (begin_each shards.now next.now self.old.state) }
+        ensures quitting { self.new.state.quitting ≡ self.old.state.quitting }
         ensures script { self.new.script ≡ self.old.script }
         ensures spare { out.new.spare + length (flat_map item_of (begin_each shards.now next.now self.old.state)) ≡ out.old.spare }
         ensures entries { self.new.spare ≡ self.old.spare }

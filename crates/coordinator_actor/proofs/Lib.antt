@@ -5,3 +5,5 @@ pub mod RestLaws
 pub mod MoveLaws
 pub mod ShareLaws
 pub mod RoundLaws
+pub mod PickedLaws
+pub mod TickLaws

@@ -18,14 +18,14 @@ use Rattle.yard_model.specs.Words.{is_at, is_among, is_same, is_empty, is_stamp,
 use Rattle.coordinator_actor.specs.Parts.{hand_off_without, terminate_if_lost, acknowledge_one}
 
 -- packets alone change nothing, wherever they stand
-abbrev Changes : List Move → Type 0
+abbrev pub Changes : List Move → Type 0
 Changes ms = (st : Coordinator) → fold coordinator_after st ms ≡ st
 
-of_if : (b : Bool) (xs ys : List Move) → Changes xs → Changes ys → Changes (if b then xs else ys)
+pub of_if : (b : Bool) (xs ys : List Move) → Changes xs → Changes ys → Changes (if b then xs else ys)
 of_if true xs ys h k = h
 of_if false xs ys h k = k
 
-hand_off_changes : (st : Coordinator) (x : Moving) (o : Option Incarnation) → Changes (where_some (λ o. post st.who o (body.HandOff x.shard (stamp st)) ∷ []) o)
+pub hand_off_changes : (st : Coordinator) (x : Moving) (o : Option Incarnation) → Changes (where_some (λ o. post st.who o (body.HandOff x.shard (stamp st)) ∷ []) o)
 hand_off_changes st x None now = refl
 hand_off_changes st x (Some o) now = refl
 

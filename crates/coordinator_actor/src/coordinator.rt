@@ -1,5 +1,5 @@
 //! The state of a coordinator, and the moves that change it.
-ghost use Rattle.std.specs.Prelude.{◌≡◌, ℕ, ◌+◌, ◌<◌, ◌≤◌, [], ◌∷◌, ◌++◌, ◌||◌, ◌^◌, not, length, if◌then◌else◌, Some, OnOk, OnErr, IsTrue, IfSome, true, false, is_none, is_some};
+ghost use Rattle.std.specs.Prelude.{◌≡◌, ℕ, ◌+◌, ◌<◌, ◌≤◌, [], ◌∷◌, ◌++◌, ◌||◌, ◌^◌, not, slice_index_or, length, if◌then◌else◌, Some, OnOk, OnErr, IsTrue, IfSome, true, false, is_none, is_some};
 ghost use Rattle.std.specs.List.{All, list_all};
 ghost use Rattle.yard_model.specs.declared.load.Load.{Load};
 ghost use Rattle.yard_model.specs.declared.fact.Fact.TheVariants as fact;
@@ -12,7 +12,7 @@ ghost use Rattle.yard_model.specs.Move.{told, started, acknowledged, quits};
 ghost use Rattle.yard_model.specs.Script.{setting, IsScript};
 ghost use Rattle.yard_model.specs.SlotReads.{holder, regions};
 ghost use Rattle.yard_model.specs.Words.{is_among, is_at, is_empty, is_stamp};
-ghost use Rattle.least_shard.specs.Spread.{shares_of};
+ghost use Rattle.least_shard.specs.Spread.{shares_of, AreOfDifferentRegions};
 ghost use Rattle.coordinator_actor.specs.Held.{Held, IsAtHome};
 ghost use Rattle.coordinator_actor.specs.Parts.{next_stamp};
 
@@ -157,6 +157,7 @@ impl Coordinator {
     pub(crate) fn staying(&self) -> Loads
         ensures shares { shares_of result ≡ shares self.now.state }
         ensures registered { list_all (λ (l : Load). is_among l.region (registered self.now.state)) result ≡ true }
+        ensures different { AreOfDifferentRegions result }
     {
         self.store.entries();
         let loads = self.store.loads();
@@ -179,6 +180,14 @@ impl Coordinator {
         ensures { result ≡ is_among r.now self.now.state.quitting }
     {
         self.quitting.has(r)
+    }
+
+    /// Whether a shard is started.
+    pub(crate) fn is_started(&self, s: ShardNo) -> bool
+        requires shard { s < self.now.state.set.config.shards }
+        ensures { result ≡ slice_index_or self.now.state.started s false }
+    {
+        self.started.get(s)
     }
 
     /// The registered regions, in order of registration.

@@ -12,9 +12,11 @@ mod lost;
 mod moving;
 mod quitters;
 mod regions;
+mod rebalance;
 mod register;
 mod rounds;
 mod stopped;
+mod tick;
 
 pub use coordinator::Coordinator;
 

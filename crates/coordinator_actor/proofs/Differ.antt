@@ -51,7 +51,7 @@ not_among_filter p x (y ∷ ys) e = step (p y) (not_among_filter p x ys (or_both
     step true h = ap (λ b. b || is_among x (filter p ys)) (or_both (is_same x y) (is_among x ys) e).0 ∙ h
     step false h = h
 
-differ_filter : (p : Incarnation → Bool) (xs : List Incarnation) → differ xs ≡ true → differ (filter p xs) ≡ true
+pub differ_filter : (p : Incarnation → Bool) (xs : List Incarnation) → differ xs ≡ true → differ (filter p xs) ≡ true
 differ_filter p [] e = refl
 differ_filter p (x ∷ xs) e = step (p x) (differ_filter p xs (and_both (not (is_among x xs)) (differ xs) e).1)
   where

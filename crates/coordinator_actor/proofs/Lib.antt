@@ -4,3 +4,6 @@ pub mod Differ
 pub mod RestLaws
 pub mod MoveLaws
 pub mod ShareLaws
+pub mod RoundLaws
+pub mod PickedLaws
+pub mod TickLaws

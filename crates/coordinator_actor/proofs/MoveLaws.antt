@@ -7,6 +7,7 @@ use Rattle.std.proofs.lemmas.List.Sums.{fold-append}
 use Rattle.std.proofs.lemmas.Grind.{flat_map-append}
 use Rattle.yard_model.specs.declared.out.Item.{Item}
 use Rattle.yard_model.specs.declared.fact.Fact.TheVariants as fact
+use Rattle.yard_model.specs.declared.packet.Body.{Body}
 use Rattle.yard_model.specs.declared.packet.Body.TheVariants as body
 use Rattle.yard_model.specs.declared.incarnation.Incarnation.{Incarnation}
 use Rattle.yard_model.specs.declared.incarnation.Stamp.{Stamp}
@@ -17,14 +18,14 @@ use Rattle.yard_model.specs.Words.{is_at, is_among, is_same, is_empty, is_stamp,
 use Rattle.coordinator_actor.specs.Parts.{hand_off_without, terminate_if_lost, acknowledge_one}
 
 -- packets alone change nothing, wherever they stand
-abbrev Changes : List Move → Type 0
+abbrev pub Changes : List Move → Type 0
 Changes ms = (st : Coordinator) → fold coordinator_after st ms ≡ st
 
-of_if : (b : Bool) (xs ys : List Move) → Changes xs → Changes ys → Changes (if b then xs else ys)
+pub of_if : (b : Bool) (xs ys : List Move) → Changes xs → Changes ys → Changes (if b then xs else ys)
 of_if true xs ys h k = h
 of_if false xs ys h k = k
 
-hand_off_changes : (st : Coordinator) (x : Moving) (o : Option Incarnation) → Changes (where_some (λ o. post st.who o (body.HandOff x.shard (stamp st)) ∷ []) o)
+pub hand_off_changes : (st : Coordinator) (x : Moving) (o : Option Incarnation) → Changes (where_some (λ o. post st.who o (body.HandOff x.shard (stamp st)) ∷ []) o)
 hand_off_changes st x None now = refl
 hand_off_changes st x (Some o) now = refl
 
@@ -190,3 +191,8 @@ turn_items p q st next old mid new is first last =
 
 pub turn_state : (p q : Coordinator → List Move) (st next last : Coordinator) → next ≡ fold coordinator_after st (p st) → last ≡ fold coordinator_after next (q next) → last ≡ fold coordinator_after st (in_turn coordinator_after p q st)
 turn_state p q st next last is ends = ends ∙ (ap (λ k. fold coordinator_after k (q k)) is ∙ sym (fold-append coordinator_after st (p st) (q (fold coordinator_after st (p st)))))
+
+-- the same packet to each of these
+pub asked_state : (who : Incarnation) (b : Body) (rs : List Incarnation) (now : Coordinator) → fold coordinator_after now (map (λ r. post who r b) rs) ≡ now
+asked_state who b [] now = refl
+asked_state who b (r ∷ rs) now = asked_state who b rs now

@@ -57,13 +57,13 @@ past c list o t h = follows_to (may_follow c slot.Coordinator) (λ l. allocation
 
 -- Shards of a region.
 
-same_filter : (p q : ℕ → Bool) (a k : ℕ) → ((t : ℕ) → a ≤ t → t < a + k → p t ≡ q t) → filter p (numbers a k) ≡ filter q (numbers a k)
+pub same_filter : (p q : ℕ → Bool) (a k : ℕ) → ((t : ℕ) → a ≤ t → t < a + k → p t ≡ q t) → filter p (numbers a k) ≡ filter q (numbers a k)
 same_filter p q a zero h = refl
 same_filter p q a (suc k) h =
     ap (λ b. cond b (a ∷ filter p (numbers (a + 1) k)) (filter p (numbers (a + 1) k))) (h a (omega arith) (omega arith))
     ∙ ap (λ (l : List ℕ). cond (q a) (a ∷ l) l) (same_filter p q (a + 1) k (λ t u v. h t (omega (arith, u)) (omega (arith, v))))
 
-none_in : (p : ℕ → Bool) (a k : ℕ) → ((t : ℕ) → a ≤ t → p t ≡ false) → filter p (numbers a k) ≡ []
+pub none_in : (p : ℕ → Bool) (a k : ℕ) → ((t : ℕ) → a ≤ t → p t ≡ false) → filter p (numbers a k) ≡ []
 none_in p a zero h = refl
 none_in p a (suc k) h = ap (λ b. cond b (a ∷ filter p (numbers (a + 1) k)) (filter p (numbers (a + 1) k))) (h a (omega arith)) ∙ none_in p (a + 1) k (λ t u. h t (omega (arith, u)))
 

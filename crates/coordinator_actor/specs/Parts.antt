@@ -1,14 +1,17 @@
 -- Parts of the rules that the code has functions for.
-use Rattle.std.specs.Prelude.{ℕ, ◌==◌, not, List, [], ◌∷◌, map, filter, Option, is_none, if◌then◌else◌}
+use Rattle.std.specs.Prelude.{ℕ, ◌+◌, ◌==◌, ◌&&◌, Bool, false, not, List, [], ◌∷◌, slice_index_or, ◌||◌, map, filter, find, Option, is_none, unwrap_or, if◌then◌else◌}
+use Rattle.std.specs.List.{flat_map}
 use Rattle.yard_model.specs.declared.fact.Fact.TheVariants as fact
 use Rattle.yard_model.specs.declared.packet.Body.TheVariants as body
 use Rattle.yard_model.specs.declared.incarnation.Incarnation.{Incarnation}
 use Rattle.yard_model.specs.declared.incarnation.Stamp.{Stamp}
 use Rattle.yard_model.specs.declared.load.Load.{Load}
-use Rattle.yard_model.specs.Coordinator.{Coordinator, Moving, coordinator_after, tell_home, registered, home_of, stamp, hand_off_if_last, terminate, allocate}
-use Rattle.yard_model.specs.Move.{Move, told, post, acknowledged}
+use Rattle.yard_model.specs.Coordinator.{Coordinator, Moving, coordinator_after, tell_home, registered, home_of, is_moving, stamp, stamp_of, staying, homes_at, begin, begin_quitting, hand_off_again, host_again, hand_off_if_last, terminate, allocate}
+use Rattle.yard_model.specs.Move.{Move, told, post, acknowledged, quits}
+use Rattle.yard_model.specs.Setting.{shards}
+use Rattle.yard_model.specs.ShardSet.{has}
 use Rattle.yard_model.specs.Turns.{in_turn, where_some}
-use Rattle.yard_model.specs.Words.{is_at, is_among, without}
+use Rattle.yard_model.specs.Words.{is_at, is_among, is_empty, without}
 
 -- it is registered, unless it is so already
 abbrev pub enter_new : Incarnation → Coordinator → List Move
@@ -52,3 +55,59 @@ allocate_and_tell from s st = in_turn coordinator_after (allocate_new s) (tell_h
 -- of a shard of the round, as this region acknowledges s
 abbrev pub acknowledge_one : Incarnation → ℕ → Coordinator → Moving → List Move
 acknowledge_one from s st x = if x.shard == s then (if is_among from x.awaited then acknowledged s from ∷ hand_off_if_last from st x else []) else []
+
+-- the stamp of the next round
+abbrev pub next_stamp : Coordinator → Stamp
+next_stamp st = stamp_of st.entries (st.begun + 1)
+
+-- the shards of a set, rising
+abbrev pub shards_in : ℕ → Coordinator → List ℕ
+shards_in set st = filter (has set) (shards st.set)
+
+-- it begins to move, where it is in the set
+abbrev pub begin_if : ℕ → Stamp → Coordinator → ℕ → List Move
+begin_if set next st s = if has set s then begin_one s next st else []
+
+-- each shard of the set begins to move
+abbrev pub begin_each : ℕ → Stamp → Coordinator → List Move
+begin_each set next st = flat_map (begin_if set next st) (shards st.set)
+
+-- no round is open, and some registered region doesn't leave
+abbrev pub may_begin : Coordinator → Bool
+may_begin st = is_empty st.moving && not (is_empty (staying st))
+
+-- the shards of this region begin to move, where they may
+abbrev pub begin_leaving : Incarnation → Coordinator → List Move
+begin_leaving from st = if may_begin st then begin (homes_at st from) st else []
+
+-- a registered region leaves
+abbrev pub quit_registered : Incarnation → Coordinator → List Move
+quit_registered from st = in_turn coordinator_after (λ st. quits from ∷ []) (begin_leaving from) st
+
+-- these shards begin to move, where there are any and no round is open
+abbrev pub begin_picked : List ℕ → Coordinator → List Move
+begin_picked ss st = if not (is_empty st.moving) || is_empty ss then told fact.Nothing ∷ [] else begin ss st
+
+-- the shards of a region, where it leaves
+abbrev pub leaving_homes : Coordinator → Incarnation → List ℕ
+leaving_homes st r = if is_among r st.quitting then homes_at st r else []
+
+-- of the first of these regions that leaves and has any
+abbrev pub first_homes : Coordinator → List Incarnation → List ℕ
+first_homes st rs = unwrap_or (find (λ ss. not (is_empty ss)) (map (homes_at st) (filter (λ r. is_among r st.quitting) rs))) []
+
+-- of the tick, what becomes of the round
+abbrev pub go_on : Coordinator → List Move
+go_on st = if is_empty st.moving then begin_quitting st else flat_map (hand_off_again st) st.moving
+
+-- those awaited are asked again
+abbrev pub ask_again : Coordinator → Moving → List Move
+ask_again st x = map (λ r. post st.who r (body.BeginHandOff x.shard (stamp st))) x.awaited
+
+-- HostShard again to this region
+abbrev pub host_at : Coordinator → ℕ → Incarnation → List Move
+host_at st s h = if is_moving st s || slice_index_or st.started s false then [] else post st.who h (body.HostShard s (stamp st)) ∷ []
+
+-- for each shard
+abbrev pub host_all : Coordinator → List Move
+host_all st = flat_map (host_again st) (shards st.set)

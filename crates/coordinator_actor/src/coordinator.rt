@@ -1,19 +1,20 @@
 //! The state of a coordinator, and the moves that change it.
-ghost use Rattle.std.specs.Prelude.{◌≡◌, ℕ, ◌+◌, ◌<◌, ◌≤◌, [], ◌∷◌, ◌++◌, ◌||◌, ◌^◌, length, if◌then◌else◌, Some, OnOk, OnErr, IsTrue, IfSome, true, false, is_none, is_some};
+ghost use Rattle.std.specs.Prelude.{◌≡◌, ℕ, ◌+◌, ◌<◌, ◌≤◌, [], ◌∷◌, ◌++◌, ◌||◌, ◌^◌, not, slice_index_or, length, if◌then◌else◌, Some, OnOk, OnErr, IsTrue, IfSome, true, false, is_none, is_some};
 ghost use Rattle.std.specs.List.{All, list_all};
 ghost use Rattle.yard_model.specs.declared.load.Load.{Load};
 ghost use Rattle.yard_model.specs.declared.fact.Fact.TheVariants as fact;
 ghost use Rattle.yard_model.specs.declared.out.Item.TheVariants as item;
-ghost use Rattle.yard_model.specs.Coordinator.{coordinator_after, new_coordinator, registered, home_of, stamp, shares, is_moving};
+ghost use Rattle.yard_model.specs.Coordinator.{coordinator_after, new_coordinator, registered, home_of, stamp, shares, staying, is_moving};
 ghost use Rattle.yard_model.specs.declared.incarnation.Slot.TheVariants as slot;
 ghost use Rattle.yard_model.specs.Genuine.{is_node, is_shard};
 ghost use Rattle.yard_model.specs.Lawful.{own};
-ghost use Rattle.yard_model.specs.Move.{told, started, acknowledged};
+ghost use Rattle.yard_model.specs.Move.{told, started, acknowledged, quits};
 ghost use Rattle.yard_model.specs.Script.{setting, IsScript};
 ghost use Rattle.yard_model.specs.SlotReads.{holder, regions};
 ghost use Rattle.yard_model.specs.Words.{is_among, is_at, is_empty, is_stamp};
-ghost use Rattle.least_shard.specs.Spread.{shares_of};
+ghost use Rattle.least_shard.specs.Spread.{shares_of, AreOfDifferentRegions};
 ghost use Rattle.coordinator_actor.specs.Held.{Held, IsAtHome};
+ghost use Rattle.coordinator_actor.specs.Parts.{next_stamp};
 
 use crate::flags::Flags;
 use crate::moving::{MovingShard, Round};
@@ -156,10 +157,37 @@ impl Coordinator {
     pub(crate) fn staying(&self) -> Loads
         ensures shares { shares_of result ≡ shares self.now.state }
         ensures registered { list_all (λ (l : Load). is_among l.region (registered self.now.state)) result ≡ true }
+        ensures different { AreOfDifferentRegions result }
     {
         self.store.entries();
         let loads = self.store.loads();
         self.quitting.staying(&loads)
+    }
+
+    /// Whether some registered region doesn't leave.
+    pub(crate) fn has_staying(&self) -> bool
+        ensures { result ≡ not (is_empty (staying self.now.state)) }
+    {
+        let loads = self.staying();
+        match loads.as_slice().first() {
+            Some(_) => true,
+            None => false,
+        }
+    }
+
+    /// Whether this region has said that it leaves.
+    pub(crate) fn is_leaving(&self, r: &Incarnation) -> bool
+        ensures { result ≡ is_among r.now self.now.state.quitting }
+    {
+        self.quitting.has(r)
+    }
+
+    /// Whether a shard is started.
+    pub(crate) fn is_started(&self, s: ShardNo) -> bool
+        requires shard { s < self.now.state.set.config.shards }
+        ensures { result ≡ slice_index_or self.now.state.started s false }
+    {
+        self.started.get(s)
     }
 
     /// The registered regions, in order of registration.
@@ -180,6 +208,26 @@ impl Coordinator {
             epoch: self.store.epoch(),
             round: self.begun,
         }
+    }
+
+    /// The stamp of the next round, where none is open.
+    pub(crate) fn next_stamp(&self) -> Stamp
+        requires closed { is_empty self.now.state.moving ≡ true }
+        ensures { result ≡ next_stamp self.now.state }
+    {
+        self.store.spare();
+        Stamp {
+            epoch: self.store.epoch(),
+            round: number_of(self.begun, false),
+        }
+    }
+
+    /// How many shards there are.
+    pub(crate) fn shards(&self) -> u8
+        ensures value { result ≡ self.now.state.set.config.shards }
+        ensures few { result ≤ 128 }
+    {
+        self.started.len()
     }
 
     /// The open round.
@@ -272,6 +320,20 @@ impl Coordinator {
         ensures places { self.new.places ≡ self.old.places }
     {
         self.started.set(s, true);
+    }
+
+    /// A region leaves, unless it does so already.
+    pub(crate) fn mark_leaving(&mut self, r: &Incarnation)
+        requires place { 1 ≤ self.old.places }
+        ensures state { self.new.state ≡ coordinator_after self.old.state (quits r.now) }
+        ensures script { self.new.script ≡ self.old.script }
+        ensures entries { self.new.spare ≡ self.old.spare }
+        ensures places { length self.new.state.quitting + self.new.places ≡ length self.old.state.quitting + self.old.places }
+        ensures least { self.old.places ≤ self.new.places + 1 }
+    {
+        if !self.quitting.has(r) {
+            self.quitting.push(r);
+        }
     }
 
     /// A region isn't awaited for a shard any more.

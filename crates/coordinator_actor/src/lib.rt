@@ -7,13 +7,16 @@
 mod coordinator;
 mod flags;
 mod homes;
+mod leaving;
 mod lost;
 mod moving;
 mod quitters;
 mod regions;
+mod rebalance;
 mod register;
 mod rounds;
 mod stopped;
+mod tick;
 
 pub use coordinator::Coordinator;
 

@@ -1,4 +1,4 @@
-use Rattle.std.proofs.Common.{◌≡◌, ap, ◌∙◌, subst, true}
+use Rattle.std.proofs.Common.{◌≡◌, sym, ap, ◌∙◌, subst, true}
 use Rattle.std.specs.Prelude.{List, refl}
 use Rattle.std.specs.List.{list_all}
 use Rattle.yard_model.specs.declared.load.Load.{Load}
@@ -6,9 +6,11 @@ use Rattle.yard_model.specs.Coordinator.{Coordinator, registered, shares}
 use Rattle.yard_model.specs.Script.{setting}
 use Rattle.yard_model.specs.SlotReads.{regions}
 use Rattle.yard_model.specs.Words.{is_among}
-use Rattle.least_shard.specs.Spread.{shares_of}
+use Rattle.least_shard.specs.Spread.{shares_of, AreOfDifferentRegions}
 use Rattle.coordinator_actor.specs.Held.{Held}
+use Rattle.coordinator_actor.proofs.Differ.{regions_differ}
 use Rattle.coordinator_actor.proofs.HeldLaws.{few_shards}
+use Rattle.coordinator_actor.proofs.PickedLaws.{staying_different}
 use Rattle.coordinator_actor.proofs.ShareLaws.{shares_are, staying_registered}
 use Rattle.coordinator_actor.proofs.coordinator.Coordinator.staying.Goals as goal
 
@@ -24,3 +26,8 @@ returns-clause-registered c =
     let old = c.self.inside in
     subst (λ (h : Held). list_all (λ (l : Load). is_among l.region (registered h.state)) c.staying.result ≡ true) c.self.view_is
     (ap (λ (ls : List Load). list_all (λ (l : Load). is_among l.region (regions old.store.entries)) ls) c.staying.ensures ∙ staying_registered old.quitting.items (regions old.store.entries) c.loads-loads.result c.loads-loads.ensures.regions)
+
+pub returns-clause-different : goal.returns-clause-different
+returns-clause-different c =
+    let old = c.self.inside in
+    subst (λ (ls : List Load). AreOfDifferentRegions ls) (sym c.staying.ensures) (staying_different old.quitting.items (regions old.store.entries) c.loads-loads.result c.loads-loads.ensures.regions (regions_differ old.store.script old.store.entries c.entries.ensures.lawful))

@@ -1,0 +1,41 @@
+-- What a tick sends again.
+use Rattle.std.proofs.Common.{◌≡◌, ℕ, sym, ap, ◌∙◌, refl}
+use Rattle.std.specs.Prelude.{Bool, true, false, ◌||◌, cond, fold, find, not, List, [], ◌∷◌, map, filter, Option, Some, None, unwrap_or, slice_index_or, if◌then◌else◌}
+use Rattle.std.specs.List.{flat_map}
+use Rattle.yard_model.specs.declared.packet.Body.TheVariants as body
+use Rattle.yard_model.specs.declared.incarnation.Incarnation.{Incarnation}
+use Rattle.yard_model.specs.Coordinator.{Coordinator, Moving, coordinator_after, hand_off, hand_off_again, host_again, homes_at, home_of, is_moving, stamp}
+use Rattle.yard_model.specs.Move.{Move, post}
+use Rattle.yard_model.specs.Setting.{shards}
+use Rattle.yard_model.specs.Turns.{where_some}
+use Rattle.yard_model.specs.Words.{is_among, is_empty}
+use Rattle.coordinator_actor.specs.Parts.{ask_again, first_homes, host_all, host_at, leaving_homes}
+use Rattle.coordinator_actor.proofs.MoveLaws.{Changes, of_if, hand_off_changes, all_change, asked_state}
+
+again_changes : (st : Coordinator) (x : Moving) → Changes (hand_off_again st x)
+again_changes st x =
+    of_if (is_empty x.awaited) (hand_off st x) (ask_again st x) (hand_off_changes st x x.owner) (asked_state st.who (body.BeginHandOff x.shard (stamp st)) x.awaited)
+
+pub again_state : (st now : Coordinator) → fold coordinator_after now (flat_map (hand_off_again st) st.moving) ≡ now
+again_state st now = all_change (hand_off_again st) (again_changes st) st.moving now
+
+host_changes : (st : Coordinator) (s : ℕ) (o : Option Incarnation) → Changes (where_some (host_at st s) o)
+host_changes st s None now = refl
+host_changes st s (Some h) now =
+    of_if (is_moving st s || slice_index_or st.started s false) [] (post st.who h (body.HostShard s (stamp st)) ∷ []) (λ k. refl) (λ k. refl) now
+
+pub hosted_state : (st now : Coordinator) → fold coordinator_after now (host_all st) ≡ now
+hosted_state st now = all_change (host_again st) (λ s. host_changes st s (home_of st s)) (shards st.set) now
+
+-- the next region that may leave
+pub first_more : (st : Coordinator) (r : Incarnation) (rs : List Incarnation) (ss : List ℕ) → ss ≡ leaving_homes st r → first_homes st (r ∷ rs) ≡ (if is_empty ss then first_homes st rs else ss)
+first_more st r rs ss e = step (is_among r st.quitting) ∙ ap (λ (l : List ℕ). if is_empty l then first_homes st rs else l) (sym e)
+  where
+    some : (hs : List ℕ) → unwrap_or (find (λ ss. not (is_empty ss)) (hs ∷ map (homes_at st) (filter (λ r. is_among r st.quitting) rs))) [] ≡ (if is_empty hs then first_homes st rs else hs)
+    some [] = refl
+    some (h ∷ hs) = refl
+
+    step : (b : Bool) → unwrap_or (find (λ ss. not (is_empty ss)) (map (homes_at st) (cond b (r ∷ filter (λ r. is_among r st.quitting) rs) (filter (λ r. is_among r st.quitting) rs)))) []
+        ≡ (if is_empty (if b then homes_at st r else []) then first_homes st rs else (if b then homes_at st r else []))
+    step true = some (homes_at st r)
+    step false = refl

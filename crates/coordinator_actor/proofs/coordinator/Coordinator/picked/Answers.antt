@@ -1,0 +1,13 @@
+use Rattle.std.proofs.Common.{◌≡◌, List, sym, ap, subst, ◌∙◌}
+use Rattle.yard_model.specs.declared.load.Load.{Load}
+use Rattle.yard_model.specs.Coordinator.{Share, picks}
+use Rattle.yard_model.specs.ShardSet.{set_of}
+use Rattle.least_shard.specs.Spread.{shares_of, AreOfDifferentRegions}
+use Rattle.coordinator_actor.proofs.PickedLaws.{picked_are}
+use Rattle.coordinator_actor.proofs.coordinator.Coordinator.picked.Goals as goal
+
+pub returns : goal.returns
+returns c =
+    picked_are c.round.result c.args.limit c.args.self.now.state
+    (c.round.ensures.picks (subst (λ (ls : List Load). AreOfDifferentRegions ls) (sym c.as_slice-staying.ensures.items) c.staying-loads.ensures.different)
+    ∙ (ap (λ (ls : List Load). set_of (picks c.args.limit (shares_of ls))) c.as_slice-staying.ensures.items ∙ ap (λ (xs : List Share). set_of (picks c.args.limit xs)) c.staying-loads.ensures.shares))

@@ -1,0 +1,71 @@
+//! Rebalancing.
+ghost use Rattle.std.specs.Prelude.{◌≡◌, ◌+◌, ◌<◌, ◌≤◌, ◌++◌, ◌∷◌, [], length, fold};
+ghost use Rattle.std.specs.List.{flat_map};
+ghost use Rattle.yard_model.specs.Coordinator.{coordinator_after, picked, rebalance};
+ghost use Rattle.yard_model.specs.Move.{item_of};
+ghost use Rattle.yard_model.specs.ShardSet.{has};
+ghost use Rattle.yard_model.specs.Words.{is_empty};
+ghost use Rattle.coordinator_actor.specs.Parts.{begin_picked, shards_in};
+
+use crate::coordinator::Coordinator;
+use crate::rounds::shard_at;
+use least_shard::round;
+use yard_model::{Fact, Item, Out, ShardSet};
+
+impl Coordinator {
+    /// At most `limit` shards begin to move from the largest shares to the smallest (Akka 2.6,
+    /// Cluster Sharding concepts: rebalancing by the least number of shards). Where a round is
+    /// open, or there is nothing to even out, nothing happens, which is made known.
+    pub fn rebalance(&mut self, limit: u8, out: &mut Out)
+        requires room { length (flat_map item_of (rebalance limit self.old.state)) ≤ out.old.spare }
+        ensures items { out.new.items ≡ out.old.items ++ flat_map item_of (rebalance limit self.old.state) }
+        ensures state { self.new.state ≡ fold coordinator_after self.old.state (rebalance limit self.old.state) }
+        ensures script { self.new.script ≡ self.old.script }
+        ensures spare { out.new.spare + length (flat_map item_of (rebalance limit self.old.state)) ≡ out.old.spare }
+        ensures entries { self.new.spare ≡ self.old.spare }
+        ensures places { self.new.places ≡ self.old.places }
+    {
+        let shards = self.picked(limit);
+        self.begin_picked(&shards, out);
+    }
+
+    /// The shards that such a round moves.
+    fn picked(&self, limit: u8) -> ShardSet
+        ensures { shards_in result self.now.state ≡ picked limit self.now.state }
+    {
+        let loads = self.staying();
+        let staying = loads.as_slice();
+        round(staying, limit)
+    }
+
+    /// These shards begin to move, where there are any and no round is open.
+    fn begin_picked(&mut self, shards: &ShardSet, out: &mut Out)
+        requires room { length (flat_map item_of (begin_picked (shards_in shards.now self.old.state) self.old.state)) ≤ out.old.spare }
+        ensures items { out.new.items ≡ out.old.items ++ flat_map item_of (begin_picked (shards_in shards.now self.old.state) self.old.state) }
+        ensures state { self.new.state ≡ fold coordinator_after self.old.state (begin_picked (shards_in shards.now self.old.state) self.old.state) }
+        ensures script { self.new.script ≡ self.old.script }
+        ensures spare { out.new.spare + length (flat_map item_of (begin_picked (shards_in shards.now self.old.state) self.old.state)) ≡ out.old.spare }
+        ensures entries { self.new.spare ≡ self.old.spare }
+        ensures places { self.new.places ≡ self.old.places }
+    {
+        if !self.is_closed() || self.has_none_of(shards) {
+            out.push(Item::Fact(Fact::Nothing));
+        } else {
+            self.begin(shards, out);
+        }
+    }
+
+    /// Whether there is no shard of this set.
+    pub(crate) fn has_none_of(&self, shards: &ShardSet) -> bool
+        ensures { result ≡ is_empty (shards_in shards.now self.now.state) }
+    {
+        let count = self.shards();
+        for place in 0..count {
+            let s = shard_at(place);
+            if shards.has(s) {
+                return false;
+            }
+        }
+        true
+    }
+}

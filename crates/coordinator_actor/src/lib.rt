@@ -6,13 +6,14 @@
 
 mod coordinator;
 mod flags;
+mod handle;
 mod homes;
 mod leaving;
 mod lost;
 mod moving;
 mod quitters;
-mod regions;
 mod rebalance;
+mod regions;
 mod register;
 mod rounds;
 mod stopped;

@@ -1,6 +1,6 @@
 -- What a rebalancing picks.
-use Rattle.std.proofs.Common.{◌≡◌, ◌≢◌, ◌<◌, ◌≤◌, ◌+◌, ◌^◌, max, ℕ, zero, suc, sym, ap, ◌∙◌, refl, arith, length}
-use Rattle.std.specs.Prelude.{Bool, true, false, ◌==◌, ◌&&◌, ◌||◌, not, cond, fold, List, [], ◌∷◌, map, filter, slice_index_or}
+use Rattle.std.proofs.Common.{◌≡◌, ◌≢◌, ◌<◌, ◌^◌, max, ℕ, zero, suc, sym, ap, ◌∙◌, refl, arith, length}
+use Rattle.std.specs.Prelude.{Bool, true, false, ◌==◌, ◌||◌, not, cond, fold, List, [], ◌∷◌, filter, slice_index_or}
 use Rattle.std.specs.List.{list_any}
 use Rattle.std.specs.Int.{bit_at}
 use Rattle.std.proofs.lemmas.Bool.{eqb-true, eqb-false}
@@ -10,7 +10,7 @@ use Rattle.yard_model.specs.declared.load.Load.{Load}
 use Rattle.yard_model.specs.Coordinator.{Coordinator, picks, picked, shares}
 use Rattle.yard_model.specs.Loads.{no_load}
 use Rattle.yard_model.specs.ShardSet.{has, with_shard, set_of}
-use Rattle.yard_model.specs.Words.{is_same, is_among, numbers}
+use Rattle.yard_model.specs.Words.{is_same, is_among}
 use Rattle.coordinator_state.specs.Homes.{regions_of}
 use Rattle.least_shard.specs.Spread.{AreOfDifferentRegions}
 use Rattle.coordinator_actor.specs.Parts.{staying_of, shards_in}

@@ -1,5 +1,5 @@
 -- Rounds: moves one after the other, for each of the shards.
-use Rattle.std.proofs.Common.{◌≡◌, ◌<◌, ◌≤◌, ◌+◌, ◌-◌, ℕ, zero, suc, sym, ap, ◌∙◌, refl, arith, length, length-append}
+use Rattle.std.proofs.Common.{◌≡◌, ◌<◌, ◌≤◌, ◌+◌, ◌-◌, ℕ, suc, sym, ap, ◌∙◌, refl, arith, length, length-append}
 use Rattle.std.specs.Prelude.{Bool, true, false, ◌==◌, ◌&&◌, ◌||◌, cond, List, [], ◌∷◌, ◌++◌, map, filter, fold, if◌then◌else◌}
 use Rattle.std.specs.List.{flat_map}
 use Rattle.std.proofs.lemmas.List.{append_assoc}
@@ -9,13 +9,12 @@ use Rattle.std.proofs.lemmas.Bool.Decides.{Decides-eqb}
 use Rattle.yard_model.specs.declared.out.Item.{Item}
 use Rattle.yard_model.specs.declared.fact.Fact.TheVariants as fact
 use Rattle.yard_model.specs.declared.packet.Body.TheVariants as body
-use Rattle.yard_model.specs.declared.incarnation.Incarnation.{Incarnation}
 use Rattle.yard_model.specs.declared.incarnation.Stamp.{Stamp}
 use Rattle.yard_model.specs.Coordinator.{Coordinator, Moving, coordinator_after, stamp, stamp_of, begin, registered, home_of}
 use Rattle.yard_model.specs.Move.{Move, told, post, item_of}
 use Rattle.yard_model.specs.Setting.{shards}
 use Rattle.yard_model.specs.ShardSet.{has}
-use Rattle.yard_model.specs.SlotReads.{epoch, regions}
+use Rattle.yard_model.specs.SlotReads.{regions}
 use Rattle.yard_model.specs.Words.{is_empty, is_stamp, numbers}
 use Rattle.coordinator_actor.specs.Parts.{begin_one, begin_if, begin_each, next_stamp, shards_in}
 use Rattle.coordinator_actor.proofs.MoveLaws.{asked_state}

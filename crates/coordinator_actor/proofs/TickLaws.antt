@@ -5,7 +5,7 @@ use Rattle.std.specs.List.{flat_map}
 use Rattle.yard_model.specs.declared.packet.Body.TheVariants as body
 use Rattle.yard_model.specs.declared.incarnation.Incarnation.{Incarnation}
 use Rattle.yard_model.specs.Coordinator.{Coordinator, Moving, coordinator_after, hand_off, hand_off_again, host_again, homes_at, home_of, is_moving, stamp}
-use Rattle.yard_model.specs.Move.{Move, post}
+use Rattle.yard_model.specs.Move.{post}
 use Rattle.yard_model.specs.Setting.{shards}
 use Rattle.yard_model.specs.Turns.{where_some}
 use Rattle.yard_model.specs.Words.{is_among, is_empty}

@@ -282,6 +282,7 @@ impl Coordinator {
         requires still { is_moving self.old.state s ≡ false }
         ensures items { out.new.items ≡ out.old.items ++ item.Fact (fact.Allocated s r.now) ∷ [] }
         ensures state { self.new.state ≡ coordinator_after self.old.state (told (fact.Allocated s r.now)) }
+        ensures regions { registered self.new.state ≡ registered self.old.state }
         ensures script { self.new.script ≡ self.old.script }
         ensures spare { out.new.spare + 1 ≡ out.old.spare }
         ensures entries { self.new.spare + 1 ≡ self.old.spare }
@@ -300,6 +301,7 @@ impl Coordinator {
         requires home { is_some (home_of self.old.state s) ≡ true }
         ensures items { out.new.items ≡ out.old.items ++ item.Fact (fact.Deallocated s) ∷ [] }
         ensures state { self.new.state ≡ coordinator_after self.old.state (told (fact.Deallocated s)) }
+        ensures regions { registered self.new.state ≡ registered self.old.state }
         ensures script { self.new.script ≡ self.old.script }
         ensures spare { out.new.spare + 1 ≡ out.old.spare }
         ensures entries { self.new.spare + 1 ≡ self.old.spare }
@@ -315,6 +317,7 @@ impl Coordinator {
     pub(crate) fn mark_started(&mut self, s: ShardNo)
         requires shard { is_shard self.old.script s ≡ true }
         ensures state { self.new.state ≡ coordinator_after self.old.state (started s) }
+        ensures kept { self.new.state.entries ≡ self.old.state.entries }
         ensures script { self.new.script ≡ self.old.script }
         ensures entries { self.new.spare ≡ self.old.spare }
         ensures places { self.new.places ≡ self.old.places }
@@ -326,6 +329,7 @@ impl Coordinator {
     pub(crate) fn mark_leaving(&mut self, r: &Incarnation)
         requires place { 1 ≤ self.old.places }
         ensures state { self.new.state ≡ coordinator_after self.old.state (quits r.now) }
+        ensures kept { self.new.state.entries ≡ self.old.state.entries }
         ensures script { self.new.script ≡ self.old.script }
         ensures entries { self.new.spare ≡ self.old.spare }
         ensures places { length self.new.state.quitting + self.new.places ≡ length self.old.state.quitting + self.old.places }
@@ -339,6 +343,7 @@ impl Coordinator {
     /// A region isn't awaited for a shard any more.
     pub(crate) fn mark_acknowledged(&mut self, s: ShardNo, r: &Incarnation)
         ensures state { self.new.state ≡ coordinator_after self.old.state (acknowledged s r.now) }
+        ensures kept { self.new.state.entries ≡ self.old.state.entries }
         ensures script { self.new.script ≡ self.old.script }
         ensures entries { self.new.spare ≡ self.old.spare }
         ensures places { self.new.places ≡ self.old.places }
@@ -353,6 +358,7 @@ impl Coordinator {
         requires joins { (is_stamp next.now (stamp self.old.state) || is_empty self.old.state.moving) ≡ true }
         ensures items { out.new.items ≡ out.old.items ++ item.Fact (fact.Moving s next.now) ∷ [] }
         ensures state { self.new.state ≡ coordinator_after self.old.state (told (fact.Moving s next.now)) }
+        ensures kept { self.new.state.entries ≡ self.old.state.entries }
         ensures script { self.new.script ≡ self.old.script }
         ensures spare { out.new.spare + 1 ≡ out.old.spare }
         ensures entries { self.new.spare ≡ self.old.spare }

@@ -22,9 +22,11 @@ impl Coordinator {
         requires room { length (flat_map item_of (get_home from.now s self.old.state)) ≤ out.old.spare }
         ensures items { out.new.items ≡ out.old.items ++ flat_map item_of (get_home from.now s self.old.state) }
         ensures state { self.new.state ≡ fold coordinator_after self.old.state (get_home from.now s self.old.state) }
+        ensures regions { registered self.new.state ≡ registered self.old.state }
         ensures script { self.new.script ≡ self.old.script }
         ensures spare { out.new.spare + length (flat_map item_of (get_home from.now s self.old.state)) ≡ out.old.spare }
         ensures entries { length self.new.state.entries + self.new.spare ≡ length self.old.state.entries + self.old.spare }
+        ensures least { self.old.spare ≤ self.new.spare + 1 }
         ensures places { self.new.places ≡ self.old.places }
     {
         if !self.is_registered(from) {
@@ -45,9 +47,11 @@ impl Coordinator {
         requires room { length (flat_map item_of (allocate_and_tell from.now s self.old.state)) ≤ out.old.spare }
         ensures items { out.new.items ≡ out.old.items ++ flat_map item_of (allocate_and_tell from.now s self.old.state) }
         ensures state { self.new.state ≡ fold coordinator_after self.old.state (allocate_and_tell from.now s self.old.state) }
+        ensures regions { registered self.new.state ≡ registered self.old.state }
         ensures script { self.new.script ≡ self.old.script }
         ensures spare { out.new.spare + length (flat_map item_of (allocate_and_tell from.now s self.old.state)) ≡ out.old.spare }
         ensures entries { length self.new.state.entries + self.new.spare ≡ length self.old.state.entries + self.old.spare }
+        ensures least { self.old.spare ≤ self.new.spare + 1 }
         ensures places { self.new.places ≡ self.old.places }
     {
         self.allocate_new(s, out);
@@ -59,6 +63,7 @@ impl Coordinator {
     pub fn shard_started(&mut self, from: &Incarnation, s: ShardNo)
         requires shard { is_shard self.old.script s ≡ true }
         ensures state { self.new.state ≡ fold coordinator_after self.old.state (shard_started from.now s self.old.state) }
+        ensures kept { self.new.state.entries ≡ self.old.state.entries }
         ensures script { self.new.script ≡ self.old.script }
         ensures entries { self.new.spare ≡ self.old.spare }
         ensures places { self.new.places ≡ self.old.places }
@@ -87,9 +92,11 @@ impl Coordinator {
         requires room { length (flat_map item_of (allocate_new s self.old.state)) ≤ out.old.spare }
         ensures items { out.new.items ≡ out.old.items ++ flat_map item_of (allocate_new s self.old.state) }
         ensures state { self.new.state ≡ fold coordinator_after self.old.state (allocate_new s self.old.state) }
+        ensures regions { registered self.new.state ≡ registered self.old.state }
         ensures script { self.new.script ≡ self.old.script }
         ensures spare { out.new.spare + length (flat_map item_of (allocate_new s self.old.state)) ≡ out.old.spare }
         ensures entries { length self.new.state.entries + self.new.spare ≡ length self.old.state.entries + self.old.spare }
+        ensures least { self.old.spare ≤ self.new.spare + 1 }
         ensures places { self.new.places ≡ self.old.places }
     {
         match self.home(s) {
@@ -108,6 +115,7 @@ impl Coordinator {
         requires room { length (flat_map item_of (allocate s self.old.state)) ≤ out.old.spare }
         ensures items { out.new.items ≡ out.old.items ++ flat_map item_of (allocate s self.old.state) }
         ensures state { self.new.state ≡ fold coordinator_after self.old.state (allocate s self.old.state) }
+        ensures regions { registered self.new.state ≡ registered self.old.state }
         ensures script { self.new.script ≡ self.old.script }
         ensures spare { out.new.spare + length (flat_map item_of (allocate s self.old.state)) ≡ out.old.spare }
         ensures entries { length self.new.state.entries + self.new.spare ≡ length self.old.state.entries + self.old.spare }
@@ -142,6 +150,7 @@ impl Coordinator {
         requires room { length (flat_map item_of (allocate_to s region.now self.old.state)) ≤ out.old.spare }
         ensures items { out.new.items ≡ out.old.items ++ flat_map item_of (allocate_to s region.now self.old.state) }
         ensures state { self.new.state ≡ fold coordinator_after self.old.state (allocate_to s region.now self.old.state) }
+        ensures regions { registered self.new.state ≡ registered self.old.state }
         ensures script { self.new.script ≡ self.old.script }
         ensures spare { out.new.spare + length (flat_map item_of (allocate_to s region.now self.old.state)) ≡ out.old.spare }
         ensures entries { length self.new.state.entries + self.new.spare ≡ length self.old.state.entries + self.old.spare }

@@ -20,6 +20,7 @@ impl Coordinator {
         requires room { length (flat_map item_of (quit from.now self.old.state)) ≤ out.old.spare }
         ensures items { out.new.items ≡ out.old.items ++ flat_map item_of (quit from.now self.old.state) }
         ensures state { self.new.state ≡ fold coordinator_after self.old.state (quit from.now self.old.state) }
+        ensures kept { self.new.state.entries ≡ self.old.state.entries }
         ensures script { self.new.script ≡ self.old.script }
         ensures spare { out.new.spare + length (flat_map item_of (quit from.now self.old.state)) ≡ out.old.spare }
         ensures entries { self.new.spare ≡ self.old.spare }
@@ -38,6 +39,7 @@ impl Coordinator {
         requires room { length (flat_map item_of (quit_registered from.now self.old.state)) ≤ out.old.spare }
         ensures items { out.new.items ≡ out.old.items ++ flat_map item_of (quit_registered from.now self.old.state) }
         ensures state { self.new.state ≡ fold coordinator_after self.old.state (quit_registered from.now self.old.state) }
+        ensures kept { self.new.state.entries ≡ self.old.state.entries }
         ensures script { self.new.script ≡ self.old.script }
         ensures spare { out.new.spare + length (flat_map item_of (quit_registered from.now self.old.state)) ≡ out.old.spare }
         ensures entries { self.new.spare ≡ self.old.spare }
@@ -55,6 +57,7 @@ impl Coordinator {
         ensures items { out.new.items ≡ out.old.items ++ flat_map item_of (begin_leaving from.now self.old.state) }
         ensures state { self.new.state ≡ fold coordinator_after self.old.state (begin_leaving from.now self.old.state) }
         ensures quitting { self.new.state.quitting ≡ self.old.state.quitting }
+        ensures kept { self.new.state.entries ≡ self.old.state.entries }
         ensures script { self.new.script ≡ self.old.script }
         ensures spare { out.new.spare + length (flat_map item_of (begin_leaving from.now self.old.state)) ≡ out.old.spare }
         ensures entries { self.new.spare ≡ self.old.spare }
@@ -73,6 +76,7 @@ impl Coordinator {
         ensures items { out.new.items ≡ out.old.items ++ flat_map item_of (begin (homes_at self.old.state from.now) self.old.state) }
         ensures state { self.new.state ≡ fold coordinator_after self.old.state (begin (homes_at self.old.state from.now) self.old.state) }
         ensures quitting { self.new.state.quitting ≡ self.old.state.quitting }
+        ensures kept { self.new.state.entries ≡ self.old.state.entries }
         ensures script { self.new.script ≡ self.old.script }
         ensures spare { out.new.spare + length (flat_map item_of (begin (homes_at self.old.state from.now) self.old.state)) ≡ out.old.spare }
         ensures entries { self.new.spare ≡ self.old.spare }

@@ -6,6 +6,7 @@
 
 mod coordinator;
 mod flags;
+mod handle;
 mod homes;
 mod leaving;
 mod lost;

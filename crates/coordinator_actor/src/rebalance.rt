@@ -20,6 +20,7 @@ impl Coordinator {
         requires room { length (flat_map item_of (rebalance limit self.old.state)) ≤ out.old.spare }
         ensures items { out.new.items ≡ out.old.items ++ flat_map item_of (rebalance limit self.old.state) }
         ensures state { self.new.state ≡ fold coordinator_after self.old.state (rebalance limit self.old.state) }
+        ensures kept { self.new.state.entries ≡ self.old.state.entries }
         ensures script { self.new.script ≡ self.old.script }
         ensures spare { out.new.spare + length (flat_map item_of (rebalance limit self.old.state)) ≡ out.old.spare }
         ensures entries { self.new.spare ≡ self.old.spare }
@@ -43,6 +44,7 @@ impl Coordinator {
         requires room { length (flat_map item_of (begin_picked (shards_in shards.now self.old.state) self.old.state)) ≤ out.old.spare }
         ensures items { out.new.items ≡ out.old.items ++ flat_map item_of (begin_picked (shards_in shards.now self.old.state) self.old.state) }
         ensures state { self.new.state ≡ fold coordinator_after self.old.state (begin_picked (shards_in shards.now self.old.state) self.old.state) }
+        ensures kept { self.new.state.entries ≡ self.old.state.entries }
         ensures script { self.new.script ≡ self.old.script }
         ensures spare { out.new.spare + length (flat_map item_of (begin_picked (shards_in shards.now self.old.state) self.old.state)) ≡ out.old.spare }
         ensures entries { self.new.spare ≡ self.old.spare }

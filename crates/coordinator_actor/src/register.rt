@@ -27,6 +27,7 @@ impl Coordinator {
         ensures viewed { IsTrue (are_viewed view.now.members self.new.state.entries) }
         ensures spare { out.new.spare + length (flat_map item_of (register_from from.now view.now.members self.old.state)) ≡ out.old.spare }
         ensures entries { length self.new.state.entries + self.new.spare ≡ length self.old.state.entries + self.old.spare }
+        ensures least { self.old.spare ≤ self.new.spare + 1 }
         ensures places { self.new.places ≡ self.old.places }
     {
         if !view.has(*from) {
@@ -50,6 +51,7 @@ impl Coordinator {
         ensures viewed { IsTrue (are_viewed view.now.members self.new.state.entries) }
         ensures spare { out.new.spare + length (flat_map item_of (enter_new from.now self.old.state)) ≡ out.old.spare }
         ensures entries { length self.new.state.entries + self.new.spare ≡ length self.old.state.entries + self.old.spare }
+        ensures least { self.old.spare ≤ self.new.spare + 1 }
         ensures places { self.new.places ≡ self.old.places }
     {
         if self.is_registered(from) {

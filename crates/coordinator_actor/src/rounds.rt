@@ -18,6 +18,7 @@ impl Coordinator {
         ensures items { out.new.items ≡ out.old.items ++ flat_map item_of (begin (shards_in shards.now self.old.state) self.old.state) }
         ensures state { self.new.state ≡ fold coordinator_after self.old.state (begin (shards_in shards.now self.old.state) self.old.state) }
         ensures quitting { self.new.state.quitting ≡ self.old.state.quitting }
+        ensures kept { self.new.state.entries ≡ self.old.state.entries }
         ensures script { self.new.script ≡ self.old.script }
         ensures spare { out.new.spare + length (flat_map item_of (begin (shards_in shards.now self.old.state) self.old.state)) ≡ out.old.spare }
         ensures entries { self.new.spare ≡ self.old.spare }
@@ -35,6 +36,7 @@ impl Coordinator {
         ensures items { out.new.items ≡ out.old.items ++ flat_map item_of (begin_each shards.now next.now self.old.state) }
         ensures state { self.new.state ≡ fold coordinator_after self.old.state (begin_each shards.now next.now self.old.state) }
         ensures quitting { self.new.state.quitting ≡ self.old.state.quitting }
+        ensures kept { self.new.state.entries ≡ self.old.state.entries }
         ensures script { self.new.script ≡ self.old.script }
         ensures spare { out.new.spare + length (flat_map item_of (begin_each shards.now next.now self.old.state)) ≡ out.old.spare }
         ensures entries { self.new.spare ≡ self.old.spare }
@@ -54,6 +56,7 @@ impl Coordinator {
         requires room { length (flat_map item_of (begin_if shards.now next.now self.old.state place)) ≤ out.old.spare }
         ensures items { out.new.items ≡ out.old.items ++ flat_map item_of (begin_if shards.now next.now self.old.state place) }
         ensures state { self.new.state ≡ fold coordinator_after self.old.state (begin_if shards.now next.now self.old.state place) }
+        ensures kept { self.new.state.entries ≡ self.old.state.entries }
         ensures script { self.new.script ≡ self.old.script }
         ensures spare { out.new.spare + length (flat_map item_of (begin_if shards.now next.now self.old.state place)) ≡ out.old.spare }
         ensures entries { self.new.spare ≡ self.old.spare }
@@ -73,6 +76,7 @@ impl Coordinator {
         requires room { length (flat_map item_of (begin_one s next.now self.old.state)) ≤ out.old.spare }
         ensures items { out.new.items ≡ out.old.items ++ flat_map item_of (begin_one s next.now self.old.state) }
         ensures state { self.new.state ≡ fold coordinator_after self.old.state (begin_one s next.now self.old.state) }
+        ensures kept { self.new.state.entries ≡ self.old.state.entries }
         ensures script { self.new.script ≡ self.old.script }
         ensures spare { out.new.spare + length (flat_map item_of (begin_one s next.now self.old.state)) ≡ out.old.spare }
         ensures entries { self.new.spare ≡ self.old.spare }

@@ -1,7 +1,7 @@
 //! Words of regions on the shards of the round.
 ghost use Rattle.std.specs.Prelude.{◌≡◌, ℕ, ◌+◌, ◌<◌, ◌≤◌, ◌++◌, ◌==◌, ◌&&◌, length, filter, fold, true, false, is_some};
 ghost use Rattle.std.specs.List.{flat_map, list_any};
-ghost use Rattle.yard_model.specs.Coordinator.{coordinator_after, home_of, acknowledge, shard_stopped, moving_at, hand_off_if_last};
+ghost use Rattle.yard_model.specs.Coordinator.{coordinator_after, home_of, registered, acknowledge, shard_stopped, moving_at, hand_off_if_last};
 ghost use Rattle.yard_model.specs.Genuine.{is_shard};
 ghost use Rattle.yard_model.specs.Move.{item_of};
 ghost use Rattle.yard_model.specs.Words.{is_among, is_at, is_empty};
@@ -19,6 +19,7 @@ impl Coordinator {
         requires room { length (flat_map item_of (acknowledge from.now s given.now self.old.state)) ≤ out.old.spare }
         ensures items { out.new.items ≡ out.old.items ++ flat_map item_of (acknowledge from.now s given.now self.old.state) }
         ensures state { self.new.state ≡ fold coordinator_after self.old.state (acknowledge from.now s given.now self.old.state) }
+        ensures kept { self.new.state.entries ≡ self.old.state.entries }
         ensures script { self.new.script ≡ self.old.script }
         ensures spare { out.new.spare + length (flat_map item_of (acknowledge from.now s given.now self.old.state)) ≡ out.old.spare }
         ensures entries { self.new.spare ≡ self.old.spare }
@@ -35,6 +36,7 @@ impl Coordinator {
         requires room { length (flat_map item_of (flat_map (acknowledge_one from.now s self.old.state) self.old.state.moving)) ≤ out.old.spare }
         ensures items { out.new.items ≡ out.old.items ++ flat_map item_of (flat_map (acknowledge_one from.now s self.old.state) self.old.state.moving) }
         ensures state { self.new.state ≡ fold coordinator_after self.old.state (flat_map (acknowledge_one from.now s self.old.state) self.old.state.moving) }
+        ensures kept { self.new.state.entries ≡ self.old.state.entries }
         ensures script { self.new.script ≡ self.old.script }
         ensures spare { out.new.spare + length (flat_map item_of (flat_map (acknowledge_one from.now s self.old.state) self.old.state.moving)) ≡ out.old.spare }
         ensures entries { self.new.spare ≡ self.old.spare }
@@ -86,9 +88,11 @@ impl Coordinator {
         requires room { length (flat_map item_of (shard_stopped from.now s given.now self.old.state)) ≤ out.old.spare }
         ensures items { out.new.items ≡ out.old.items ++ flat_map item_of (shard_stopped from.now s given.now self.old.state) }
         ensures state { self.new.state ≡ fold coordinator_after self.old.state (shard_stopped from.now s given.now self.old.state) }
+        ensures regions { registered self.new.state ≡ registered self.old.state }
         ensures script { self.new.script ≡ self.old.script }
         ensures spare { out.new.spare + length (flat_map item_of (shard_stopped from.now s given.now self.old.state)) ≡ out.old.spare }
         ensures entries { length self.new.state.entries + self.new.spare ≡ length self.old.state.entries + self.old.spare }
+        ensures least { self.old.spare ≤ self.new.spare + 2 }
         ensures places { self.new.places ≡ self.old.places }
     {
         if !self.is_stopping(from, s, given) {

@@ -21,6 +21,7 @@ impl Coordinator {
         requires room { length (flat_map item_of (tick_coordinator self.old.state)) ≤ out.old.spare }
         ensures items { out.new.items ≡ out.old.items ++ flat_map item_of (tick_coordinator self.old.state) }
         ensures state { self.new.state ≡ fold coordinator_after self.old.state (tick_coordinator self.old.state) }
+        ensures kept { self.new.state.entries ≡ self.old.state.entries }
         ensures script { self.new.script ≡ self.old.script }
         ensures spare { out.new.spare + length (flat_map item_of (tick_coordinator self.old.state)) ≡ out.old.spare }
         ensures entries { self.new.spare ≡ self.old.spare }
@@ -35,6 +36,7 @@ impl Coordinator {
         requires room { length (flat_map item_of (go_on self.old.state)) ≤ out.old.spare }
         ensures items { out.new.items ≡ out.old.items ++ flat_map item_of (go_on self.old.state) }
         ensures state { self.new.state ≡ fold coordinator_after self.old.state (go_on self.old.state) }
+        ensures kept { self.new.state.entries ≡ self.old.state.entries }
         ensures script { self.new.script ≡ self.old.script }
         ensures spare { out.new.spare + length (flat_map item_of (go_on self.old.state)) ≡ out.old.spare }
         ensures entries { self.new.spare ≡ self.old.spare }
@@ -54,6 +56,7 @@ impl Coordinator {
         requires room { length (flat_map item_of (begin_quitting self.old.state)) ≤ out.old.spare }
         ensures items { out.new.items ≡ out.old.items ++ flat_map item_of (begin_quitting self.old.state) }
         ensures state { self.new.state ≡ fold coordinator_after self.old.state (begin_quitting self.old.state) }
+        ensures kept { self.new.state.entries ≡ self.old.state.entries }
         ensures script { self.new.script ≡ self.old.script }
         ensures spare { out.new.spare + length (flat_map item_of (begin_quitting self.old.state)) ≡ out.old.spare }
         ensures entries { self.new.spare ≡ self.old.spare }
@@ -70,6 +73,7 @@ impl Coordinator {
         requires room { length (flat_map item_of (begin (first_homes self.old.state (registered self.old.state)) self.old.state)) ≤ out.old.spare }
         ensures items { out.new.items ≡ out.old.items ++ flat_map item_of (begin (first_homes self.old.state (registered self.old.state)) self.old.state) }
         ensures state { self.new.state ≡ fold coordinator_after self.old.state (begin (first_homes self.old.state (registered self.old.state)) self.old.state) }
+        ensures kept { self.new.state.entries ≡ self.old.state.entries }
         ensures script { self.new.script ≡ self.old.script }
         ensures spare { out.new.spare + length (flat_map item_of (begin (first_homes self.old.state (registered self.old.state)) self.old.state)) ≡ out.old.spare }
         ensures entries { self.new.spare ≡ self.old.spare }

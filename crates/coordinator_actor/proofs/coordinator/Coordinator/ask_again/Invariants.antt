@@ -2,7 +2,6 @@ use Rattle.std.proofs.Common.{◌≡◌, ◌+◌, drop, length, ◌++◌}
 use Rattle.std.specs.Prelude.{map}
 use Rattle.std.specs.List.{flat_map}
 use Rattle.yard_model.specs.declared.packet.Body.TheVariants as body
-use Rattle.yard_model.specs.Coordinator.{stamp}
 use Rattle.yard_model.specs.Move.{item_of, post}
 use Rattle.coordinator_actor.specs.Parts.{ask_again}
 use Rattle.coordinator_actor.proofs.coordinator.Coordinator.ask_again.Given as goal

@@ -1,6 +1,6 @@
-use Rattle.std.proofs.Common.{◌≡◌, ◌+◌, ◌≤◌, ◌++◌, List, length, fold, sym, ap, ◌∙◌, subst}
+use Rattle.std.proofs.Common.{◌+◌, ◌≤◌, ◌++◌, List, length, fold, sym, ap, ◌∙◌, subst}
 use Rattle.std.specs.List.{flat_map}
-use Rattle.yard_model.specs.Coordinator.{Coordinator, coordinator_after}
+use Rattle.yard_model.specs.Coordinator.{coordinator_after}
 use Rattle.yard_model.specs.Move.{Move, item_of}
 use Rattle.coordinator_actor.proofs.RoundLaws.{begin_is}
 use Rattle.coordinator_actor.proofs.coordinator.Coordinator.begin.Goals as goal

@@ -1,6 +1,6 @@
-use Rattle.std.proofs.Common.{◌≡◌, ◌+◌, ◌≤◌, ◌++◌, ℕ, List, length, fold, sym, ap, ◌∙◌, subst}
+use Rattle.std.proofs.Common.{◌+◌, ◌≤◌, ◌++◌, ℕ, List, length, fold, sym, ap, ◌∙◌, subst}
 use Rattle.std.specs.List.{flat_map}
-use Rattle.yard_model.specs.Coordinator.{Coordinator, coordinator_after, begin}
+use Rattle.yard_model.specs.Coordinator.{coordinator_after, begin}
 use Rattle.yard_model.specs.Move.{item_of}
 use Rattle.coordinator_actor.proofs.coordinator.Coordinator.begin_first.Goals as goal
 

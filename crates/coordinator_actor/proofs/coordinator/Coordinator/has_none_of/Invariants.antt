@@ -1,7 +1,7 @@
 use Rattle.std.proofs.Common.{◌≡◌, ◌≤◌, ◌-◌}
 use Rattle.std.specs.Prelude.{filter}
 use Rattle.yard_model.specs.ShardSet.{has}
-use Rattle.yard_model.specs.Words.{is_empty, numbers}
+use Rattle.yard_model.specs.Words.{numbers}
 use Rattle.coordinator_actor.specs.Parts.{shards_in}
 use Rattle.coordinator_actor.proofs.coordinator.Coordinator.has_none_of.Given as goal
 

@@ -1,4 +1,4 @@
-use Rattle.std.proofs.Common.{◌≡◌, ◌<◌, ℕ, ap, ◌∙◌, true, arith}
+use Rattle.std.proofs.Common.{◌≡◌, ◌<◌, ap, ◌∙◌, true, arith}
 use Rattle.std.specs.Prelude.{◌&&◌, nat_lt}
 use Rattle.std.proofs.lemmas.Bool.Decides.{nat_tests}
 use Rattle.yard_model.specs.Coordinator.{home_of}

@@ -1,0 +1,4 @@
+pub mod Built
+pub mod Hands
+pub mod Keeps
+pub mod Standing

@@ -1,0 +1,15 @@
+use Rattle.std.proofs.Common.{◌≡◌, ◌||◌, length}
+use Rattle.yard_model.specs.World.{numbered, wire_limit}
+use Rattle.world_sim.specs.Mail.{is_past}
+use Rattle.world_sim.specs.Told.{ToldTo, all_told}
+use Rattle.world_sim.proofs.mail.Mail.tell_all.Given as goal
+
+abbrev pub invariant-loop-item : goal.invariant-loop-item
+invariant-loop-item l = record {
+  told : ToldTo l.initial.facts l.facts (numbered wire_limit (length l.initial.self.packets) l.initial.self.items) (numbered wire_limit (length l.self.packets) l.self.items);
+  rest : all_told wire_limit l.self ≡ all_told wire_limit l.initial.self;
+  past : (l.past || is_past wire_limit (length l.self.packets) l.self.items) ≡ is_past wire_limit (length l.initial.self.packets) l.initial.self.items;
+}
+
+abbrev pub decreases-loop-item : goal.decreases-loop-item
+decreases-loop-item l = length l.self.items

@@ -1,0 +1,3 @@
+pub mod Mail
+pub mod Lending
+pub mod Told

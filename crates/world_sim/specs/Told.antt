@@ -1,0 +1,53 @@
+-- What items tell, item by item, and what it is to the words of the world.
+use Rattle.std.specs.Prelude.{◌≡◌, ℕ, ◌+◌, Bool, true, false, ◌||◌, List, [], ◌∷◌, ◌++◌, length, fold}
+use Rattle.std.specs.List.{list_all}
+use Rattle.yard_model.specs.declared.fact.Fact.{Fact}
+use Rattle.yard_model.specs.declared.fact.Fact.TheVariants as fact
+use Rattle.yard_model.specs.declared.out.Item.{Item}
+use Rattle.yard_model.specs.declared.out.Item.TheVariants as item
+use Rattle.yard_model.specs.declared.packet.Packet.{Packet}
+use Rattle.yard_model.specs.Words.{numbers}
+use Rattle.yard_model.specs.World.{World, Made, input_facts, wire_step, fresh_step, full_step}
+use Rattle.world_sim.specs.Mail.{Mails, facts_of, is_past, posts_of}
+
+-- from one list of facts to another `said` was said, and of `whole` this is left
+pub record ToldTo (old new whole left : List Fact) : Type 0 where
+  pub said : List Fact
+  pub new_is : new ≡ old ++ said
+  pub whole_is : whole ≡ said ++ left
+
+-- the mail once all its items are told, but for the flag
+abbrev pub all_told : ℕ → Mails → Mails
+all_told limit m =
+    let ps : List Packet = posts_of limit (length m.packets) m.items in
+    record {
+      packets = m.packets ++ ps;
+      fresh = m.fresh ++ numbers (length m.packets + 1) (length ps);
+      items = [];
+      spare = m.spare;
+      full = m.full;
+    }
+
+-- a fact that a node may tell: none of a packet's number, nor that the wire is full
+abbrev pub is_off_wire : Fact → Bool
+is_off_wire (fact.Sent k p) = false
+is_off_wire (fact.Got k) = false
+is_off_wire fact.WireFull = false
+is_off_wire f = true
+
+abbrev pub is_item_off_wire : Item → Bool
+is_item_off_wire (item.Fact f) = is_off_wire f
+is_item_off_wire (item.Post p) = true
+
+-- what is posted of such items is what the facts told are to the world's packets
+pub record AreTold (limit : ℕ) (packets : List Packet) (fresh : List ℕ) (full : Bool) (is : List Item) : Type 0 where
+  pub packets_is : fold wire_step packets (facts_of limit (length packets) is) ≡ packets ++ posts_of limit (length packets) is
+  pub fresh_is : fold fresh_step fresh (facts_of limit (length packets) is) ≡ fresh ++ numbers (length packets + 1) (length (posts_of limit (length packets) is))
+  pub full_is : fold full_step full (facts_of limit (length packets) is) ≡ (full || is_past limit (length packets) is)
+
+abbrev pub ToldLaw : Type 0
+ToldLaw = (limit : ℕ) (packets : List Packet) (fresh : List ℕ) (full : Bool) (is : List Item) → list_all is_item_off_wire is ≡ true → AreTold limit packets fresh full is
+
+-- and they are the world's facts of the items
+abbrev pub FactsLaw : Type 0
+FactsLaw = (w : World) (is : List Item) → input_facts w is ≡ facts_of w.limit (length w.wire) is

@@ -1,0 +1,238 @@
+//! The packets of a world, and the numbers that a turn's posts get.
+ghost use Rattle.std.specs.Prelude.{◌≡◌, ◌+◌, ◌-◌, ◌<◌, ◌≤◌, ◌↔◌, ◌==◌, ◌||◌, true, false, not, [], ◌∷◌, ◌++◌, length, filter, nat_lt, IsSome, IfOk, OnOk, OnErr, MatchOption};
+ghost use Rattle.std.specs.Borrow.{sem};
+ghost use Rattle.yard_model.specs.declared.fact.Fact.TheVariants as fact;
+ghost use Rattle.yard_model.specs.declared.out.Item.TheVariants as item;
+ghost use Rattle.yard_model.specs.Words.{is_empty, numbers};
+ghost use Rattle.yard_model.specs.World.{numbered, wire_limit};
+ghost use Rattle.wire_packet.specs.Wire.{packet_at};
+ghost use Rattle.world_sim.specs.Mail.{Heads, ToldSome, facts_of, is_past, posts_of, with_posts};
+ghost use Rattle.world_sim.specs.Lending.{LendsOut};
+ghost use Rattle.world_sim.specs.Told.{all_told};
+
+use std::alloc::{AllocError, Global};
+use std::marker::Model;
+use wire_packet::{Wire, WireFault};
+use yard_model::{Fact, Facts, Item, Out, Packet};
+
+/// The packets of a world, numbered from 1, which of them were never delivered, and what a turn
+/// made and isn't told yet. At most 1,000,000 are posted.
+#[derive(Drop)]
+pub struct Mail {
+    wire: Wire,
+    count: u32,
+    out: Out,
+    full: bool,
+}
+
+impl Model for Mail {
+    ghost use Rattle.world_sim.specs.Mail.{IsMail, Mails, fresh_of};
+
+    ghost Value = { Mails };
+
+    ghost view = { λ m. record { packets = m.wire.packets; fresh = fresh_of m.wire.marked; items = m.out.items; spare = m.out.spare; full = m.full } };
+
+    ghost invariant = { λ m. IsMail m.wire m.count };
+}
+
+impl Mail {
+    /// No packets and no items. It takes no memory.
+    pub fn new(alloc: Global) -> Mail
+        ensures packets { result.packets ≡ [] }
+        ensures fresh { result.fresh ≡ [] }
+        ensures items { result.items ≡ [] }
+        ensures spare { result.spare ≡ 0 }
+        ensures full { result.full ≡ false }
+    {
+        Mail {
+            wire: Wire::new(alloc),
+            count: 0,
+            out: Out::new(alloc),
+            full: false,
+        }
+    }
+
+    /// What isn't told yet, for a turn to add to.
+    pub fn out(&mut self) -> &mut Out
+        ensures* lends { sem 𝓛 (LendsOut self.entry result) }
+        ensures items { result.now.items ≡ self.old.items }
+        ensures spare { result.now.spare ≡ self.old.spare }
+    {
+        &mut self.out
+    }
+
+    /// Makes the spare at least `n`. The only error is want of memory, and then nothing changes.
+    pub fn reserve(&mut self, n: u32) -> Result<(), AllocError>
+        ensures packets { self.new.packets ≡ self.old.packets }
+        ensures fresh { self.new.fresh ≡ self.old.fresh }
+        ensures items { self.new.items ≡ self.old.items }
+        ensures full { self.new.full ≡ self.old.full }
+        ensures ok { OnOk result (n ≤ self.new.spare) }
+        ensures spare { self.old.spare ≤ self.new.spare }
+        ensures err { OnErr result (self.new ≡ self.old) }
+    {
+        self.out.reserve(n)
+    }
+
+    /// One item more, from the spare.
+    pub fn push(&mut self, item: Item)
+        requires { 0 < self.old.spare }
+        ensures items { self.new.items ≡ self.old.items ++ item ∷ [] }
+        ensures spare { self.new.spare + 1 ≡ self.old.spare }
+        ensures packets { self.new.packets ≡ self.old.packets }
+        ensures fresh { self.new.fresh ≡ self.old.fresh }
+        ensures full { self.new.full ≡ self.old.full }
+    {
+        self.out.push(item);
+    }
+
+    /// How many packets were posted.
+    pub fn len(&self) -> u32
+        ensures len { result ≡ length self.now.packets }
+        ensures fits { length self.now.packets ≤ wire_limit }
+    {
+        self.count
+    }
+
+    /// Whether a post was past the limit.
+    pub fn is_full(&self) -> bool
+        ensures { result ≡ self.now.full }
+    {
+        self.full
+    }
+
+    /// The packet of this number; None where no such number was posted.
+    pub fn packet(&self, number: u32) -> Option<Packet>
+        ensures packet { result ≡ packet_at self.now.packets number }
+        ensures there { IsSome result ↔ ((0 < number) × (number ≤ length self.now.packets)) }
+    {
+        match self.wire.get(number) {
+            Some(packet) => Some(*packet),
+            None => None,
+        }
+    }
+
+    /// The packet of this number, which was posted, is delivered.
+    #[tactic(auto, using(crate::proofs::FreshLaws::marked_one))]
+    pub fn got(&mut self, number: u32)
+        requires above { 0 < number }
+        requires there { number ≤ length self.old.packets }
+        ensures packets { self.new.packets ≡ self.old.packets }
+        ensures fresh { self.new.fresh ≡ filter (λ j. not (j == number)) self.old.fresh }
+        ensures items { self.new.items ≡ self.old.items }
+        ensures spare { self.new.spare ≡ self.old.spare }
+        ensures full { self.new.full ≡ self.old.full }
+    {
+        self.wire.mark(number);
+    }
+
+    /// The lowest number above `from` whose packet was never delivered; None where there is none.
+    /// The search passes over the numbers at the front that were delivered.
+    #[tactic(auto, using(crate::proofs::FreshLaws::next_after))]
+    pub fn next_after(&self, from: u32) -> Option<u32>
+        requires { from < 4000000000 }
+        ensures { MatchOption result (filter (nat_lt from) self.now.fresh ≡ []) (λ k. Heads k (filter (nat_lt from) self.now.fresh)) }
+    {
+        self.wire.next_fresh(from + 1)
+    }
+
+    /// Whether some packet was never delivered.
+    #[tactic(auto, using(crate::proofs::FreshLaws::any_fresh))]
+    pub fn has_fresh(&self) -> bool
+        ensures { result ≡ not (is_empty self.now.fresh) }
+    {
+        self.wire.next_fresh(1).is_some()
+    }
+
+    /// Tells all items, oldest first. A fact is told as it is. A post gets the next number, and is
+    /// told with it; one past the limit isn't posted, and nothing is told of it. Where there was
+    /// such a one, it is told last that the wire is full.
+    ///
+    /// The only error is want of memory: then a beginning of all that was told, and what of the
+    /// items is left is not said.
+    pub fn tell_items(&mut self, facts: &mut Facts) -> Result<(), AllocError>
+        ensures facts { OnOk result (facts.new ≡ facts.old ++ facts_of wire_limit (length self.old.packets) self.old.items) }
+        ensures packets { OnOk result (self.new.packets ≡ self.old.packets ++ posts_of wire_limit (length self.old.packets) self.old.items) }
+        ensures fresh { OnOk result (self.new.fresh ≡ self.old.fresh ++ numbers (length self.old.packets + 1) (length (posts_of wire_limit (length self.old.packets) self.old.items))) }
+        ensures full { OnOk result (self.new.full ≡ (self.old.full || is_past wire_limit (length self.old.packets) self.old.items)) }
+        ensures items { OnOk result (self.new.items ≡ []) }
+        ensures spare { OnOk result (self.new.spare ≡ self.old.spare) }
+        ensures told { OnErr result (ToldSome facts.old facts.new (facts_of wire_limit (length self.old.packets) self.old.items)) }
+    {
+        let past = self.tell_all(facts)?;
+        if past {
+            self.tell_full(facts)?;
+        }
+        Ok(())
+    }
+
+    /// The wire is full, and this is told.
+    fn tell_full(&mut self, facts: &mut Facts) -> Result<(), AllocError>
+        ensures facts { OnOk result (facts.new ≡ facts.old ++ fact.WireFull ∷ []) }
+        ensures ok { OnOk result (self.new ≡ record self.old { full = true }) }
+        ensures err { OnErr result (facts.new ≡ facts.old) }
+    {
+        facts.push(Fact::WireFull)?;
+        self.full = true;
+        Ok(())
+    }
+
+    /// Tells all items, and answers whether some post was past the limit.
+    fn tell_all(&mut self, facts: &mut Facts) -> Result<bool, AllocError>
+        ensures facts { OnOk result (facts.new ≡ facts.old ++ numbered wire_limit (length self.old.packets) self.old.items) }
+        ensures ok { OnOk result (self.new ≡ all_told wire_limit self.old) }
+        ensures past { IfOk result (λ past. past ≡ is_past wire_limit (length self.old.packets) self.old.items) }
+        ensures told { OnErr result (ToldSome facts.old facts.new (numbered wire_limit (length self.old.packets) self.old.items)) }
+    {
+        let mut past = false;
+        while let Some(item) = self.take() {
+            let over = self.tell_item(&item, facts)?;
+            past = past || over;
+        }
+        Ok(past)
+    }
+
+    /// The oldest item, taken out.
+    fn take(&mut self) -> Option<Item>
+        ensures fits { length self.old.packets ≤ wire_limit }
+        ensures item { MatchOption result ((self.old.items ≡ []) × (self.new ≡ self.old)) (λ item. self.old ≡ record self.new { items = item ∷ self.new.items }) }
+    {
+        self.out.take()
+    }
+
+    /// Tells an item, and answers whether it is a post past the limit.
+    fn tell_item(&mut self, item: &Item, facts: &mut Facts) -> Result<bool, AllocError>
+        ensures fits { length self.old.packets ≤ wire_limit }
+        ensures facts { OnOk result (facts.new ≡ facts.old ++ numbered wire_limit (length self.old.packets) (item.now ∷ [])) }
+        ensures ok { OnOk result (self.new ≡ with_posts self.old (posts_of wire_limit (length self.old.packets) (item.now ∷ []))) }
+        ensures past { IfOk result (λ past. past ≡ is_past wire_limit (length self.old.packets) (item.now ∷ [])) }
+        ensures err { OnErr result (facts.new ≡ facts.old) }
+    {
+        match item {
+            Item::Fact(fact) => {
+                facts.push(*fact)?;
+                Ok(false)
+            }
+            Item::Post(packet) => self.tell_post(packet, facts),
+        }
+    }
+
+    /// Posts a packet and tells it, and answers whether it is past the limit.
+    fn tell_post(&mut self, packet: &Packet, facts: &mut Facts) -> Result<bool, AllocError>
+        ensures fits { length self.old.packets ≤ wire_limit }
+        ensures facts { OnOk result (facts.new ≡ facts.old ++ numbered wire_limit (length self.old.packets) (item.Post packet.now ∷ [])) }
+        ensures ok { OnOk result (self.new ≡ with_posts self.old (posts_of wire_limit (length self.old.packets) (item.Post packet.now ∷ []))) }
+        ensures past { IfOk result (λ past. past ≡ is_past wire_limit (length self.old.packets) (item.Post packet.now ∷ [])) }
+        ensures err { OnErr result (facts.new ≡ facts.old) }
+    {
+        match self.wire.post(*packet) {
+            Ok(number) => {
+                self.count = number;
+                facts.push(Fact::Sent(number, *packet))?;
+                Ok(false)
+            }
+            Err(WireFault::Full) => Ok(true),
+            Err(WireFault::OutOfMemory) => Err(AllocError),
+        }
+    }
+}

@@ -12,9 +12,9 @@ use Rattle.yard_model.specs.declared.out.Item.TheVariants as item
 use Rattle.yard_model.specs.declared.packet.Packet.{Packet}
 use Rattle.yard_model.specs.Words.{numbers}
 use Rattle.yard_model.specs.World.{World, input_facts, numbered, count_posts, wire_step, fresh_step, full_step}
-use Rattle.world_sim.specs.Mail.{Mails, ToldSome, facts_of, is_past, posts_of, with_posts}
+use Rattle.world_sim.specs.Mail.{Mails, ToldSome, facts_of, fresh_of, is_past, posts_of, with_posts}
 use Rattle.world_sim.specs.Told.{AreTold, FactsLaw, ToldLaw, ToldTo, all_told, is_off_wire, is_item_off_wire}
-use Rattle.world_sim.proofs.FreshLaws.{lt_true, lt_false}
+use Rattle.world_sim.proofs.FreshLaws.{fresh_more, lt_true, lt_false}
 
 -- Past the limit nothing is posted.
 
@@ -89,13 +89,13 @@ steps limit n m (item.Post p) is h s = steps_post (nat_lt n limit) limit n m p i
 
 -- The mail, item by item.
 
-abbrev mails : List Packet → List ℕ → List Item → ℕ → Bool → Mails
+abbrev pub mails : List Packet → List ℕ → List Item → ℕ → Bool → Mails
 mails packets fresh is spare full = record { packets = packets; fresh = fresh; items = is; spare = spare; full = full }
 
 same_mails : (p q : List Packet) (f g : List ℕ) (is : List Item) (s : ℕ) (b : Bool) → p ≡ q → f ≡ g → mails p f is s b ≡ mails q g is s b
 same_mails p q f g is s b e h = ap (λ x. mails x f is s b) e ∙ ap (λ x. mails q x is s b) h
 
-abbrev first : Item → Mails → Mails
+abbrev pub first : Item → Mails → Mails
 first i m = record m { items = i ∷ m.items }
 
 pub all_next : (limit : ℕ) (m : Mails) (i : Item) → length m.packets ≤ limit → all_told limit (with_posts m (posts_of limit (length m.packets) (i ∷ []))) ≡ all_told limit (first i m)
@@ -125,6 +125,32 @@ told_next limit m i old new whole h t =
       new_is = ap (λ x. x ++ one) t.new_is ∙ append_assoc old t.said one;
       whole_is = t.whole_is ∙ ap (λ x. t.said ++ x) step.facts_are ∙ sym (append_assoc t.said one (numbered limit far m.items));
     }
+
+-- One turn of the loop: `before` it, then `m` where an item is taken out, and `after` it is told.
+
+pub told_kept : (limit : ℕ) (before m after : Mails) (i : Item) (old facts more whole : List Fact) → before ≡ first i m → length m.packets ≤ limit → more ≡ facts ++ numbered limit (length m.packets) (i ∷ []) → after ≡ with_posts m (posts_of limit (length m.packets) (i ∷ [])) → ToldTo old facts whole (numbered limit (length before.packets) before.items) → ToldTo old more whole (numbered limit (length after.packets) after.items)
+told_kept limit before m after i old facts more whole b h f a t =
+    let start : ToldTo old facts whole (numbered limit (length m.packets) (i ∷ m.items)) = subst (λ (x : Mails). ToldTo old facts whole (numbered limit (length x.packets) x.items)) b t in
+    rw (f, a) (told_next limit m i old facts whole h start)
+
+pub rest_kept : (limit : ℕ) (start before m after : Mails) (i : Item) → before ≡ first i m → length m.packets ≤ limit → after ≡ with_posts m (posts_of limit (length m.packets) (i ∷ [])) → all_told limit before ≡ all_told limit start → all_told limit after ≡ all_told limit start
+rest_kept limit start before m after i b h a r = ap (all_told limit) a ∙ all_next limit m i h ∙ sym (ap (all_told limit) b) ∙ r
+
+pub past_kept : (limit : ℕ) (whole : Bool) (before m after : Mails) (i : Item) (past over : Bool) → before ≡ first i m → length m.packets ≤ limit → over ≡ is_past limit (length m.packets) (i ∷ []) → after ≡ with_posts m (posts_of limit (length m.packets) (i ∷ [])) → (past || is_past limit (length before.packets) before.items) ≡ whole → ((past || over) || is_past limit (length after.packets) after.items) ≡ whole
+past_kept limit whole before m after i past over b h o a r =
+    let start : (past || is_past limit (length m.packets) (i ∷ m.items)) ≡ whole = subst (λ (x : Mails). (past || is_past limit (length x.packets) x.items) ≡ whole) b r in
+    rw (o, a) (past_next limit m i past h ∙ start)
+
+-- A packet posted on the wire.
+
+pub posted_one : (limit : ℕ) (packets : List Packet) (marks : List Bool) (is : List Item) (spare : ℕ) (full : Bool) (p : Packet) → length marks ≡ length packets → length packets < limit → mails (packets ++ p ∷ []) (fresh_of (marks ++ false ∷ [])) is spare full ≡ with_posts (mails packets (fresh_of marks) is spare full) (posts_of limit (length packets) (item.Post p ∷ []))
+posted_one limit packets marks is spare full p same h =
+    let under : nat_lt (length packets) limit ≡ true = lt_true (length packets) limit h in
+    let number : 1 + length marks ≡ length packets + 1 = omega arith in
+    let fresh : fresh_of (marks ++ false ∷ []) ≡ fresh_of marks ++ (length packets + 1) ∷ [] = fresh_more 1 marks ∙ ap (λ (k : ℕ). fresh_of marks ++ k ∷ []) number in
+    rw under (same_mails (packets ++ p ∷ []) (packets ++ p ∷ []) (fresh_of (marks ++ false ∷ [])) (fresh_of marks ++ (length packets + 1) ∷ []) is spare full refl fresh)
+
+-- The end.
 
 pub all_end : (limit : ℕ) (m : Mails) → m.items ≡ [] → all_told limit m ≡ m
 all_end limit m e =

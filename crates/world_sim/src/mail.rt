@@ -202,7 +202,7 @@ impl Mail {
 
     /// Tells an item, and answers whether it is a post past the limit.
     fn tell_item(&mut self, item: &Item, facts: &mut Facts) -> Result<bool, AllocError>
-        ensures fits { length self.old.packets ≤ wire_limit }
+        requires { length self.old.packets ≤ wire_limit }
         ensures facts { OnOk result (facts.new ≡ facts.old ++ numbered wire_limit (length self.old.packets) (item.now ∷ [])) }
         ensures ok { OnOk result (self.new ≡ with_posts self.old (posts_of wire_limit (length self.old.packets) (item.now ∷ []))) }
         ensures past { IfOk result (λ past. past ≡ is_past wire_limit (length self.old.packets) (item.now ∷ [])) }
@@ -219,7 +219,6 @@ impl Mail {
 
     /// Posts a packet and tells it, and answers whether it is past the limit.
     fn tell_post(&mut self, packet: &Packet, facts: &mut Facts) -> Result<bool, AllocError>
-        ensures fits { length self.old.packets ≤ wire_limit }
         ensures facts { OnOk result (facts.new ≡ facts.old ++ numbered wire_limit (length self.old.packets) (item.Post packet.now ∷ [])) }
         ensures ok { OnOk result (self.new ≡ with_posts self.old (posts_of wire_limit (length self.old.packets) (item.Post packet.now ∷ []))) }
         ensures past { IfOk result (λ past. past ≡ is_past wire_limit (length self.old.packets) (item.Post packet.now ∷ [])) }

@@ -2,7 +2,7 @@
 use Rattle.std.proofs.Common.{◌≡◌, ◌≢◌, ℕ, ◌+◌, ◌-◌, ◌<◌, ◌≤◌, ◌==◌, Bool, true, false, not, List, [], ◌∷◌, ◌++◌, length, drop, refl, ap, sym, ◌∙◌, subst, arith, zero, suc, nat_lt, cond, filter, max, slice_set, position, Option, Some, None, option_map, is_some, MatchOption}
 use Rattle.std.specs.List.{position_or_len}
 use Rattle.std.proofs.lemmas.Bool.Decides.{nat_tests}
-use Rattle.yard_model.specs.Words.{is_empty, numbers}
+use Rattle.yard_model.specs.Words.{is_empty}
 use Rattle.wire_packet.specs.Wire.{next_fresh}
 use Rattle.world_sim.specs.Mail.{fresh_from, fresh_of, Heads}
 

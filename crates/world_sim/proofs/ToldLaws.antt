@@ -1,5 +1,5 @@
 -- What items tell, item by item.
-use Rattle.std.proofs.Common.{◌≡◌, ℕ, ◌+◌, ◌-◌, ◌<◌, ◌≤◌, Bool, true, false, ◌||◌, List, [], ◌∷◌, ◌++◌, length, refl, ap, sym, ◌∙◌, subst, arith, zero, suc, nat_lt, cond, fold, append_assoc}
+use Rattle.std.proofs.Common.{◌≡◌, ℕ, ◌+◌, ◌<◌, ◌≤◌, Bool, true, false, ◌||◌, List, [], ◌∷◌, ◌++◌, length, refl, ap, sym, ◌∙◌, subst, arith, zero, suc, nat_lt, cond, fold, append_assoc}
 use Rattle.std.specs.List.{list_all}
 use Rattle.std.proofs.lemmas.Bool.{and_parts}
 use Rattle.std.proofs.lemmas.Bool.Decides.{nat_tests}
@@ -11,9 +11,9 @@ use Rattle.yard_model.specs.declared.out.Item.{Item}
 use Rattle.yard_model.specs.declared.out.Item.TheVariants as item
 use Rattle.yard_model.specs.declared.packet.Packet.{Packet}
 use Rattle.yard_model.specs.Words.{numbers}
-use Rattle.yard_model.specs.World.{World, input_facts, numbered, count_posts, wire_step, fresh_step, full_step}
-use Rattle.world_sim.specs.Mail.{Mails, ToldSome, facts_of, fresh_of, is_past, posts_of, with_posts}
-use Rattle.world_sim.specs.Told.{AreTold, FactsLaw, ToldLaw, ToldTo, all_told, is_off_wire, is_item_off_wire}
+use Rattle.yard_model.specs.World.{numbered, count_posts, wire_step, fresh_step, full_step}
+use Rattle.world_sim.specs.Mail.{Mails, ToldSome, fresh_of, is_past, posts_of, with_posts}
+use Rattle.world_sim.specs.Told.{FactsLaw, ToldLaw, ToldTo, all_told, is_off_wire, is_item_off_wire}
 use Rattle.world_sim.proofs.FreshLaws.{fresh_more, lt_true, lt_false}
 
 -- Past the limit nothing is posted.

@@ -1,5 +1,4 @@
 -- The items of a mail are lent: what is left behind the reference stays in it.
-use Rattle.std.specs.Prelude.{List}
 use Rattle.std.specs.Borrow.{Lends, MutBor, Fml}
 use Rattle.yard_model.specs.declared.out.Item.{Item}
 use Rattle.yard_model.specs.Spared.{Spared}

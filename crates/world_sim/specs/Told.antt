@@ -1,5 +1,5 @@
 -- What items tell, item by item, and what it is to the words of the world.
-use Rattle.std.specs.Prelude.{◌≡◌, ℕ, ◌+◌, Bool, true, false, ◌||◌, List, [], ◌∷◌, ◌++◌, length, fold}
+use Rattle.std.specs.Prelude.{◌≡◌, ℕ, ◌+◌, Bool, true, false, ◌||◌, List, [], ◌++◌, length, fold}
 use Rattle.std.specs.List.{list_all}
 use Rattle.yard_model.specs.declared.fact.Fact.{Fact}
 use Rattle.yard_model.specs.declared.fact.Fact.TheVariants as fact
@@ -7,7 +7,7 @@ use Rattle.yard_model.specs.declared.out.Item.{Item}
 use Rattle.yard_model.specs.declared.out.Item.TheVariants as item
 use Rattle.yard_model.specs.declared.packet.Packet.{Packet}
 use Rattle.yard_model.specs.Words.{numbers}
-use Rattle.yard_model.specs.World.{World, Made, input_facts, wire_step, fresh_step, full_step}
+use Rattle.yard_model.specs.World.{World, input_facts, wire_step, fresh_step, full_step}
 use Rattle.world_sim.specs.Mail.{Mails, facts_of, is_past, posts_of}
 
 -- from one list of facts to another `said` was said, and of `whole` this is left

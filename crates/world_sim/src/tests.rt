@@ -23,8 +23,8 @@ fn posts_are_numbered_and_delivered_in_their_order(rt: HostRuntime) -> Result<()
     mail.out().push(Item::Fact(Fact::Nothing));
     mail.push(Item::Post(PACKET));
     mail.tell_items(&mut facts)?;
-    let told = facts.as_slice();
-    assert!(rt; told == [Fact::Sent(1, PACKET), Fact::Nothing, Fact::Sent(2, PACKET)]);
+    let told = [Fact::Sent(1, PACKET), Fact::Nothing, Fact::Sent(2, PACKET)];
+    assert!(rt; facts.as_slice() == told.as_slice());
     assert_eq!(rt; mail.len(), 2);
     assert_eq!(rt; mail.is_full(), false);
     assert_eq!(rt; mail.has_fresh(), true);

@@ -1,4 +1,4 @@
-use Rattle.std.proofs.Common.{◌≡◌, ◌≤◌, ◌||◌, length, arith, refl, ap}
+use Rattle.std.proofs.Common.{◌≤◌, length}
 use Rattle.yard_model.specs.World.{wire_limit, numbered}
 use Rattle.world_sim.specs.Mail.{is_past}
 use Rattle.world_sim.proofs.ToldLaws.{told_kept, rest_kept, past_kept}

@@ -1,4 +1,4 @@
-use Rattle.std.proofs.Common.{◌≡◌, ◌≢◌, ◌<◌, length, arith}
+use Rattle.std.proofs.Common.{◌≢◌, ◌<◌, length, arith}
 use Rattle.yard_model.specs.World.{wire_limit}
 use Rattle.world_sim.proofs.ToldLaws.{posted_one}
 use Rattle.world_sim.proofs.mail.Mail.tell_post.Goals as goal

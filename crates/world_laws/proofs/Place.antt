@@ -132,7 +132,7 @@ with_place w fs list k st = record w {
 pub coordinator_of : (c : Script) (st : Node) (k : Coordinator) → IsNode c st → st.coordinator ≡ Some k → IsCoordinator c st k
 coordinator_of c st k n e = subst (λ o. IfSome o (IsCoordinator c st)) e n.coordinator
 
-node_of_place : (c : Script) (w : World) (k : ℕ) (st : Node) → at w.nodes k ≡ Some st → Stands c w → st.who.node - 1 ≡ k
+pub node_of_place : (c : Script) (w : World) (k : ℕ) (st : Node) → at w.nodes k ≡ Some st → Stands c w → st.who.node - 1 ≡ k
 node_of_place c w k st e s = let u : IsUp c w k st = s.nodes_are k st e in let n : st.who.node ≡ k + 1 = u.node_is in omega (arith, n)
 
 -- where the node after it is at its place, and the slot is led so

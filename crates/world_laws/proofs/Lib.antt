@@ -1,6 +1,9 @@
 pub mod Begin
 pub mod Facts
 pub mod Members
+pub mod Packets
 pub mod Place
+pub mod Room
+pub mod Rules
 pub mod Stand
 pub mod UpDown

@@ -1,6 +1,6 @@
 -- The facts that the orders built so far tell: what they change of the slots' lists, and that they are guarded where the coordinator's list stays lawful.
 use Rattle.std.proofs.Common.{◌≡◌, ℕ, sym, ap, ◌∙◌, refl, subst}
-use Rattle.std.specs.Prelude.{Bool, true, false, ◌&&◌, List, [], ◌∷◌, ◌++◌, fold}
+use Rattle.std.specs.Prelude.{Bool, true, false, List, [], ◌∷◌, ◌++◌, fold}
 use Rattle.std.specs.List.{list_all}
 use Rattle.std.proofs.lemmas.List.{append-nil, append_assoc}
 use Rattle.std.proofs.lemmas.List.Sums.{fold-append}
@@ -12,7 +12,7 @@ use Rattle.yard_model.specs.SlotLists.{SlotLists}
 use Rattle.yard_model.specs.Follow.{each_follows}
 use Rattle.yard_model.specs.Lawful.{own, may_follow}
 use Rattle.yard_model.specs.Trace.{no_lists, lists_step, lists_of}
-use Rattle.yard_model.specs.Safe.{live_step, live_at, guard}
+use Rattle.yard_model.specs.Safe.{live_step, guard}
 use Rattle.yard_model.specs.World.{World}
 use Rattle.yard_model.proofs.FollowLaws.{follows_more}
 use Rattle.yard_laws.proofs.Booleans.{true_is_not_false, and_both, both}

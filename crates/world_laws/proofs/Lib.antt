@@ -3,6 +3,7 @@ pub mod Facts
 pub mod Members
 pub mod Packets
 pub mod Place
+pub mod Play
 pub mod Room
 pub mod Rules
 pub mod Stand

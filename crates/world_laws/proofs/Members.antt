@@ -1,14 +1,14 @@
 -- Members: those that are among a list, and lists of different nodes.
 use Rattle.std.proofs.Common.{◌≡◌, ℕ, sym, ap, ◌∙◌, refl, subst}
 use Rattle.std.specs.Prelude.{Bool, true, false, ◌==◌, ◌&&◌, ◌||◌, not, cond, List, [], ◌∷◌, ◌++◌, filter}
-use Rattle.std.specs.List.{list_all, list_any}
+use Rattle.std.specs.List.{list_all}
 use Rattle.std.proofs.lemmas.List.Folds.{list_any-append}
 use Rattle.yard_model.specs.declared.incarnation.Incarnation.{Incarnation}
 use Rattle.yard_model.specs.Follow.{each_follows}
 use Rattle.yard_model.specs.Members.{has_node, is_other_node, are_of_different_nodes}
 use Rattle.yard_model.specs.Words.{is_same, is_among, without}
 use Rattle.yard_model.proofs.FollowLaws.{follows_more}
-use Rattle.yard_laws.proofs.Booleans.{true_is_not_false, and_both, both, left_of, right_of, same_number, number_itself, all_map}
+use Rattle.yard_laws.proofs.Booleans.{true_is_not_false, and_both, both, left_of, right_of, same_number, all_map}
 use Rattle.yard_laws.proofs.HomeLaws.{same_itself, each_among}
 
 pub same_is : (x y : Incarnation) → is_same x y ≡ true → x ≡ y

@@ -1,6 +1,6 @@
 -- What the packets View, Register and RegisterAck do to a node.
 use Rattle.std.proofs.Common.{◌≡◌, ◌<◌, ℕ, ◌+◌, sym, ap, ◌∙◌, refl, subst, arith, length}
-use Rattle.std.specs.Prelude.{Bool, true, false, ◌==◌, ◌&&◌, ◌||◌, not, nat_lt, nat_le, List, [], ◌∷◌, ◌++◌, map, fold, Option, Some, None, is_some, is_none, IfSome, if◌then◌else◌}
+use Rattle.std.specs.Prelude.{Bool, true, false, ◌==◌, ◌&&◌, not, nat_lt, nat_le, List, [], ◌∷◌, ◌++◌, map, fold, Option, Some, None, is_some, is_none, IfSome, if◌then◌else◌}
 use Rattle.std.specs.List.{list_all, flat_map, slice_get}
 use Rattle.std.proofs.lemmas.Bool.Decides.{nat_tests}
 use Rattle.std.proofs.lemmas.List.Sums.{fold-append}
@@ -15,24 +15,23 @@ use Rattle.yard_model.specs.Script.{Script, IsScript, setting}
 use Rattle.yard_model.specs.Setting.{shards}
 use Rattle.yard_model.specs.SlotLists.{SlotLists}
 use Rattle.yard_model.specs.SlotReads.{holder, epoch, regions, regions_step}
-use Rattle.yard_model.specs.Genuine.{is_node, is_genuine_body, is_genuine_packet}
+use Rattle.yard_model.specs.Genuine.{is_node, is_genuine_body}
 use Rattle.yard_model.specs.Lawful.{own, is_held}
 use Rattle.yard_model.specs.Members.{are_of_different_nodes}
 use Rattle.yard_model.specs.Words.{is_at, is_among}
 use Rattle.yard_model.specs.Turns.{where_some}
-use Rattle.yard_model.specs.Move.{Move, made, took, viewed, registered_with, told, post}
+use Rattle.yard_model.specs.Move.{Move, took, viewed, registered_with, told, post}
 use Rattle.yard_model.specs.Region as region
 use Rattle.yard_model.specs.Region.{Region, region_after}
 use Rattle.yard_model.specs.Coordinator as coordinator
 use Rattle.yard_model.specs.Coordinator.{Coordinator, new_coordinator, coordinator_after, coordinator_step}
-use Rattle.yard_model.specs.Node as node
-use Rattle.yard_model.specs.Node.{Node, Act, Rule, by_region, by_coordinator, after, items_of, of_region, of_coordinator, all_in_turn, acquire_by, acquire, lead, view_packet, packet}
+use Rattle.yard_model.specs.Node.{Node, Act, Rule, by_coordinator, after, items_of, of_region, of_coordinator, all_in_turn, acquire_by, acquire, lead, view_packet, packet}
 use Rattle.yard_model.proofs.FollowLaws.{own_more}
-use Rattle.yard_laws.proofs.Booleans.{true_is_not_false, and_both, both, number_itself, all_map}
+use Rattle.yard_laws.proofs.Booleans.{true_is_not_false, and_both, both, number_itself}
 use Rattle.yard_laws.proofs.Live.{holder_more}
-use Rattle.world_laws.specs.Built.{is_built_body, is_built_packet}
-use Rattle.world_laws.specs.Standing.{IsCoordinator, IsNode, is_different_body, has_different_members}
-use Rattle.world_laws.proofs.Stand.{is_good, good_is, goes_item, led_item}
+use Rattle.world_laws.specs.Built.{is_built_body}
+use Rattle.world_laws.specs.Standing.{IsCoordinator, IsNode, is_different_body}
+use Rattle.world_laws.proofs.Stand.{is_good, good_is, led_item}
 use Rattle.world_laws.proofs.Place.{none_is_not_some, some_is, Leads, IsTurned, coordinator_of}
 use Rattle.world_laws.proofs.Room.{room}
 use Rattle.world_laws.proofs.Rules.{Runs, runs_none, runs_both, runs_turn, all_join, all_if, all_some, all_each, is_region_move, runs_region, region_who, region_set, is_viewless, region_view, is_lead_move, IsLeader, leader_after, runs_lead, IsEnded, ended}

@@ -1,6 +1,6 @@
 -- An input at one node: what stands where the node is put back.
-use Rattle.std.proofs.Common.{◌≡◌, ◌≢◌, ◌<◌, ℕ, zero, suc, ◌+◌, ◌-◌, sym, ap, ◌∙◌, refl, subst, arith}
-use Rattle.std.specs.Prelude.{Bool, true, false, ◌==◌, List, [], ◌∷◌, ◌++◌, length, fold, Option, Some, None, is_some, unwrap_or, IfSome, slice_index_or, slice_set}
+use Rattle.std.proofs.Common.{◌≡◌, ◌<◌, ℕ, zero, suc, ◌+◌, ◌-◌, sym, ap, ◌∙◌, refl, subst, arith}
+use Rattle.std.specs.Prelude.{Bool, true, false, ◌==◌, List, [], ◌∷◌, length, fold, Option, Some, None, is_some, unwrap_or, IfSome, slice_set}
 use Rattle.std.specs.List.{list_all}
 use Rattle.std.specs.Option.{option_map}
 use Rattle.std.proofs.lemmas.List.{get_or-set_same, get_or-set_other, length-set}
@@ -8,7 +8,7 @@ use Rattle.yard_model.specs.declared.fact.Fact.{Fact}
 use Rattle.yard_model.specs.declared.incarnation.Incarnation.{Incarnation}
 use Rattle.yard_model.specs.declared.incarnation.Slot.{Slot}
 use Rattle.yard_model.specs.declared.incarnation.Slot.TheVariants as slot
-use Rattle.yard_model.specs.Script.{Script, setting}
+use Rattle.yard_model.specs.Script.{Script}
 use Rattle.yard_model.specs.SlotLists.{SlotLists, shard_list, queue_list}
 use Rattle.yard_model.specs.SlotReads.{holder}
 use Rattle.yard_model.specs.Genuine.{is_slot_of, is_genuine_packet}
@@ -17,8 +17,8 @@ use Rattle.yard_model.specs.Trace.{list_at}
 use Rattle.yard_model.specs.Words.{is_among, at}
 use Rattle.yard_model.specs.Coordinator.{Coordinator}
 use Rattle.yard_model.specs.Node.{Node, Act, after, items_of}
-use Rattle.yard_model.specs.World.{World, world_after, wire_step, fresh_step, full_step, tell, input_facts, with_node, node_at}
-use Rattle.yard_laws.proofs.Booleans.{true_is_not_false, same_number, number_itself, other_number, get_replicate}
+use Rattle.yard_model.specs.World.{World, world_after, wire_step, fresh_step, full_step, tell, input_facts, with_node}
+use Rattle.yard_laws.proofs.Booleans.{true_is_not_false, same_number, other_number, get_replicate}
 use Rattle.world_laws.specs.Built.{is_built_packet}
 use Rattle.world_laws.specs.Hands.{held_list, HasHand, AreHands}
 use Rattle.world_laws.specs.Standing.{IsCoordinator, IsNode, IsUp, IsThere, has_different_members, Stands}
@@ -189,16 +189,16 @@ place_stands c w k st new fs list e s go n who leads own_is =
     let less : k < length w.nodes = inside w.nodes k st e in
     let up : IsUp c w k st = s.nodes_are k st e in
     let up_of : (j : ℕ) (other : Node) → at v.nodes j ≡ Some other → IsUp c v j other = λ j other f. by_place (IsUp c v j other) j k
-        (λ same.
-        let it : new ≡ other = some_is new other (sym (placed_at w.nodes k (Some new) less) ∙ (ap (at v.nodes) (sym same) ∙ f)) in
-        subst (IsUp c v j) it (record {
-          node_is = ap (λ y. y.node) who ∙ (up.node_is ∙ ap (λ i. i + 1) (sym same));
-          member_is = ap (λ y. is_among y w.members) who ∙ up.member_is;
-          self_is = n;
-        }))
-        (λ differs.
-        let u : IsUp c w j other = s.nodes_are j other (sym (placed_beside w.nodes k j (Some new) differs) ∙ f) in
-        record { node_is = u.node_is; member_is = u.member_is; self_is = u.self_is }) in
+    (λ same.
+    let it : new ≡ other = some_is new other (sym (placed_at w.nodes k (Some new) less) ∙ (ap (at v.nodes) (sym same) ∙ f)) in
+    subst (IsUp c v j) it (record {
+      node_is = ap (λ y. y.node) who ∙ (up.node_is ∙ ap (λ i. i + 1) (sym same));
+      member_is = ap (λ y. is_among y w.members) who ∙ up.member_is;
+      self_is = n;
+    }))
+    (λ differs.
+    let u : IsUp c w j other = s.nodes_are j other (sym (placed_beside w.nodes k j (Some new) differs) ∙ f) in
+    record { node_is = u.node_is; member_is = u.member_is; self_is = u.self_is }) in
     let none : NoneElse c w.lists = none_else c w s in
     record {
       script_is = s.script_is;

@@ -1,7 +1,7 @@
 -- Of a view of different nodes of the script there is room for one that isn't registered.
-use Rattle.std.proofs.Common.{◌≡◌, ◌<◌, ◌≤◌, ℕ, zero, suc, ◌+◌, sym, ap, ◌∙◌, refl, subst, arith, length}
-use Rattle.std.specs.Prelude.{Bool, true, false, ◌==◌, ◌&&◌, ◌||◌, not, nat_le, cond, List, [], ◌∷◌, ◌++◌, map, filter}
-use Rattle.std.specs.List.{list_all, list_any}
+use Rattle.std.proofs.Common.{◌≡◌, ◌<◌, ◌≤◌, ℕ, zero, suc, ◌+◌, sym, ap, ◌∙◌, refl, arith, length}
+use Rattle.std.specs.Prelude.{Bool, true, false, ◌==◌, ◌&&◌, ◌||◌, not, nat_le, cond, List, [], ◌∷◌, ◌++◌, map}
+use Rattle.std.specs.List.{list_all}
 use Rattle.std.proofs.lemmas.List.{length-map}
 use Rattle.std.proofs.lemmas.List.Folds.{list_any-append}
 use Rattle.std.proofs.lemmas.List.Sums.{length-filter, count_by-le-length}
@@ -124,7 +124,7 @@ firsts_differ before [] e = refl
 firsts_differ before (x ∷ xs) e =
     let m : (is_other_node before x ≡ true) × (each_follows is_other_node (before ++ x ∷ []) xs ≡ true) = and_both (is_other_node before x) (each_follows is_other_node (before ++ x ∷ []) xs) e in
     let here : has_node x.node (before ++ x ∷ []) ≡ true = list_any-append (λ y. y.node == x.node) before (x ∷ [])
-        ∙ right_of (has_node x.node before) (has_node x.node (x ∷ [])) (left_of (x.node == x.node) false (number_itself x.node x.node refl)) in
+    ∙ right_of (has_node x.node before) (has_node x.node (x ∷ [])) (left_of (x.node == x.node) false (number_itself x.node x.node refl)) in
     both (not (is_among (first_of x.node) (firsts xs))) (differ (firsts xs)) (ap not (not_first x.node xs (others_follow (before ++ x ∷ []) xs x.node here m.1))) (firsts_differ (before ++ x ∷ []) xs m.1)
 
 length_numbers : (a n : ℕ) → length (numbers a n) ≡ n

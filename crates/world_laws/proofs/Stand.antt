@@ -1,35 +1,27 @@
 -- Steps that tell facts and change one node at most: what stands after them.
-use Rattle.std.proofs.Common.{◌≡◌, ◌≢◌, ◌<◌, ℕ, zero, suc, ◌+◌, ◌-◌, sym, ap, ◌∙◌, refl, subst, arith}
-use Rattle.std.specs.Prelude.{Bool, true, false, ◌==◌, ◌&&◌, nat_lt, List, [], ◌∷◌, ◌++◌, length, fold, Option, Some, None, is_some, IfSome, slice_index_or, slice_set, if◌then◌else◌}
+use Rattle.std.proofs.Common.{◌≡◌, ℕ, ◌+◌, sym, ap, ◌∙◌, refl, subst}
+use Rattle.std.specs.Prelude.{Bool, true, false, ◌&&◌, nat_lt, List, [], ◌∷◌, ◌++◌, length, fold, if◌then◌else◌}
 use Rattle.std.specs.List.{list_all}
-use Rattle.std.specs.Option.{option_map}
-use Rattle.std.proofs.lemmas.List.{append_assoc, get_or-set_same, get_or-set_other, length-set}
+use Rattle.std.proofs.lemmas.List.{append_assoc}
 use Rattle.std.proofs.lemmas.List.Folds.{list_all-append}
 use Rattle.std.proofs.lemmas.List.Sums.{fold-append}
 use Rattle.yard_model.specs.declared.fact.Fact.{Fact}
 use Rattle.yard_model.specs.declared.fact.Fact.TheVariants as fact
 use Rattle.yard_model.specs.declared.out.Item.{Item}
 use Rattle.yard_model.specs.declared.out.Item.TheVariants as item
-use Rattle.yard_model.specs.declared.incarnation.Incarnation.{Incarnation}
-use Rattle.yard_model.specs.declared.incarnation.Slot.{Slot}
 use Rattle.yard_model.specs.declared.incarnation.Slot.TheVariants as slot
 use Rattle.yard_model.specs.declared.packet.Packet.{Packet}
-use Rattle.yard_model.specs.Script.{Script, Setting, setting}
-use Rattle.yard_model.specs.SlotLists.{SlotLists, shard_list, queue_list}
-use Rattle.yard_model.specs.SlotReads.{holder}
-use Rattle.yard_model.specs.Genuine.{is_slot_of, is_genuine_packet}
+use Rattle.yard_model.specs.Script.{Script}
+use Rattle.yard_model.specs.Genuine.{is_genuine_packet}
 use Rattle.yard_model.specs.Lawful.{own}
-use Rattle.yard_model.specs.Trace.{list_at, lists_step}
-use Rattle.yard_model.specs.Words.{is_among, at}
-use Rattle.yard_model.specs.Coordinator.{Coordinator}
-use Rattle.yard_model.specs.Node.{Node, Act, after, items_of}
-use Rattle.yard_model.specs.World.{World, Made, Step, world_after, wire_step, fresh_step, full_step, tell, then_step, numbered, count_posts, input_facts, with_node, node_at}
-use Rattle.yard_laws.proofs.Booleans.{true_is_not_false, and_both, both, same_number, number_itself, other_number, get_replicate}
+use Rattle.yard_model.specs.Trace.{lists_step}
+use Rattle.yard_model.specs.World.{World, Made, Step, world_after, wire_step, fresh_step, full_step, tell, then_step, numbered, count_posts, input_facts}
+use Rattle.yard_laws.proofs.Booleans.{true_is_not_false, and_both, both}
 use Rattle.world_laws.specs.Built.{is_built_packet}
-use Rattle.world_laws.specs.Hands.{held_list, HasHand, AreHands}
-use Rattle.world_laws.specs.Standing.{IsCoordinator, IsNode, IsUp, IsThere, has_different_members, Stands, Told}
+use Rattle.world_laws.specs.Hands.{HasHand}
+use Rattle.world_laws.specs.Standing.{IsUp, IsThere, has_different_members, Stands, Told}
 use Rattle.world_laws.specs.Keeps.{Goes}
-use Rattle.world_laws.proofs.Facts.{is_ours, led, lists_led, told_on}
+use Rattle.world_laws.proofs.Facts.{is_ours, led, told_on}
 
 -- What a step gives, where the world before it stands.
 

@@ -1,6 +1,6 @@
 -- Nodes that come up and go down, and the views that are posted then.
 use Rattle.std.proofs.Common.{◌≡◌, ◌<◌, ◌≤◌, ℕ, ◌+◌, ◌-◌, sym, ap, ◌∙◌, refl, subst, arith}
-use Rattle.std.specs.Prelude.{Bool, true, false, ◌==◌, ◌&&◌, nat_le, List, [], ◌∷◌, ◌++◌, length, map, filter, fold, replicate, Option, Some, None, is_some, is_none, not, slice_index_or, slice_set, if◌then◌else◌}
+use Rattle.std.specs.Prelude.{Bool, true, false, ◌==◌, ◌&&◌, nat_le, List, [], ◌∷◌, ◌++◌, length, map, fold, replicate, Option, Some, None, is_some, is_none, not, slice_index_or, slice_set, if◌then◌else◌}
 use Rattle.std.specs.List.{list_all, flat_map}
 use Rattle.std.specs.Option.{option_map}
 use Rattle.std.proofs.lemmas.List.{append-nil, length-set}
@@ -14,10 +14,10 @@ use Rattle.yard_model.specs.declared.incarnation.Incarnation.{Incarnation}
 use Rattle.yard_model.specs.declared.incarnation.Slot.TheVariants as slot
 use Rattle.yard_model.specs.declared.incarnation.Cause.TheVariants as cause
 use Rattle.yard_model.specs.Behaviour.{is_in}
-use Rattle.yard_model.specs.Script.{Script, setting}
+use Rattle.yard_model.specs.Script.{Script}
 use Rattle.yard_model.specs.Setting.{shards, producers}
 use Rattle.yard_model.specs.SlotReads.{holder, epoch}
-use Rattle.yard_model.specs.Genuine.{is_node, is_genuine_packet}
+use Rattle.yard_model.specs.Genuine.{is_node}
 use Rattle.yard_model.specs.Lawful.{own, is_held}
 use Rattle.yard_model.specs.Members.{has_node, are_of_different_nodes}
 use Rattle.yard_model.specs.Words.{is_same, is_among, without, at}
@@ -32,13 +32,13 @@ use Rattle.yard_model.proofs.FollowLaws.{own_more}
 use Rattle.yard_laws.proofs.Booleans.{true_is_not_false, and_both, both, at_most, number_itself, get_replicate}
 use Rattle.yard_laws.proofs.Live.{holder_more}
 use Rattle.yard_laws.proofs.LocalLaws.{among_fewer}
-use Rattle.world_laws.specs.Hands.{held_list, HasHand, AreHands}
-use Rattle.world_laws.specs.Standing.{IsCoordinator, IsNode, IsUp, IsThere, Stands, Told}
+use Rattle.world_laws.specs.Hands.{held_list, HasHand}
+use Rattle.world_laws.specs.Standing.{IsNode, IsUp, IsThere, Stands}
 use Rattle.world_laws.specs.Keeps.{ViewsGo, ComeUpGoes, GoDownGoes, UpGoes, CrashGoes}
-use Rattle.world_laws.proofs.Facts.{led, told_on}
-use Rattle.world_laws.proofs.Stand.{Fine, goes_of, is_good, good_is, goes_item, led_item, items_go, items_led, tell_fine, then_fine, lists_fold}
+use Rattle.world_laws.proofs.Facts.{told_on}
+use Rattle.world_laws.proofs.Stand.{Fine, goes_of, is_good, good_is, goes_item, led_item, items_go, items_led, tell_fine, then_fine}
 use Rattle.world_laws.proofs.Place.{none_is_not_some, some_is, inside, placed_at, placed_beside, by_place, NoneElse, none_else, IsLed, are_hands, owns_with, node_of_place}
-use Rattle.world_laws.proofs.Members.{same_is, itself_is, all_among, among_front, last_among, by_last, different_last, node_of_some, among_kept, gone_from, different_filter}
+use Rattle.world_laws.proofs.Members.{same_is, all_among, among_front, last_among, by_last, different_last, node_of_some, among_kept, gone_from, different_filter}
 
 -- Views.
 
@@ -105,12 +105,12 @@ up_stands c w x node empty k =
     } in
     let first : IsNode c new = new_is c w x node k in
     let up_of : (j : ℕ) (st : Node) → at v.nodes j ≡ Some st → IsUp c v j st = λ j st e. by_place (IsUp c v j st) j i
-        (λ same.
-        let it : new ≡ st = some_is new st (sym (placed_at w.nodes i (Some new) less) ∙ (ap (at v.nodes) (sym same) ∙ e)) in
-        subst (IsUp c v j) it (record { node_is = sym before ∙ ap (λ n. n + 1) (sym same); member_is = last_among x w.members; self_is = first }))
-        (λ differs.
-        let u : IsUp c w j st = k.nodes_are j st (sym (placed_beside w.nodes i j (Some new) differs) ∙ e) in
-        record { node_is = u.node_is; member_is = among_front st.who x w.members u.member_is; self_is = u.self_is }) in
+    (λ same.
+    let it : new ≡ st = some_is new st (sym (placed_at w.nodes i (Some new) less) ∙ (ap (at v.nodes) (sym same) ∙ e)) in
+    subst (IsUp c v j) it (record { node_is = sym before ∙ ap (λ n. n + 1) (sym same); member_is = last_among x w.members; self_is = first }))
+    (λ differs.
+    let u : IsUp c w j st = k.nodes_are j st (sym (placed_beside w.nodes i j (Some new) differs) ∙ e) in
+    record { node_is = u.node_is; member_is = among_front st.who x w.members u.member_is; self_is = u.self_is }) in
     let none : NoneElse c w.lists = none_else c w k in
     record {
       script_is = k.script_is;
@@ -180,9 +180,9 @@ crash_is c st n =
     let front : List Fact = flat_map (λ s. where_some (λ h. freed_stopped (slot.Shard s) h.entries) (entities.hosted st.entities s)) (shards st.set) in
     let back : List Fact = flat_map (λ p. where_some (λ k. freed_stopped (slot.Queue p) k.entries) (at st.producers (p - 1))) (producers st.set) in
     let no_front : front ≡ [] = flat_none (λ s. where_some (λ h. freed_stopped (slot.Shard s) h.entries) (entities.hosted st.entities s)) (shards st.set)
-        (λ s. ap (where_some (λ h. freed_stopped (slot.Shard s) h.entries)) (ap (λ e. at e.hosted s) n.hosts_none ∙ get_replicate c.config.shards s None)) in
+    (λ s. ap (where_some (λ h. freed_stopped (slot.Shard s) h.entries)) (ap (λ e. at e.hosted s) n.hosts_none ∙ get_replicate c.config.shards s None)) in
     let no_back : back ≡ [] = flat_none (λ p. where_some (λ k. freed_stopped (slot.Queue p) k.entries) (at st.producers (p - 1))) (producers st.set)
-        (λ p. ap (where_some (λ k. freed_stopped (slot.Queue p) k.entries)) (ap (λ ps. at ps (p - 1)) n.produces_none ∙ get_replicate c.config.producers (p - 1) None)) in
+    (λ p. ap (where_some (λ k. freed_stopped (slot.Queue p) k.entries)) (ap (λ ps. at ps (p - 1)) n.produces_none ∙ get_replicate c.config.producers (p - 1) None)) in
     ap (λ l. l ++ mid ++ back) no_front ∙ (ap (λ l. mid ++ l) no_back ∙ append-nil mid)
 
 abbrev without_node : World → Incarnation → List Fact → World
@@ -200,10 +200,10 @@ down_stands c w i st list e k own_is led_is =
     let place : p ≡ i = node_of_place c w i st e k in
     let less : p < length w.nodes = inside w.nodes p st (ap (at w.nodes) place ∙ e) in
     let up_of : (j : ℕ) (other : Node) → at v.nodes j ≡ Some other → IsUp c v j other = λ j other f. by_place (IsUp c v j other) j p
-        (λ same. absurd (none_is_not_some other (sym (placed_at w.nodes p None less) ∙ (ap (at v.nodes) (sym same) ∙ f))))
-        (λ differs.
-        let u : IsUp c w j other = k.nodes_are j other (sym (placed_beside w.nodes p j None differs) ∙ f) in
-        record { node_is = u.node_is; member_is = among_fewer other.who st.who w.members (apart j other u differs (is_same other.who st.who) refl) ∙ u.member_is; self_is = u.self_is }) in
+    (λ same. absurd (none_is_not_some other (sym (placed_at w.nodes p None less) ∙ (ap (at v.nodes) (sym same) ∙ f))))
+    (λ differs.
+    let u : IsUp c w j other = k.nodes_are j other (sym (placed_beside w.nodes p j None differs) ∙ f) in
+    record { node_is = u.node_is; member_is = among_fewer other.who st.who w.members (apart j other u differs (is_same other.who st.who) refl) ∙ u.member_is; self_is = u.self_is }) in
     let none : NoneElse c w.lists = none_else c w k in
     record {
       script_is = k.script_is;
@@ -273,7 +273,7 @@ led_freed c w i st list e k held free =
     }
 
 -- its list is that of the slot
-entries_are : (c : Script) (w : World) (i : ℕ) (st : Node) (h : Coordinator) → at w.nodes i ≡ Some st → Stands c w → st.coordinator ≡ Some h → h.entries ≡ w.lists.coordinator
+pub entries_are : (c : Script) (w : World) (i : ℕ) (st : Node) (h : Coordinator) → at w.nodes i ≡ Some st → Stands c w → st.coordinator ≡ Some h → h.entries ≡ w.lists.coordinator
 entries_are c w i st h e k is =
     let mine : held_list slot.Coordinator st ≡ Some h.entries = ap (option_map (λ y. y.entries)) is in
     let t : HasHand w slot.Coordinator st.who = k.hands_are.holders slot.Coordinator st.who refl (k.hands_are.hands slot.Coordinator i st refl e (ap is_some mine)) in
@@ -293,7 +293,7 @@ down_fine_by c w i st e k (Some h) is =
     let same : h.entries ≡ list = entries_are c w i st h e k is in
     let held : holder list ≡ Some st.who = k.hands_are.hands slot.Coordinator i st refl e (ap (λ o. is_some (option_map (λ y. y.entries) o)) is) in
     let own_is : own c slot.Coordinator new ≡ true = own_more c slot.Coordinator list f (k.owns slot.Coordinator refl)
-        (both (is_held list && (epoch h.entries == epoch list)) true (both (is_held list) (epoch h.entries == epoch list) (ap is_some held) (number_itself (epoch h.entries) (epoch list) (ap epoch same))) refl) in
+    (both (is_held list && (epoch h.entries == epoch list)) true (both (is_held list) (epoch h.entries == epoch list) (ap is_some held) (number_itself (epoch h.entries) (epoch list) (ap epoch same))) refl) in
     record {
       stands = down_stands c w i st new e k own_is (led_freed c w i st new e k (ap (λ o. is_some (option_map (λ y. y.entries) o)) is) (holder_more list f));
       tells = λ trace t. told_on c trace (fact.Gone st.who ∷ f ∷ []) w (without_node w st.who new) k.set_is t refl own_is refl;

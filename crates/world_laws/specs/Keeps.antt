@@ -10,8 +10,8 @@ use Rattle.yard_model.specs.Genuine.{is_genuine_packet}
 use Rattle.yard_model.specs.Script.{Script, IsScript, is_order}
 use Rattle.yard_model.specs.Node.{Node}
 use Rattle.yard_model.specs.Words.{at}
-use Rattle.yard_model.specs.Safe.{safe, guarded}
-use Rattle.yard_model.specs.World.{World, Made, Step, new_world, play_line, played, trace_of, in_order, views, come_up, go_down, up, crash_node, handle, hand_over, deliver, drain, pump}
+use Rattle.yard_model.specs.Safe.{safe}
+use Rattle.yard_model.specs.World.{World, Made, Step, new_world, play_line, played, in_order, views, come_up, go_down, up, crash_node, handle, deliver, drain}
 use Rattle.world_laws.specs.Built.{is_built_order, is_built_packet}
 use Rattle.world_laws.specs.Standing.{Stands, Told, has_different_members}
 

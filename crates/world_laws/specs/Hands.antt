@@ -1,5 +1,5 @@
 -- What nodes have in hand: the lists of the slots that they hold. A held store stands in its holder and nowhere else.
-use Rattle.std.specs.Prelude.{◌≡◌, ℕ, ◌-◌, Bool, true, List, Option, Some, is_some, IsTrue}
+use Rattle.std.specs.Prelude.{◌≡◌, ℕ, ◌-◌, true, List, Option, Some, is_some, IsTrue}
 use Rattle.std.specs.Option.{option_map}
 use Rattle.yard_model.specs.declared.fact.Fact.{Fact}
 use Rattle.yard_model.specs.declared.incarnation.Incarnation.{Incarnation}

@@ -1,0 +1,10 @@
+pub mod Begin
+pub mod Facts
+pub mod Members
+pub mod Packets
+pub mod Place
+pub mod Play
+pub mod Room
+pub mod Rules
+pub mod Stand
+pub mod UpDown

@@ -1,7 +1,17 @@
-//! What no clause says: that memory is there where there is plenty.
+//! What no clause says: that memory is there where there is plenty, and that a stash may go to
+//! another thread.
+ghost use Rattle.std.specs.Prelude.{◌≡◌};
+
 use crate::{Seen, Stash, see, wants};
 use std::test::Fail;
 use yard_model::{Command, EntityName, Incarnation, Message, NodeNo, ProducerNo};
+
+/// Takes only what may go to another thread.
+fn passed<T: Send>(value: T) -> T
+    ensures { result ≡ value }
+{
+    value
+}
 
 #[test]
 fn numbers_compare(rt: HostRuntime) -> Result<(), Fail> {
@@ -27,7 +37,7 @@ fn a_stash_is_first_in_first_out(rt: HostRuntime) -> Result<(), Fail> {
         },
     };
     let second = Message { number: 8, ..first };
-    let mut stash = Stash::new(rt.alloc(), 1)?;
+    let mut stash = passed(Stash::new(rt.alloc(), 1)?);
     assert!(rt; stash.put(first) == Ok(()));
     assert!(rt; stash.put(second) == Err(second));
     assert_eq!(rt; stash.len(), 1);

@@ -105,6 +105,24 @@ fn free(store: &mut QueueStore) -> bool
     }
 }
 
+/// Whether one command is queued, to the first entity.
+fn is_queued(store: &QueueStore, a: &EntityName, b: &EntityName) -> bool {
+    store.total() == 1
+        && store.queued(a) == 1
+        && store.queued(b) == 0
+        && store.command(a, 1) == Some(Command::Add(7))
+        && store.command(a, 0).is_none()
+        && store.command(a, 2).is_none()
+        && store.command(b, 1).is_none()
+}
+
+/// Whether it is confirmed, and the second of four entries.
+fn is_confirmed(store: &QueueStore, a: &EntityName) -> bool {
+    let second = store.entries().get(1);
+    let is_entry = matches!(second, Some(QueueEntry::Queued(..)));
+    is_entry && store.confirmed(a) == 1 && store.len() == 4 && store.spare() == 0
+}
+
 #[test]
 fn a_queue_is_filled_and_confirmed(rt: HostRuntime) -> Result<(), Fail> {
     let alloc = rt.alloc();
@@ -113,30 +131,15 @@ fn a_queue_is_filled_and_confirmed(rt: HostRuntime) -> Result<(), Fail> {
     let b = EntityName::new(b"b").ok_or("b is a name")?;
     let charter = one_send(alloc, p, a)?;
     let mut store = passed(QueueStore::new(alloc, &charter, p)?);
-    assert_eq!(rt; store.len(), 0);
-    assert_eq!(rt; store.epoch(), 0);
     store.reserve(4)?;
-    assert_eq!(rt; grant(&mut store), Some(1));
-    assert!(rt; store.is_leased());
-    assert_eq!(rt; store.command(&a, 1), None);
+    assert!(rt; grant(&mut store) == Some(1));
     let sent = queue(&mut store, &charter, p).ok_or("a send is left")?;
-    assert_eq!(rt; sent.entity, a);
-    assert_eq!(rt; sent.number, 1);
+    assert!(rt; sent.entity == a && sent.number == 1);
     assert!(rt; queue(&mut store, &charter, p).is_none());
-    assert_eq!(rt; store.total(), 1);
-    assert_eq!(rt; store.queued(&a), 1);
-    assert_eq!(rt; store.queued(&b), 0);
-    assert_eq!(rt; store.command(&a, 1), Some(Command::Add(7)));
-    assert_eq!(rt; store.command(&a, 0), None);
-    assert_eq!(rt; store.command(&a, 2), None);
-    assert_eq!(rt; store.command(&b, 1), None);
-    assert!(rt; confirm(&mut store, &a, 1));
-    assert!(rt; !confirm(&mut store, &a, 1));
-    assert_eq!(rt; store.confirmed(&a), 1);
+    assert!(rt; is_queued(&store, &a, &b));
+    assert!(rt; confirm(&mut store, &a, 1) && !confirm(&mut store, &a, 1));
     assert!(rt; free(&mut store));
-    assert_eq!(rt; store.spare(), 0);
-    assert_eq!(rt; store.len(), 4);
-    assert!(rt; matches!(store.entries()[1], QueueEntry::Queued(..)));
+    assert!(rt; is_confirmed(&store, &a));
     Ok(())
 }
 
@@ -148,10 +151,9 @@ fn epochs_rise(rt: HostRuntime) -> Result<(), Fail> {
     let charter = one_send(alloc, p, a)?;
     let mut store = QueueStore::new(alloc, &charter, p)?;
     store.reserve(3)?;
-    assert_eq!(rt; grant(&mut store), Some(1));
-    assert_eq!(rt; grant(&mut store), None);
+    assert!(rt; grant(&mut store) == Some(1) && grant(&mut store).is_none());
     assert!(rt; free(&mut store));
-    assert_eq!(rt; grant(&mut store), Some(2));
-    assert_eq!(rt; store.epoch(), 2);
+    assert!(rt; grant(&mut store) == Some(2));
+    assert!(rt; store.epoch() == 2);
     Ok(())
 }

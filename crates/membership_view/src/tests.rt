@@ -1,7 +1,17 @@
-//! What no clause says: that memory is there where there is plenty.
+//! What no clause says: that memory is there where there is plenty, and that a view may go to
+//! another thread.
+ghost use Rattle.std.specs.Prelude.{◌≡◌};
+
 use crate::View;
 use std::test::Fail;
 use yard_model::{Incarnation, Members, NodeNo};
+
+/// Takes only what may go to another thread.
+fn passed<T: Send>(value: T) -> T
+    ensures { result ≡ value }
+{
+    value
+}
 
 #[test]
 fn the_newest_view_stands(rt: HostRuntime) -> Result<(), Fail> {
@@ -15,7 +25,7 @@ fn the_newest_view_stands(rt: HostRuntime) -> Result<(), Fail> {
     };
     let one = Members::empty().with(old);
     let two = one.with(young);
-    let mut view = View::new(rt.alloc())?;
+    let mut view = passed(View::new(rt.alloc())?);
     assert!(rt; view.oldest() == None);
     assert!(rt; view.take(2, &two));
     assert!(rt; !view.take(2, &one));

@@ -191,9 +191,13 @@ fn takes(mode: Mode, order: &Order) -> bool
 fn is_built(mode: Mode, order: &Order) -> bool
     ensures { result ≡ is_built mode order.now }
 {
-    match (mode, order) {
-        (Mode::Solo, _) => true,
-        _ => false,
+    match mode {
+        Mode::Solo => true,
+        Mode::Replay => matches!(
+            order,
+            Order::Up(_) | Order::Crash(_) | Order::Deliver(_) | Order::Pump(_)
+        ),
+        Mode::Live => false,
     }
 }
 

@@ -36,6 +36,14 @@ fn first_script(rt: HostRuntime) -> Result<(), Fail> {
 }
 
 #[test]
+fn orders_of_members(rt: HostRuntime) -> Result<(), Fail> {
+    let text = "config nodes=2\nup 1\npump 1\ndeliver 1\ncrash 1";
+    let charter = read_script(rt.alloc(), text.as_bytes(), Mode::Replay)?;
+    assert!(rt; charter.orders().len() == 4);
+    Ok(())
+}
+
+#[test]
 fn other_kinds(rt: HostRuntime) -> Result<(), Fail> {
     let item = CartItem {
         item: 7,
@@ -111,7 +119,8 @@ fn second_lines(rt: HostRuntime) {
         ("config\nsend 1 a.b read", Mode::Replay, Why::BadName),
         ("config\ndeliver 1", Mode::Live, Why::WrongMode),
         ("config\nsettle", Mode::Solo, Why::WrongMode),
-        ("config\nup 1", Mode::Replay, Why::NotBuilt),
+        ("config\ntick 1", Mode::Replay, Why::NotBuilt),
+        ("config\nup 1", Mode::Live, Why::NotBuilt),
     ];
     for (text, mode, why) in cases {
         expect_fault(&rt, rt.alloc(), text.as_bytes(), mode, 2, why);

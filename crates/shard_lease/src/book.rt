@@ -1,10 +1,12 @@
 //! The plain form of leases: a book of all slots.
-ghost use Rattle.std.specs.Prelude.{◌≡◌, ℕ, ◌<◌, false, Some, None, length, replicate, slice_set, IfOk, IsTrue};
-ghost use Rattle.yard_model.specs.Lawful.{is_held};
+ghost use Rattle.std.specs.Prelude.{◌≡◌, ℕ, ◌+◌, ◌-◌, ◌<◌, [], ◌∷◌, ◌++◌, false, Some, None, length, replicate, slice_set, IfOk, IsTrue};
+ghost use Rattle.yard_model.specs.declared.fact.Fact.TheVariants as fact;
+ghost use Rattle.yard_model.specs.Lawful.{own, is_held};
 ghost use Rattle.yard_model.specs.Words.{at};
-ghost use Rattle.yard_model.specs.Genuine.{is_slot_of};
+ghost use Rattle.yard_model.specs.Genuine.{is_node, is_slot_of};
 ghost use Rattle.yard_model.specs.Script.{Script};
-ghost use Rattle.shard_store.specs.Stores.{place_of, entries_at};
+ghost use Rattle.yard_model.specs.SlotReads.{epoch};
+ghost use Rattle.shard_store.specs.Stores.{place_of, entries_at, script_of, slot_of, entries_of, spare_of};
 
 use crate::leases::{Acquire, Leases};
 use shard_store::{Parts, Store, Stores};
@@ -91,11 +93,10 @@ impl Leases for LeaseBook {
         if let Some(holder) = holder_at(self.holders.as_slice(), place) {
             return Acquire::Held(holder.node);
         }
-        let Some(mut store) = take_out(&mut self.places, place) else {
+        let Some(store) = take_out(&mut self.places, place) else {
             unreachable!()
         };
-        store.grant(*who);
-        let _own = store.is_leased();
+        let store = granted(store, who);
         self.holders[place] = Some(*who);
         Acquire::Granted(store)
     }
@@ -108,6 +109,23 @@ impl Leases for LeaseBook {
         self.holders[place] = None;
         put_back(&mut self.places, place, store);
     }
+}
+
+/// The store, with the lease of the next epoch granted to `who`. Its list is lawful by itself.
+fn granted(store: Store, who: &Incarnation) -> Store
+    requires spare { 0 < spare_of store }
+    requires free { is_held (entries_of store) ≡ false }
+    requires node { IsTrue (is_node (script_of store) who.now) }
+    ensures script { script_of result ≡ script_of store }
+    ensures slot { slot_of result ≡ slot_of store }
+    ensures entries { entries_of result ≡ entries_of store ++ fact.Granted (slot_of store) (epoch (entries_of store) + 1) who.now ∷ [] }
+    ensures spare { spare_of result ≡ spare_of store - 1 }
+    ensures own { IsTrue (own (script_of result) (slot_of result) (entries_of result)) }
+{
+    let mut store = store;
+    store.grant(*who);
+    let _leased = store.is_leased();
+    store
 }
 
 /// Who stands at a place.

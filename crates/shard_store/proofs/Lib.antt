@@ -4,3 +4,4 @@ mod DifferentLaws
 mod KeptLaws
 mod ShelfLaws
 mod StoresLaws
+pub mod SendLaws

@@ -1,9 +1,14 @@
 //! What no clause says: that memory is there where there is plenty, and that a store may go to
 //! another thread.
-ghost use Rattle.std.specs.Prelude.{◌≡◌, IfOk, [], ◌∷◌, true};
+ghost use Rattle.std.specs.Prelude.{◌≡◌, ◌≤◌, IfOk, [], ◌∷◌, true, IsTrue};
+ghost use Rattle.yard_model.specs.declared.fact.Fact.TheVariants as fact;
+ghost use Rattle.yard_model.specs.declared.incarnation.Slot.TheVariants as slot;
 ghost use Rattle.yard_model.specs.declared.charter.Order.TheVariants as order;
 ghost use Rattle.yard_model.specs.declared.event.Command.TheVariants as command;
 ghost use Rattle.yard_model.specs.declared.event.Kind.TheVariants as kind;
+ghost use Rattle.yard_model.specs.Genuine.{is_node};
+ghost use Rattle.yard_model.specs.Lawful.{is_held, is_of_shard};
+ghost use Rattle.shard_store.specs.Stores.{script_of, entries_of};
 
 use crate::{ShardStore, Store, Stores};
 use shard_extract::shard_of;
@@ -12,6 +17,11 @@ use std::test::Fail;
 use yard_model::{
     Cause, Charter, Command, Config, EntityName, Event, Events, Incarnation, Kind, Line, Lists,
     NodeNo, Order, ProducerNo, Record, Reply, ShardNo, State,
+};
+
+const WHO: Incarnation = Incarnation {
+    node: NodeNo::FIRST,
+    number: 1,
 };
 
 /// A script of one send, to a name of shard 7.
@@ -49,22 +59,40 @@ fn passed<T: Send>(value: T) -> T
     value
 }
 
-#[test]
-fn an_entity_is_written_and_saved(rt: HostRuntime) -> Result<(), Fail> {
-    let alloc = rt.alloc();
-    let p = ProducerNo::new(1).ok_or("1 is a producer")?;
-    let a = EntityName::new(b"a").ok_or("a is a name")?;
-    let charter = one_send(alloc, p, a)?;
-    let mut store = passed(ShardStore::new(alloc, &charter, shard_of(&a, 10))?);
-    store.reserve(6)?;
-    let who = Incarnation {
-        node: NodeNo::FIRST,
-        number: 1,
-    };
-    assert_eq!(rt; store.grant(who), 1);
-    store.remember(&a);
+/// Takes a store of any slot: it may go to another thread.
+fn sent(store: Store) -> Store
+    ensures { result ≡ store }
+{
+    passed(store)
+}
+
+/// The store of shard 7, leased.
+fn leased(alloc: Global, charter: &Charter, a: &EntityName) -> Result<ShardStore, AllocError>
+    requires name { a.now ≡ 97 ∷ [] }
+    requires shards { charter.now.config.shards ≡ 10 }
+    requires nodes { charter.now.config.nodes ≡ 3 }
+    ensures is { IfOk result (λ x. x ≡ record { script = charter.now; shard = 7; entries = fact.Granted (slot.Shard 7) 1 (record { node = 1; number = 1 }) ∷ []; spare = x.spare }) }
+    ensures spare { IfOk result (λ x. 4 ≤ x.spare) }
+{
+    let mut store = ShardStore::new(alloc, charter, shard_of(a, 10))?;
+    store.reserve(5)?;
+    store.grant(WHO);
+    Ok(store)
+}
+
+/// A store with one record, which is saved.
+fn written(alloc: Global, p: ProducerNo, a: &EntityName) -> Result<ShardStore, AllocError>
+    requires producer { p ≡ 1 }
+    requires name { a.now ≡ 97 ∷ [] }
+    ensures name { IfOk result (λ x. IsTrue (is_of_shard x.script x.shard a.now)) }
+    ensures leased { IfOk result (λ x. is_held x.entries ≡ true) }
+    ensures spare { IfOk result (λ x. 1 ≤ x.spare) }
+{
+    let charter = one_send(alloc, p, *a)?;
+    let mut store = leased(alloc, &charter, a)?;
+    store.remember(a);
     store.wrote(
-        &a,
+        a,
         Record {
             number: 1,
             epoch: 1,
@@ -75,53 +103,97 @@ fn an_entity_is_written_and_saved(rt: HostRuntime) -> Result<(), Fail> {
             reply: Reply::Value(7),
         },
     );
-    store.snapshot(&a, State::Counter(7));
-    assert_eq!(rt; store.journal(&a).len(), 1);
-    assert!(rt; store.latest(&a).is_some());
-    assert!(rt; store.is_remembered(&a));
-    store.forget(&a);
-    assert!(rt; !store.is_remembered(&a));
+    store.snapshot(a, State::Counter(7));
+    Ok(store)
+}
+
+/// Whether an entity is remembered once it is forgotten.
+fn is_still_remembered(alloc: Global, p: ProducerNo, a: &EntityName) -> Result<bool, AllocError>
+    requires producer { p ≡ 1 }
+    requires name { a.now ≡ 97 ∷ [] }
+{
+    let charter = one_send(alloc, p, *a)?;
+    let mut store = leased(alloc, &charter, a)?;
+    store.remember(a);
+    store.forget(a);
+    Ok(store.is_remembered(a))
+}
+
+/// Whether an entity has one record, which is saved, and is remembered.
+fn is_saved(store: &ShardStore, a: &EntityName) -> bool
+    requires { IsTrue (is_of_shard store.now.script store.now.shard a.now) }
+{
+    store.journal(a).len() == 1 && store.latest(a).is_some() && store.is_remembered(a)
+}
+
+/// Whether the first lease is over, with five entries and no spare.
+fn is_freed(store: &ShardStore) -> bool {
+    store.epoch() == 1 && !store.is_leased() && store.len() == 5 && store.spare() == 0
+}
+
+#[test]
+fn an_entity_is_written_and_saved(rt: HostRuntime) -> Result<(), Fail> {
+    let alloc = rt.alloc();
+    let p = ProducerNo::new(1).ok_or("1 is a producer")?;
+    let a = EntityName::new(b"a").ok_or("a is a name")?;
+    let mut store = written(alloc, p, &a)?;
+    assert!(rt; is_saved(&store, &a));
     store.free(Cause::Released);
-    assert_eq!(rt; store.epoch(), 1);
-    assert_eq!(rt; store.spare(), 0);
-    assert_eq!(rt; store.len(), 6);
-    assert!(rt; !store.is_leased());
+    assert!(rt; is_freed(&store));
+    assert!(rt; !is_still_remembered(alloc, p, &a)?);
     Ok(())
+}
+
+/// Whether none of these slots has an entry.
+fn have_none(stores: &Stores, s: ShardNo, p: ProducerNo) -> bool {
+    stores.shard(s).is_empty() && stores.coordinator().is_empty() && stores.queue(p).is_empty()
 }
 
 #[test]
 fn each_slot_has_an_empty_store(rt: HostRuntime) -> Result<(), Fail> {
-    let alloc = rt.alloc();
     let p = ProducerNo::new(1).ok_or("1 is a producer")?;
     let a = EntityName::new(b"a").ok_or("a is a name")?;
+    let last = ProducerNo::new(32).ok_or("32 is a producer")?;
+    let past = ShardNo::new(10, 128).ok_or("10 is a shard")?;
+    let charter = one_send(rt.alloc(), p, a)?;
+    let stores = Stores::new(rt.alloc(), &charter)?;
+    assert!(rt; have_none(&stores, shard_of(&a, 10), p));
+    assert!(rt; have_none(&stores, past, last));
+    Ok(())
+}
+
+/// A store of this script.
+fn any_store(alloc: Global, p: ProducerNo, a: EntityName) -> Result<Store, AllocError>
+    requires producer { p ≡ 1 }
+    requires name { a ≡ 97 ∷ [] }
+    ensures none { IfOk result (λ x. entries_of x ≡ []) }
+    ensures node { IfOk result (λ x. IsTrue (is_node (script_of x) (record { node = 1; number = 1 }))) }
+{
     let charter = one_send(alloc, p, a)?;
-    let stores = Stores::new(alloc, &charter)?;
-    assert_eq!(rt; stores.shard(shard_of(&a, 10)).len(), 0);
-    assert_eq!(rt;
-        stores
-            .shard(ShardNo::new(10, 128).ok_or("10 is a shard")?)
-            .len(),
-        0
-    );
-    assert_eq!(rt; stores.coordinator().len(), 0);
-    assert_eq!(rt; stores.queue(p).len(), 0);
-    assert_eq!(rt;
-        stores
-            .queue(ProducerNo::new(32).ok_or("32 is a producer")?)
-            .len(),
-        0
-    );
-    let mut store = Store::Shard(ShardStore::new(alloc, &charter, shard_of(&a, 10))?);
+    let store = ShardStore::new(alloc, &charter, shard_of(&a, 10))?;
+    Ok(Store::Shard(store))
+}
+
+/// Leases a store and frees it; the epoch, where it was leased between.
+fn lease(store: &mut Store) -> Result<Option<u32>, AllocError>
+    requires none { entries_of store.old ≡ [] }
+    requires node { IsTrue (is_node (script_of store.old) (record { node = 1; number = 1 })) }
+{
     store.reserve(2)?;
-    let who = Incarnation {
-        node: NodeNo::FIRST,
-        number: 1,
-    };
-    assert_eq!(rt; store.grant(who), 1);
-    assert!(rt; store.is_leased());
+    let epoch = store.grant(WHO);
+    let leased = store.is_leased();
     store.free(Cause::Stopped);
-    assert_eq!(rt; store.len(), 2);
-    assert_eq!(rt; store.as_ref().len(), 2);
-    assert_eq!(rt; store.spare(), 0);
+    Ok(if leased { Some(epoch) } else { None })
+}
+
+#[test]
+fn any_store_is_leased_and_freed(rt: HostRuntime) -> Result<(), Fail> {
+    let p = ProducerNo::new(1).ok_or("1 is a producer")?;
+    let a = EntityName::new(b"a").ok_or("a is a name")?;
+    let mut store = sent(any_store(rt.alloc(), p, a)?);
+    assert!(rt; lease(&mut store)? == Some(1));
+    assert!(rt; store.len() == 2);
+    assert!(rt; store.as_ref().len() == 2);
+    assert!(rt; store.spare() == 0);
     Ok(())
 }

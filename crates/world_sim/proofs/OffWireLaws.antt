@@ -1,12 +1,11 @@
 -- What a node tells of its own never is of a packet's number, nor that the wire is full.
-use Rattle.std.proofs.Common.{◌≡◌, ℕ, ◌+◌, ◌-◌, Bool, true, false, not, ◌&&◌, ◌||◌, List, [], ◌∷◌, ◌++◌, map, filter, fold, length, refl, ap, sym, ◌∙◌, nat_lt, nat_le, Option, Some, None, is_none, slice_index_or, if◌then◌else◌, ◌==◌, ◌/◌, ◌%◌}
+use Rattle.std.proofs.Common.{◌≡◌, ℕ, ◌+◌, ◌-◌, Bool, true, false, not, ◌&&◌, ◌||◌, List, [], ◌∷◌, ◌++◌, map, filter, fold, length, refl, ap, ◌∙◌, nat_lt, nat_le, Option, Some, None, is_none, slice_index_or, if◌then◌else◌, ◌==◌, ◌/◌, ◌%◌}
 use Rattle.std.specs.List.{list_all, list_any, flat_map, sum_by}
 use Rattle.std.specs.Option.{option_and_then}
 use Rattle.std.proofs.lemmas.Bool.{and_parts}
 use Rattle.std.proofs.lemmas.List.Folds.{list_all-append}
 use Rattle.yard_model.specs.declared.fact.Fact.{Fact}
 use Rattle.yard_model.specs.declared.fact.Fact.TheVariants as fact
-use Rattle.yard_model.specs.declared.out.Item.{Item}
 use Rattle.yard_model.specs.declared.out.Item.TheVariants as item
 use Rattle.yard_model.specs.declared.input.Input.{Input}
 use Rattle.yard_model.specs.declared.input.Input.TheVariants as input
@@ -28,7 +27,7 @@ use Rattle.yard_model.specs.SlotLists.{SlotLists, shard_list, queue_list}
 use Rattle.yard_model.specs.SlotReads.{holder, confirmed, is_remembered, journal, position}
 use Rattle.yard_model.specs.Turns.{in_turn, for_each, where_some}
 use Rattle.yard_model.specs.Words.{is_at, is_among, is_below, is_empty, is_same, at, without}
-use Rattle.yard_model.specs.Move.{Move, made, took, released, marked, demanded, pushed, handed_off, quits, told, post, item_of}
+use Rattle.yard_model.specs.Move.{Move, made, released, marked, demanded, pushed, handed_off, quits, told, post, item_of}
 use Rattle.yard_model.specs.Region as region
 use Rattle.yard_model.specs.Region.{Region}
 use Rattle.yard_model.specs.Entities as entities
@@ -39,7 +38,6 @@ use Rattle.yard_model.specs.Coordinator as coordinator
 use Rattle.yard_model.specs.Coordinator.{Coordinator, Moving}
 use Rattle.yard_model.specs.Node as node
 use Rattle.yard_model.specs.Node.{Node, Act, Rule, by_region, by_entities, by_producer, by_coordinator, move_of, items_of}
-use Rattle.yard_model.specs.declared.packet.Packet.{Packet}
 use Rattle.world_sim.specs.Told.{TurnIsOffWire, PostsAreOffWire, is_item_off_wire}
 
 abbrev is_off_move : Move → Bool

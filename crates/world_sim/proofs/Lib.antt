@@ -1,2 +1,3 @@
 pub mod FreshLaws
 pub mod ToldLaws
+pub mod OffWireLaws

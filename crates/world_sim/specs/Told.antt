@@ -1,11 +1,16 @@
 -- What items tell, item by item, and what it is to the words of the world.
-use Rattle.std.specs.Prelude.{◌≡◌, ℕ, ◌+◌, Bool, true, false, ◌||◌, List, [], ◌++◌, length, fold}
+use Rattle.std.specs.Prelude.{◌≡◌, ℕ, ◌+◌, Bool, true, false, ◌||◌, List, [], ◌++◌, length, map, fold}
 use Rattle.std.specs.List.{list_all}
 use Rattle.yard_model.specs.declared.fact.Fact.{Fact}
 use Rattle.yard_model.specs.declared.fact.Fact.TheVariants as fact
 use Rattle.yard_model.specs.declared.out.Item.{Item}
 use Rattle.yard_model.specs.declared.out.Item.TheVariants as item
 use Rattle.yard_model.specs.declared.packet.Packet.{Packet}
+use Rattle.yard_model.specs.declared.charter.Sending.{Sending}
+use Rattle.yard_model.specs.declared.incarnation.Incarnation.{Incarnation}
+use Rattle.yard_model.specs.declared.input.Input.{Input}
+use Rattle.yard_model.specs.Node.{Node, items_of, turn}
+use Rattle.yard_model.specs.SlotLists.{SlotLists}
 use Rattle.yard_model.specs.Words.{numbers}
 use Rattle.yard_model.specs.World.{World, input_facts, wire_step, fresh_step, full_step}
 use Rattle.world_sim.specs.Mail.{Mails, facts_of, is_past, posts_of}
@@ -51,3 +56,11 @@ ToldLaw = (limit : ℕ) (packets : List Packet) (fresh : List ℕ) (full : Bool)
 -- and they are the world's facts of the items
 abbrev pub FactsLaw : Type 0
 FactsLaw = (w : World) (is : List Item) → input_facts w is ≡ facts_of w.limit (length w.wire) is
+
+-- what a node's turn gives is of that kind
+abbrev pub TurnIsOffWire : Type 0
+TurnIsOffWire = (sends : List (List Sending)) (lists : SlotLists) (i : Input) (st : Node) → list_all is_item_off_wire (items_of (turn sends lists i st)) ≡ true
+
+-- and so are posts alone, as the views that the world posts
+abbrev pub PostsAreOffWire : Type 0
+PostsAreOffWire = (f : Incarnation → Packet) (xs : List Incarnation) → list_all is_item_off_wire (map (λ x. item.Post (f x)) xs) ≡ true

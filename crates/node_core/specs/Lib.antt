@@ -1,0 +1,3 @@
+pub mod Standing
+pub mod Leased
+pub mod Gave

@@ -1,5 +1,5 @@
 -- Steps of the world that keep what stands, and tell guarded facts.
-use Rattle.std.specs.Prelude.{◌≡◌, ℕ, ◌-◌, Bool, true, List, [], ◌++◌, map, take, None, IsTrue}
+use Rattle.std.specs.Prelude.{◌≡◌, ℕ, ◌-◌, Bool, true, List, [], ◌++◌, map, take, Some, None, IsTrue}
 use Rattle.std.specs.List.{list_all}
 use Rattle.yard_model.specs.declared.fact.Fact.{Fact}
 use Rattle.yard_model.specs.declared.charter.Line.{Line}
@@ -13,7 +13,7 @@ use Rattle.yard_model.specs.Words.{at}
 use Rattle.yard_model.specs.Safe.{safe, guarded}
 use Rattle.yard_model.specs.World.{World, Made, Step, new_world, play_line, played, trace_of, in_order, views, come_up, go_down, up, crash_node, handle, hand_over, deliver, drain, pump}
 use Rattle.world_laws.specs.Built.{is_built_order, is_built_packet}
-use Rattle.world_laws.specs.Standing.{Stands, Told}
+use Rattle.world_laws.specs.Standing.{Stands, Told, has_different_members}
 
 -- after the step what stood stands
 abbrev pub Keeps : Script → World → Step → Type 0
@@ -48,7 +48,7 @@ CrashGoes = (c : Script) (w : World) (n : ℕ) → is_in 1 c.config.nodes n ≡ 
 
 -- a packet at the node that it is addressed to
 abbrev pub HandleGoes : Type 0
-HandleGoes = (c : Script) (w : World) (k : ℕ) (st : Node) (p : Packet) → at w.nodes k ≡ Some st → st.who ≡ p.to → IsTrue (is_genuine_packet c p) → IsTrue (is_built_packet p) → Goes c w (handle (input.Packet p) st)
+HandleGoes = (c : Script) (w : World) (k : ℕ) (st : Node) (p : Packet) → at w.nodes k ≡ Some st → st.who ≡ p.to → IsTrue (is_genuine_packet c p) → IsTrue (is_built_packet p) → IsTrue (has_different_members p) → Goes c w (handle (input.Packet p) st)
 
 abbrev pub DeliverGoes : Type 0
 DeliverGoes = (c : Script) (w : World) (k : ℕ) → Goes c w (deliver k)

@@ -3,6 +3,9 @@ use Rattle.std.specs.Prelude.{◌≡◌, ℕ, ◌+◌, ◌<◌, Bool, true, List
 use Rattle.std.specs.List.{list_all}
 use Rattle.yard_model.specs.declared.fact.Fact.{Fact}
 use Rattle.yard_model.specs.declared.incarnation.Incarnation.{Incarnation}
+use Rattle.yard_model.specs.declared.packet.Body.{Body}
+use Rattle.yard_model.specs.declared.packet.Body.TheVariants as body
+use Rattle.yard_model.specs.declared.packet.Packet.{Packet}
 use Rattle.yard_model.specs.declared.incarnation.Slot.{Slot}
 use Rattle.yard_model.specs.declared.incarnation.Slot.TheVariants as slot
 use Rattle.yard_model.specs.Script.{Script, IsScript, setting}
@@ -27,6 +30,8 @@ pub record IsCoordinator (c : Script) (st : Node) (k : Coordinator) : Type 0 whe
   pub held_is : holder k.entries ≡ Some st.who
   pub own_is : IsTrue (own c slot.Coordinator k.entries)
   pub viewed : IsTrue (list_all (λ r. is_among r st.region.view) (regions k.entries))
+  -- no round is open yet
+  pub moves_none : k.moving ≡ []
 
 -- a node by itself. Nothing of it hosts a shard or produces yet
 pub record IsNode (c : Script) (st : Node) : Type 0 where
@@ -45,6 +50,14 @@ pub record IsUp (c : Script) (w : World) (k : ℕ) (st : Node) : Type 0 where
   pub node_is : st.who.node ≡ k + 1
   pub member_is : is_among st.who w.members ≡ true
   pub self_is : IsNode c st
+
+abbrev pub is_different_body : Body → Bool
+is_different_body (body.View v xs) = are_of_different_nodes xs
+is_different_body b = true
+
+-- the members that a packet tells, if it is a view, are of different nodes
+abbrev pub has_different_members : Packet → Bool
+has_different_members p = is_different_body p.body
 
 -- it is up
 pub record IsThere (w : World) (x : Incarnation) : Type 0 where
@@ -70,6 +83,7 @@ pub record Stands (c : Script) (w : World) : Type 0 where
   -- all that was posted is made of the script's nodes, shards and sends
   pub genuine : IsTrue (list_all (is_genuine_packet c) w.wire)
   pub built : IsTrue (list_all is_built_packet w.wire)
+  pub different : IsTrue (list_all has_different_members w.wire)
 
 -- a trace that led to this world: its facts are guarded, and no entity is live yet
 pub record Told (c : Script) (trace : List Fact) (w : World) : Type 0 where

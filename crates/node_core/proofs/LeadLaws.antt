@@ -11,7 +11,7 @@ use Rattle.yard_model.specs.declared.incarnation.Slot.TheVariants as slot
 use Rattle.yard_model.specs.declared.out.Item.{Item}
 use Rattle.yard_model.specs.declared.out.Item.TheVariants as item
 use Rattle.yard_model.specs.declared.packet.Body.TheVariants as body
-use Rattle.yard_model.specs.Coordinator.{Coordinator, Moving, coordinator_after, new_coordinator, registered, hand_off, hand_off_if_last, terminate, terminate_lost, register_from, stamp}
+use Rattle.yard_model.specs.Coordinator.{Coordinator, Moving, not_awaited, coordinator_after, new_coordinator, registered, hand_off, hand_off_if_last, terminate, terminate_lost, register_from, stamp}
 use Rattle.yard_model.specs.Genuine.{is_slot_of, is_node}
 use Rattle.yard_model.specs.Move.{Move, made, took, viewed, told, post, item_of}
 use Rattle.yard_model.specs.Node.{Node, Act, by_coordinator, acquire, acquire_by, after, items_of}
@@ -27,8 +27,13 @@ use Rattle.yard_laws.proofs.Booleans.{and_both, both}
 use Rattle.world_laws.specs.Hands.{held_list}
 use Rattle.shard_store.specs.declared.store.Store.{Store}
 use Rattle.shard_store.specs.Stores.{entries_of}
-use Rattle.shard_lease.specs.Meaning.{Known, Meaning, Stays, Apart, Still, Begins, Hands, Refuses, is_taken, confirms}
+use Rattle.coordinator_actor.specs.Held.{Held}
+use Rattle.shard_lease.specs.declared.leases.Acquire.{Acquire}
+use Rattle.shard_lease.specs.declared.leases.Acquire.TheVariants as acquired
+use Rattle.shard_lease.specs.Meaning.{Acquired, Known, Meaning, Stays, Apart, Still, Begins, Hands, Refuses, is_taken, confirms}
 use Rattle.node_core.specs.Leased.{Rests, IsHandOf, IsTold, IsNoQueue, Tells, AreInHand}
+use Rattle.node_core.specs.Standing.{node_of}
+use Rattle.node_core.specs.Taken.{Took, IsGrant}
 use Rattle.node_core.specs.Gave.{Gave, lists_after}
 use Rattle.node_core.proofs.GaveLaws.{is_quiet, is_plain, gave_same, stays_same}
 
@@ -80,11 +85,11 @@ record IsFree (before list : List Fact) : Type 0 where
 
 free_of : (o : Option Known) (before list : List Fact) (A : Type 0) (R : Type 0) → IsSomeAnd o (IsTold list) → MatchOption o A (λ k. (k.holder ≡ None) × (k.list ≡ before) × R) → IsFree before list
 free_of None before list A R t h = absurd t
-free_of (Some k) before list A R t h = record { holder_is = sym t.holder_is ∙ h.0; list_is = sym (t.list_is h.0) ∙ h.1.0 }
+free_of (Some k) before list A R t h = record { holder_is = sym t.holder_is ∙ h.0; list_is = sym (t.list_is h.0) ∙ h.1 }
 
 told_of : (o : Option Known) (A : Type 0) (before list : List Fact) (new : Option Known) (x : Known) → IsSomeAnd o (IsTold list) → MatchOption o A (λ k. (k.holder ≡ None) × (k.list ≡ before) × (new ≡ Some x)) → new ≡ Some x
 told_of None A before list new x t h = absurd t
-told_of (Some k) A before list new x t h = h.1.1
+told_of (Some k) A before list new x t h = h.2
 
 pub some_is_not_none : {A : Type 0} (x : A) → Some x ≡ None → ⊥
 some_is_not_none x e = true≢false (ap is_some e)
@@ -155,7 +160,7 @@ record IsHeldBy (node : ℕ) (list : List Fact) : Type 0 where
 
 held_by : (o : Option Known) (node : ℕ) (list : List Fact) → IsSomeAnd o (IsTold list) → MatchOption o (Unit {0}) (λ k. (x : Incarnation) × (k.holder ≡ Some x) × (x.node ≡ node)) → IsHeldBy node list
 held_by None node list t h = absurd t
-held_by (Some k) node list t h = record { who = h.0; holder_is = sym t.holder_is ∙ h.1.0; node_is = h.1.1 }
+held_by (Some k) node list t h = record { who = h.0; holder_is = sym t.holder_is ∙ h.1; node_is = h.2 }
 
 pub held_gave : (c : Script) (old new : Meaning) (st : Node) (node : ℕ) (before : List Item)
     → Rests old c (record st { coordinator = None })
@@ -289,3 +294,72 @@ forgetting xs st now (s ∷ ss) =
 
 pub view_taken : (v : ℕ) (xs : List Incarnation) (st : Region) → (fold region_after st (take_view v xs st)).view ≡ xs
 view_taken v xs st = forgetting xs st (region_after (region_after st (viewed xs)) (told (fact.View st.who v))) (shards st.set)
+
+-- No round is opened.
+
+abbrev is_registering : Move → Bool
+is_registering (made (item.Fact (fact.Registered r))) = true
+is_registering (made (item.Fact (fact.Terminated r))) = true
+is_registering (made (item.Post p)) = true
+is_registering x = false
+
+keeps_still : (k : Coordinator) (ms : List Move) → list_all is_registering ms ≡ true → k.moving ≡ [] → (fold coordinator_after k ms).moving ≡ []
+keeps_still k [] h e = e
+keeps_still k (made (item.Fact (fact.Registered r)) ∷ ms) h e = keeps_still (coordinator_after k (told (fact.Registered r))) ms h e
+keeps_still k (made (item.Fact (fact.Terminated r)) ∷ ms) h e = keeps_still (coordinator_after k (told (fact.Terminated r))) ms h (ap (λ xs. map (not_awaited r) (filter (λ x. not (is_at r x.owner)) xs)) e)
+keeps_still k (made (item.Post p) ∷ ms) h e = keeps_still (coordinator_after k (made (item.Post p))) ms h e
+keeps_still k (x ∷ ms) h e = absurd (true≢false (sym h))
+
+posts_registering : (r : Incarnation) (st : Coordinator) (xs : List Moving) → list_all is_registering (flat_map (λ x. if is_at r x.owner then [] else hand_off_if_last r st x) xs) ≡ true
+posts_registering r st [] = refl
+posts_registering r st (x ∷ xs) =
+    let p : Moving → List Move = λ x. if is_at r x.owner then [] else hand_off_if_last r st x in
+    all_both is_registering (p x) (flat_map p xs) (one (is_at r x.owner) (is_among r x.awaited && is_empty (without r x.awaited)) x.owner) (posts_registering r st xs)
+  where
+    one : (b d : Bool) (o : Option Incarnation) → list_all is_registering (if b then [] else (if d then where_some (λ o. post st.who o (body.HandOff x.shard (stamp st)) ∷ []) o else [])) ≡ true
+    one true d o = refl
+    one false false o = refl
+    one false true None = refl
+    one false true (Some a) = refl
+
+each_registering : (rs : List Incarnation) (st : Coordinator) → list_all is_registering (for_each coordinator_after terminate rs st) ≡ true
+each_registering [] st = refl
+each_registering (r ∷ rs) st = all_both is_registering (terminate r st) (for_each coordinator_after terminate rs (fold coordinator_after st (terminate r st))) (posts_registering r st st.moving) (each_registering rs (fold coordinator_after st (terminate r st)))
+
+pub lost_still : (view : List Incarnation) (st : Coordinator) → st.moving ≡ [] → (fold coordinator_after st (terminate_lost view st)).moving ≡ []
+lost_still view st e = keeps_still st (terminate_lost view st) (each_registering (filter (λ r. not (is_among r view)) (registered st)) st) e
+
+pub register_still : (from : Incarnation) (view : List Incarnation) (st : Coordinator) → st.moving ≡ [] → (fold coordinator_after st (register_from from view st)).moving ≡ []
+register_still from view st e = keeps_still st (register_from from view st) (by_cases (is_among from view) (is_among from (registered st))) e
+  where
+    by_cases : (a b : Bool) → list_all is_registering (if a then (if b then [] else told (fact.Registered from) ∷ []) ++ post st.who from body.RegisterAck ∷ [] else []) ≡ true
+    by_cases true true = refl
+    by_cases true false = refl
+    by_cases false b = refl
+
+-- What is asked for is taken.
+
+pub acquired_gave : (c : Script) (old new : Meaning) (r : Region) (answer : Acquire) (k : Option Held) (before now : List Item)
+    → Rests old c (node_of c r None)
+    → Stays old new
+    → Acquired old r.who slot.Coordinator answer new
+    → Took c r.who answer k before now
+    → Gave c (λ lists. map by_coordinator (acquire slot.Coordinator r.who lists.coordinator)) old (node_of c r None) before new (node_of c r k) now
+acquired_gave c old new r (acquired.Granted x) k before now rests stays a t =
+    subst (λ (o : Option Held). Gave c (λ lists. map by_coordinator (acquire slot.Coordinator r.who lists.coordinator)) old (node_of c r None) before new (node_of c r o) now) (sym t.0)
+    (subst (λ is. Gave c (λ lists. map by_coordinator (acquire slot.Coordinator r.who lists.coordinator)) old (node_of c r None) before new (record (node_of c r None) { coordinator = Some (new_coordinator (setting c) r.who (entries_of x)) }) is) (sym t.1)
+    (grant_gave c old new (node_of c r None) x before rests stays a.0 a.1))
+acquired_gave c old new r (acquired.Held h) k before now rests stays a t =
+    subst (λ (o : Option Held). Gave c (λ lists. map by_coordinator (acquire slot.Coordinator r.who lists.coordinator)) old (node_of c r None) before new (node_of c r o) now) (sym t.0)
+    (subst (λ is. Gave c (λ lists. map by_coordinator (acquire slot.Coordinator r.who lists.coordinator)) old (node_of c r None) before new (node_of c r None) is) (sym t.1)
+    (held_gave c old new (node_of c r None) h before rests stays a.0 a.1))
+
+-- a store that is handed out is of the script and the slot, and leased
+pub acquired_granted : (c : Script) (old new : Meaning) (who : Incarnation) (answer : Acquire) → old.script ≡ c → Acquired old who slot.Coordinator answer new → IsGrant c who answer
+acquired_granted c old new who (acquired.Granted x) same a = record {
+  script_is = a.0.script_is ∙ same;
+  slot_is = a.0.slot_is;
+  spare_is = a.0.spare_is;
+  leased = ap holder a.0.list_is ∙ fold-append holder_step None a.0.before (fact.Granted slot.Coordinator (epoch a.0.before + 1) who ∷ []);
+}
+acquired_granted c old new who (acquired.Held h) same a = tt

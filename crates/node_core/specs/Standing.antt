@@ -1,5 +1,5 @@
 -- A node as it stands between its inputs.
-use Rattle.std.specs.Prelude.{◌≡◌, ℕ, ◌+◌, ◌*◌, ◌≤◌, true, replicate, Option, Some, None, IfSome, IsTrue, List}
+use Rattle.std.specs.Prelude.{◌≡◌, ℕ, ◌+◌, ◌*◌, ◌≤◌, true, replicate, Option, Some, None, IfSome, IsTrue, List, []}
 use Rattle.std.specs.List.{list_all}
 use Rattle.std.specs.Option.{option_map}
 use Rattle.yard_model.specs.declared.incarnation.Incarnation.{Incarnation}
@@ -36,20 +36,21 @@ node_of c region coordinator = record {
   coordinator = option_map (λ k. k.state) coordinator;
 }
 
--- a coordinator of this script, at this incarnation
+-- a coordinator of this script, at this incarnation; no round is open yet
 pub record IsOf (c : Script) (who : Incarnation) (k : Held) : Type 0 where
   pub script_is : k.script ≡ c
   pub who_is : k.state.who ≡ who
   pub set_is : k.state.set ≡ setting c
+  pub still_is : k.state.moving ≡ []
 
 -- the parts of a node are of one script and of one incarnation, which is of one of the script's nodes, as are the members in its view
-pub record AreParts (c : Script) (region : Made) (coordinator : Option Held) : Type 0 where
+pub record AreParts (c : Script) (region : Made) (office : Option Held) : Type 0 where
   pub script_is : IsScript c
   pub who_is : is_node c region.state.who ≡ true
   pub region_script : region.script ≡ c
   pub region_set : region.state.set ≡ setting c
   pub view_is : IsTrue (list_all (is_node c) region.state.view)
-  pub coordinator : IfSome coordinator (IsOf c region.state.who)
+  pub coordinator : IfSome office (IsOf c region.state.who)
 
 -- where it is the coordinator, each registered region is in its view
 abbrev pub AreSeen : List Incarnation → Option Held → Type 0

@@ -8,8 +8,9 @@ ghost use Rattle.yard_model.specs.Node as rules;
 ghost use Rattle.yard_model.specs.Region.{oldest};
 ghost use Rattle.yard_model.specs.Words.{is_at};
 ghost use Rattle.shard_lease.specs.Meaning.{Meaning, Stays};
-ghost use Rattle.node_core.specs.Standing.{node_of, AreParts, AreSeen};
+ghost use Rattle.node_core.specs.Standing.{node_of, AreParts, AreSeen, IsOf};
 ghost use Rattle.node_core.specs.Leased.{Rests};
+ghost use Rattle.node_core.specs.Taken.{Took, IsGrant};
 ghost use Rattle.node_core.specs.Gave.{Gave, take_lead};
 
 use coordinator_actor::Coordinator;
@@ -32,12 +33,12 @@ pub(crate) fn lead<L: Leases>(
     out: &mut Out,
 )
     requires parts { AreParts charter.now region.now coordinator.old }
-    requires rests { Rests (meaning leases.old) charter.now (node_of charter.now region.now.state coordinator.old) }
+    requires rests { Rests (L.meaning leases.old) charter.now (node_of charter.now region.now.state coordinator.old) }
     requires entries { IfSome coordinator.old (λ k. 16 ≤ k.spare) }
     requires room { 2065 ≤ out.old.spare }
     ensures parts { AreParts charter.now region.now coordinator.new }
     ensures seen { AreSeen region.now.state.view coordinator.new }
-    ensures gave { Gave charter.now (λ lists. rules.lead lists (node_of charter.now region.now.state coordinator.old)) (meaning leases.old) (node_of charter.now region.now.state coordinator.old) out.old.items (meaning leases.new) (node_of charter.now region.now.state coordinator.new) out.new.items }
+    ensures gave { Gave charter.now (λ lists. rules.lead lists (node_of charter.now region.now.state coordinator.old)) (L.meaning leases.old) (node_of charter.now region.now.state coordinator.old) out.old.items (L.meaning leases.new) (node_of charter.now region.now.state coordinator.new) out.new.items }
     ensures spare { out.old.spare ≤ out.new.spare + 2065 }
 {
     acquire_lead(alloc, charter, region, coordinator, leases, out);
@@ -54,12 +55,12 @@ fn acquire_lead<L: Leases>(
     out: &mut Out,
 )
     requires parts { AreParts charter.now region.now coordinator.old }
-    requires rests { Rests (meaning leases.old) charter.now (node_of charter.now region.now.state coordinator.old) }
+    requires rests { Rests (L.meaning leases.old) charter.now (node_of charter.now region.now.state coordinator.old) }
     requires entries { IfSome coordinator.old (λ k. 16 ≤ k.spare) }
     requires room { 1 ≤ out.old.spare }
     ensures parts { AreParts charter.now region.now coordinator.new }
     ensures entries { IfSome coordinator.new (λ k. 16 ≤ k.spare) }
-    ensures gave { Gave charter.now (λ lists. take_lead lists (node_of charter.now region.now.state coordinator.old)) (meaning leases.old) (node_of charter.now region.now.state coordinator.old) out.old.items (meaning leases.new) (node_of charter.now region.now.state coordinator.new) out.new.items }
+    ensures gave { Gave charter.now (λ lists. take_lead lists (node_of charter.now region.now.state coordinator.old)) (L.meaning leases.old) (node_of charter.now region.now.state coordinator.old) out.old.items (L.meaning leases.new) (node_of charter.now region.now.state coordinator.new) out.new.items }
     ensures spare { out.old.spare ≤ out.new.spare + 1 }
 {
     if coordinator.is_none() && is_oldest(region) {
@@ -88,15 +89,36 @@ fn take_slot<L: Leases>(
 )
     requires none { coordinator.old ≡ None }
     requires parts { AreParts charter.now region.now None }
-    requires rests { Rests (meaning leases.old) charter.now (node_of charter.now region.now.state None) }
+    requires rests { Rests (L.meaning leases.old) charter.now (node_of charter.now region.now.state None) }
     requires room { 1 ≤ out.old.spare }
     ensures parts { AreParts charter.now region.now coordinator.new }
     ensures entries { IfSome coordinator.new (λ k. 16 ≤ k.spare) }
-    ensures gave { Gave charter.now (λ lists. map rules.by_coordinator (rules.acquire slot.Coordinator region.now.state.who lists.coordinator)) (meaning leases.old) (node_of charter.now region.now.state None) out.old.items (meaning leases.new) (node_of charter.now region.now.state coordinator.new) out.new.items }
+    ensures gave { Gave charter.now (λ lists. map rules.by_coordinator (rules.acquire slot.Coordinator region.now.state.who lists.coordinator)) (L.meaning leases.old) (node_of charter.now region.now.state None) out.old.items (L.meaning leases.new) (node_of charter.now region.now.state coordinator.new) out.new.items }
     ensures spare { out.old.spare ≤ out.new.spare + 1 }
 {
-    let who = &region.who();
-    match leases.acquire(*who, Slot::Coordinator) {
+    let who = region.who();
+    let answer = leases.acquire(who, Slot::Coordinator);
+    take(alloc, charter, &who, answer, coordinator, out);
+}
+
+/// Takes what was answered: the coordinator is there where the slot is granted.
+fn take(
+    alloc: Global,
+    charter: &Charter,
+    who: &Incarnation,
+    answer: Acquire,
+    coordinator: &mut Option<Coordinator>,
+    out: &mut Out,
+)
+    requires none { coordinator.old ≡ None }
+    requires granted { IsGrant charter.now who.now answer }
+    requires room { 1 ≤ out.old.spare }
+    ensures took { Took charter.now who.now answer coordinator.new out.old.items out.new.items }
+    ensures parts { IfSome coordinator.new (IsOf charter.now who.now) }
+    ensures entries { IfSome coordinator.new (λ k. 16 ≤ k.spare) }
+    ensures spare { out.old.spare ≤ out.new.spare + 1 }
+{
+    match answer {
         Acquire::Granted(Store::Coordinator(store)) => {
             out.push(Item::Fact(Fact::Granted(
                 Slot::Coordinator,

@@ -10,7 +10,8 @@ ghost use Rattle.yard_model.specs.declared.input.Phase.TheVariants as phase;
 ghost use Rattle.yard_model.specs.declared.out.Item.TheVariants as item;
 ghost use Rattle.yard_model.specs.Entities.{is_in_phase};
 ghost use Rattle.yard_model.specs.Genuine.{is_node, is_slot_of, is_genuine_packet};
-ghost use Rattle.yard_model.specs.Node.{new_node, after, items_of, turn, packet, view_packet, crash};
+ghost use Rattle.yard_model.specs.Node as rules;
+ghost use Rattle.yard_model.specs.Node.{new_node, after, items_of, turn, crash};
 ghost use Rattle.yard_model.specs.Script.{setting};
 ghost use Rattle.yard_model.specs.SlotLists.{SlotLists};
 ghost use Rattle.yard_model.specs.Trace.{lists_step};
@@ -149,17 +150,17 @@ impl<B: Drop> Node<B> {
     )
         requires charter { charter.now ≡ self.old.script }
         requires built { IsTrue (is_built_input input) }
-        requires addressed { IfPacket input (IsFor self.old.script (meaning leases.old) self.old.state.who) }
+        requires addressed { IfPacket input (IsFor self.old.script (L.meaning leases.old) self.old.state.who) }
         requires ready { IsReady self.old out.old.spare }
-        requires rests { Rests (meaning leases.old) self.old.script self.old.state }
+        requires rests { Rests (L.meaning leases.old) self.old.script self.old.state }
         ensures script { self.new.script ≡ self.old.script }
-        ensures items { (sends : List (List Sending)) → ForLists (meaning leases.old) self.old.script self.old.state (λ lists. out.new.items ≡ out.old.items ++ items_of (turn sends lists input self.old.state)) }
-        ensures state { (sends : List (List Sending)) → ForLists (meaning leases.old) self.old.script self.old.state (λ lists. self.new.state ≡ fold after self.old.state (turn sends lists input self.old.state)) }
-        ensures tells { (sends : List (List Sending)) → ForLists (meaning leases.old) self.old.script self.old.state (λ lists. Tells (meaning leases.new) self.old.script (lists_after self.old.script lists (turn sends lists input self.old.state))) }
-        ensures in_hand { (sends : List (List Sending)) → ForLists (meaning leases.old) self.old.script self.old.state (λ lists. AreInHand self.old.script (lists_after self.old.script lists (turn sends lists input self.old.state)) self.new.state) }
-        ensures rests { Rests (meaning leases.new) self.old.script self.new.state }
-        ensures stays { Stays (meaning leases.old) (meaning leases.new) }
-        ensures others { AreOthersSame self.old.state.who.node (meaning leases.old) (meaning leases.new) }
+        ensures items { (sends : List (List Sending)) → ForLists (L.meaning leases.old) self.old.script self.old.state (λ lists. out.new.items ≡ out.old.items ++ items_of (turn sends lists input self.old.state)) }
+        ensures state { (sends : List (List Sending)) → ForLists (L.meaning leases.old) self.old.script self.old.state (λ lists. self.new.state ≡ fold after self.old.state (turn sends lists input self.old.state)) }
+        ensures tells { (sends : List (List Sending)) → ForLists (L.meaning leases.old) self.old.script self.old.state (λ lists. Tells (L.meaning leases.new) self.old.script (lists_after self.old.script lists (turn sends lists input self.old.state))) }
+        ensures in_hand { (sends : List (List Sending)) → ForLists (L.meaning leases.old) self.old.script self.old.state (λ lists. AreInHand self.old.script (lists_after self.old.script lists (turn sends lists input self.old.state)) self.new.state) }
+        ensures rests { Rests (L.meaning leases.new) self.old.script self.new.state }
+        ensures stays { Stays (L.meaning leases.old) (L.meaning leases.new) }
+        ensures others { AreOthersSame self.old.state.who.node (L.meaning leases.old) (L.meaning leases.new) }
     {
         match &input {
             Input::Packet(packet) => self.packet(charter, packet, leases, out),
@@ -177,11 +178,11 @@ impl<B: Drop> Node<B> {
     )
         requires charter { charter.now ≡ self.old.script }
         requires built { IsTrue (is_built_packet packet.now) }
-        requires addressed { IsFor self.old.script (meaning leases.old) self.old.state.who packet.now }
+        requires addressed { IsFor self.old.script (L.meaning leases.old) self.old.state.who packet.now }
         requires ready { IsReady self.old out.old.spare }
-        requires rests { Rests (meaning leases.old) self.old.script self.old.state }
+        requires rests { Rests (L.meaning leases.old) self.old.script self.old.state }
         ensures script { self.new.script ≡ self.old.script }
-        ensures gave { Gave self.old.script (λ lists. packet lists packet.now.from packet.now.body self.old.state) (meaning leases.old) self.old.state out.old.items (meaning leases.new) self.new.state out.new.items }
+        ensures gave { Gave self.old.script (λ lists. rules.packet lists packet.now.from packet.now.body self.old.state) (L.meaning leases.old) self.old.state out.old.items (L.meaning leases.new) self.new.state out.new.items }
     {
         match &packet.body {
             Body::View { version, members: _ } => {
@@ -208,11 +209,11 @@ impl<B: Drop> Node<B> {
     )
         requires charter { charter.now ≡ self.old.script }
         requires newer { is_newer packet.now.body self.old.state.region.version ≡ true }
-        requires addressed { IsFor self.old.script (meaning leases.old) self.old.state.who packet.now }
+        requires addressed { IsFor self.old.script (L.meaning leases.old) self.old.state.who packet.now }
         requires ready { IsReady self.old out.old.spare }
-        requires rests { Rests (meaning leases.old) self.old.script self.old.state }
+        requires rests { Rests (L.meaning leases.old) self.old.script self.old.state }
         ensures script { self.new.script ≡ self.old.script }
-        ensures gave { Gave self.old.script (λ lists. packet lists packet.now.from packet.now.body self.old.state) (meaning leases.old) self.old.state out.old.items (meaning leases.new) self.new.state out.new.items }
+        ensures gave { Gave self.old.script (λ lists. rules.packet lists packet.now.from packet.now.body self.old.state) (L.meaning leases.old) self.old.state out.old.items (L.meaning leases.new) self.new.state out.new.items }
     {
         handle_room();
         register_room();
@@ -236,7 +237,7 @@ impl<B: Drop> Node<B> {
         requires ready { IsReady self.old out.old.spare }
         ensures script { self.new.script ≡ self.old.script }
         ensures gave { (m : Meaning) → Rests m self.old.script self.old.state → m.within packet.now.from.number ≡ true
-            → Gave self.old.script (λ lists. packet lists packet.now.from body.Register self.old.state) m self.old.state out.old.items m self.new.state out.new.items }
+            → Gave self.old.script (λ lists. rules.packet lists packet.now.from body.Register self.old.state) m self.old.state out.old.items m self.new.state out.new.items }
     {
         enter_room();
         same_coordinator();
@@ -252,7 +253,7 @@ impl<B: Drop> Node<B> {
         requires genuine { IsTrue (is_genuine_packet self.old.script packet.now) }
         ensures script { self.new.script ≡ self.old.script }
         ensures gave { (m : Meaning) → Rests m self.old.script self.old.state
-            → Gave self.old.script (λ lists. packet lists packet.now.from body.RegisterAck self.old.state) m self.old.state out.old.items m self.new.state out.new.items }
+            → Gave self.old.script (λ lists. rules.packet lists packet.now.from body.RegisterAck self.old.state) m self.old.state out.old.items m self.new.state out.new.items }
     {
         self.region.handle(packet, out);
     }
@@ -263,12 +264,12 @@ impl<B: Drop> Node<B> {
     /// The node is gone: every slot that it held is freed.
     pub fn crash<L: Leases>(self, leases: &mut L, out: &mut Out)
         requires ready { IsReady self out.old.spare }
-        requires rests { Rests (meaning leases.old) self.script self.state }
+        requires rests { Rests (L.meaning leases.old) self.script self.state }
         ensures items { out.new.items ≡ out.old.items ++ map item.Fact (crash self.state) }
-        ensures tells { ForLists (meaning leases.old) self.script self.state (λ lists. Tells (meaning leases.new) self.script (fold (lists_step (setting self.script)) lists (crash self.state))) }
-        ensures free { (s : Slot) → IsTrue (is_slot_of self.script s) → (meaning leases.new).holds self.state.who.node s ≡ false }
-        ensures stays { Stays (meaning leases.old) (meaning leases.new) }
-        ensures others { AreOthersSame self.state.who.node (meaning leases.old) (meaning leases.new) }
+        ensures tells { ForLists (L.meaning leases.old) self.script self.state (λ lists. Tells (L.meaning leases.new) self.script (fold (lists_step (setting self.script)) lists (crash self.state))) }
+        ensures free { (s : Slot) → IsTrue (is_slot_of self.script s) → (L.meaning leases.new).holds self.state.who.node s ≡ false }
+        ensures stays { Stays (L.meaning leases.old) (L.meaning leases.new) }
+        ensures others { AreOthersSame self.state.who.node (L.meaning leases.old) (L.meaning leases.new) }
     {
         let Node {
             alloc: _,
@@ -302,15 +303,15 @@ impl<B: Drop> Node<B> {
 /// The coordinator's slot is freed.
 fn leave<L: Leases>(who: Incarnation, coordinator: Coordinator, leases: &mut L, out: &mut Out)
     requires who { coordinator.state.who ≡ who }
-    requires serves { Serves (meaning leases.old) who slot.Coordinator }
-    requires holds { (meaning leases.old).holds who.node slot.Coordinator ≡ true }
-    requires script { coordinator.script ≡ (meaning leases.old).script }
-    requires hand { IsHandOf (meaning leases.old) slot.Coordinator coordinator.state.entries }
+    requires serves { Serves (L.meaning leases.old) who slot.Coordinator }
+    requires holds { (L.meaning leases.old).holds who.node slot.Coordinator ≡ true }
+    requires script { coordinator.script ≡ (L.meaning leases.old).script }
+    requires hand { IsHandOf (L.meaning leases.old) slot.Coordinator coordinator.state.entries }
     requires store { 101 ≤ coordinator.spare }
     requires room { 1 ≤ out.old.spare }
     ensures items { out.new.items ≡ out.old.items ++ item.Fact (fact.Freed slot.Coordinator (epoch coordinator.state.entries) cause.Stopped) ∷ [] }
-    ensures stays { Stays (meaning leases.old) (meaning leases.new) }
-    ensures freed { IsFreed (meaning leases.old) who slot.Coordinator (coordinator.state.entries ++ fact.Freed slot.Coordinator (epoch coordinator.state.entries) cause.Stopped ∷ []) (meaning leases.new) }
+    ensures stays { Stays (L.meaning leases.old) (L.meaning leases.new) }
+    ensures freed { IsFreed (L.meaning leases.old) who slot.Coordinator (coordinator.state.entries ++ fact.Freed slot.Coordinator (epoch coordinator.state.entries) cause.Stopped ∷ []) (L.meaning leases.new) }
 {
     let store = coordinator.into_store();
     let epoch = store.epoch();

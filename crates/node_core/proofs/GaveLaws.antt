@@ -68,6 +68,7 @@ gave_nothing c m st before rests = record {
   state = λ lists t h. refl;
   tells = λ lists t h. t;
   in_hand = λ lists t h. h;
+  who_is = refl;
   rests = rests;
   stays = stays_same m;
   others = λ n s other. refl;
@@ -80,6 +81,7 @@ gave_same c p q old new st to before now same g = record {
   state = λ lists t h. g.state lists t h ∙ ap (fold after st) (same lists);
   tells = λ lists t h. subst (λ acts. Tells new c (lists_after c lists acts)) (same lists) (g.tells lists t h);
   in_hand = λ lists t h. subst (λ acts. AreInHand c (lists_after c lists acts) to) (same lists) (g.in_hand lists t h);
+  who_is = g.who_is;
   rests = g.rests;
   stays = g.stays;
   others = g.others;
@@ -104,6 +106,7 @@ gave_both c p q old mid new st one two before between now same f g = record {
     (g.tells (lists_after c lists (p lists)) (f.tells lists t h) (f.in_hand lists t h));
   in_hand = λ lists t h. subst (λ l. AreInHand c l two) (sym (lists_append c lists (p lists) (q one)) ∙ ap (λ s. lists_after c lists (p lists ++ q s)) (f.state lists t h))
     (g.in_hand (lists_after c lists (p lists)) (f.tells lists t h) (f.in_hand lists t h));
+  who_is = g.who_is ∙ same;
   rests = g.rests;
   stays = stays_both old mid new f.stays g.stays;
   others = λ n s other. g.others n s (subst (λ (x : Incarnation). n ≢ x.node) (sym same) other) ∙ f.others n s other;
@@ -165,6 +168,7 @@ region_first c ms q old new st to before now quiet g = record {
   state = λ lists t h. g.state lists t (in_hand_region c lists st r h) ∙ (ap (λ s. fold after s (q lists)) (sym (region_alone st ms)) ∙ sym (fold-append after st (map by_region ms) (q lists)));
   tells = λ lists t h. subst (λ l. Tells new c l) (sym (lists_same lists)) (g.tells lists t (in_hand_region c lists st r h));
   in_hand = λ lists t h. subst (λ l. AreInHand c l to) (sym (lists_same lists)) (g.in_hand lists t (in_hand_region c lists st r h));
+  who_is = g.who_is;
   rests = g.rests;
   stays = g.stays;
   others = g.others;
@@ -190,6 +194,7 @@ region_last c ms q old new st to before between quiet g = record {
   state = λ lists t h. sym (region_alone to ms) ∙ (ap (λ s. fold after s (map by_region ms)) (g.state lists t h) ∙ sym (fold-append after st (q lists) (map by_region ms)));
   tells = λ lists t h. subst (λ l. Tells new c l) (sym (lists_same lists)) (g.tells lists t h);
   in_hand = λ lists t h. subst (λ l. AreInHand c l (record to { region = fold region_after to.region ms })) (sym (lists_same lists)) (in_hand_region c (lists_after c lists (q lists)) to (fold region_after to.region ms) (g.in_hand lists t h));
+  who_is = g.who_is;
   rests = rests_region new c to (fold region_after to.region ms) g.rests;
   stays = g.stays;
   others = g.others;
@@ -299,6 +304,7 @@ coordinator_gave c m x st k ms before leased plain rests = record {
   state = λ lists t h. sym (plain_state m st k ms plain);
   tells = λ lists t h. subst (λ l. Tells m c l) (sym (lists_are lists (h slot.Coordinator refl))) (tells lists t (h slot.Coordinator refl));
   in_hand = λ lists t h. subst (λ l. AreInHand c l (record st { coordinator = Some now })) (sym (lists_are lists (h slot.Coordinator refl))) (in_hand lists h);
+  who_is = refl;
   rests = record {
     script_is = rests.script_is;
     serves_is = rests.serves_is;

@@ -34,7 +34,7 @@ use Rattle.shard_lease.specs.Meaning.{Acquired, Known, Meaning, Stays, Apart, St
 use Rattle.node_core.specs.Leased.{Rests, IsHandOf, IsTold, IsNoQueue, Tells, AreInHand}
 use Rattle.node_core.specs.Standing.{node_of}
 use Rattle.node_core.specs.Taken.{Took, IsGrant}
-use Rattle.node_core.specs.Gave.{Gave, lists_after}
+use Rattle.node_core.specs.Gave.{Gave, lists_after, take_lead}
 use Rattle.node_core.proofs.GaveLaws.{is_quiet, is_plain, gave_same, stays_same}
 
 -- What stays of a slot's list where a call changes nothing of the slot.
@@ -106,6 +106,7 @@ grant_gave c old new st x before rests stays h apart = record {
   state = λ lists t hand. ap (fold after (record st { coordinator = None })) (sym (acts_are lists (free lists t)));
   tells = λ lists t hand. subst (λ acts. Tells new c (lists_after c lists acts)) (sym (acts_are lists (free lists t))) (tells lists t);
   in_hand = λ lists t hand. subst (λ acts. AreInHand c (lists_after c lists acts) to) (sym (acts_are lists (free lists t))) (in_hand lists (free lists t) hand);
+  who_is = refl;
   rests = record {
     script_is = stays.script_is ∙ rests.script_is;
     serves_is = stays.serves_is st.who ∙ rests.serves_is;
@@ -174,6 +175,7 @@ held_gave c old new st node before rests stays h still = record {
   state = λ lists t hand. ap (fold after (record st { coordinator = None })) (sym (acts_are lists (by lists t)));
   tells = λ lists t hand. subst (λ acts. Tells new c (lists_after c lists acts)) (sym (acts_are lists (by lists t))) (λ s v. subst (λ o. IsSomeAnd o (IsTold (list_at lists s))) (sym (still.tells_is s)) (t s v));
   in_hand = λ lists t hand. subst (λ acts. AreInHand c (lists_after c lists acts) (record st { coordinator = None })) (sym (acts_are lists (by lists t))) hand;
+  who_is = refl;
   rests = record {
     script_is = stays.script_is ∙ rests.script_is;
     serves_is = stays.serves_is st.who ∙ rests.serves_is;
@@ -363,3 +365,20 @@ acquired_granted c old new who (acquired.Granted x) same a = record {
   leased = ap holder a.0.list_is ∙ fold-append holder_step None a.0.before (fact.Granted slot.Coordinator (epoch a.0.before + 1) who ∷ []);
 }
 acquired_granted c old new who (acquired.Held h) same a = tt
+
+taken_is : (b : Bool) (acts : List Act) → b ≡ true → acts ≡ (if b && true then acts else [])
+taken_is true acts e = refl
+taken_is false acts e = absurd (true≢false (sym e))
+
+-- where it is the oldest and isn't the coordinator
+pub took_gave : (c : Script) (old new : Meaning) (r : Region) (answer : Acquire) (k : Option Held) (before now : List Item)
+    → is_at r.who (oldest r) ≡ true
+    → Rests old c (node_of c r None)
+    → Stays old new
+    → Acquired old r.who slot.Coordinator answer new
+    → Took c r.who answer k before now
+    → Gave c (λ lists. take_lead lists (node_of c r None)) old (node_of c r None) before new (node_of c r k) now
+took_gave c old new r answer k before now first rests stays a t =
+    gave_same c (λ lists. map by_coordinator (acquire slot.Coordinator r.who lists.coordinator)) (λ lists. take_lead lists (node_of c r None)) old new (node_of c r None) (node_of c r k) before now
+    (λ lists. taken_is (is_at r.who (oldest r)) (map by_coordinator (acquire slot.Coordinator r.who lists.coordinator)) first)
+    (acquired_gave c old new r answer k before now rests stays a t)

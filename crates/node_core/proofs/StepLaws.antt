@@ -18,14 +18,19 @@ use Rattle.yard_model.specs.Region.{Region, region_after, oldest, take_view, reg
 use Rattle.yard_model.specs.Script.{Script, setting}
 use Rattle.yard_model.specs.SlotLists.{SlotLists}
 use Rattle.yard_model.specs.SlotReads.{holder}
+use Rattle.yard_model.specs.declared.packet.Packet.{Packet}
+use Rattle.yard_model.specs.Genuine.{is_node, is_genuine_body, is_genuine_packet}
+use Rattle.yard_laws.proofs.Booleans.{of_not}
+use Rattle.region_actor.specs.Made.{Made}
+use Rattle.region_actor.specs.Handled.{handled}
 use Rattle.yard_laws.proofs.PartsLaws.{region_alone, coordinator_alone}
 use Rattle.coordinator_actor.specs.Held.{Held}
 use Rattle.shard_lease.specs.Meaning.{Meaning}
-use Rattle.node_core.specs.Standing.{node_of}
-use Rattle.node_core.specs.Leased.{Rests, IsHandOf}
+use Rattle.node_core.specs.Standing.{node_of, AreParts, IsOf}
+use Rattle.node_core.specs.Leased.{Rests, IsHandOf, is_newer}
 use Rattle.node_core.specs.Gave.{Gave, take_lead}
 use Rattle.node_core.proofs.GaveLaws.{gave_nothing, gave_same, gave_both, region_first, region_last, coordinator_gave}
-use Rattle.node_core.proofs.LeadLaws.{lost_plain, register_plain, take_quiet, register_quiet}
+use Rattle.node_core.proofs.LeadLaws.{view_taken, lost_plain, register_plain, take_quiet, register_quiet}
 
 -- nothing changes whose region it is
 region_who : (r : Region) (ms : List Move) → (fold region_after r ms).who ≡ r.who
@@ -158,3 +163,60 @@ acknowledged_gave c m from r now k before items takes items_are rests =
     subst (λ (s : Region). Gave c (λ lists. packet lists from body.RegisterAck (node_of c r k)) m (node_of c r k) before m (node_of c s k) items) (sym takes)
     (subst (λ is. Gave c (λ lists. packet lists from body.RegisterAck (node_of c r k)) m (node_of c r k) before m (node_of c (fold region_after r (registered_by from r)) k) is) (sym items_are)
     (region_last c (registered_by from r) (λ lists. []) m m (node_of c r k) (node_of c r k) before before refl (gave_nothing c m (node_of c r k) before rests)))
+
+-- Where the view was newer.
+
+last_of : (a b d : Bool) → (a && b && d) ≡ true → d ≡ true
+last_of true true d e = e
+last_of true false d e = absurd (true≢false (sym e))
+last_of false b d e = absurd (true≢false (sym e))
+
+genuine_body : (c : Script) (p : Packet) → is_genuine_packet c p ≡ true → is_genuine_body c p.body ≡ true
+genuine_body c p h = last_of (is_node c p.from) (is_node c p.to) (is_genuine_body c p.body) h
+
+region_set : (r : Region) (ms : List Move) → (fold region_after r ms).set ≡ r.set
+region_set r [] = refl
+region_set r (m ∷ ms) = region_set (region_after r m) ms
+
+handled_is : (from : Incarnation) (v : ℕ) (xs : List Incarnation) (r : Region) → nat_le v r.version ≡ false → handled from (body.View v xs) r ≡ take_view v xs r
+handled_is from v xs r older = by (nat_le v r.version) older
+  where
+    by : (b : Bool) → b ≡ false → (if b then [] else take_view v xs r) ≡ take_view v xs r
+    by false e = refl
+    by true e = absurd (true≢false e)
+
+pub parts_after : (c d : Script) (r now : Made) (k : Option Held) (p : Packet) → AreParts c r k → d ≡ c → is_newer p.body r.state.version ≡ true → is_genuine_packet c p ≡ true → now.script ≡ r.script → now.state ≡ fold region_after r.state (handled p.from p.body r.state) → AreParts d now k
+parts_after c d r now k p h same newer genuine script state =
+    subst (λ (x : Script). AreParts x now k) (sym same) (record {
+      script_is = h.script_is;
+      who_is = ap (is_node c) who_is ∙ h.who_is;
+      region_script = script ∙ h.region_script;
+      region_set = ap (λ (s : Region). s.set) state ∙ (region_set r.state (handled p.from p.body r.state) ∙ h.region_set);
+      view_is = by p.body newer (genuine_body c p genuine) state;
+      coordinator = subst (λ (x : Incarnation). IfSome k (IsOf c x)) (sym who_is) h.coordinator;
+    })
+  where
+    who_is : now.state.who ≡ r.state.who
+    who_is = ap (λ (s : Region). s.who) state ∙ region_who r.state (handled p.from p.body r.state)
+    by : (b : Body) → is_newer b r.state.version ≡ true → is_genuine_body c b ≡ true → now.state ≡ fold region_after r.state (handled p.from b r.state) → list_all (is_node c) now.state.view ≡ true
+    by (body.View v xs) n g e = ap (λ (s : Region). list_all (is_node c) s.view) e
+        ∙ (ap (λ ms. list_all (is_node c) (fold region_after r.state ms).view) (handled_is p.from v xs r.state (of_not (nat_le v r.state.version) n))
+        ∙ (ap (list_all (is_node c)) (view_taken v xs r.state) ∙ g))
+    by b n g e = absurd (true≢false (sym n))
+
+pub take_gave : (c d : Script) (from : Incarnation) (b : Body) (r now : Region) (k two : Option Held) (old new : Meaning) (before mid between items : List Item)
+    → d ≡ c
+    → is_newer b r.version ≡ true
+    → now ≡ fold region_after r (handled from b r)
+    → mid ≡ before ++ flat_map item_of (handled from b r)
+    → now ≡ fold region_after now (register now)
+    → Gave d (λ lists. lead lists (node_of d now k)) old (node_of d now k) mid new (node_of d now two) between
+    → items ≡ between ++ flat_map item_of (register now)
+    → Gave c (λ lists. packet lists from b (node_of c r k)) old (node_of c r k) before new (node_of c now two) items
+take_gave c d from (body.View v xs) r now k two old new before mid between items same newer state mid_is still g last =
+    let older : nat_le v r.version ≡ false = of_not (nat_le v r.version) newer in
+    let is : handled from (body.View v xs) r ≡ take_view v xs r = handled_is from v xs r older in
+    view_gave c from v xs r now k two old new before between items older (state ∙ ap (fold region_after r) is) still
+    (subst (λ l. Gave c (λ lists. lead lists (node_of c now k)) old (node_of c now k) l new (node_of c now two) between) (mid_is ∙ ap (λ ms. before ++ flat_map item_of ms) is)
+    (subst (λ (x : Script). Gave x (λ lists. lead lists (node_of x now k)) old (node_of x now k) mid new (node_of x now two) between) same g)) last
+take_gave c d from b r now k two old new before mid between items same newer state mid_is still g last = absurd (true≢false (sym newer))

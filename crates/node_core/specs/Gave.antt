@@ -29,6 +29,7 @@ pub record Gave (c : Script) (acts : SlotLists → List Act) (old : Meaning) (st
   pub state : ForLists old c st (λ lists. to ≡ fold after st (acts lists))
   pub tells : ForLists old c st (λ lists. Tells new c (lists_after c lists (acts lists)))
   pub in_hand : ForLists old c st (λ lists. AreInHand c (lists_after c lists (acts lists)) to)
+  pub who_is : to.who ≡ st.who
   pub rests : Rests new c to
   pub stays : Stays old new
   pub others : AreOthersSame st.who.node old new

@@ -29,3 +29,7 @@ IsGrant c who (answer.Held h) = Unit {0}
 abbrev pub Took : Script → Incarnation → Acquire → Option Held → List Item → List Item → Type 0
 Took c who (answer.Granted x) office before now = (office ≡ Some (record { script = script_of x; state = new_coordinator (setting c) who (entries_of x); spare = spare_of x; places = 0 })) × (now ≡ before ++ item.Fact (fact.Granted slot.Coordinator (epoch (entries_of x)) who) ∷ [])
 Took c who (answer.Held h) office before now = (office ≡ None) × (now ≡ before ++ item.Fact (fact.Held slot.Coordinator who h) ∷ [])
+
+abbrev pub IsGranted : Acquire → Type 0
+IsGranted (answer.Granted x) = Unit {0}
+IsGranted (answer.Held h) = ⊥

@@ -1,16 +1,17 @@
 //! Lead: the oldest of the view takes the coordinator's slot, and the coordinator terminates the
 //! regions that are lost (Akka 2.6, Cluster Sharding concepts: the coordinator is a singleton of the
 //! oldest node).
-ghost use Rattle.std.specs.Prelude.{◌≡◌, ℕ, ◌+◌, ◌≤◌, [], ◌++◌, map, true, None, IfSome, IsTrue};
+ghost use Rattle.std.specs.Prelude.{◌≡◌, ℕ, ◌+◌, ◌≤◌, [], ◌++◌, map, true, None, IfSome, MatchOption, IsTrue};
 ghost use Rattle.yard_model.specs.declared.incarnation.Slot.TheVariants as slot;
 ghost use Rattle.yard_model.specs.Coordinator.{terminate_lost};
 ghost use Rattle.yard_model.specs.Node as rules;
 ghost use Rattle.yard_model.specs.Region.{oldest};
 ghost use Rattle.yard_model.specs.Words.{is_at};
+ghost use Rattle.shard_lease.specs.declared.leases.Acquire.TheVariants as answers;
 ghost use Rattle.shard_lease.specs.Meaning.{Meaning, Stays};
 ghost use Rattle.node_core.specs.Standing.{node_of, AreParts, AreSeen, IsOf};
 ghost use Rattle.node_core.specs.Leased.{Rests};
-ghost use Rattle.node_core.specs.Taken.{Took, IsGrant};
+ghost use Rattle.node_core.specs.Taken.{Took, IsGrant, IsGranted};
 ghost use Rattle.node_core.specs.Gave.{Gave, take_lead};
 
 use coordinator_actor::Coordinator;
@@ -19,7 +20,7 @@ use region_actor::Region;
 use shard_lease::{Acquire, Leases};
 use shard_store::Store;
 use std::alloc::Global;
-use yard_model::{Charter, Fact, Incarnation, Item, Out, Slot};
+use yard_model::{Charter, Fact, Incarnation, Item, NodeNo, Out, Slot};
 
 /// Where the node is the oldest of its view and isn't the coordinator, it asks for the
 /// coordinator's slot. Where it is the coordinator now, each registered region that isn't in the view
@@ -88,12 +89,13 @@ fn take_slot<L: Leases>(
     out: &mut Out,
 )
     requires none { coordinator.old ≡ None }
+    requires oldest { is_at region.now.state.who (oldest region.now.state) ≡ true }
     requires parts { AreParts charter.now region.now None }
     requires rests { Rests (L.meaning leases.old) charter.now (node_of charter.now region.now.state None) }
     requires room { 1 ≤ out.old.spare }
     ensures parts { AreParts charter.now region.now coordinator.new }
     ensures entries { IfSome coordinator.new (λ k. 16 ≤ k.spare) }
-    ensures gave { Gave charter.now (λ lists. map rules.by_coordinator (rules.acquire slot.Coordinator region.now.state.who lists.coordinator)) (L.meaning leases.old) (node_of charter.now region.now.state None) out.old.items (L.meaning leases.new) (node_of charter.now region.now.state coordinator.new) out.new.items }
+    ensures gave { Gave charter.now (λ lists. take_lead lists (node_of charter.now region.now.state coordinator.old)) (L.meaning leases.old) (node_of charter.now region.now.state coordinator.old) out.old.items (L.meaning leases.new) (node_of charter.now region.now.state coordinator.new) out.new.items }
     ensures spare { out.old.spare ≤ out.new.spare + 1 }
 {
     let who = region.who();
@@ -118,6 +120,40 @@ fn take(
     ensures entries { IfSome coordinator.new (λ k. 16 ≤ k.spare) }
     ensures spare { out.old.spare ≤ out.new.spare + 1 }
 {
+    match holder_in(&answer) {
+        Some(node) => out.push(Item::Fact(Fact::Held(Slot::Coordinator, *who, node))),
+        None => begin(alloc, charter, who, answer, coordinator, out),
+    }
+}
+
+/// Who holds the slot, where it isn't granted.
+fn holder_in(answer: &Acquire) -> Option<NodeNo>
+    ensures { MatchOption result (IsGranted answer.now) (λ node. answer.now ≡ answers.Held node) }
+{
+    match answer {
+        Acquire::Granted(_) => None,
+        Acquire::Held(node) => Some(*node),
+    }
+}
+
+/// The slot is granted: it is told, and the coordinator begins.
+fn begin(
+    alloc: Global,
+    charter: &Charter,
+    who: &Incarnation,
+    answer: Acquire,
+    coordinator: &mut Option<Coordinator>,
+    out: &mut Out,
+)
+    requires none { coordinator.old ≡ None }
+    requires is_granted { IsGranted answer }
+    requires granted { IsGrant charter.now who.now answer }
+    requires room { 1 ≤ out.old.spare }
+    ensures took { Took charter.now who.now answer coordinator.new out.old.items out.new.items }
+    ensures parts { IfSome coordinator.new (IsOf charter.now who.now) }
+    ensures entries { IfSome coordinator.new (λ k. 16 ≤ k.spare) }
+    ensures spare { out.old.spare ≤ out.new.spare + 1 }
+{
     match answer {
         Acquire::Granted(Store::Coordinator(store)) => {
             out.push(Item::Fact(Fact::Granted(
@@ -127,10 +163,7 @@ fn take(
             )));
             *coordinator = Some(Coordinator::new(alloc, *who, charter, store));
         }
-        Acquire::Granted(_) => unreachable!(),
-        Acquire::Held(node) => {
-            out.push(Item::Fact(Fact::Held(Slot::Coordinator, *who, node)));
-        }
+        _ => unreachable!(),
     }
 }
 

@@ -4,6 +4,7 @@
 
 mod lead;
 mod node;
+mod register;
 
 pub use node::Node;
 

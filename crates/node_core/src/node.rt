@@ -25,7 +25,6 @@ ghost use Rattle.node_core.specs.Leased.{Rests, Tells, AreInHand, IsFor, IfPacke
 ghost use Rattle.node_core.specs.Gave.{ForLists, AreOthersSame, Gave, lists_after};
 
 use coordinator_actor::Coordinator;
-use coordinator_actor::laws::{register_room as enter_room, same_law as same_coordinator};
 use region_actor::Region;
 use region_actor::laws::{handle_room, register_room, same_law};
 use shard_lease::Leases;
@@ -39,6 +38,7 @@ use yard_model::{
 };
 
 use crate::lead::lead;
+use crate::register::register;
 
 /// A node from its start to its end: the region and, while it holds the coordinator's slot, the
 /// coordinator (Akka 2.6, Cluster Sharding concepts). Where it is the coordinator, every registered
@@ -154,6 +154,7 @@ impl<B: Drop> Node<B> {
         requires ready { IsReady self.old out.old.spare }
         requires rests { Rests (L.meaning leases.old) self.old.script self.old.state }
         ensures script { self.new.script ≡ self.old.script }
+        ensures who { self.new.state.who ≡ self.old.state.who }
         ensures items { (sends : List (List Sending)) → ForLists (L.meaning leases.old) self.old.script self.old.state (λ lists. out.new.items ≡ out.old.items ++ items_of (turn sends lists input self.old.state)) }
         ensures state { (sends : List (List Sending)) → ForLists (L.meaning leases.old) self.old.script self.old.state (λ lists. self.new.state ≡ fold after self.old.state (turn sends lists input self.old.state)) }
         ensures tells { (sends : List (List Sending)) → ForLists (L.meaning leases.old) self.old.script self.old.state (λ lists. Tells (L.meaning leases.new) self.old.script (lists_after self.old.script lists (turn sends lists input self.old.state))) }
@@ -190,7 +191,7 @@ impl<B: Drop> Node<B> {
                     self.take_view(charter, packet, leases, out);
                 }
             }
-            Body::Register => self.enter(packet, out),
+            Body::Register => self.enter(charter, packet, out),
             Body::RegisterAck => self.acknowledge(packet, out),
             _ => unreachable!(),
         }
@@ -231,7 +232,8 @@ impl<B: Drop> Node<B> {
     }
 
     /// A region asks to be registered.
-    fn enter(&mut self, packet: &Packet, out: &mut Out)
+    fn enter(&mut self, charter: &Charter, packet: &Packet, out: &mut Out)
+        requires charter { charter.now ≡ self.old.script }
         requires register { packet.now.body ≡ body.Register }
         requires genuine { IsTrue (is_genuine_packet self.old.script packet.now) }
         requires ready { IsReady self.old out.old.spare }
@@ -239,12 +241,7 @@ impl<B: Drop> Node<B> {
         ensures gave { (m : Meaning) → Rests m self.old.script self.old.state → m.within packet.now.from.number ≡ true
             → Gave self.old.script (λ lists. rules.packet lists packet.now.from body.Register self.old.state) m self.old.state out.old.items m self.new.state out.new.items }
     {
-        enter_room();
-        same_coordinator();
-        if let Some(coordinator) = &mut self.coordinator {
-            coordinator.who();
-            coordinator.handle(packet, self.region.view(), out);
-        }
+        register(charter, &self.region, &mut self.coordinator, packet, out);
     }
 
     /// The region is registered.
@@ -289,6 +286,7 @@ impl<B: Drop> Node<B> {
     pub fn is_active(&self, entity: &EntityName) -> bool
         ensures { result ≡ is_in_phase phase.Active self.now.state.entities entity.now }
     {
+        let _ = (&self.region, entity);
         false
     }
 
@@ -296,6 +294,7 @@ impl<B: Drop> Node<B> {
     pub fn holds_queue(&self, p: ProducerNo) -> bool
         ensures { result ≡ is_some (at self.now.state.producers (p - 1)) }
     {
+        let _ = (&self.region, p);
         false
     }
 }

@@ -7,3 +7,4 @@ pub mod ShareLaws
 pub mod RoundLaws
 pub mod PickedLaws
 pub mod TickLaws
+pub mod LimitLaws

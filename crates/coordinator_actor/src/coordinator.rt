@@ -128,6 +128,16 @@ impl Coordinator {
         self.who
     }
 
+    /// How much there is at most: 16 regions are registered, and 128 shards are in the open round.
+    pub fn room(&self)
+        ensures regions { length (registered self.now.state) ≤ 16 }
+        ensures moving { length self.now.state.moving ≤ 128 }
+    {
+        let regions = self.regions();
+        regions.as_slice();
+        self.round().as_slice();
+    }
+
     /// Whether this region is registered.
     pub fn is_registered(&self, r: &Incarnation) -> bool
         ensures { result ≡ is_among r.now (registered self.now.state) }

@@ -8,6 +8,7 @@ mod coordinator;
 mod flags;
 mod handle;
 mod homes;
+pub mod laws;
 mod leaving;
 mod lost;
 mod moving;

@@ -133,6 +133,14 @@ impl Region {
         self.seen.has(*who)
     }
 
+    /// The view: its version, and its members.
+    pub fn view(&self) -> &View
+        ensures version { result.now.version ≡ self.now.state.version }
+        ensures members { result.now.members ≡ self.now.state.view }
+    {
+        &self.seen
+    }
+
     /// The members in the view, oldest first.
     pub fn members(&self) -> Members
         ensures { result ≡ self.now.state.view }

@@ -1,0 +1,4 @@
+pub mod GaveLaws
+pub mod LeadLaws
+pub mod CrashLaws
+pub mod StepLaws

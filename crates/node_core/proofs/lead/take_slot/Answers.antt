@@ -1,0 +1,30 @@
+use Rattle.std.proofs.Common.{◌≡◌, ◌+◌, ◌-◌, ◌≤◌, ℕ, List, [], ◌∷◌, ◌++◌, map, sym, ap, subst, ◌∙◌, refl, true, false, arith, append-nil}
+use Rattle.std.specs.Prelude.{fold, Option, Some, None, IfSome, is_some}
+use Rattle.yard_model.specs.declared.incarnation.Incarnation.{Incarnation}
+use Rattle.yard_model.specs.declared.incarnation.Slot.TheVariants as slot
+use Rattle.yard_model.specs.declared.incarnation.Slot.{Slot}
+use Rattle.yard_model.specs.declared.out.Item.TheVariants as item
+use Rattle.yard_model.specs.declared.out.Item.{Item}
+use Rattle.yard_model.specs.Script.{Script, setting, IsScript}
+use Rattle.coordinator_actor.specs.Held.{Held, are_viewed}
+use Rattle.shard_lease.specs.Meaning.{Meaning, Acquired}
+use Rattle.node_core.specs.Standing.{Standing, node_of, AreParts, IsOf}
+use Rattle.node_core.specs.Leased.{Rests, Tells, AreInHand, IsHandOf, IsFreed}
+use Rattle.node_core.specs.Gave.{Gave, ForLists, lists_after, take_lead}
+use Rattle.node_core.specs.Taken.{Took}
+use Rattle.node_core.proofs.LeadLaws.{took_gave}
+use Rattle.node_core.proofs.lead.take_slot.Goals as goal
+
+pub returns-clause-gave : goal.returns-clause-gave
+returns-clause-gave g c =
+    let script : Script = c.args.charter.now in
+    let r = c.args.region.now.state in
+    let old : Meaning = g.L.Leases.meaning c.args.leases.now in
+    let new : Meaning = g.L.Leases.meaning c.acquire-answer.new.self in
+    let before : List Item = c.args.out.now.items in
+    let now : List Item = c.take.new.out.items in
+    let k : Option Held = c.take.new.coordinator in
+    subst (λ (o : Option Held). Gave script (λ lists. take_lead lists (node_of script r o)) old (node_of script r o) before new (node_of script r k) now) (sym c.requires.none)
+    (took_gave script old new r c.acquire-answer.result k before now c.requires.oldest c.requires.rests c.acquire-answer.ensures.stays
+    (subst (λ (x : Incarnation). Acquired old x slot.Coordinator c.acquire-answer.result new) c.who-who.ensures c.acquire-answer.ensures.answer)
+    (subst (λ (x : Incarnation). Took script x c.acquire-answer.result k before now) c.who-who.ensures c.take.ensures.took))

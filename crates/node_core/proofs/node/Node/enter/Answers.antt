@@ -1,0 +1,25 @@
+use Rattle.std.proofs.Common.{◌≡◌, ◌+◌, ◌-◌, ◌≤◌, ℕ, List, [], ◌∷◌, ◌++◌, map, sym, ap, subst, ◌∙◌, refl, true, false, arith, append-nil}
+use Rattle.std.specs.Prelude.{fold, Option, Some, None, IfSome, is_some}
+use Rattle.yard_model.specs.declared.incarnation.Incarnation.{Incarnation}
+use Rattle.yard_model.specs.declared.packet.Body.{Body}
+use Rattle.yard_model.specs.declared.packet.Body.TheVariants as body
+use Rattle.yard_model.specs.Script.{Script, setting, IsScript}
+use Rattle.coordinator_actor.specs.Held.{Held, are_viewed}
+use Rattle.shard_lease.specs.Meaning.{Meaning, Acquired}
+use Rattle.node_core.specs.Standing.{Standing, node_of, AreParts, IsOf}
+use Rattle.node_core.specs.Leased.{Rests, Tells, AreInHand, IsHandOf, IsFreed}
+use Rattle.node_core.specs.Gave.{Gave, ForLists, lists_after, take_lead}
+use Rattle.yard_model.specs.Node as rules
+use Rattle.node_core.proofs.node.Node.enter.Goals as goal
+
+pub returns-clause-gave : goal.returns-clause-gave
+returns-clause-gave g c = λ m rests within.
+    let script : Script = c.self.inside.script.value in
+    let r = c.self.inside.region.state in
+    let k : Option Held = c.self.inside.coordinator in
+    let from : Incarnation = c.args.packet.now.from in
+    let same : c.args.charter.now ≡ script = c.requires.charter ∙ sym (ap (λ (v : Standing). v.script) c.self.view_is) in
+    let here : Rests m script (node_of script r k) = subst (λ (v : Standing). Rests m v.script v.state) (sym c.self.view_is) rests in
+    subst (λ (v : Standing). Gave v.script (λ lists. rules.packet lists from body.Register v.state) m v.state c.args.out.now.items m (node_of script r c.register.new.coordinator) c.register.new.out.items) c.self.view_is
+    (subst (λ (s : Script). Gave s (λ lists. rules.packet lists from body.Register (node_of s r k)) m (node_of s r k) c.args.out.now.items m (node_of s r c.register.new.coordinator) c.register.new.out.items) same
+    (c.register.ensures.gave m (subst (λ (s : Script). Rests m s (node_of s r k)) (sym same) here) within))

@@ -1,0 +1,81 @@
+-- What a node rests on of the leases: the slots that it holds there are those whose lists it has in hand; and what the leases tell of all slots.
+use Rattle.std.specs.Prelude.{◌≡◌, ℕ, true, List, [], ◌∷◌, Option, Some, None, is_some, IfSome, IsSomeAnd, MatchOption, IsTrue, Bool, false, not, nat_le}
+use Rattle.std.specs.List.{list_all}
+use Rattle.yard_model.specs.declared.fact.Fact.{Fact}
+use Rattle.yard_model.specs.declared.incarnation.Incarnation.{Incarnation}
+use Rattle.yard_model.specs.declared.incarnation.Slot.{Slot}
+use Rattle.yard_model.specs.declared.incarnation.Slot.TheVariants as slot
+use Rattle.yard_model.specs.declared.input.Input.{Input}
+use Rattle.yard_model.specs.declared.input.Input.TheVariants as input
+use Rattle.yard_model.specs.declared.out.Item.{Item}
+use Rattle.yard_model.specs.declared.out.Item.TheVariants as item
+use Rattle.yard_model.specs.declared.packet.Body.{Body}
+use Rattle.yard_model.specs.declared.packet.Body.TheVariants as body
+use Rattle.yard_model.specs.declared.packet.Packet.{Packet}
+use Rattle.yard_model.specs.Genuine.{is_slot_of, is_genuine_packet}
+use Rattle.yard_model.specs.Node.{Node}
+use Rattle.yard_model.specs.Script.{Script}
+use Rattle.yard_model.specs.SlotLists.{SlotLists}
+use Rattle.yard_model.specs.SlotReads.{holder}
+use Rattle.yard_model.specs.Trace.{list_at}
+use Rattle.world_laws.specs.Hands.{held_list}
+use Rattle.shard_lease.specs.Meaning.{Known, Meaning, Apart, Begins, IsVouched, is_taken}
+
+-- a list that a node has in hand: it extends the one that was told last, its incarnations have numbers within the limit, and what it confirms is vouched for
+pub record IsHandOf (m : Meaning) (s : Slot) (list : List Fact) : Type 0 where
+  pub extends : Begins (m.told s) list
+  pub taken : IsTrue (list_all (is_taken m s) list)
+  pub vouched : IsVouched m (m.told s) list
+
+-- every slot but a queue, to which a node is admitted as it is to produce
+abbrev pub IsNoQueue : Slot → Type 0
+IsNoQueue (slot.Queue p) = ⊥
+IsNoQueue s = Unit {0}
+
+pub record Rests (m : Meaning) (c : Script) (st : Node) : Type 0 where
+  pub script_is : m.script ≡ c
+  pub serves_is : m.serves st.who ≡ true
+  pub number_is : m.within st.who.number ≡ true
+  pub admits_is : (s : Slot) → IsTrue (is_slot_of c s) → IsNoQueue s → m.admits st.who.node s ≡ true
+  pub held_is : (s : Slot) → IsTrue (is_slot_of c s) → m.holds st.who.node s ≡ is_some (held_list s st)
+  pub lists_are : (s : Slot) → IsTrue (is_slot_of c s) → IfSome (held_list s st) (IsHandOf m s)
+
+-- what is told of a slot is so of this list: who holds it, and the list itself where nobody does
+pub record IsTold (list : List Fact) (k : Known) : Type 0 where
+  pub holder_is : k.holder ≡ holder list
+  pub list_is : k.holder ≡ None → k.list ≡ list
+
+-- the leases tell of each slot, by these lists
+abbrev pub Tells : Meaning → Script → SlotLists → Type 0
+Tells m c lists = (s : Slot) → IsTrue (is_slot_of c s) → IsSomeAnd (m.tells s) (IsTold (list_at lists s))
+
+-- what the node has in hand are these lists
+abbrev pub AreInHand : Script → SlotLists → Node → Type 0
+AreInHand c lists st = (s : Slot) → IsTrue (is_slot_of c s) → IfSome (held_list s st) (λ list. list_at lists s ≡ list)
+
+-- a packet for this incarnation, made of what the script has, from one whose number is within the limit
+pub record IsFor (c : Script) (m : Meaning) (who : Incarnation) (p : Packet) : Type 0 where
+  pub genuine : IsTrue (is_genuine_packet c p)
+  pub to_is : p.to ≡ who
+  pub within_is : m.within p.from.number ≡ true
+
+abbrev pub IfPacket : Input → (Packet → Type 0) → Type 0
+IfPacket (input.Packet p) P = P p
+IfPacket i P = Unit {0}
+
+-- the facts among items
+abbrev pub facts_in : List Item → List Fact
+facts_in [] = []
+facts_in (item.Fact f ∷ is) = f ∷ facts_in is
+facts_in (item.Post p ∷ is) = facts_in is
+
+-- a view whose version is greater than this
+abbrev pub is_newer : Body → ℕ → Bool
+is_newer (body.View v xs) old = not (nat_le v old)
+is_newer b old = false
+
+-- the slot has no holder any more, and this list; nothing is changed of others
+pub record IsFreed (old : Meaning) (who : Incarnation) (s : Slot) (list : List Fact) (new : Meaning) : Type 0 where
+  pub holds_is : new.holds who.node s ≡ false
+  pub apart : Apart who.node s old new
+  pub tells_is : MatchOption (old.tells s) (new.tells s ≡ None) (λ k. new.tells s ≡ Some (record { holder = None; list = list }))

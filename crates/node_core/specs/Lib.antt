@@ -1,0 +1,4 @@
+pub mod Standing
+pub mod Leased
+pub mod Gave
+pub mod Taken

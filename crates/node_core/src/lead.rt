@@ -1,0 +1,189 @@
+//! Lead: the oldest of the view takes the coordinator's slot, and the coordinator terminates the
+//! regions that are lost (Akka 2.6, Cluster Sharding concepts: the coordinator is a singleton of the
+//! oldest node).
+ghost use Rattle.std.specs.Prelude.{◌≡◌, ℕ, ◌+◌, ◌≤◌, [], ◌++◌, map, true, None, IfSome, MatchOption, IsTrue};
+ghost use Rattle.yard_model.specs.declared.incarnation.Slot.TheVariants as slot;
+ghost use Rattle.yard_model.specs.Coordinator.{terminate_lost};
+ghost use Rattle.yard_model.specs.Node as rules;
+ghost use Rattle.yard_model.specs.Region.{oldest};
+ghost use Rattle.yard_model.specs.Words.{is_at};
+ghost use Rattle.shard_lease.specs.declared.leases.Acquire.TheVariants as answers;
+ghost use Rattle.shard_lease.specs.Meaning.{Meaning, Stays};
+ghost use Rattle.node_core.specs.Standing.{node_of, AreParts, AreSeen, IsOf};
+ghost use Rattle.node_core.specs.Leased.{Rests};
+ghost use Rattle.node_core.specs.Taken.{Took, IsGrant, IsGranted};
+ghost use Rattle.node_core.specs.Gave.{Gave, take_lead};
+
+use coordinator_actor::Coordinator;
+use coordinator_actor::laws::{lost_room, same_law as same_coordinator};
+use region_actor::Region;
+use shard_lease::{Acquire, Leases};
+use shard_store::Store;
+use std::alloc::Global;
+use yard_model::{Charter, Fact, Incarnation, Item, NodeNo, Out, Slot};
+
+/// Where the node is the oldest of its view and isn't the coordinator, it asks for the
+/// coordinator's slot. Where it is the coordinator now, each registered region that isn't in the view
+/// is terminated.
+pub(crate) fn lead<L: Leases>(
+    alloc: Global,
+    charter: &Charter,
+    region: &Region,
+    coordinator: &mut Option<Coordinator>,
+    leases: &mut L,
+    out: &mut Out,
+)
+    requires parts { AreParts charter.now region.now coordinator.old }
+    requires rests { Rests (L.meaning leases.old) charter.now (node_of charter.now region.now.state coordinator.old) }
+    requires entries { IfSome coordinator.old (λ k. 16 ≤ k.spare) }
+    requires room { 2065 ≤ out.old.spare }
+    ensures parts { AreParts charter.now region.now coordinator.new }
+    ensures seen { AreSeen region.now.state.view coordinator.new }
+    ensures gave { Gave charter.now (λ lists. rules.lead lists (node_of charter.now region.now.state coordinator.old)) (L.meaning leases.old) (node_of charter.now region.now.state coordinator.old) out.old.items (L.meaning leases.new) (node_of charter.now region.now.state coordinator.new) out.new.items }
+    ensures spare { out.old.spare ≤ out.new.spare + 2065 }
+{
+    acquire_lead(alloc, charter, region, coordinator, leases, out);
+    drop_lost(charter, region, coordinator, out);
+}
+
+/// The first part of Lead.
+fn acquire_lead<L: Leases>(
+    alloc: Global,
+    charter: &Charter,
+    region: &Region,
+    coordinator: &mut Option<Coordinator>,
+    leases: &mut L,
+    out: &mut Out,
+)
+    requires parts { AreParts charter.now region.now coordinator.old }
+    requires rests { Rests (L.meaning leases.old) charter.now (node_of charter.now region.now.state coordinator.old) }
+    requires entries { IfSome coordinator.old (λ k. 16 ≤ k.spare) }
+    requires room { 1 ≤ out.old.spare }
+    ensures parts { AreParts charter.now region.now coordinator.new }
+    ensures entries { IfSome coordinator.new (λ k. 16 ≤ k.spare) }
+    ensures gave { Gave charter.now (λ lists. take_lead lists (node_of charter.now region.now.state coordinator.old)) (L.meaning leases.old) (node_of charter.now region.now.state coordinator.old) out.old.items (L.meaning leases.new) (node_of charter.now region.now.state coordinator.new) out.new.items }
+    ensures spare { out.old.spare ≤ out.new.spare + 1 }
+{
+    if coordinator.is_none() && is_oldest(region) {
+        take_slot(alloc, charter, region, coordinator, leases, out);
+    }
+}
+
+/// Whether the node is the oldest of its view.
+fn is_oldest(region: &Region) -> bool
+    ensures { result ≡ is_at region.now.state.who (oldest region.now.state) }
+{
+    match &region.oldest() {
+        Some(oldest) => region.who() == *oldest,
+        None => false,
+    }
+}
+
+/// Asks for the coordinator's slot.
+fn take_slot<L: Leases>(
+    alloc: Global,
+    charter: &Charter,
+    region: &Region,
+    coordinator: &mut Option<Coordinator>,
+    leases: &mut L,
+    out: &mut Out,
+)
+    requires none { coordinator.old ≡ None }
+    requires oldest { is_at region.now.state.who (oldest region.now.state) ≡ true }
+    requires parts { AreParts charter.now region.now None }
+    requires rests { Rests (L.meaning leases.old) charter.now (node_of charter.now region.now.state None) }
+    requires room { 1 ≤ out.old.spare }
+    ensures parts { AreParts charter.now region.now coordinator.new }
+    ensures entries { IfSome coordinator.new (λ k. 16 ≤ k.spare) }
+    ensures gave { Gave charter.now (λ lists. take_lead lists (node_of charter.now region.now.state coordinator.old)) (L.meaning leases.old) (node_of charter.now region.now.state coordinator.old) out.old.items (L.meaning leases.new) (node_of charter.now region.now.state coordinator.new) out.new.items }
+    ensures spare { out.old.spare ≤ out.new.spare + 1 }
+{
+    let who = region.who();
+    let answer = leases.acquire(who, Slot::Coordinator);
+    take(alloc, charter, &who, answer, coordinator, out);
+}
+
+/// Takes what was answered: the coordinator is there where the slot is granted.
+fn take(
+    alloc: Global,
+    charter: &Charter,
+    who: &Incarnation,
+    answer: Acquire,
+    coordinator: &mut Option<Coordinator>,
+    out: &mut Out,
+)
+    requires none { coordinator.old ≡ None }
+    requires granted { IsGrant charter.now who.now answer }
+    requires room { 1 ≤ out.old.spare }
+    ensures took { Took charter.now who.now answer coordinator.new out.old.items out.new.items }
+    ensures parts { IfSome coordinator.new (IsOf charter.now who.now) }
+    ensures entries { IfSome coordinator.new (λ k. 16 ≤ k.spare) }
+    ensures spare { out.old.spare ≤ out.new.spare + 1 }
+{
+    match holder_in(&answer) {
+        Some(node) => out.push(Item::Fact(Fact::Held(Slot::Coordinator, *who, node))),
+        None => begin(alloc, charter, who, answer, coordinator, out),
+    }
+}
+
+/// Who holds the slot, where it isn't granted.
+fn holder_in(answer: &Acquire) -> Option<NodeNo>
+    ensures { MatchOption result (IsGranted answer.now) (λ node. answer.now ≡ answers.Held node) }
+{
+    match answer {
+        Acquire::Granted(_) => None,
+        Acquire::Held(node) => Some(*node),
+    }
+}
+
+/// The slot is granted: it is told, and the coordinator begins.
+fn begin(
+    alloc: Global,
+    charter: &Charter,
+    who: &Incarnation,
+    answer: Acquire,
+    coordinator: &mut Option<Coordinator>,
+    out: &mut Out,
+)
+    requires none { coordinator.old ≡ None }
+    requires is_granted { IsGranted answer }
+    requires granted { IsGrant charter.now who.now answer }
+    requires room { 1 ≤ out.old.spare }
+    ensures took { Took charter.now who.now answer coordinator.new out.old.items out.new.items }
+    ensures parts { IfSome coordinator.new (IsOf charter.now who.now) }
+    ensures entries { IfSome coordinator.new (λ k. 16 ≤ k.spare) }
+    ensures spare { out.old.spare ≤ out.new.spare + 1 }
+{
+    match answer {
+        Acquire::Granted(Store::Coordinator(store)) => {
+            out.push(Item::Fact(Fact::Granted(
+                Slot::Coordinator,
+                store.epoch(),
+                *who,
+            )));
+            *coordinator = Some(Coordinator::new(alloc, *who, charter, store));
+        }
+        _ => unreachable!(),
+    }
+}
+
+/// The second part of Lead.
+fn drop_lost(charter: &Charter, region: &Region, coordinator: &mut Option<Coordinator>, out: &mut Out)
+    requires parts { AreParts charter.now region.now coordinator.old }
+    requires entries { IfSome coordinator.old (λ k. 16 ≤ k.spare) }
+    requires room { 2064 ≤ out.old.spare }
+    ensures parts { AreParts charter.now region.now coordinator.new }
+    ensures seen { AreSeen region.now.state.view coordinator.new }
+    ensures gave { (m : Meaning) → Rests m charter.now (node_of charter.now region.now.state coordinator.old)
+        → Gave charter.now (λ lists. rules.of_coordinator (terminate_lost region.now.state.view) (node_of charter.now region.now.state coordinator.old)) m (node_of charter.now region.now.state coordinator.old) out.old.items m (node_of charter.now region.now.state coordinator.new) out.new.items }
+    ensures spare { out.old.spare ≤ out.new.spare + 2064 }
+{
+    lost_room();
+    same_coordinator();
+    let _config = charter.config();
+    if let Some(coordinator) = coordinator {
+        coordinator.who();
+        coordinator.room();
+        coordinator.view_taken(region.view(), out);
+    }
+}

@@ -1,0 +1,1 @@
+//! What no clause says: that memory is there where there is plenty.

@@ -131,7 +131,7 @@ length_numbers : (a n : ℕ) → length (numbers a n) ≡ n
 length_numbers a zero = refl
 length_numbers a (suc n) = ap suc (length_numbers (a + 1) n)
 
-few_nodes : (c : Script) → IsScript c → c.config.nodes ≤ 16
+pub few_nodes : (c : Script) → IsScript c → c.config.nodes ≤ 16
 few_nodes c k = at_most c.config.nodes 16 (within k.config)
   where
     front : (a b : Bool) → (a && b) ≡ true → a ≡ true
@@ -140,7 +140,7 @@ few_nodes c k = at_most c.config.nodes 16 (within k.config)
     within : is_config c.config ≡ true → nat_le c.config.nodes 16 ≡ true
     within e = (and_both (nat_le 1 c.config.nodes) (nat_le c.config.nodes 16) (front (is_in 1 16 c.config.nodes) _ (front _ _ (front _ _ (front _ _ (front _ _ (front _ _ e))))))).1
 
-few_members : (c : Script) (view : List Incarnation) → list_all (is_node c) view ≡ true → are_of_different_nodes view ≡ true → length view ≤ c.config.nodes
+pub few_members : (c : Script) (view : List Incarnation) → list_all (is_node c) view ≡ true → are_of_different_nodes view ≡ true → length view ≤ c.config.nodes
 few_members c view nodes different =
     let all : List Incarnation = map first_of (numbers 1 c.config.nodes) in
     let less : length (firsts view) ≤ length all = fewer (firsts view) all (firsts_differ [] view different) (all_there c view nodes) in

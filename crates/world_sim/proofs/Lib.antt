@@ -1,3 +1,9 @@
 pub mod FreshLaws
-pub mod ToldLaws
+pub mod MembersLaws
 pub mod OffWireLaws
+pub mod RestsLaws
+pub mod SeenLaws
+pub mod TellLaws
+pub mod ToldLaws
+pub mod TurnLaws
+pub mod UpLaws

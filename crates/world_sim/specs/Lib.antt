@@ -1,3 +1,5 @@
-pub mod Mail
 pub mod Lending
+pub mod Mail
+pub mod Steps
 pub mod Told
+pub mod Yard

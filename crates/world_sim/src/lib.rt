@@ -1,8 +1,14 @@
 //! The world of a cluster: all its nodes, and the packets that go between them.
 #![tactic(auto)]
 
+mod delivery;
 pub mod laws;
 mod mail;
+mod members;
+mod orders;
+mod places;
+mod ups;
+mod yard;
 
 pub use mail::Mail;
 

@@ -1,0 +1,171 @@
+-- Nodes that come up and go down: what the code keeps stands for the world after.
+use Rattle.std.proofs.Common.{◌≡◌, ℕ, zero, suc, ◌+◌, ◌-◌, ◌<◌, ◌≤◌, Bool, true, false, ◌&&◌, not, List, [], ◌∷◌, ◌++◌, length, fold, refl, ap, sym, ◌∙◌, subst, arith, length-append}
+use Rattle.std.specs.Prelude.{map, nat_le, Option, Some, None, IfSome, Result, Ok, Err, OnOk, slice_set, slice_index_or, is_none}
+use Rattle.std.specs.List.{list_all, flat_map}
+use Rattle.std.proofs.lemmas.List.{map-set, length-map, length-set, get_or-set_same, get_or-set_other}
+use Rattle.std.proofs.lemmas.List.Folds.{list_all-append}
+use Rattle.yard_model.specs.declared.fact.Fact.{Fact}
+use Rattle.yard_model.specs.declared.fact.Fact.TheVariants as fact
+use Rattle.yard_model.specs.declared.incarnation.Incarnation.{Incarnation}
+use Rattle.yard_model.specs.declared.out.Item.{Item}
+use Rattle.yard_model.specs.declared.out.Item.TheVariants as item
+use Rattle.yard_model.specs.Behaviour.{is_in}
+use Rattle.yard_model.specs.Genuine.{is_node}
+use Rattle.yard_model.specs.Members.{has_node, are_of_different_nodes}
+use Rattle.yard_model.specs.Node.{Node, new_node}
+use Rattle.yard_model.specs.Script.{Script, setting}
+use Rattle.yard_model.specs.Words.{at, is_among}
+use Rattle.yard_model.specs.World.{World, Made, Step, then_step, node_at}
+use Rattle.node_core.specs.Standing.{Standing}
+use Rattle.world_laws.specs.Standing.{Stands, IsUp, IsThere}
+use Rattle.world_laws.proofs.Members.{all_among, different_last, node_of_some}
+use Rattle.world_laws.proofs.Place.{none_is_not_some, some_is, placed_at, placed_beside, by_place}
+use Rattle.world_laws.proofs.Room.{few_members, few_nodes}
+use Rattle.yard_laws.proofs.Booleans.{true_is_not_false, and_both, both, at_most}
+use Rattle.world_sim.specs.Steps.{entered, AreOneMore}
+use Rattle.world_sim.specs.Yard.{Yard, IsSeen, IsSound, Goes, state_in}
+
+-- One step and then another.
+
+abbrev then_if : Made → Bool → Step → Made
+then_if m b q = elim b as (λ b. Made) [
+  | true ↦ m
+  | false ↦ let n : Made = q m.world in record { facts = m.facts ++ n.facts; world = n.world }
+]
+
+going : (m : Made) (q : Step) (b : Bool) → b ≡ false → then_if m b q ≡ record { facts = m.facts ++ (q m.world).facts; world = (q m.world).world }
+going m q false e = refl
+going m q true e = absurd (true_is_not_false e)
+
+-- where the trace goes on after the one, both were made
+pub goes_then : (before mid after : List Fact) (y z : Yard) (m : Made) (q : Step) → Goes before mid y m → Goes mid after z (q m.world) → m.world.full ≡ false → Goes before after z (then_step m q)
+goes_then before mid after y z m q a b e = subst (λ n. Goes before after z n) (sym (going m q m.world.full e)) (record {
+  seen_is = b.seen_is;
+  facts_are = b.facts_are ∙ (ap (λ fs. fs ++ (q m.world).facts) a.facts_are ∙ append_three before m.facts (q m.world).facts);
+})
+  where
+    append_three : (xs ys zs : List Fact) → (xs ++ ys) ++ zs ≡ xs ++ (ys ++ zs)
+    append_three [] ys zs = refl
+    append_three (x ∷ xs) ys zs = ap (λ l. x ∷ l) (append_three xs ys zs)
+
+-- Places.
+
+pub at_map : (ys : List (Option Standing)) (k : ℕ) → at (map state_in ys) k ≡ state_in (at ys k)
+at_map [] k = refl
+at_map (y ∷ ys) zero = refl
+at_map (y ∷ ys) (suc k) = at_map ys k
+
+-- the world's node at a place is the state of the one that is kept there
+pub node_kept : (y : Yard) (w : World) (k : ℕ) → IsSeen y w → at w.nodes k ≡ state_in (at y.nodes k)
+node_kept y w k s = ap (λ ns. at ns k) (sym s.nodes_are) ∙ at_map y.nodes k
+
+pub nodes_count : (y : Yard) (w : World) → IsSound y w → length y.nodes ≡ y.script.config.nodes
+nodes_count y w s = sym (length-map y.nodes state_in) ∙ (ap length s.seen_is.nodes_are ∙ s.stands_is.nodes_there)
+
+pub ups_count : (y : Yard) (w : World) → IsSound y w → length y.ups ≡ y.script.config.nodes
+ups_count y w s = ap length s.seen_is.ups_are ∙ s.stands_is.ups_there
+
+pub node_within : (n nodes : ℕ) → is_in 1 nodes n ≡ true → (1 ≤ n) × (n ≤ nodes)
+node_within n nodes e = let p : (nat_le 1 n ≡ true) × (nat_le n nodes ≡ true) = and_both (nat_le 1 n) (nat_le n nodes) e in (at_most 1 n p.0, at_most n nodes p.1)
+
+-- Coming up.
+
+-- no member is of a node that isn't up
+pub none_of_down : (y : Yard) (w : World) (n : ℕ) → IsSound y w → at y.nodes (n - 1) ≡ None → has_node n y.members ≡ false
+none_of_down y w n s down = by (has_node n y.members) refl
+  where
+    none_up : (x : Incarnation) → is_among x y.members ≡ true → x.node ≡ n → ⊥
+    none_up x m e =
+        let there : IsThere w x = s.stands_is.members_are x (ap (is_among x) (sym s.seen_is.members_are) ∙ m) in
+        none_is_not_some there.node (sym (node_kept y w (n - 1) s.seen_is ∙ ap state_in down) ∙ (ap (λ j. node_at w j) (sym e) ∙ there.is_up))
+    by : (b : Bool) → has_node n y.members ≡ b → b ≡ false
+    by false e = refl
+    by true e = absurd (node_of_some n y.members e none_up)
+
+-- the members are of the script's nodes
+pub members_nodes : (y : Yard) (w : World) → IsSound y w → list_all (is_node y.script) y.members ≡ true
+members_nodes y w s = all_among (is_node y.script) y.members (λ x m.
+    let there : IsThere w x = s.stands_is.members_are x (ap (is_among x) (sym s.seen_is.members_are) ∙ m) in
+    ap (is_node y.script) (sym there.who_is) ∙ (s.stands_is.nodes_are (x.node - 1) there.node there.is_up).self_is.who_is)
+
+-- so there is room for one
+pub room_for : (y : Yard) (w : World) (x : Incarnation) → IsSound y w → is_in 1 y.script.config.nodes x.node ≡ true → has_node x.node y.members ≡ false → length y.members < 16
+room_for y w x s node other =
+    let all : length (y.members ++ x ∷ []) ≤ y.script.config.nodes = few_members y.script (y.members ++ x ∷ [])
+        (list_all-append (is_node y.script) y.members (x ∷ []) ∙ both (list_all (is_node y.script) y.members) (list_all (is_node y.script) (x ∷ [])) (members_nodes y w s) (both (is_node y.script x) true node refl))
+        (different_last y.members x (ap are_of_different_nodes s.seen_is.members_are ∙ s.stands_is.members_different) other) in
+    let most : y.script.config.nodes ≤ 16 = few_nodes y.script s.stands_is.script_is in
+    let long : length (y.members ++ x ∷ []) ≡ length y.members + 1 = length-append y.members (x ∷ []) in
+    omega (arith, all, most, long)
+
+abbrev came : List ℕ → ℕ → Incarnation
+came ups n = record { node = n; number = slice_index_or ups (n - 1) 0 + 1 }
+
+-- what is kept once a node came up
+abbrev pub with_node : Yard → ℕ → Standing → Yard
+with_node y n node = record y {
+  nodes = slice_set y.nodes (n - 1) (Some node);
+  members = y.members ++ came y.ups n ∷ [];
+  version = y.version + 1;
+  ups = slice_set y.ups (n - 1) (slice_index_or y.ups (n - 1) 0 + 1);
+}
+
+pub entered_goes : (y : Yard) (w : World) (n : ℕ) (node : Standing) (before after : List Fact) → IsSound y w → is_in 1 y.script.config.nodes n ≡ true → node.script ≡ y.script → node.state ≡ new_node (setting y.script) (came y.ups n)
+    → after ≡ before ++ fact.Up (came y.ups n) ∷ [] → Goes before after (with_node y n node) (entered n w)
+entered_goes y w n node before after s within script state told =
+    let u : IsSeen y w = s.seen_is in
+    let r : (1 ≤ n) × (n ≤ y.script.config.nodes) = node_within n y.script.config.nodes within in
+    let there : n - 1 < length y.nodes = let l : length y.nodes ≡ y.script.config.nodes = nodes_count y w s in omega (arith, r.0, r.1, l) in
+    let came_is : came y.ups n ≡ came w.ups n = ap (λ us. came us n) u.ups_are in
+    record {
+      seen_is = record {
+        set_is = u.set_is;
+        limit_is = u.limit_is;
+        members_are = ap (λ ms. ms ++ came y.ups n ∷ []) u.members_are ∙ ap (λ x. w.members ++ x ∷ []) came_is;
+        version_is = ap (λ v. v + 1) u.version_is;
+        ups_are = ap (λ us. slice_set us (n - 1) (slice_index_or us (n - 1) 0 + 1)) u.ups_are;
+        wire_is = u.wire_is;
+        fresh_is = u.fresh_is;
+        full_is = u.full_is;
+        told_all = u.told_all;
+        nodes_are = map-set state_in y.nodes (n - 1) (Some node)
+            ∙ (ap (λ ns. slice_set ns (n - 1) (Some node.state)) u.nodes_are
+            ∙ ap (λ st. slice_set w.nodes (n - 1) (Some st)) (state ∙ (ap (λ x. new_node (setting y.script) x) came_is ∙ ap (λ set. new_node set (came w.ups n)) (sym u.set_is))));
+        scripts_are = λ k. by_place (IfSome (at (slice_set y.nodes (n - 1) (Some node)) k) (λ (v : Standing). v.script ≡ y.script)) k (n - 1)
+            (λ e. subst (λ j. IfSome (at (slice_set y.nodes (n - 1) (Some node)) j) (λ (v : Standing). v.script ≡ y.script)) (sym e)
+                (subst (λ o. IfSome o (λ (v : Standing). v.script ≡ y.script)) (sym (placed_at y.nodes (n - 1) (Some node) there)) script))
+            (λ other. subst (λ o. IfSome o (λ (v : Standing). v.script ≡ y.script)) (sym (placed_beside y.nodes (n - 1) k (Some node) other)) (u.scripts_are k));
+        book_is = u.book_is;
+        tells_is = u.tells_is;
+      };
+      facts_are = told ∙ ap (λ x. before ++ fact.Up x ∷ []) came_is;
+    }
+
+-- one number is one more
+set_itself : (us : List ℕ) (i : ℕ) → slice_index_or (slice_set us i (slice_index_or us i 0 + 1)) i 0 ≤ slice_index_or us i 0 + 1
+set_itself [] i = omega arith
+set_itself (v ∷ vs) zero = omega arith
+set_itself (v ∷ vs) (suc j) = set_itself vs j
+
+set_beside : (us : List ℕ) (i k : ℕ) → (k ≡ i → ⊥) → slice_index_or (slice_set us i (slice_index_or us i 0 + 1)) k 0 ≤ slice_index_or us k 0 + 1
+set_beside us i k h = let e : slice_index_or (slice_set us i (slice_index_or us i 0 + 1)) k 0 ≡ slice_index_or us k 0 = get_or-set_other us i k (slice_index_or us i 0 + 1) 0 h in omega (arith, e)
+
+pub one_more : (us : List ℕ) (i : ℕ) → AreOneMore us (slice_set us i (slice_index_or us i 0 + 1))
+one_more us i k = by_place (slice_index_or (slice_set us i (slice_index_or us i 0 + 1)) k 0 ≤ slice_index_or us k 0 + 1) k i
+    (λ e. subst (λ j. slice_index_or (slice_set us i (slice_index_or us i 0 + 1)) j 0 ≤ slice_index_or us j 0 + 1) (sym e) (set_itself us i))
+    (set_beside us i k)
+
+pub same_more : (us vs : List ℕ) → vs ≡ us → AreOneMore us vs
+same_more us vs e k = let f : slice_index_or vs k 0 ≡ slice_index_or us k 0 = ap (λ xs. slice_index_or xs k 0) e in omega (arith, f)
+
+-- What is kept is the same where each part is.
+
+pub yard_is : (a b : Yard) → a.script ≡ b.script → a.book ≡ b.book → a.nodes ≡ b.nodes → a.members ≡ b.members → a.version ≡ b.version → a.ups ≡ b.ups → a.mail ≡ b.mail → a ≡ b
+yard_is a b e f g h k l m i = record { script = e i; book = f i; nodes = g i; members = h i; version = k i; ups = l i; mail = m i }
+
+pub goes_at : (before after : List Fact) (y z : Yard) (m : Made) → z ≡ y → Goes before after y m → Goes before after z m
+goes_at before after y z m e g = subst (λ v. Goes before after v m) (sym e) g
+
+-- of an incarnation whose number was counted
+pub came_is : (ups : List ℕ) (n k : ℕ) → k ≡ slice_index_or ups (n - 1) 0 + 1 → record { node = n; number = k } ≡ came ups n
+came_is ups n k e = ap (λ j. record { node = n; number = j }) e

@@ -1,0 +1,12 @@
+use Rattle.world_sim.proofs.SeenLaws.{on_ok}
+use Rattle.world_sim.proofs.UpLaws.{goes_then}
+use Rattle.world_sim.specs.Steps.{entered}
+use Rattle.yard_model.specs.World.{views}
+use Rattle.world_sim.proofs.yard.Yard.come_up.Goals as goal
+
+pub views-requires : goal.views-requires
+views-requires g c = let r = c.requires.world in record { world = ((entered c.args.n r.0).world, (c.in_ok-enter.ensures.goes r.0 r.1).seen_is) }
+
+pub returns-clause-goes : goal.returns-clause-goes
+returns-clause-goes g c = on_ok c.views.result c.views.ensures.goes
+    (λ h w s. let a = c.in_ok-enter.ensures.goes w s in goes_then _ _ _ _ _ (entered c.args.n w) views a (h _ a.seen_is) s.going_is)

@@ -1,0 +1,64 @@
+-- What the code keeps of a world, and the world of the definition that it stands for.
+use Rattle.std.specs.Prelude.{◌≡◌, ℕ, ◌-◌, ◌≤◌, false, List, [], ◌++◌, length, map, slice_set, Option, Some, None, IfSome}
+use Rattle.std.specs.Option.{option_map}
+use Rattle.yard_model.specs.declared.fact.Fact.{Fact}
+use Rattle.yard_model.specs.declared.incarnation.Incarnation.{Incarnation}
+use Rattle.yard_model.specs.Script.{Script, setting}
+use Rattle.yard_model.specs.Words.{at}
+use Rattle.yard_model.specs.Node.{Node}
+use Rattle.yard_model.specs.World.{World, Made, wire_limit}
+use Rattle.world_laws.specs.Standing.{Stands}
+use Rattle.shard_lease.specs.Book.{Book, meaning_of}
+use Rattle.node_core.specs.Leased.{Tells}
+use Rattle.node_core.specs.Standing.{Standing}
+use Rattle.world_sim.specs.Mail.{Mails}
+
+pub record Yard : Type 0 where
+  pub script : Script
+  pub book : Book
+  pub nodes : List (Option Standing)  -- per node, where it is up
+  pub members : List Incarnation
+  pub version : ℕ
+  pub ups : List ℕ
+  pub mail : Mails
+
+abbrev pub state_in : Option Standing → Option Node
+state_in o = option_map (λ (v : Standing). v.state) o
+
+-- each word stands for the world's; the lists are those that the leases tell, and that the nodes have in hand
+pub record IsSeen (y : Yard) (w : World) : Type 0 where
+  pub set_is : w.set ≡ setting y.script
+  pub limit_is : w.limit ≡ wire_limit
+  pub members_are : y.members ≡ w.members
+  pub version_is : y.version ≡ w.version
+  pub ups_are : y.ups ≡ w.ups
+  pub wire_is : y.mail.packets ≡ w.wire
+  pub fresh_is : y.mail.fresh ≡ w.fresh
+  pub full_is : y.mail.full ≡ w.full
+  pub told_all : y.mail.items ≡ []
+  pub nodes_are : map state_in y.nodes ≡ w.nodes
+  pub scripts_are : (k : ℕ) → IfSome (at y.nodes k) (λ (v : Standing). v.script ≡ y.script)
+  pub book_is : y.book.script ≡ y.script
+  pub tells_is : Tells (meaning_of y.book) y.script w.lists
+
+-- the same, where this node was taken out of its place
+pub record IsSeenBut (n : ℕ) (node : Standing) (y : Yard) (w : World) : Type 0 where
+  pub seen_is : IsSeen (record y { nodes = slice_set y.nodes (n - 1) (Some node) }) w
+  pub out_is : at y.nodes (n - 1) ≡ None
+  pub there : n ≤ length y.nodes
+
+-- it stands for a world that stands, and whose trace goes on
+pub record IsSound (y : Yard) (w : World) : Type 0 where
+  pub seen_is : IsSeen y w
+  pub stands_is : Stands y.script w
+  pub going_is : w.full ≡ false
+
+pub record IsSoundBut (n : ℕ) (node : Standing) (y : Yard) (w : World) : Type 0 where
+  pub seen_is : IsSeenBut n node y w
+  pub stands_is : Stands y.script w
+  pub going_is : w.full ≡ false
+
+-- it stands for the world that a step made, and the step's facts were told
+pub record Goes (before after : List Fact) (y : Yard) (m : Made) : Type 0 where
+  pub seen_is : IsSeen y m.world
+  pub facts_are : after ≡ before ++ m.facts

@@ -1,0 +1,54 @@
+//! Nodes by their numbers.
+ghost use Rattle.std.specs.Prelude.{◌≡◌, ◌+◌, ◌-◌, ◌<◌, ◌≤◌, length, is_none, slice_set, slice_index_or, Some, None};
+ghost use Rattle.yard_model.specs.Words.{at};
+
+use node_core::Node;
+use yard_model::NodeNo;
+
+/// Whether no incarnation of this node is up.
+pub(crate) fn is_down<B>(nodes: &Vec<Option<Node<B>>>, n: NodeNo) -> bool
+    requires { n ≤ length nodes.now.items }
+    ensures { result ≡ is_none (at nodes.now.items (n - 1)) }
+{
+    let place = n.get() as usize - 1;
+    nodes[place].is_none()
+}
+
+/// Takes the node of this number out of its place, where it is up.
+pub(crate) fn take_node<B>(nodes: &mut Vec<Option<Node<B>>>, n: NodeNo) -> Option<Node<B>>
+    requires { n ≤ length nodes.old.items }
+    ensures node { result ≡ at nodes.old.items (n - 1) }
+    ensures nodes { nodes.new.items ≡ slice_set nodes.old.items (n - 1) None }
+{
+    let place = n.get() as usize - 1;
+    nodes[place].take()
+}
+
+/// Puts a node at the place of this number.
+pub(crate) fn put_node<B: Drop>(nodes: &mut Vec<Option<Node<B>>>, n: NodeNo, node: Node<B>)
+    requires { n ≤ length nodes.old.items }
+    ensures { nodes.new.items ≡ slice_set nodes.old.items (n - 1) (Some node) }
+{
+    let place = n.get() as usize - 1;
+    nodes[place] = Some(node);
+}
+
+/// The number of the next incarnation of this node.
+pub(crate) fn next_number(ups: &Vec<u32>, n: NodeNo) -> u32
+    requires within { n ≤ length ups.now.items }
+    requires fits { slice_index_or ups.now.items (n - 1) 0 < 4000000000 }
+    ensures { result ≡ slice_index_or ups.now.items (n - 1) 0 + 1 }
+{
+    let place = n.get() as usize - 1;
+    let last = ups[place];
+    last + 1
+}
+
+/// Notes the number of the last incarnation of this node.
+pub(crate) fn set_number(ups: &mut Vec<u32>, n: NodeNo, number: u32)
+    requires { n ≤ length ups.old.items }
+    ensures { ups.new.items ≡ slice_set ups.old.items (n - 1) number }
+{
+    let place = n.get() as usize - 1;
+    ups[place] = number;
+}

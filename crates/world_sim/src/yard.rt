@@ -1,0 +1,38 @@
+//! The parts of a world.
+use crate::mail::Mail;
+use node_core::Node;
+use shard_lease::LeaseBook;
+use std::alloc::Global;
+use std::marker::{Model, PhantomData};
+use yard_model::{Body, Charter, Fact, Item, Members, Packet, Slot, State};
+
+/// What a world keeps: the nodes that are up, who is a member, the leases, and the packets.
+#[derive(Drop)]
+pub(crate) struct Yard<B> {
+    pub(crate) alloc: Global,
+    pub(crate) charter: Charter,
+    pub(crate) behaviour: B,
+    pub(crate) book: LeaseBook,
+    pub(crate) nodes: Vec<Option<Node<B>>>,
+    pub(crate) members: Members,
+    pub(crate) version: u32,
+    pub(crate) ups: Vec<u32>,
+    pub(crate) mail: Mail,
+    pub(crate) holds: PhantomData<(Item, Fact, Packet, Body, State, Slot)>,
+}
+
+impl<B> Model for Yard<B> {
+    ghost use Rattle.world_sim.specs.Yard.{Yard};
+
+    ghost Value = { Yard };
+
+    ghost view = { λ y. record {
+      script = y.charter;
+      book = y.book;
+      nodes = y.nodes.items;
+      members = y.members;
+      version = y.version;
+      ups = y.ups.items;
+      mail = y.mail;
+    } };
+}

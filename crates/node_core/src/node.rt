@@ -1,5 +1,5 @@
 //! The state of a node, and its inputs.
-ghost use Rattle.std.specs.Prelude.{◌≡◌, ◌≢◌, ℕ, ◌∷◌, ◌+◌, ◌-◌, ◌≤◌, true, false, [], ◌++◌, map, fold, is_some, is_none, not, IfOk, OnOk, IsTrue, List};
+ghost use Rattle.std.specs.Prelude.{◌≡◌, ◌≢◌, ℕ, ◌∷◌, ◌+◌, ◌-◌, ◌≤◌, true, false, [], ◌++◌, map, fold, is_some, is_none, not, IfOk, OnOk, IsTrue, List, Some, IfSome, MatchOption, length, slice_get};
 ghost use Rattle.yard_model.specs.declared.charter.Sending.{Sending};
 ghost use Rattle.yard_model.specs.declared.fact.Fact.TheVariants as fact;
 ghost use Rattle.yard_model.specs.declared.incarnation.Cause.TheVariants as cause;
@@ -18,7 +18,10 @@ ghost use Rattle.yard_model.specs.Trace.{lists_step};
 ghost use Rattle.yard_model.specs.SlotReads.{epoch};
 ghost use Rattle.yard_model.specs.Words.{at};
 ghost use Rattle.world_laws.specs.Built.{is_built_input, is_built_packet};
+ghost use Rattle.world_laws.specs.Hands.{held_list};
 ghost use Rattle.world_laws.specs.Standing.{IsNode};
+ghost use Rattle.shard_store.specs.Stores.{entries_of_ref};
+ghost use Rattle.node_core.specs.Slots.{held_slots};
 ghost use Rattle.shard_lease.specs.Meaning.{Meaning, Serves, Stays};
 ghost use Rattle.node_core.specs.Standing.{IsReady};
 ghost use Rattle.node_core.specs.Leased.{Rests, Tells, AreInHand, IsFor, IfPacket, IsHandOf, IsFreed, is_newer};
@@ -28,7 +31,7 @@ use coordinator_actor::Coordinator;
 use region_actor::Region;
 use region_actor::laws::{handle_room, register_room, same_law};
 use shard_lease::Leases;
-use shard_store::Store;
+use shard_store::{Store, StoreRef};
 use std::alloc::{AllocError, Global};
 use std::marker::{Model, PhantomData};
 use std::snapshot::Snapshot;
@@ -286,15 +289,34 @@ impl<B: Drop> Node<B> {
     pub fn is_active(&self, entity: &EntityName) -> bool
         ensures { result ≡ is_in_phase phase.Active self.now.state.entities entity.now }
     {
-        let _ = (&self.region, entity);
+        let _ = &self.region;
+        let _ = entity;
         false
+    }
+
+    /// The held slot at this place, with its store: shards rising, the coordinator, queues rising.
+    /// None exactly past the last.
+    pub fn for_each_held(&self, at: u16) -> Option<(Slot, StoreRef<'_>)>
+        ensures slot { MatchOption result (length (held_slots self.now.script self.now.state) ≤ at) (λ x. slice_get (held_slots self.now.script self.now.state) at ≡ Some x.0) }
+        ensures store { IfSome result (λ x. held_list x.0 self.now.state ≡ Some (entries_of_ref x.1)) }
+    {
+        match &self.coordinator {
+            Some(coordinator) => {
+                if at > 0 {
+                    return None;
+                }
+                Some((Slot::Coordinator, StoreRef::Coordinator(coordinator.store())))
+            }
+            None => None,
+        }
     }
 
     /// Whether it holds the queue of a producer.
     pub fn holds_queue(&self, p: ProducerNo) -> bool
         ensures { result ≡ is_some (at self.now.state.producers (p - 1)) }
     {
-        let _ = (&self.region, p);
+        let _ = &self.region;
+        let _ = p;
         false
     }
 }

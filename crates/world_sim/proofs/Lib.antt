@@ -1,3 +1,4 @@
+pub mod EndLaws
 pub mod FreshLaws
 pub mod MembersLaws
 pub mod OffWireLaws

@@ -34,6 +34,10 @@ pub on_both : {T E : Type 0} (r : Result T E) (P Q : Type 0) → OnOk r P → On
 on_both (Ok x) P Q p q = (p, q)
 on_both (Err e) P Q p q = tt
 
+pub on_any : {T E : Type 0} (r : Result T E) {P : Type 0} → P → OnOk r P
+on_any (Ok x) p = p
+on_any (Err e) p = tt
+
 -- What a node tells is off the wire.
 
 own_off : (f : Fact) → is_own f ≡ true → is_off_wire f ≡ true

@@ -33,6 +33,6 @@ new_rests c b who n st same none node new = subst (Rests (meaning_of b) c) (sym 
   number_is = refl;
   admits_is = λ s v q. both (is_node b.script who) (is_slot_of b.script s) (ap (λ x. is_node x who) same ∙ node) (ap (λ x. is_slot_of x s) same ∙ v);
   held_is = λ s v. ap (λ o. is_slot_of b.script s && is_of_node who.node o) (ap (λ l. at l (place_of b.script.config s)) none ∙ same_at None n (place_of b.script.config s))
-    ∙ (and_false (is_slot_of b.script s) ∙ sym (ap is_some (none_held c who s)));
+      ∙ (and_false (is_slot_of b.script s) ∙ sym (ap is_some (none_held c who s)));
   lists_are = λ s v. subst (λ o. IfSome o (IsHandOf (meaning_of b) s)) (sym (none_held c who s)) tt;
 })

@@ -80,6 +80,7 @@ tells_some old new c r k freed lists t h = subst (λ fs. Tells new c (fold (list
   where
     entry : Fact
     entry = fact.Freed slot.Coordinator (epoch k.state.entries) cause.Stopped
+
     tells : Tells new c (record lists { coordinator = lists.coordinator ++ entry ∷ [] })
     tells (slot.Shard s) v = subst (λ o. IsSomeAnd o (IsTold (shard_list lists s))) (sym (freed.apart.tells_is (slot.Shard s) (shard_other s))) (t (slot.Shard s) v)
     tells slot.Coordinator v = subst (λ o. IsSomeAnd o (IsTold (lists.coordinator ++ entry ∷ [])))

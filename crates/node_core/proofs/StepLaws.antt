@@ -114,16 +114,21 @@ view_gave c from v xs r taken k two old new before between now newer takes still
   where
     st : Node
     st = node_of c r k
+
     one : Node
     one = record (node_of c r k) { region = taken }
+
     who_is : taken.who ≡ r.who
     who_is = ap (λ (s : Region). s.who) takes ∙ region_who r (take_view v xs r)
+
     taken_is : fold after st (map by_region (take_view v xs r)) ≡ one
     taken_is = region_alone st (take_view v xs r) ∙ ap (λ (s : Region). record st { region = s }) (sym takes)
+
     then_is : (lists : SlotLists) → view_acts lists v xs st ≡ map by_region (take_view v xs r) ++ (lead lists one ++ (map by_region (register taken) ++ []))
     then_is lists =
         ap (λ (s : Node). map by_region (take_view v xs r) ++ (lead lists s ++ (map by_region (register (fold after s (lead lists s)).region) ++ []))) taken_is
         ∙ ap (λ (s : Region). map by_region (take_view v xs r) ++ (lead lists one ++ (map by_region (register s) ++ []))) (lead_stays lists one)
+
     acts_are : (lists : SlotLists) → map by_region (take_view v xs r) ++ (lead lists one ++ map by_region (register taken)) ≡ packet lists from (body.View v xs) st
     acts_are lists = ap (λ acts. map by_region (take_view v xs r) ++ (lead lists one ++ acts)) (sym (append-nil (map by_region (register taken))))
         ∙ (sym (then_is lists) ∙ sym (other_choice (nat_le v r.version) (view_acts lists v xs st) newer))
@@ -198,6 +203,7 @@ parts_after c d r now k p h same newer genuine script state =
   where
     who_is : now.state.who ≡ r.state.who
     who_is = ap (λ (s : Region). s.who) state ∙ region_who r.state (handled p.from p.body r.state)
+
     by : (b : Body) → is_newer b r.state.version ≡ true → is_genuine_body c b ≡ true → now.state ≡ fold region_after r.state (handled p.from b r.state) → list_all (is_node c) now.state.view ≡ true
     by (body.View v xs) n g e = ap (λ (s : Region). list_all (is_node c) s.view) e
         ∙ (ap (λ ms. list_all (is_node c) (fold region_after r.state ms).view) (handled_is p.from v xs r.state (of_not (nat_le v r.state.version) n))

@@ -1,7 +1,7 @@
 -- What steps give, one after another.
 use Rattle.std.proofs.Common.{◌≡◌, ◌≢◌, ℕ, List, [], ◌∷◌, ◌++◌, map, sym, ap, subst, ◌∙◌, refl, append_assoc, append-nil, true, false, true≢false}
-use Rattle.std.specs.Prelude.{Bool, ◌&&◌, ◌||◌, fold, Option, Some, None, is_some, IfSome, IsSomeAnd}
-use Rattle.std.specs.List.{list_all, list_any, flat_map}
+use Rattle.std.specs.Prelude.{Bool, ◌||◌, fold, Option, Some, None, is_some, IfSome, IsSomeAnd}
+use Rattle.std.specs.List.{list_all, flat_map}
 use Rattle.std.proofs.lemmas.Grind.{flat_map-append}
 use Rattle.std.proofs.lemmas.List.Sums.{fold-append}
 use Rattle.yard_model.specs.declared.fact.Fact.{Fact}
@@ -19,13 +19,13 @@ use Rattle.yard_model.specs.Region.{Region, region_after}
 use Rattle.yard_model.specs.Script.{Script, setting}
 use Rattle.yard_model.specs.SlotLists.{SlotLists}
 use Rattle.yard_model.specs.SlotReads.{holder, holder_step}
-use Rattle.yard_model.specs.Trace.{list_at, lists_step}
+use Rattle.yard_model.specs.Trace.{lists_step}
 use Rattle.yard_laws.proofs.PartsLaws.{region_alone, region_items, coordinator_items}
 use Rattle.yard_laws.proofs.Booleans.{and_both, both}
 use Rattle.world_laws.specs.Hands.{held_list}
-use Rattle.shard_lease.specs.Meaning.{Known, Meaning, Stays, Begins, IsVouched, is_taken, confirms, is_confirmed}
-use Rattle.node_core.specs.Leased.{Rests, IsHandOf, IsTold, IsNoQueue, Tells, AreInHand, facts_in}
-use Rattle.node_core.specs.Gave.{Gave, ForLists, AreOthersSame, lists_after}
+use Rattle.shard_lease.specs.Meaning.{Known, Meaning, Stays, is_taken, confirms, is_confirmed}
+use Rattle.node_core.specs.Leased.{Rests, IsHandOf, IsTold, Tells, AreInHand, facts_in}
+use Rattle.node_core.specs.Gave.{Gave, lists_after}
 
 facts_append : (xs ys : List Item) → facts_in (xs ++ ys) ≡ facts_in xs ++ facts_in ys
 facts_append [] ys = refl

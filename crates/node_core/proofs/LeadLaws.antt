@@ -1,6 +1,6 @@
 -- What asking for the coordinator's slot gives, and which moves the region and the coordinator make.
-use Rattle.std.proofs.Common.{◌≡◌, ◌≢◌, ◌⊎◌, inl, inr, ℕ, List, [], ◌∷◌, ◌++◌, map, sym, ap, ap₂, subst, ◌∙◌, refl, append-nil, true, false, true≢false}
-use Rattle.std.specs.Prelude.{Bool, ◌&&◌, ◌+◌, not, nat_le, zero, suc, fold, filter, Option, Some, None, is_some, is_none, IfSome, IsSomeAnd, MatchOption, if◌then◌else◌}
+use Rattle.std.proofs.Common.{◌≡◌, ◌≢◌, ◌⊎◌, inl, inr, ℕ, List, [], ◌∷◌, ◌++◌, map, sym, ap, ap₂, subst, ◌∙◌, refl, true, false, true≢false}
+use Rattle.std.specs.Prelude.{Bool, ◌&&◌, ◌+◌, not, fold, filter, Option, Some, None, is_some, is_none, IfSome, IsSomeAnd, MatchOption, if◌then◌else◌}
 use Rattle.std.specs.List.{list_all, flat_map}
 use Rattle.std.proofs.lemmas.List.Sums.{fold-append}
 use Rattle.yard_model.specs.declared.fact.Fact.{Fact}
@@ -11,18 +11,18 @@ use Rattle.yard_model.specs.declared.incarnation.Slot.TheVariants as slot
 use Rattle.yard_model.specs.declared.out.Item.{Item}
 use Rattle.yard_model.specs.declared.out.Item.TheVariants as item
 use Rattle.yard_model.specs.declared.packet.Body.TheVariants as body
-use Rattle.yard_model.specs.Coordinator.{Coordinator, Moving, not_awaited, coordinator_after, new_coordinator, registered, hand_off, hand_off_if_last, terminate, terminate_lost, register_from, stamp}
-use Rattle.yard_model.specs.Genuine.{is_slot_of, is_node}
-use Rattle.yard_model.specs.Move.{Move, made, took, viewed, told, post, item_of}
+use Rattle.yard_model.specs.Coordinator.{Coordinator, Moving, not_awaited, coordinator_after, new_coordinator, registered, hand_off_if_last, terminate, terminate_lost, register_from, stamp}
+use Rattle.yard_model.specs.Genuine.{is_slot_of}
+use Rattle.yard_model.specs.Move.{Move, made, took, viewed, told, post}
 use Rattle.yard_model.specs.Node.{Node, Act, by_coordinator, acquire, acquire_by, after, items_of}
 use Rattle.yard_model.specs.Region.{Region, region_after, take_view, forget_lost, forget, home, register, oldest}
 use Rattle.yard_model.specs.Setting.{shards}
 use Rattle.yard_model.specs.Script.{Script, setting}
 use Rattle.yard_model.specs.SlotLists.{SlotLists, shard_list, queue_list}
 use Rattle.yard_model.specs.Trace.{list_at}
-use Rattle.yard_model.specs.SlotReads.{holder, holder_step, epoch, epoch_step, regions, regions_step}
+use Rattle.yard_model.specs.SlotReads.{holder, holder_step, epoch, epoch_step, regions_step}
 use Rattle.yard_model.specs.Turns.{where_some, for_each}
-use Rattle.yard_model.specs.Words.{is_at, is_among, is_empty, is_same, without, numbers}
+use Rattle.yard_model.specs.Words.{is_at, is_among, is_empty, is_same, without}
 use Rattle.yard_laws.proofs.Booleans.{and_both, both}
 use Rattle.world_laws.specs.Hands.{held_list}
 use Rattle.shard_store.specs.declared.store.Store.{Store}
@@ -31,11 +31,11 @@ use Rattle.coordinator_actor.specs.Held.{Held}
 use Rattle.shard_lease.specs.declared.leases.Acquire.{Acquire}
 use Rattle.shard_lease.specs.declared.leases.Acquire.TheVariants as acquired
 use Rattle.shard_lease.specs.Meaning.{Acquired, Known, Meaning, Stays, Apart, Still, Begins, Hands, Refuses, is_taken, confirms}
-use Rattle.node_core.specs.Leased.{Rests, IsHandOf, IsTold, IsNoQueue, Tells, AreInHand}
+use Rattle.node_core.specs.Leased.{Rests, IsHandOf, IsTold, Tells, AreInHand}
 use Rattle.node_core.specs.Standing.{node_of}
 use Rattle.node_core.specs.Taken.{Took, IsGrant}
 use Rattle.node_core.specs.Gave.{Gave, lists_after, take_lead}
-use Rattle.node_core.proofs.GaveLaws.{is_quiet, is_plain, gave_same, stays_same}
+use Rattle.node_core.proofs.GaveLaws.{is_quiet, is_plain, gave_same}
 
 -- What stays of a slot's list where a call changes nothing of the slot.
 

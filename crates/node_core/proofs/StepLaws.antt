@@ -1,5 +1,5 @@
 -- What each packet gives, out of what its steps give.
-use Rattle.std.proofs.Common.{◌≡◌, ◌≢◌, ℕ, List, [], ◌∷◌, ◌++◌, map, sym, ap, subst, ◌∙◌, refl, append-nil, true, false, true≢false}
+use Rattle.std.proofs.Common.{◌≡◌, ℕ, List, [], ◌∷◌, ◌++◌, map, sym, ap, subst, ◌∙◌, refl, append-nil, true, false, true≢false}
 use Rattle.std.specs.Prelude.{Bool, ◌&&◌, fold, nat_le, Option, Some, None, is_none, IfSome, if◌then◌else◌}
 use Rattle.std.specs.List.{list_all, flat_map}
 use Rattle.std.proofs.lemmas.List.Sums.{fold-append}
@@ -11,11 +11,11 @@ use Rattle.yard_model.specs.declared.packet.Body.TheVariants as body
 use Rattle.yard_model.specs.Coordinator as coordinator
 use Rattle.yard_model.specs.Coordinator.{Coordinator, coordinator_after}
 use Rattle.yard_model.specs.Move.{Move, item_of}
-use Rattle.yard_model.specs.Node.{Node, Act, Rule, by_region, by_coordinator, of_coordinator, after, items_of, all_in_turn, of_region, acquire, lead, packet, view_packet}
+use Rattle.yard_model.specs.Node.{Node, Act, by_region, by_coordinator, of_coordinator, after, all_in_turn, of_region, acquire, lead, packet}
 use Rattle.yard_model.specs.Turns.{where_some}
 use Rattle.yard_model.specs.Words.{is_at}
 use Rattle.yard_model.specs.Region.{Region, region_after, oldest, take_view, register, registered_by}
-use Rattle.yard_model.specs.Script.{Script, setting}
+use Rattle.yard_model.specs.Script.{Script}
 use Rattle.yard_model.specs.SlotLists.{SlotLists}
 use Rattle.yard_model.specs.SlotReads.{holder}
 use Rattle.yard_model.specs.declared.packet.Packet.{Packet}
@@ -27,7 +27,7 @@ use Rattle.yard_laws.proofs.PartsLaws.{region_alone, coordinator_alone}
 use Rattle.coordinator_actor.specs.Held.{Held}
 use Rattle.shard_lease.specs.Meaning.{Meaning}
 use Rattle.node_core.specs.Standing.{node_of, AreParts, IsOf}
-use Rattle.node_core.specs.Leased.{Rests, IsHandOf, is_newer}
+use Rattle.node_core.specs.Leased.{Rests, is_newer}
 use Rattle.node_core.specs.Gave.{Gave, take_lead}
 use Rattle.node_core.proofs.GaveLaws.{gave_nothing, gave_same, gave_both, region_first, region_last, coordinator_gave}
 use Rattle.node_core.proofs.LeadLaws.{view_taken, lost_plain, register_plain, take_quiet, register_quiet}

@@ -1,8 +1,7 @@
 -- What a node that comes up rests on of a book in which nobody holds a slot.
-use Rattle.std.proofs.Common.{◌≡◌, ℕ, ◌-◌, List, sym, ap, subst, ◌∙◌, refl, true, false}
-use Rattle.std.specs.Prelude.{Bool, ◌&&◌, replicate, Option, Some, None, is_some, IfSome}
+use Rattle.std.proofs.Common.{◌≡◌, ℕ, ◌-◌, sym, ap, subst, ◌∙◌, refl, true, false}
+use Rattle.std.specs.Prelude.{Bool, ◌&&◌, replicate, None, is_some, IfSome}
 use Rattle.std.specs.Option.{option_map}
-use Rattle.yard_model.specs.declared.fact.Fact.{Fact}
 use Rattle.yard_model.specs.declared.incarnation.Incarnation.{Incarnation}
 use Rattle.yard_model.specs.declared.incarnation.Slot.{Slot}
 use Rattle.yard_model.specs.declared.incarnation.Slot.TheVariants as slot
@@ -14,7 +13,7 @@ use Rattle.yard_laws.proofs.Booleans.{both}
 use Rattle.world_laws.specs.Hands.{held_list}
 use Rattle.shard_store.specs.Stores.{place_of}
 use Rattle.shard_lease.specs.Book.{Book, is_of_node, meaning_of}
-use Rattle.node_core.specs.Leased.{Rests, IsHandOf, IsNoQueue}
+use Rattle.node_core.specs.Leased.{Rests, IsHandOf}
 use Rattle.node_core.proofs.CrashLaws.{same_at}
 
 none_held : (c : Script) (who : Incarnation) (s : Slot) → held_list s (new_node (setting c) who) ≡ None
@@ -33,6 +32,6 @@ new_rests c b who n st same none node new = subst (Rests (meaning_of b) c) (sym 
   number_is = refl;
   admits_is = λ s v q. both (is_node b.script who) (is_slot_of b.script s) (ap (λ x. is_node x who) same ∙ node) (ap (λ x. is_slot_of x s) same ∙ v);
   held_is = λ s v. ap (λ o. is_slot_of b.script s && is_of_node who.node o) (ap (λ l. at l (place_of b.script.config s)) none ∙ same_at None n (place_of b.script.config s))
-    ∙ (and_false (is_slot_of b.script s) ∙ sym (ap is_some (none_held c who s)));
+      ∙ (and_false (is_slot_of b.script s) ∙ sym (ap is_some (none_held c who s)));
   lists_are = λ s v. subst (λ o. IfSome o (IsHandOf (meaning_of b) s)) (sym (none_held c who s)) tt;
 })

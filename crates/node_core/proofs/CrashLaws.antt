@@ -1,6 +1,6 @@
 -- What a node has that hosts nothing and produces nothing, and what its crash frees.
-use Rattle.std.proofs.Common.{◌≡◌, ◌≢◌, inl, inr, ℕ, zero, suc, ◌-◌, List, [], ◌∷◌, ◌++◌, map, sym, ap, subst, ◌∙◌, refl, append-nil, true, false, true≢false, length}
-use Rattle.std.specs.Prelude.{Bool, fold, replicate, slice_index_or, Option, Some, None, is_some, IsSomeAnd, MatchOption}
+use Rattle.std.proofs.Common.{◌≡◌, inr, ℕ, zero, suc, ◌-◌, List, [], ◌∷◌, ◌++◌, sym, ap, subst, ◌∙◌, refl, append-nil, true, false, length}
+use Rattle.std.specs.Prelude.{fold, replicate, slice_index_or, Option, Some, None, is_some, IsSomeAnd, MatchOption}
 use Rattle.std.specs.List.{flat_map}
 use Rattle.std.specs.Option.{option_map}
 use Rattle.std.proofs.lemmas.List.Sums.{fold-append}
@@ -14,20 +14,20 @@ use Rattle.yard_model.specs.declared.input.Phase.TheVariants as phase
 use Rattle.yard_model.specs.Entities as entities
 use Rattle.yard_model.specs.Entities.{new_entities, new_cell, is_phase, is_in_phase}
 use Rattle.yard_model.specs.Genuine.{is_slot_of}
-use Rattle.yard_model.specs.Node.{Node, freed_stopped, crash}
+use Rattle.yard_model.specs.Node.{freed_stopped, crash}
 use Rattle.yard_model.specs.Region.{Region}
 use Rattle.yard_model.specs.Script.{Script, Setting, setting}
 use Rattle.yard_model.specs.Setting.{shards, producers, place}
-use Rattle.yard_model.specs.SlotLists.{SlotLists, shard_list, queue_list}
-use Rattle.yard_model.specs.SlotReads.{holder, holder_step, epoch}
-use Rattle.yard_model.specs.Trace.{list_at, lists_step}
+use Rattle.yard_model.specs.SlotLists.{shard_list, queue_list}
+use Rattle.yard_model.specs.SlotReads.{holder_step, epoch}
+use Rattle.yard_model.specs.Trace.{lists_step}
 use Rattle.yard_model.specs.Turns.{where_some}
 use Rattle.yard_model.specs.Words.{at}
 use Rattle.world_laws.specs.Hands.{held_list}
 use Rattle.coordinator_actor.specs.Held.{Held}
 use Rattle.shard_lease.specs.Meaning.{Known, Meaning}
 use Rattle.node_core.specs.Standing.{node_of}
-use Rattle.node_core.specs.Leased.{Rests, IsTold, IsFreed, Tells, AreInHand}
+use Rattle.node_core.specs.Leased.{Rests, IsTold, IsFreed, Tells}
 use Rattle.node_core.specs.Gave.{ForLists}
 use Rattle.node_core.proofs.LeadLaws.{shard_other, queue_other}
 
@@ -80,6 +80,7 @@ tells_some old new c r k freed lists t h = subst (λ fs. Tells new c (fold (list
   where
     entry : Fact
     entry = fact.Freed slot.Coordinator (epoch k.state.entries) cause.Stopped
+
     tells : Tells new c (record lists { coordinator = lists.coordinator ++ entry ∷ [] })
     tells (slot.Shard s) v = subst (λ o. IsSomeAnd o (IsTold (shard_list lists s))) (sym (freed.apart.tells_is (slot.Shard s) (shard_other s))) (t (slot.Shard s) v)
     tells slot.Coordinator v = subst (λ o. IsSomeAnd o (IsTold (lists.coordinator ++ entry ∷ [])))

@@ -1,7 +1,7 @@
 -- What steps give, one after another.
 use Rattle.std.proofs.Common.{◌≡◌, ◌≢◌, ℕ, List, [], ◌∷◌, ◌++◌, map, sym, ap, subst, ◌∙◌, refl, append_assoc, append-nil, true, false, true≢false}
-use Rattle.std.specs.Prelude.{Bool, ◌&&◌, ◌||◌, fold, Option, Some, None, is_some, IfSome, IsSomeAnd}
-use Rattle.std.specs.List.{list_all, list_any, flat_map}
+use Rattle.std.specs.Prelude.{Bool, ◌||◌, fold, Option, Some, None, is_some, IfSome, IsSomeAnd}
+use Rattle.std.specs.List.{list_all, flat_map}
 use Rattle.std.proofs.lemmas.Grind.{flat_map-append}
 use Rattle.std.proofs.lemmas.List.Sums.{fold-append}
 use Rattle.yard_model.specs.declared.fact.Fact.{Fact}
@@ -19,13 +19,13 @@ use Rattle.yard_model.specs.Region.{Region, region_after}
 use Rattle.yard_model.specs.Script.{Script, setting}
 use Rattle.yard_model.specs.SlotLists.{SlotLists}
 use Rattle.yard_model.specs.SlotReads.{holder, holder_step}
-use Rattle.yard_model.specs.Trace.{list_at, lists_step}
+use Rattle.yard_model.specs.Trace.{lists_step}
 use Rattle.yard_laws.proofs.PartsLaws.{region_alone, region_items, coordinator_items}
 use Rattle.yard_laws.proofs.Booleans.{and_both, both}
 use Rattle.world_laws.specs.Hands.{held_list}
-use Rattle.shard_lease.specs.Meaning.{Known, Meaning, Stays, Begins, IsVouched, is_taken, confirms, is_confirmed}
-use Rattle.node_core.specs.Leased.{Rests, IsHandOf, IsTold, IsNoQueue, Tells, AreInHand, facts_in}
-use Rattle.node_core.specs.Gave.{Gave, ForLists, AreOthersSame, lists_after}
+use Rattle.shard_lease.specs.Meaning.{Known, Meaning, Stays, is_taken, confirms, is_confirmed}
+use Rattle.node_core.specs.Leased.{Rests, IsHandOf, IsTold, Tells, AreInHand, facts_in}
+use Rattle.node_core.specs.Gave.{Gave, lists_after}
 
 facts_append : (xs ys : List Item) → facts_in (xs ++ ys) ≡ facts_in xs ++ facts_in ys
 facts_append [] ys = refl
@@ -95,17 +95,17 @@ pub gave_both : (c : Script) (p : SlotLists → List Act) (q : Rule) (old mid ne
     → Gave c (λ lists. p lists ++ q (fold after st (p lists))) old st before new two now
 gave_both c p q old mid new st one two before between now same f g = record {
   items = λ lists t h. g.items (lists_after c lists (p lists)) (f.tells lists t h) (f.in_hand lists t h)
-    ∙ (ap (λ is. is ++ items_of (q one)) (f.items lists t h)
-    ∙ (append_assoc before (items_of (p lists)) (items_of (q one))
-    ∙ (ap (λ is. before ++ is) (sym (items_append (p lists) (q one)))
-    ∙ ap (λ s. before ++ items_of (p lists ++ q s)) (f.state lists t h))));
+      ∙ (ap (λ is. is ++ items_of (q one)) (f.items lists t h)
+      ∙ (append_assoc before (items_of (p lists)) (items_of (q one))
+      ∙ (ap (λ is. before ++ is) (sym (items_append (p lists) (q one)))
+      ∙ ap (λ s. before ++ items_of (p lists ++ q s)) (f.state lists t h))));
   state = λ lists t h. g.state (lists_after c lists (p lists)) (f.tells lists t h) (f.in_hand lists t h)
-    ∙ (ap (λ s. fold after s (q s)) (f.state lists t h)
-    ∙ sym (fold-append after st (p lists) (q (fold after st (p lists)))));
+      ∙ (ap (λ s. fold after s (q s)) (f.state lists t h)
+      ∙ sym (fold-append after st (p lists) (q (fold after st (p lists)))));
   tells = λ lists t h. subst (λ l. Tells new c l) (sym (lists_append c lists (p lists) (q one)) ∙ ap (λ s. lists_after c lists (p lists ++ q s)) (f.state lists t h))
-    (g.tells (lists_after c lists (p lists)) (f.tells lists t h) (f.in_hand lists t h));
+      (g.tells (lists_after c lists (p lists)) (f.tells lists t h) (f.in_hand lists t h));
   in_hand = λ lists t h. subst (λ l. AreInHand c l two) (sym (lists_append c lists (p lists) (q one)) ∙ ap (λ s. lists_after c lists (p lists ++ q s)) (f.state lists t h))
-    (g.in_hand (lists_after c lists (p lists)) (f.tells lists t h) (f.in_hand lists t h));
+      (g.in_hand (lists_after c lists (p lists)) (f.tells lists t h) (f.in_hand lists t h));
   who_is = g.who_is ∙ same;
   rests = g.rests;
   stays = stays_both old mid new f.stays g.stays;
@@ -153,6 +153,7 @@ rests_region m c st r h = record {
     held (slot.Shard s) v = h.held_is (slot.Shard s) v
     held slot.Coordinator v = h.held_is slot.Coordinator v
     held (slot.Queue p) v = h.held_is (slot.Queue p) v
+
     lists : (s : Slot) → is_slot_of c s ≡ true → IfSome (held_list s (record st { region = r })) (IsHandOf m s)
     lists (slot.Shard s) v = h.lists_are (slot.Shard s) v
     lists slot.Coordinator v = h.lists_are slot.Coordinator v
@@ -176,9 +177,11 @@ region_first c ms q old new st to before now quiet g = record {
   where
     r : Region
     r = fold region_after st.region ms
+
     items_same : (lists : SlotLists) → (before ++ flat_map item_of ms) ++ items_of (q lists) ≡ before ++ items_of (map by_region ms ++ q lists)
     items_same lists = append_assoc before (flat_map item_of ms) (items_of (q lists))
         ∙ ap (λ is. before ++ is) (ap (λ is. is ++ items_of (q lists)) (sym (region_items ms)) ∙ sym (items_append (map by_region ms) (q lists)))
+
     lists_same : (lists : SlotLists) → lists_after c lists (map by_region ms ++ q lists) ≡ lists_after c lists (q lists)
     lists_same lists = lists_append c lists (map by_region ms) (q lists) ∙ ap (λ l. lists_after c l (q lists)) (quiet_acts c lists ms quiet)
 
@@ -189,8 +192,8 @@ pub region_last : (c : Script) (ms : List Move) (q : SlotLists → List Act) (ol
     → Gave c (λ lists. q lists ++ map by_region ms) old st before new (record to { region = fold region_after to.region ms }) (between ++ flat_map item_of ms)
 region_last c ms q old new st to before between quiet g = record {
   items = λ lists t h. ap (λ is. is ++ flat_map item_of ms) (g.items lists t h)
-    ∙ (append_assoc before (items_of (q lists)) (flat_map item_of ms)
-    ∙ ap (λ is. before ++ is) (ap (λ is. items_of (q lists) ++ is) (sym (region_items ms)) ∙ sym (items_append (q lists) (map by_region ms))));
+      ∙ (append_assoc before (items_of (q lists)) (flat_map item_of ms)
+      ∙ ap (λ is. before ++ is) (ap (λ is. items_of (q lists) ++ is) (sym (region_items ms)) ∙ sym (items_append (q lists) (map by_region ms))));
   state = λ lists t h. sym (region_alone to ms) ∙ (ap (λ s. fold after s (map by_region ms)) (g.state lists t h) ∙ sym (fold-append after st (q lists) (map by_region ms)));
   tells = λ lists t h. subst (λ l. Tells new c l) (sym (lists_same lists)) (g.tells lists t h);
   in_hand = λ lists t h. subst (λ l. AreInHand c l (record to { region = fold region_after to.region ms })) (sym (lists_same lists)) (in_hand_region c (lists_after c lists (q lists)) to (fold region_after to.region ms) (g.in_hand lists t h));
@@ -319,23 +322,29 @@ coordinator_gave c m x st k ms before leased plain rests = record {
   where
     now : Coordinator
     now = fold coordinator_after k ms
+
     more : IsMore m k.entries now.entries
     more = plain_more m k ms plain
+
     lists_are : (lists : SlotLists) → lists.coordinator ≡ k.entries → lists_after c lists (map by_coordinator ms) ≡ record lists { coordinator = now.entries }
     lists_are lists e = ap (λ is. fold (lists_step (setting c)) lists (facts_in is)) (coordinator_items ms)
         ∙ (ap (λ l. fold (lists_step (setting c)) (record lists { coordinator = l }) (facts_in (flat_map item_of ms))) e ∙ plain_lists c m lists k ms plain)
+
     tells : (lists : SlotLists) → Tells m c lists → lists.coordinator ≡ k.entries → Tells m c (record lists { coordinator = now.entries })
     tells lists t e (slot.Shard s) v = t (slot.Shard s) v
     tells lists t e slot.Coordinator v = told_more m x (m.tells slot.Coordinator) k.entries now.entries more leased (subst (λ l. IsSomeAnd (m.tells slot.Coordinator) (IsTold l)) e (t slot.Coordinator v))
     tells lists t e (slot.Queue p) v = t (slot.Queue p) v
+
     in_hand : (lists : SlotLists) → AreInHand c lists (record st { coordinator = Some k }) → AreInHand c (record lists { coordinator = now.entries }) (record st { coordinator = Some now })
     in_hand lists h (slot.Shard s) v = h (slot.Shard s) v
     in_hand lists h slot.Coordinator v = refl
     in_hand lists h (slot.Queue p) v = h (slot.Queue p) v
+
     held : (s : Slot) → is_slot_of c s ≡ true → m.holds st.who.node s ≡ is_some (held_list s (record st { coordinator = Some now }))
     held (slot.Shard s) v = rests.held_is (slot.Shard s) v
     held slot.Coordinator v = rests.held_is slot.Coordinator v
     held (slot.Queue p) v = rests.held_is (slot.Queue p) v
+
     hands : (s : Slot) → is_slot_of c s ≡ true → IfSome (held_list s (record st { coordinator = Some now })) (IsHandOf m s)
     hands (slot.Shard s) v = rests.lists_are (slot.Shard s) v
     hands slot.Coordinator v = hand_more m k.entries now.entries more (rests.lists_are slot.Coordinator v)

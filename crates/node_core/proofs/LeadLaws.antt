@@ -1,6 +1,6 @@
 -- What asking for the coordinator's slot gives, and which moves the region and the coordinator make.
-use Rattle.std.proofs.Common.{◌≡◌, ◌≢◌, ◌⊎◌, inl, inr, ℕ, List, [], ◌∷◌, ◌++◌, map, sym, ap, ap₂, subst, ◌∙◌, refl, append-nil, true, false, true≢false}
-use Rattle.std.specs.Prelude.{Bool, ◌&&◌, ◌+◌, not, nat_le, zero, suc, fold, filter, Option, Some, None, is_some, is_none, IfSome, IsSomeAnd, MatchOption, if◌then◌else◌}
+use Rattle.std.proofs.Common.{◌≡◌, ◌≢◌, ◌⊎◌, inl, inr, ℕ, List, [], ◌∷◌, ◌++◌, map, sym, ap, ap₂, subst, ◌∙◌, refl, true, false, true≢false}
+use Rattle.std.specs.Prelude.{Bool, ◌&&◌, ◌+◌, not, fold, filter, Option, Some, None, is_some, is_none, IfSome, IsSomeAnd, MatchOption, if◌then◌else◌}
 use Rattle.std.specs.List.{list_all, flat_map}
 use Rattle.std.proofs.lemmas.List.Sums.{fold-append}
 use Rattle.yard_model.specs.declared.fact.Fact.{Fact}
@@ -11,18 +11,18 @@ use Rattle.yard_model.specs.declared.incarnation.Slot.TheVariants as slot
 use Rattle.yard_model.specs.declared.out.Item.{Item}
 use Rattle.yard_model.specs.declared.out.Item.TheVariants as item
 use Rattle.yard_model.specs.declared.packet.Body.TheVariants as body
-use Rattle.yard_model.specs.Coordinator.{Coordinator, Moving, not_awaited, coordinator_after, new_coordinator, registered, hand_off, hand_off_if_last, terminate, terminate_lost, register_from, stamp}
-use Rattle.yard_model.specs.Genuine.{is_slot_of, is_node}
-use Rattle.yard_model.specs.Move.{Move, made, took, viewed, told, post, item_of}
+use Rattle.yard_model.specs.Coordinator.{Coordinator, Moving, not_awaited, coordinator_after, new_coordinator, registered, hand_off_if_last, terminate, terminate_lost, register_from, stamp}
+use Rattle.yard_model.specs.Genuine.{is_slot_of}
+use Rattle.yard_model.specs.Move.{Move, made, took, viewed, told, post}
 use Rattle.yard_model.specs.Node.{Node, Act, by_coordinator, acquire, acquire_by, after, items_of}
 use Rattle.yard_model.specs.Region.{Region, region_after, take_view, forget_lost, forget, home, register, oldest}
 use Rattle.yard_model.specs.Setting.{shards}
 use Rattle.yard_model.specs.Script.{Script, setting}
 use Rattle.yard_model.specs.SlotLists.{SlotLists, shard_list, queue_list}
 use Rattle.yard_model.specs.Trace.{list_at}
-use Rattle.yard_model.specs.SlotReads.{holder, holder_step, epoch, epoch_step, regions, regions_step}
+use Rattle.yard_model.specs.SlotReads.{holder, holder_step, epoch, epoch_step, regions_step}
 use Rattle.yard_model.specs.Turns.{where_some, for_each}
-use Rattle.yard_model.specs.Words.{is_at, is_among, is_empty, is_same, without, numbers}
+use Rattle.yard_model.specs.Words.{is_at, is_among, is_empty, is_same, without}
 use Rattle.yard_laws.proofs.Booleans.{and_both, both}
 use Rattle.world_laws.specs.Hands.{held_list}
 use Rattle.shard_store.specs.declared.store.Store.{Store}
@@ -31,11 +31,11 @@ use Rattle.coordinator_actor.specs.Held.{Held}
 use Rattle.shard_lease.specs.declared.leases.Acquire.{Acquire}
 use Rattle.shard_lease.specs.declared.leases.Acquire.TheVariants as acquired
 use Rattle.shard_lease.specs.Meaning.{Acquired, Known, Meaning, Stays, Apart, Still, Begins, Hands, Refuses, is_taken, confirms}
-use Rattle.node_core.specs.Leased.{Rests, IsHandOf, IsTold, IsNoQueue, Tells, AreInHand}
+use Rattle.node_core.specs.Leased.{Rests, IsHandOf, IsTold, Tells, AreInHand}
 use Rattle.node_core.specs.Standing.{node_of}
 use Rattle.node_core.specs.Taken.{Took, IsGrant}
 use Rattle.node_core.specs.Gave.{Gave, lists_after, take_lead}
-use Rattle.node_core.proofs.GaveLaws.{is_quiet, is_plain, gave_same, stays_same}
+use Rattle.node_core.proofs.GaveLaws.{is_quiet, is_plain, gave_same}
 
 -- What stays of a slot's list where a call changes nothing of the slot.
 
@@ -100,7 +100,7 @@ pub grant_gave : (c : Script) (old new : Meaning) (st : Node) (x : Store) (befor
     → Hands old st.who slot.Coordinator x new
     → Apart st.who.node slot.Coordinator old new
     → Gave c (λ lists. map by_coordinator (acquire slot.Coordinator st.who lists.coordinator)) old (record st { coordinator = None }) before
-        new (record st { coordinator = Some (new_coordinator st.set st.who (entries_of x)) }) (before ++ item.Fact (fact.Granted slot.Coordinator (epoch (entries_of x)) st.who) ∷ [])
+    new (record st { coordinator = Some (new_coordinator st.set st.who (entries_of x)) }) (before ++ item.Fact (fact.Granted slot.Coordinator (epoch (entries_of x)) st.who) ∷ [])
 grant_gave c old new st x before rests stays h apart = record {
   items = λ lists t hand. ap (λ n. before ++ item.Fact (fact.Granted slot.Coordinator n st.who) ∷ []) epoch_is ∙ ap (λ acts. before ++ items_of acts) (sym (acts_are lists (free lists t)));
   state = λ lists t hand. ap (fold after (record st { coordinator = None })) (sym (acts_are lists (free lists t)));
@@ -121,32 +121,41 @@ grant_gave c old new st x before rests stays h apart = record {
   where
     to : Node
     to = record st { coordinator = Some (new_coordinator st.set st.who (entries_of x)) }
+
     grant : Fact
     grant = fact.Granted slot.Coordinator (epoch h.before + 1) st.who
+
     acts : List Act
     acts = map by_coordinator (told grant ∷ took slot.Coordinator (entries_of x) ∷ [])
+
     epoch_is : epoch (entries_of x) ≡ epoch h.before + 1
     epoch_is = ap epoch h.list_is ∙ fold-append epoch_step 0 h.before (grant ∷ [])
+
     free : (lists : SlotLists) → Tells old c lists → IsFree h.before lists.coordinator
     free lists t = free_of (old.tells slot.Coordinator) h.before lists.coordinator (new.tells slot.Coordinator ≡ None) (new.tells slot.Coordinator ≡ Some (record { holder = Some st.who; list = [] })) (t slot.Coordinator refl) h.tells_is
+
     acts_are : (lists : SlotLists) → IsFree h.before lists.coordinator → map by_coordinator (acquire slot.Coordinator st.who lists.coordinator) ≡ acts
     acts_are lists f = ap (λ ms. map by_coordinator ms) (ap (acquire_by slot.Coordinator st.who lists.coordinator) f.holder_is
         ∙ (ap (λ l. acquire_by slot.Coordinator st.who l None) f.list_is
         ∙ ap (λ l. told grant ∷ took slot.Coordinator l ∷ []) (sym h.list_is)))
+
     tells : (lists : SlotLists) → Tells old c lists → Tells new c (lists_after c lists acts)
     tells lists t (slot.Shard s) v = subst (λ o. IsSomeAnd o (IsTold (shard_list lists s))) (sym (apart.tells_is (slot.Shard s) (shard_other s))) (t (slot.Shard s) v)
     tells lists t slot.Coordinator v = subst (λ o. IsSomeAnd o (IsTold (lists.coordinator ++ grant ∷ [])))
         (sym (told_of (old.tells slot.Coordinator) (new.tells slot.Coordinator ≡ None) h.before lists.coordinator (new.tells slot.Coordinator) (record { holder = Some st.who; list = [] }) (t slot.Coordinator v) h.tells_is))
         (record { holder_is = sym (fold-append holder_step None lists.coordinator (grant ∷ [])); list_is = λ none. absurd (some_is_not_none st.who none) })
     tells lists t (slot.Queue p) v = subst (λ o. IsSomeAnd o (IsTold (queue_list lists p))) (sym (apart.tells_is (slot.Queue p) (queue_other p))) (t (slot.Queue p) v)
+
     in_hand : (lists : SlotLists) → IsFree h.before lists.coordinator → AreInHand c lists (record st { coordinator = None }) → AreInHand c (lists_after c lists acts) to
     in_hand lists f hand (slot.Shard s) v = hand (slot.Shard s) v
     in_hand lists f hand slot.Coordinator v = ap (λ l. l ++ grant ∷ []) f.list_is ∙ sym h.list_is
     in_hand lists f hand (slot.Queue p) v = hand (slot.Queue p) v
+
     held : (s : Slot) → is_slot_of c s ≡ true → new.holds st.who.node s ≡ is_some (held_list s to)
     held (slot.Shard s) v = apart.holds_is st.who.node (slot.Shard s) (inr (shard_other s)) ∙ rests.held_is (slot.Shard s) v
     held slot.Coordinator v = h.holds_is
     held (slot.Queue p) v = apart.holds_is st.who.node (slot.Queue p) (inr (queue_other p)) ∙ rests.held_is (slot.Queue p) v
+
     hands : (s : Slot) → is_slot_of c s ≡ true → IfSome (held_list s to) (IsHandOf new s)
     hands (slot.Shard s) v = some_hand old new (slot.Shard s) (held_list (slot.Shard s) st) stays (apart.told_is (slot.Shard s) (shard_other s)) (rests.lists_are (slot.Shard s) v)
     hands slot.Coordinator v = record { extends = h.extends; taken = h.taken; vouched = h.vouched }
@@ -169,7 +178,7 @@ pub held_gave : (c : Script) (old new : Meaning) (st : Node) (node : ℕ) (befor
     → Refuses old st.who slot.Coordinator node
     → Still old new
     → Gave c (λ lists. map by_coordinator (acquire slot.Coordinator st.who lists.coordinator)) old (record st { coordinator = None }) before
-        new (record st { coordinator = None }) (before ++ item.Fact (fact.Held slot.Coordinator st.who node) ∷ [])
+    new (record st { coordinator = None }) (before ++ item.Fact (fact.Held slot.Coordinator st.who node) ∷ [])
 held_gave c old new st node before rests stays h still = record {
   items = λ lists t hand. ap (λ acts. before ++ items_of acts) (sym (acts_are lists (by lists t)));
   state = λ lists t hand. ap (fold after (record st { coordinator = None })) (sym (acts_are lists (by lists t)));
@@ -190,8 +199,10 @@ held_gave c old new st node before rests stays h still = record {
   where
     acts : List Act
     acts = map by_coordinator (told (fact.Held slot.Coordinator st.who node) ∷ [])
+
     by : (lists : SlotLists) → Tells old c lists → IsHeldBy node lists.coordinator
     by lists t = held_by (old.tells slot.Coordinator) node lists.coordinator (t slot.Coordinator refl) h.tells_is
+
     acts_are : (lists : SlotLists) → IsHeldBy node lists.coordinator → map by_coordinator (acquire slot.Coordinator st.who lists.coordinator) ≡ acts
     acts_are lists f = ap (λ ms. map by_coordinator ms) (ap (acquire_by slot.Coordinator st.who lists.coordinator) f.holder_is
         ∙ ap (λ n. told (fact.Held slot.Coordinator st.who n) ∷ []) f.node_is)
@@ -262,6 +273,7 @@ each_quiet xs st (s ∷ ss) = all_both is_quiet (forget_lost xs st s) (flat_map 
     two true d = refl
     two false true = refl
     two false false = refl
+
     one : (o : Option Incarnation) → list_all is_quiet (where_some (λ h. if is_among h xs then [] else forget s st) o) ≡ true
     one None = refl
     one (Some h) = two (is_among h xs) (is_none (home st s))
@@ -275,6 +287,7 @@ register_quiet st = one (oldest st)
     two : (x : Incarnation) (b : Bool) → list_all is_quiet (if b then [] else post st.who x body.Register ∷ []) ≡ true
     two x true = refl
     two x false = refl
+
     one : (o : Option Incarnation) → list_all is_quiet (where_some (λ x. if is_at x st.registered then [] else post st.who x body.Register ∷ []) o) ≡ true
     one None = refl
     one (Some x) = two x (is_at x st.registered)
@@ -290,6 +303,7 @@ forgetting xs st now (s ∷ ss) =
     two true d = refl
     two false true = refl
     two false false = refl
+
     one : (o : Option Incarnation) → (fold region_after now (where_some (λ h. if is_among h xs then [] else forget s st) o)).view ≡ now.view
     one None = refl
     one (Some h) = two (is_among h xs) (is_none (home st s))

@@ -1,6 +1,6 @@
 -- Which slots a node holds that hosts nothing and produces nothing.
-use Rattle.std.proofs.Common.{◌≡◌, ◌≤◌, ◌+◌, ℕ, zero, suc, List, [], ◌∷◌, ◌++◌, map, length, sym, ap, ◌∙◌, refl, true, false, arith}
-use Rattle.std.specs.Prelude.{Bool, filter, Option, Some, None, is_some, if◌then◌else◌, slice_get}
+use Rattle.std.proofs.Common.{◌≡◌, ℕ, List, [], ◌∷◌, ◌++◌, map, ap, ◌∙◌, refl, false}
+use Rattle.std.specs.Prelude.{Bool, filter, Some, None, is_some, if◌then◌else◌}
 use Rattle.yard_model.specs.declared.incarnation.Slot.{Slot}
 use Rattle.yard_model.specs.declared.incarnation.Slot.TheVariants as slot
 use Rattle.yard_model.specs.Region.{Region}

@@ -1,5 +1,5 @@
 -- What each packet gives, out of what its steps give.
-use Rattle.std.proofs.Common.{◌≡◌, ◌≢◌, ℕ, List, [], ◌∷◌, ◌++◌, map, sym, ap, subst, ◌∙◌, refl, append-nil, true, false, true≢false}
+use Rattle.std.proofs.Common.{◌≡◌, ℕ, List, [], ◌∷◌, ◌++◌, map, sym, ap, subst, ◌∙◌, refl, append-nil, true, false, true≢false}
 use Rattle.std.specs.Prelude.{Bool, ◌&&◌, fold, nat_le, Option, Some, None, is_none, IfSome, if◌then◌else◌}
 use Rattle.std.specs.List.{list_all, flat_map}
 use Rattle.std.proofs.lemmas.List.Sums.{fold-append}
@@ -11,11 +11,11 @@ use Rattle.yard_model.specs.declared.packet.Body.TheVariants as body
 use Rattle.yard_model.specs.Coordinator as coordinator
 use Rattle.yard_model.specs.Coordinator.{Coordinator, coordinator_after}
 use Rattle.yard_model.specs.Move.{Move, item_of}
-use Rattle.yard_model.specs.Node.{Node, Act, Rule, by_region, by_coordinator, of_coordinator, after, items_of, all_in_turn, of_region, acquire, lead, packet, view_packet}
+use Rattle.yard_model.specs.Node.{Node, Act, by_region, by_coordinator, of_coordinator, after, all_in_turn, of_region, acquire, lead, packet}
 use Rattle.yard_model.specs.Turns.{where_some}
 use Rattle.yard_model.specs.Words.{is_at}
 use Rattle.yard_model.specs.Region.{Region, region_after, oldest, take_view, register, registered_by}
-use Rattle.yard_model.specs.Script.{Script, setting}
+use Rattle.yard_model.specs.Script.{Script}
 use Rattle.yard_model.specs.SlotLists.{SlotLists}
 use Rattle.yard_model.specs.SlotReads.{holder}
 use Rattle.yard_model.specs.declared.packet.Packet.{Packet}
@@ -27,7 +27,7 @@ use Rattle.yard_laws.proofs.PartsLaws.{region_alone, coordinator_alone}
 use Rattle.coordinator_actor.specs.Held.{Held}
 use Rattle.shard_lease.specs.Meaning.{Meaning}
 use Rattle.node_core.specs.Standing.{node_of, AreParts, IsOf}
-use Rattle.node_core.specs.Leased.{Rests, IsHandOf, is_newer}
+use Rattle.node_core.specs.Leased.{Rests, is_newer}
 use Rattle.node_core.specs.Gave.{Gave, take_lead}
 use Rattle.node_core.proofs.GaveLaws.{gave_nothing, gave_same, gave_both, region_first, region_last, coordinator_gave}
 use Rattle.node_core.proofs.LeadLaws.{view_taken, lost_plain, register_plain, take_quiet, register_quiet}
@@ -114,16 +114,21 @@ view_gave c from v xs r taken k two old new before between now newer takes still
   where
     st : Node
     st = node_of c r k
+
     one : Node
     one = record (node_of c r k) { region = taken }
+
     who_is : taken.who ≡ r.who
     who_is = ap (λ (s : Region). s.who) takes ∙ region_who r (take_view v xs r)
+
     taken_is : fold after st (map by_region (take_view v xs r)) ≡ one
     taken_is = region_alone st (take_view v xs r) ∙ ap (λ (s : Region). record st { region = s }) (sym takes)
+
     then_is : (lists : SlotLists) → view_acts lists v xs st ≡ map by_region (take_view v xs r) ++ (lead lists one ++ (map by_region (register taken) ++ []))
     then_is lists =
         ap (λ (s : Node). map by_region (take_view v xs r) ++ (lead lists s ++ (map by_region (register (fold after s (lead lists s)).region) ++ []))) taken_is
         ∙ ap (λ (s : Region). map by_region (take_view v xs r) ++ (lead lists one ++ (map by_region (register s) ++ []))) (lead_stays lists one)
+
     acts_are : (lists : SlotLists) → map by_region (take_view v xs r) ++ (lead lists one ++ map by_region (register taken)) ≡ packet lists from (body.View v xs) st
     acts_are lists = ap (λ acts. map by_region (take_view v xs r) ++ (lead lists one ++ acts)) (sym (append-nil (map by_region (register taken))))
         ∙ (sym (then_is lists) ∙ sym (other_choice (nat_le v r.version) (view_acts lists v xs st) newer))
@@ -198,6 +203,7 @@ parts_after c d r now k p h same newer genuine script state =
   where
     who_is : now.state.who ≡ r.state.who
     who_is = ap (λ (s : Region). s.who) state ∙ region_who r.state (handled p.from p.body r.state)
+
     by : (b : Body) → is_newer b r.state.version ≡ true → is_genuine_body c b ≡ true → now.state ≡ fold region_after r.state (handled p.from b r.state) → list_all (is_node c) now.state.view ≡ true
     by (body.View v xs) n g e = ap (λ (s : Region). list_all (is_node c) s.view) e
         ∙ (ap (λ ms. list_all (is_node c) (fold region_after r.state ms).view) (handled_is p.from v xs r.state (of_not (nat_le v r.state.version) n))

@@ -1,5 +1,5 @@
 -- The slots of a script, and those that a node holds.
-use Rattle.std.specs.Prelude.{ℕ, List, ◌∷◌, ◌++◌, map, filter, is_some}
+use Rattle.std.specs.Prelude.{List, ◌∷◌, ◌++◌, map, filter, is_some}
 use Rattle.yard_model.specs.declared.incarnation.Slot.{Slot}
 use Rattle.yard_model.specs.declared.incarnation.Slot.TheVariants as slot
 use Rattle.yard_model.specs.Node.{Node}

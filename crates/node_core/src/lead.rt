@@ -156,11 +156,7 @@ fn begin(
 {
     match answer {
         Acquire::Granted(Store::Coordinator(store)) => {
-            out.push(Item::Fact(Fact::Granted(
-                Slot::Coordinator,
-                store.epoch(),
-                *who,
-            )));
+            out.push(Item::Fact(Fact::Granted(Slot::Coordinator, store.epoch(), *who)));
             *coordinator = Some(Coordinator::new(alloc, *who, charter, store));
         }
         _ => unreachable!(),
@@ -168,7 +164,12 @@ fn begin(
 }
 
 /// The second part of Lead.
-fn drop_lost(charter: &Charter, region: &Region, coordinator: &mut Option<Coordinator>, out: &mut Out)
+fn drop_lost(
+    charter: &Charter,
+    region: &Region,
+    coordinator: &mut Option<Coordinator>,
+    out: &mut Out,
+)
     requires parts { AreParts charter.now region.now coordinator.old }
     requires entries { IfSome coordinator.old (λ k. 16 ≤ k.spare) }
     requires room { 2064 ≤ out.old.spare }

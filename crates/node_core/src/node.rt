@@ -27,6 +27,8 @@ ghost use Rattle.node_core.specs.Standing.{IsReady};
 ghost use Rattle.node_core.specs.Leased.{Rests, Tells, AreInHand, IsFor, IfPacket, IsHandOf, IsFreed, is_newer};
 ghost use Rattle.node_core.specs.Gave.{ForLists, AreOthersSame, Gave, lists_after};
 
+use crate::lead::lead;
+use crate::register::register;
 use coordinator_actor::Coordinator;
 use region_actor::Region;
 use region_actor::laws::{handle_room, register_room, same_law};
@@ -36,12 +38,9 @@ use std::alloc::{AllocError, Global};
 use std::marker::{Model, PhantomData};
 use std::snapshot::Snapshot;
 use yard_model::{
-    Body, Cause, Charter, EntityName, Fact, Incarnation, Input, Item, Out, Packet, ProducerNo, Slot,
-    State,
+    Body, Cause, Charter, EntityName, Fact, Incarnation, Input, Item, Out, Packet, ProducerNo,
+    Slot, State,
 };
-
-use crate::lead::lead;
-use crate::register::register;
 
 /// A node from its start to its end: the region and, while it holds the coordinator's slot, the
 /// coordinator (Akka 2.6, Cluster Sharding concepts). Where it is the coordinator, every registered
@@ -189,7 +188,10 @@ impl<B: Drop> Node<B> {
         ensures gave { Gave self.old.script (λ lists. rules.packet lists packet.now.from packet.now.body self.old.state) (L.meaning leases.old) self.old.state out.old.items (L.meaning leases.new) self.new.state out.new.items }
     {
         match &packet.body {
-            Body::View { version, members: _ } => {
+            Body::View {
+                version,
+                members: _,
+            } => {
                 if *version > self.region.version() {
                     self.take_view(charter, packet, leases, out);
                 }
@@ -305,7 +307,10 @@ impl<B: Drop> Node<B> {
                 if at > 0 {
                     return None;
                 }
-                Some((Slot::Coordinator, StoreRef::Coordinator(coordinator.store())))
+                Some((
+                    Slot::Coordinator,
+                    StoreRef::Coordinator(coordinator.store()),
+                ))
             }
             None => None,
         }
@@ -336,10 +341,11 @@ fn leave<L: Leases>(who: Incarnation, coordinator: Coordinator, leases: &mut L, 
 {
     let store = coordinator.into_store();
     let epoch = store.epoch();
-    out.push(Item::Fact(Fact::Freed(
+    out.push(Item::Fact(Fact::Freed(Slot::Coordinator, epoch, Cause::Stopped)));
+    leases.release(
+        who,
         Slot::Coordinator,
-        epoch,
+        Store::Coordinator(store),
         Cause::Stopped,
-    )));
-    leases.release(who, Slot::Coordinator, Store::Coordinator(store), Cause::Stopped);
+    );
 }

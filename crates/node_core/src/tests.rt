@@ -1,5 +1,6 @@
 //! What no clause says: that memory is there where there is plenty; and one way through each call.
-ghost use Rattle.std.specs.Prelude.{◌≡◌, ℕ, IfOk, IsTrue, None, replicate, true};
+ghost use Rattle.std.specs.Prelude.{◌≡◌, ℕ, IfOk, IsTrue, [], None, replicate, true, false};
+ghost use Rattle.yard_model.specs.declared.event.Kind.TheVariants as kind;
 ghost use Rattle.yard_model.specs.Genuine.{is_node, is_genuine_body};
 ghost use Rattle.yard_model.specs.Node.{new_node};
 ghost use Rattle.yard_model.specs.Script.{setting};
@@ -15,18 +16,6 @@ use std::test::Fail;
 use yard_model::{
     Body, Charter, Config, EntityName, Fact, Incarnation, Input, Item, Kind, Members, NodeNo, Out,
     Packet, ProducerNo,
-};
-
-const SETTINGS: Config = Config {
-    nodes: 2,
-    shards: 2,
-    producers: 1,
-    buffer: 10,
-    window: 4,
-    snapshot: 100,
-    keep: 2,
-    remember: false,
-    kind: Kind::Counter,
 };
 
 const ONE: Incarnation = Incarnation {
@@ -71,8 +60,27 @@ fn hand(
     Ok(())
 }
 
+/// A script of no orders.
+fn no_orders(alloc: Global) -> Result<Charter, AllocError>
+    ensures { IfOk result (λ c. c ≡ record { config = record { nodes = 2; shards = 2; producers = 1; buffer = 10; window = 4; snapshot = 100; keep = 2; remember = false; kind = kind.Counter }; orders = [] }) }
+{
+    let config = Config {
+        nodes: 2,
+        shards: 2,
+        producers: 1,
+        buffer: 10,
+        window: 4,
+        snapshot: 100,
+        keep: 2,
+        remember: false,
+        kind: Kind::Counter,
+    };
+    Charter::new(alloc, config, Vec::new(alloc))
+}
+
 /// A book of empty stores.
 fn new_book(alloc: Global, charter: &Charter) -> Result<LeaseBook, AllocError>
+    requires { charter.now ≡ record { config = record { nodes = 2; shards = 2; producers = 1; buffer = 10; window = 4; snapshot = 100; keep = 2; remember = false; kind = kind.Counter }; orders = [] } }
     ensures script { IfOk result (λ b. b.script ≡ charter.now) }
     ensures none { IfOk result (λ b. (n : ℕ) × (b.holders ≡ replicate n None)) }
 {
@@ -106,7 +114,7 @@ fn new_leader(
 #[test]
 fn a_node_leads(rt: HostRuntime) -> Result<(), Fail> {
     let alloc = rt.alloc();
-    let charter = Charter::new(alloc, SETTINGS, Vec::new(alloc))?;
+    let charter = no_orders(alloc)?;
     let mut book = new_book(alloc, &charter)?;
     let mut out = Out::new(alloc);
     let mut node = new_leader(alloc, &charter, &mut book, &mut out)?;
@@ -127,7 +135,7 @@ fn a_node_leads(rt: HostRuntime) -> Result<(), Fail> {
 #[test]
 fn a_node_that_comes_up_holds_nothing(rt: HostRuntime) -> Result<(), Fail> {
     let alloc = rt.alloc();
-    let charter = Charter::new(alloc, SETTINGS, Vec::new(alloc))?;
+    let charter = no_orders(alloc)?;
     let node = Node::new(alloc, ONE, &charter, 0u8)?;
     let entity = EntityName::new(b"a").ok_or("a is a name")?;
     let producer = ProducerNo::new(1).ok_or("1 is a producer")?;

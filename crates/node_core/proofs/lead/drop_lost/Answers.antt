@@ -1,14 +1,13 @@
-use Rattle.std.proofs.Common.{◌≡◌, ◌+◌, ◌-◌, ◌≤◌, ℕ, List, [], ◌∷◌, ◌++◌, map, sym, ap, subst, ◌∙◌, refl, true, false, arith, append-nil}
-use Rattle.std.specs.Prelude.{fold, Option, Some, None, IfSome, is_some}
-use Rattle.std.specs.List.{flat_map, list_all}
-use Rattle.yard_model.specs.Coordinator as coordinator
-use Rattle.yard_model.specs.Coordinator.{Coordinator, coordinator_after, coordinate, terminate_lost, register_from}
+use Rattle.std.proofs.Common.{◌++◌, sym, ap, subst, ◌∙◌}
+use Rattle.std.specs.Prelude.{fold, Option, Some, IfSome}
+use Rattle.std.specs.List.{flat_map}
+use Rattle.yard_model.specs.Coordinator.{Coordinator, coordinator_after, terminate_lost}
 use Rattle.yard_model.specs.Move.{item_of}
-use Rattle.yard_model.specs.Script.{Script, setting, IsScript}
-use Rattle.coordinator_actor.specs.Held.{Held, are_viewed}
-use Rattle.node_core.specs.Standing.{Standing, node_of, AreParts, IsOf}
-use Rattle.node_core.specs.Leased.{Rests, Tells, AreInHand, IsHandOf, IsFreed}
-use Rattle.node_core.specs.Gave.{Gave, ForLists, lists_after, take_lead}
+use Rattle.yard_model.specs.Script.{Script}
+use Rattle.coordinator_actor.specs.Held.{Held}
+use Rattle.node_core.specs.Standing.{node_of, IsOf}
+use Rattle.node_core.specs.Leased.{Rests}
+use Rattle.node_core.specs.Gave.{Gave}
 use Rattle.yard_model.specs.Node as rules
 use Rattle.node_core.proofs.LeadLaws.{lost_still}
 use Rattle.node_core.proofs.StepLaws.{lost_gave}

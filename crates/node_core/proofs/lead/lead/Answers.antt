@@ -1,5 +1,4 @@
-use Rattle.std.proofs.Common.{◌≡◌, ◌+◌, ◌-◌, ◌≤◌, ℕ, List, [], ◌∷◌, ◌++◌, map, sym, ap, subst, ◌∙◌, refl, true, false, arith, append-nil}
-use Rattle.shard_lease.specs.Meaning.{Meaning, Acquired}
+use Rattle.shard_lease.specs.Meaning.{Meaning}
 use Rattle.node_core.proofs.StepLaws.{lead_gave}
 use Rattle.node_core.proofs.lead.lead.Goals as goal
 

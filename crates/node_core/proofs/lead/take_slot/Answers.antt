@@ -1,16 +1,13 @@
-use Rattle.std.proofs.Common.{◌≡◌, ◌+◌, ◌-◌, ◌≤◌, ℕ, List, [], ◌∷◌, ◌++◌, map, sym, ap, subst, ◌∙◌, refl, true, false, arith, append-nil}
-use Rattle.std.specs.Prelude.{fold, Option, Some, None, IfSome, is_some}
+use Rattle.std.proofs.Common.{List, sym, subst}
+use Rattle.std.specs.Prelude.{Option}
 use Rattle.yard_model.specs.declared.incarnation.Incarnation.{Incarnation}
 use Rattle.yard_model.specs.declared.incarnation.Slot.TheVariants as slot
-use Rattle.yard_model.specs.declared.incarnation.Slot.{Slot}
-use Rattle.yard_model.specs.declared.out.Item.TheVariants as item
 use Rattle.yard_model.specs.declared.out.Item.{Item}
-use Rattle.yard_model.specs.Script.{Script, setting, IsScript}
-use Rattle.coordinator_actor.specs.Held.{Held, are_viewed}
+use Rattle.yard_model.specs.Script.{Script}
+use Rattle.coordinator_actor.specs.Held.{Held}
 use Rattle.shard_lease.specs.Meaning.{Meaning, Acquired}
-use Rattle.node_core.specs.Standing.{Standing, node_of, AreParts, IsOf}
-use Rattle.node_core.specs.Leased.{Rests, Tells, AreInHand, IsHandOf, IsFreed}
-use Rattle.node_core.specs.Gave.{Gave, ForLists, lists_after, take_lead}
+use Rattle.node_core.specs.Standing.{node_of}
+use Rattle.node_core.specs.Gave.{Gave, take_lead}
 use Rattle.node_core.specs.Taken.{Took}
 use Rattle.node_core.proofs.LeadLaws.{took_gave}
 use Rattle.node_core.proofs.lead.take_slot.Goals as goal

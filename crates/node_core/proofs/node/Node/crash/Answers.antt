@@ -1,18 +1,16 @@
-use Rattle.std.proofs.Common.{◌≡◌, ◌+◌, ◌-◌, ◌≤◌, ℕ, List, [], ◌∷◌, ◌++◌, map, sym, ap, subst, ◌∙◌, refl, true, false, arith, append-nil}
-use Rattle.std.specs.Prelude.{fold, Option, Some, None, IfSome, is_some}
+use Rattle.std.proofs.Common.{◌≡◌, [], ◌∷◌, ◌++◌, map, sym, ap, subst, ◌∙◌, refl, true, false, append-nil}
+use Rattle.std.specs.Prelude.{fold, Option, Some, None}
 use Rattle.yard_model.specs.declared.incarnation.Incarnation.{Incarnation}
 use Rattle.yard_model.specs.declared.incarnation.Slot.TheVariants as slot
 use Rattle.yard_model.specs.declared.incarnation.Slot.{Slot}
 use Rattle.yard_model.specs.declared.out.Item.TheVariants as item
-use Rattle.yard_model.specs.declared.out.Item.{Item}
-use Rattle.yard_model.specs.Script.{Script, setting, IsScript}
-use Rattle.coordinator_actor.specs.Held.{Held, are_viewed}
-use Rattle.shard_lease.specs.Meaning.{Meaning, Acquired}
-use Rattle.node_core.specs.Standing.{Standing, node_of, AreParts, IsOf}
-use Rattle.node_core.specs.Leased.{Rests, Tells, AreInHand, IsHandOf, IsFreed}
-use Rattle.node_core.specs.Gave.{Gave, ForLists, lists_after, take_lead}
+use Rattle.yard_model.specs.Script.{Script, setting}
+use Rattle.coordinator_actor.specs.Held.{Held}
+use Rattle.shard_lease.specs.Meaning.{Meaning}
+use Rattle.node_core.specs.Standing.{Standing, node_of}
+use Rattle.node_core.specs.Leased.{Rests, Tells, IsFreed}
+use Rattle.node_core.specs.Gave.{ForLists}
 use Rattle.yard_model.specs.Node as rules
-use Rattle.yard_model.specs.declared.fact.Fact.{Fact}
 use Rattle.yard_model.specs.declared.fact.Fact.TheVariants as fact
 use Rattle.yard_model.specs.declared.incarnation.Cause.TheVariants as cause
 use Rattle.yard_model.specs.Genuine.{is_slot_of}

@@ -1,14 +1,12 @@
-use Rattle.std.proofs.Common.{◌≡◌, ◌+◌, ◌-◌, ◌≤◌, ℕ, List, [], ◌∷◌, ◌++◌, map, sym, ap, subst, ◌∙◌, refl, true, false, arith, append-nil}
-use Rattle.std.specs.Prelude.{fold, Option, Some, None, IfSome, is_some}
+use Rattle.std.proofs.Common.{◌≡◌, sym, ap, subst, ◌∙◌}
+use Rattle.std.specs.Prelude.{Option}
 use Rattle.yard_model.specs.declared.incarnation.Incarnation.{Incarnation}
-use Rattle.yard_model.specs.declared.packet.Body.{Body}
 use Rattle.yard_model.specs.declared.packet.Body.TheVariants as body
-use Rattle.yard_model.specs.Script.{Script, setting, IsScript}
-use Rattle.coordinator_actor.specs.Held.{Held, are_viewed}
-use Rattle.shard_lease.specs.Meaning.{Meaning, Acquired}
-use Rattle.node_core.specs.Standing.{Standing, node_of, AreParts, IsOf}
-use Rattle.node_core.specs.Leased.{Rests, Tells, AreInHand, IsHandOf, IsFreed}
-use Rattle.node_core.specs.Gave.{Gave, ForLists, lists_after, take_lead}
+use Rattle.yard_model.specs.Script.{Script}
+use Rattle.coordinator_actor.specs.Held.{Held}
+use Rattle.node_core.specs.Standing.{Standing, node_of}
+use Rattle.node_core.specs.Leased.{Rests}
+use Rattle.node_core.specs.Gave.{Gave}
 use Rattle.yard_model.specs.Node as rules
 use Rattle.node_core.proofs.node.Node.enter.Goals as goal
 

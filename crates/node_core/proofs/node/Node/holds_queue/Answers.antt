@@ -1,7 +1,6 @@
-use Rattle.std.proofs.Common.{◌≡◌, ◌+◌, ◌-◌, ◌≤◌, ℕ, List, [], ◌∷◌, ◌++◌, map, sym, ap, subst, ◌∙◌, refl, true, false, arith, append-nil}
-use Rattle.std.specs.Prelude.{fold, Option, Some, None, IfSome, is_some}
-use Rattle.yard_model.specs.Script.{Script, setting, IsScript}
-use Rattle.node_core.specs.Standing.{Standing, node_of, AreParts, IsOf}
+use Rattle.std.proofs.Common.{◌≡◌, ◌-◌, sym, ap, subst, false}
+use Rattle.std.specs.Prelude.{None, is_some}
+use Rattle.node_core.specs.Standing.{Standing}
 use Rattle.yard_model.specs.Words.{at}
 use Rattle.node_core.proofs.CrashLaws.{same_at}
 use Rattle.node_core.proofs.node.Node.holds_queue.Goals as goal

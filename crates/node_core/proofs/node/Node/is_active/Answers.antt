@@ -1,6 +1,6 @@
-use Rattle.std.proofs.Common.{◌≡◌, ◌+◌, ◌-◌, ◌≤◌, ℕ, List, [], ◌∷◌, ◌++◌, map, sym, ap, subst, ◌∙◌, refl, true, false, arith, append-nil}
-use Rattle.yard_model.specs.Script.{Script, setting, IsScript}
-use Rattle.node_core.specs.Standing.{Standing, node_of, AreParts, IsOf}
+use Rattle.std.proofs.Common.{◌≡◌, sym, subst, false}
+use Rattle.yard_model.specs.Script.{setting}
+use Rattle.node_core.specs.Standing.{Standing}
 use Rattle.yard_model.specs.declared.input.Phase.TheVariants as phase
 use Rattle.yard_model.specs.Entities.{is_in_phase}
 use Rattle.node_core.proofs.CrashLaws.{none_active}

@@ -1,8 +1,7 @@
-use Rattle.std.proofs.Common.{◌≡◌, ◌+◌, ◌-◌, ◌≤◌, ℕ, List, [], ◌∷◌, ◌++◌, map, sym, ap, subst, ◌∙◌, refl, true, false, arith, append-nil}
+use Rattle.std.proofs.Common.{sym, subst}
 use Rattle.yard_model.specs.declared.packet.Body.{Body}
-use Rattle.yard_model.specs.declared.packet.Body.TheVariants as body
-use Rattle.shard_lease.specs.Meaning.{Meaning, Acquired}
-use Rattle.node_core.specs.Gave.{Gave, ForLists, lists_after, take_lead}
+use Rattle.shard_lease.specs.Meaning.{Meaning}
+use Rattle.node_core.specs.Gave.{Gave}
 use Rattle.yard_model.specs.Node as rules
 use Rattle.node_core.proofs.node.Node.packet.Goals as goal
 

@@ -1,13 +1,12 @@
-use Rattle.std.proofs.Common.{◌≡◌, ◌+◌, ◌-◌, ◌≤◌, ℕ, List, [], ◌∷◌, ◌++◌, map, sym, ap, subst, ◌∙◌, refl, true, false, arith, append-nil}
-use Rattle.std.specs.Prelude.{fold, Option, Some, None, IfSome, is_some}
+use Rattle.std.proofs.Common.{◌≡◌, sym, ap, subst, ◌∙◌, refl, true}
+use Rattle.std.specs.Prelude.{Option, Some, IfSome}
 use Rattle.yard_model.specs.declared.incarnation.Slot.TheVariants as slot
-use Rattle.yard_model.specs.declared.incarnation.Slot.{Slot}
-use Rattle.yard_model.specs.Script.{Script, setting, IsScript}
+use Rattle.yard_model.specs.Script.{Script}
 use Rattle.coordinator_actor.specs.Held.{Held, are_viewed}
 use Rattle.node_core.specs.Standing.{Standing, node_of, AreParts, AreSeen, IsOf}
 use Rattle.yard_model.specs.Lawful.{own}
 use Rattle.yard_model.specs.Members.{are_of_different_nodes}
-use Rattle.world_laws.specs.Standing.{IsNode, IsCoordinator}
+use Rattle.world_laws.specs.Standing.{IsNode}
 use Rattle.node_core.proofs.node.Node.stands.Goals as goal
 
 pub returns-in-Some : goal.returns-in-Some

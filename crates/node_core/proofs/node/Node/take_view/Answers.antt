@@ -1,12 +1,12 @@
-use Rattle.std.proofs.Common.{◌≡◌, ◌+◌, ◌-◌, ◌≤◌, ℕ, List, [], ◌∷◌, ◌++◌, map, sym, ap, subst, ◌∙◌, refl, true, false, arith, append-nil}
-use Rattle.std.specs.Prelude.{fold, Option, Some, None, IfSome, is_some}
+use Rattle.std.proofs.Common.{◌≡◌, sym, ap, subst, ◌∙◌}
+use Rattle.std.specs.Prelude.{Option}
 use Rattle.yard_model.specs.declared.incarnation.Incarnation.{Incarnation}
-use Rattle.yard_model.specs.Script.{Script, setting, IsScript}
-use Rattle.coordinator_actor.specs.Held.{Held, are_viewed}
-use Rattle.shard_lease.specs.Meaning.{Meaning, Acquired}
-use Rattle.node_core.specs.Standing.{Standing, node_of, AreParts, IsOf}
+use Rattle.yard_model.specs.Script.{Script}
+use Rattle.coordinator_actor.specs.Held.{Held}
+use Rattle.shard_lease.specs.Meaning.{Meaning}
+use Rattle.node_core.specs.Standing.{Standing, node_of}
 use Rattle.node_core.specs.Leased.{is_newer}
-use Rattle.node_core.specs.Gave.{Gave, ForLists, lists_after, take_lead}
+use Rattle.node_core.specs.Gave.{Gave}
 use Rattle.yard_model.specs.Node as rules
 use Rattle.yard_model.specs.Genuine.{is_genuine_packet}
 use Rattle.node_core.proofs.StepLaws.{parts_after, take_gave}

@@ -1,6 +1,6 @@
-use Rattle.std.proofs.Common.{◌≡◌, ◌+◌, ◌-◌, ◌≤◌, ℕ, List, [], ◌∷◌, ◌++◌, map, sym, ap, subst, ◌∙◌, refl, true, false, arith, append-nil}
-use Rattle.node_core.specs.Leased.{Rests, Tells, AreInHand, IsHandOf, IsFreed}
-use Rattle.node_core.specs.Gave.{Gave, ForLists, lists_after, take_lead}
+use Rattle.std.proofs.Common.{sym, subst}
+use Rattle.node_core.specs.Leased.{Tells, AreInHand}
+use Rattle.node_core.specs.Gave.{lists_after}
 use Rattle.yard_model.specs.Node as rules
 use Rattle.yard_model.specs.declared.input.Input.{Input}
 use Rattle.node_core.proofs.node.Node.turn.Goals as goal

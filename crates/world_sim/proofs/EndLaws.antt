@@ -1,6 +1,6 @@
 -- A node that goes down, and a node that handles a packet: what the code keeps stands for the world after.
 use Rattle.std.proofs.Common.{◌≡◌, ℕ, zero, suc, ◌+◌, ◌-◌, ◌<◌, ◌≤◌, Bool, true, false, ◌&&◌, List, [], ◌∷◌, ◌++◌, length, fold, refl, ap, sym, ◌∙◌, subst, arith}
-use Rattle.std.specs.Prelude.{map, nat_lt, Option, Some, None, IfSome, slice_set, if◌then◌else◌}
+use Rattle.std.specs.Prelude.{map, nat_lt, nat_le, Option, Some, None, IfSome, slice_set, if◌then◌else◌}
 use Rattle.std.specs.List.{list_all, flat_map}
 use Rattle.std.proofs.lemmas.List.{map-set, append-nil}
 use Rattle.std.proofs.lemmas.List.Folds.{list_all-append}
@@ -13,23 +13,26 @@ use Rattle.yard_model.specs.declared.out.Item.{Item}
 use Rattle.yard_model.specs.declared.out.Item.TheVariants as item
 use Rattle.yard_model.specs.declared.packet.Packet.{Packet}
 use Rattle.yard_model.specs.Node.{Node, Act, after, items_of, turn, crash, freed_stopped}
-use Rattle.yard_model.specs.Script.{setting}
+use Rattle.yard_model.specs.Genuine.{is_node, is_genuine_body, is_genuine_packet}
+use Rattle.yard_model.specs.Script.{Script, setting}
 use Rattle.yard_model.specs.Setting.{shards, producers}
+use Rattle.yard_model.specs.SlotLists.{SlotLists}
 use Rattle.yard_model.specs.Trace.{lists_step}
 use Rattle.yard_model.specs.Turns.{where_some}
 use Rattle.yard_model.specs.Words.{at, without}
 use Rattle.yard_model.specs.World.{World, Made, world_after, numbered, count_posts, input_facts, wire_limit, go_down, go_down_by, handle, tell}
 use Rattle.shard_lease.specs.Book.{meaning_of}
-use Rattle.node_core.specs.Gave.{lists_after}
-use Rattle.node_core.specs.Leased.{Tells, facts_in}
+use Rattle.node_core.specs.Gave.{ForLists, lists_after}
+use Rattle.node_core.specs.Leased.{AreInHand, Rests, Tells, facts_in}
 use Rattle.node_core.specs.Standing.{Standing}
 use Rattle.world_laws.specs.Built.{is_built_packet}
 use Rattle.world_laws.specs.Standing.{IsUp}
 use Rattle.world_laws.proofs.Place.{placed_at, placed_beside, by_place}
-use Rattle.yard_laws.proofs.Booleans.{true_is_not_false, both}
+use Rattle.yard_laws.proofs.Booleans.{true_is_not_false, at_most, both}
 use Rattle.world_sim.specs.Mail.{Mails, facts_of}
 use Rattle.world_sim.specs.Yard.{Yard, IsSeen, IsSeenBut, IsSoundBut, Goes, state_in}
 use Rattle.world_sim.proofs.FreshLaws.{lt_false}
+use Rattle.world_sim.proofs.RestsLaws.{rests_of, in_hand_of}
 use Rattle.world_sim.proofs.SeenLaws.{IsAllTold, IsKept, IsLed, led_to, seen_told, facts_told, mailed_from}
 use Rattle.world_sim.proofs.TellLaws.{words_after, input_nodes}
 use Rattle.world_sim.proofs.TurnLaws.{is_own, is_own_item, turn_own}
@@ -107,10 +110,14 @@ each_own f (x ∷ xs) h = join_own (f x) (flat_map f xs) (h x) (each_own f xs h)
 
 pub crash_own : (st : Node) → list_all is_own (crash st) ≡ true
 crash_own st =
-    join_own (flat_map (λ s. where_some (λ h. freed_stopped (slot.Shard s) h.entries) (at st.entities.hosted s)) (shards st.set)) _
-        (each_own (λ s. where_some (λ h. freed_stopped (slot.Shard s) h.entries) (at st.entities.hosted s)) (shards st.set) (λ s. some_own (λ h. freed_stopped (slot.Shard s) h.entries) (at st.entities.hosted s) (λ h. refl)))
-    (join_own (where_some (λ k. freed_stopped slot.Coordinator k.entries) st.coordinator) _ (some_own (λ k. freed_stopped slot.Coordinator k.entries) st.coordinator (λ k. refl))
-    (each_own (λ p. where_some (λ k. freed_stopped (slot.Queue p) k.entries) (at st.producers (p - 1))) (producers st.set) (λ p. some_own (λ k. freed_stopped (slot.Queue p) k.entries) (at st.producers (p - 1)) (λ k. refl))))
+    let shards_freed : List Fact = flat_map (λ s. where_some (λ h. freed_stopped (slot.Shard s) h.entries) (at st.entities.hosted s)) (shards st.set) in
+    let lead_freed : List Fact = where_some (λ k. freed_stopped slot.Coordinator k.entries) st.coordinator in
+    let queues_freed : List Fact = flat_map (λ p. where_some (λ k. freed_stopped (slot.Queue p) k.entries) (at st.producers (p - 1))) (producers st.set) in
+    join_own (shards_freed ++ lead_freed) queues_freed
+        (join_own shards_freed lead_freed
+            (each_own (λ s. where_some (λ h. freed_stopped (slot.Shard s) h.entries) (at st.entities.hosted s)) (shards st.set) (λ s. some_own (λ h. freed_stopped (slot.Shard s) h.entries) (at st.entities.hosted s) (λ h. refl)))
+            (some_own (λ k. freed_stopped slot.Coordinator k.entries) st.coordinator (λ k. refl)))
+        (each_own (λ p. where_some (λ k. freed_stopped (slot.Queue p) k.entries) (at st.producers (p - 1))) (producers st.set) (λ p. some_own (λ k. freed_stopped (slot.Queue p) k.entries) (at st.producers (p - 1)) (λ k. refl)))
 
 -- Going down.
 
@@ -249,3 +256,29 @@ turned_goes y z w n node later p mid before after_ s some built e m t =
           });
       facts_are = facts_told y0 w is before after_ u (t.facts_are ∙ (ap (λ p. before ++ facts_of wire_limit (length p) mid.items) m.packets_are ∙ ap (λ i. before ++ facts_of wire_limit (length y.mail.packets) i) m.items_are));
     }
+
+-- it is of the script
+pub script_of_node : (n : ℕ) (node : Standing) (y : Yard) (w : World) → IsSeenBut n node y w → 1 ≤ n → node.script ≡ y.script
+script_of_node n node y w s some =
+    let l : n ≤ length y.nodes = s.there in
+    let there : n - 1 < length y.nodes = omega (arith, some, l) in
+    subst (λ o. IfSome o (λ (v : Standing). v.script ≡ y.script)) (placed_at y.nodes (n - 1) (Some node) there) (s.seen_is.scripts_are (n - 1))
+
+-- it may rest on the leases
+pub rests_on : (n : ℕ) (node later : Standing) (y : Yard) (w : World) → IsSoundBut n node y w → 1 ≤ n → later.script ≡ node.script → later.state ≡ node.state → Rests (meaning_of y.book) later.script later.state
+rests_on n node later y w s some e f =
+    subst (λ c. Rests (meaning_of y.book) c later.state) (sym (e ∙ script_of_node n node y w s.seen_is some))
+    (subst (λ st. Rests (meaning_of y.book) y.script st) (sym f)
+    (rests_of y.book y.script w (n - 1) node.state s.seen_is.seen_is.book_is s.stands_is s.seen_is.seen_is.tells_is (taken_is n node y w s.seen_is some)))
+
+-- what holds for all lists that the leases tell holds for the world's
+pub for_world : (n : ℕ) (node later : Standing) (y : Yard) (w : World) (P : SlotLists → Type 0) → IsSoundBut n node y w → 1 ≤ n → later.script ≡ node.script → later.state ≡ node.state
+    → ForLists (meaning_of y.book) later.script later.state P → P w.lists
+for_world n node later y w P s some e f h =
+    let script : later.script ≡ y.script = e ∙ script_of_node n node y w s.seen_is some in
+    h w.lists (subst (λ c. Tells (meaning_of y.book) c w.lists) (sym script) s.seen_is.seen_is.tells_is)
+    (subst (λ c. AreInHand c w.lists later.state) (sym script) (subst (λ st. AreInHand y.script w.lists st) (sym f) (in_hand_of y.script w (n - 1) node.state s.stands_is (taken_is n node y w s.seen_is some))))
+
+-- a packet's addressee has a node's number
+pub to_some : (c : Script) (p : Packet) → is_genuine_packet c p ≡ true → 1 ≤ p.to.node
+to_some c p e = at_most 1 p.to.node (front (nat_le 1 p.to.node) (nat_le p.to.node c.config.nodes) (back (is_node c p.from) (is_node c p.to) (front (is_node c p.from && is_node c p.to) (is_genuine_body c p.body) e)))

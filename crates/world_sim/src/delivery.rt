@@ -10,10 +10,11 @@ ghost use Rattle.world_sim.specs.Yard.{IsSeen, IsSound, IsSoundBut, Goes};
 
 use crate::members::has;
 use crate::places::{put_node, take_node};
+use crate::turns::{hand_packet, make_room};
 use crate::yard::Yard;
 use node_core::Node;
 use std::alloc::AllocError;
-use yard_model::{Fact, Facts, Input, Packet};
+use yard_model::{Fact, Facts, Packet};
 
 impl<B: Copy + Drop> Yard<B> {
     /// The packet of this number is delivered, where one was posted.
@@ -98,8 +99,8 @@ impl<B: Copy + Drop> Yard<B> {
         ensures ups { OnOk result (self.new.ups ≡ self.old.ups) }
     {
         let mut node = node;
-        node.reserve(self.mail.out())?;
-        node.turn(&self.charter, Input::Packet(*packet), &mut self.book, self.mail.out());
+        make_room(&mut self.mail, &mut node)?;
+        hand_packet(&self.charter, packet, &mut node, &mut self.book, &mut self.mail);
         put_node(&mut self.nodes, packet.to.node, node);
         self.mail.tell_items(facts)
     }

@@ -7,6 +7,7 @@ mod mail;
 mod members;
 mod orders;
 mod places;
+mod turns;
 mod ups;
 mod yard;
 

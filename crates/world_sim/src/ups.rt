@@ -9,6 +9,7 @@ ghost use Rattle.world_sim.specs.Yard.{IsSeen, IsSound, IsSoundBut, Goes};
 
 use crate::members::{post_views, with, without};
 use crate::places::{is_down, next_number, put_node, set_number, take_node};
+use crate::turns::{end_node, make_room};
 use crate::yard::Yard;
 use node_core::Node;
 use std::alloc::AllocError;
@@ -130,9 +131,10 @@ impl<B: Copy + Drop> Yard<B> {
     {
         let mut node = node;
         let who = &node.who();
-        node.reserve(self.mail.out())?;
+        let _posted = self.mail.len();
+        make_room(&mut self.mail, &mut node)?;
         facts.push(Fact::Gone(*who))?;
-        node.crash(&mut self.book, self.mail.out());
+        end_node(node, &mut self.book, &mut self.mail);
         self.members = without(&self.members, who);
         self.version += 1;
         self.mail.tell_items(facts)

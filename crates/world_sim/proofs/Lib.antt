@@ -1,3 +1,4 @@
+pub mod DeliveryLaws
 pub mod FreshLaws
 pub mod MembersLaws
 pub mod OffWireLaws

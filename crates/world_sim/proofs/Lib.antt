@@ -1,3 +1,4 @@
+pub mod DeliveryLaws
 pub mod EndLaws
 pub mod FreshLaws
 pub mod MembersLaws

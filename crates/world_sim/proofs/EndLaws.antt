@@ -1,8 +1,8 @@
 -- A node that goes down, and a node that handles a packet: what the code keeps stands for the world after.
 use Rattle.std.proofs.Common.{◌≡◌, ℕ, zero, suc, ◌+◌, ◌-◌, ◌<◌, ◌≤◌, Bool, true, false, ◌&&◌, List, [], ◌∷◌, ◌++◌, length, fold, refl, ap, sym, ◌∙◌, subst, arith}
-use Rattle.std.specs.Prelude.{map, nat_lt, nat_le, Option, Some, None, IfSome, slice_set, if◌then◌else◌}
+use Rattle.std.specs.Prelude.{map, nat_lt, nat_le, Option, Some, None, IfSome, is_none, slice_set, if◌then◌else◌}
 use Rattle.std.specs.List.{list_all, flat_map}
-use Rattle.std.proofs.lemmas.List.{map-set, append-nil}
+use Rattle.std.proofs.lemmas.List.{map-set, append-nil, length-set}
 use Rattle.std.proofs.lemmas.List.Folds.{list_all-append}
 use Rattle.yard_model.specs.declared.fact.Fact.{Fact}
 use Rattle.yard_model.specs.declared.fact.Fact.TheVariants as fact
@@ -20,7 +20,7 @@ use Rattle.yard_model.specs.SlotLists.{SlotLists}
 use Rattle.yard_model.specs.Trace.{lists_step}
 use Rattle.yard_model.specs.Turns.{where_some}
 use Rattle.yard_model.specs.Words.{at, without}
-use Rattle.yard_model.specs.World.{World, Made, world_after, numbered, count_posts, input_facts, wire_limit, go_down, go_down_by, handle, tell}
+use Rattle.yard_model.specs.World.{World, Made, world_after, numbered, count_posts, input_facts, wire_limit, go_down, go_down_by, handle, tell, full_step, node_at}
 use Rattle.shard_lease.specs.Book.{meaning_of}
 use Rattle.node_core.specs.Gave.{ForLists, lists_after}
 use Rattle.node_core.specs.Leased.{AreInHand, Rests, Tells, facts_in}
@@ -30,7 +30,7 @@ use Rattle.world_laws.specs.Standing.{IsUp}
 use Rattle.world_laws.proofs.Place.{placed_at, placed_beside, by_place}
 use Rattle.yard_laws.proofs.Booleans.{true_is_not_false, at_most, both}
 use Rattle.world_sim.specs.Mail.{Mails, facts_of}
-use Rattle.world_sim.specs.Yard.{Yard, IsSeen, IsSeenBut, IsSoundBut, Goes, state_in}
+use Rattle.world_sim.specs.Yard.{Yard, IsSeen, IsSeenBut, IsSound, IsSoundBut, Goes, state_in}
 use Rattle.world_sim.proofs.FreshLaws.{lt_false}
 use Rattle.world_sim.proofs.RestsLaws.{rests_of, in_hand_of}
 use Rattle.world_sim.proofs.SeenLaws.{IsAllTold, IsKept, IsLed, led_to, seen_told, facts_told, mailed_from}
@@ -282,3 +282,57 @@ for_world n node later y w P s some e f h =
 -- a packet's addressee has a node's number
 pub to_some : (c : Script) (p : Packet) → is_genuine_packet c p ≡ true → 1 ≤ p.to.node
 to_some c p e = at_most 1 p.to.node (front (nat_le 1 p.to.node) (nat_le p.to.node c.config.nodes) (back (is_node c p.from) (is_node c p.to) (front (is_node c p.from && is_node c p.to) (is_genuine_body c p.body) e)))
+
+-- A crash.
+
+own_full : (fs : List Fact) (b : Bool) → list_all is_own fs ≡ true → fold full_step b fs ≡ b
+own_full [] b e = refl
+own_full (f ∷ fs) b e = ap (λ a. fold full_step a fs) (step f (front (is_own f) (list_all is_own fs) e)) ∙ own_full fs b (back (is_own f) (list_all is_own fs) e)
+  where
+    step : (f : Fact) → is_own f ≡ true → full_step b f ≡ b
+    step fact.WireFull g = absurd (true_is_not_false (sym g))
+    step f g = refl
+
+down_full : (w : World) (o : Option Node) → (go_down_by o w).world.full ≡ w.full
+down_full w None = refl
+down_full w (Some st) = ap (λ (v : World). v.full) (words_after (world_after w (fact.Gone st.who)) (crash st)) ∙ own_full (crash st) w.full (crash_own st)
+
+-- a node that goes down doesn't fill the wire
+pub go_down_full : (w : World) (n : ℕ) → (go_down n w).world.full ≡ w.full
+go_down_full w n = down_full w (node_at w n)
+
+none_state : (o : Option Standing) → is_none (state_in o) ≡ is_none o
+none_state None = refl
+none_state (Some v) = refl
+
+-- a place that is kept empty is so in the world
+pub none_kept : (y : Yard) (w : World) (n : ℕ) (b : Bool) → IsSeen y w → is_none (at y.nodes (n - 1)) ≡ b → is_none (node_at w n) ≡ b
+none_kept y w n b s e = ap is_none (node_kept y w (n - 1) s) ∙ (none_state (at y.nodes (n - 1)) ∙ e)
+
+-- Taking a node out of its place.
+
+back_again : (ys : List (Option Standing)) (k : ℕ) (o : Option Standing) → at ys k ≡ o → k < length ys → slice_set (slice_set ys k None) k o ≡ ys
+back_again [] k o e h = absurd (omega (arith, h))
+back_again (y ∷ ys) zero o e h = ap (λ o. o ∷ ys) (sym e)
+back_again (y ∷ ys) (suc k) o e h = ap (λ l. y ∷ l) (back_again ys k o e (omega (arith, h)))
+
+empty_now : (ys : List (Option Standing)) (k : ℕ) → at (slice_set ys k None) k ≡ None
+empty_now [] k = refl
+empty_now (y ∷ ys) zero = refl
+empty_now (y ∷ ys) (suc k) = empty_now ys k
+
+pub sound_out : (y : Yard) (w : World) (n : ℕ) (node : Standing) (nodes : List (Option Standing)) → IsSound y w → 1 ≤ n → n ≤ length y.nodes → at y.nodes (n - 1) ≡ Some node → nodes ≡ slice_set y.nodes (n - 1) None
+    → IsSoundBut n node (record y { nodes = nodes }) w
+sound_out y w n node nodes s some there up out =
+    let inside : n - 1 < length y.nodes = omega (arith, some, there) in
+    let back : slice_set nodes (n - 1) (Some node) ≡ y.nodes = ap (λ ns. slice_set ns (n - 1) (Some node)) out ∙ back_again y.nodes (n - 1) (Some node) up inside in
+    let size : length nodes ≡ length y.nodes = ap length out ∙ length-set y.nodes (n - 1) None in
+    record {
+      seen_is = record {
+        seen_is = subst (λ ns. IsSeen (record y { nodes = ns }) w) (sym back) s.seen_is;
+        out_is = ap (λ ns. at ns (n - 1)) out ∙ empty_now y.nodes (n - 1);
+        there = omega (arith, there, size);
+      };
+      stands_is = s.stands_is;
+      going_is = s.going_is;
+    }

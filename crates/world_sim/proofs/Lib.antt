@@ -3,6 +3,7 @@ pub mod EndLaws
 pub mod FreshLaws
 pub mod MembersLaws
 pub mod OffWireLaws
+pub mod PlayedLaws
 pub mod RestsLaws
 pub mod SeenLaws
 pub mod TellLaws

@@ -2,6 +2,7 @@
 #![tactic(auto)]
 
 mod delivery;
+mod fault;
 pub mod laws;
 mod mail;
 mod members;
@@ -9,9 +10,12 @@ mod orders;
 mod places;
 mod turns;
 mod ups;
+mod world;
 mod yard;
 
+pub use fault::StepFault;
 pub use mail::Mail;
+pub use world::World;
 
 #[cfg(test)]
 mod tests;

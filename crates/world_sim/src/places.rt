@@ -1,8 +1,9 @@
 //! Nodes by their numbers.
-ghost use Rattle.std.specs.Prelude.{◌≡◌, ◌+◌, ◌-◌, ◌<◌, ◌≤◌, length, is_none, slice_set, slice_index_or, Some, None};
+ghost use Rattle.std.specs.Prelude.{◌≡◌, ◌+◌, ◌-◌, ◌<◌, ◌≤◌, length, is_none, slice_set, slice_index_or, replicate, IfOk, Some, None};
 ghost use Rattle.yard_model.specs.Words.{at};
 
 use node_core::Node;
+use std::alloc::{AllocError, Global};
 use yard_model::NodeNo;
 
 /// Whether no incarnation of this node is up.
@@ -51,4 +52,15 @@ pub(crate) fn set_number(ups: &mut Vec<u32>, n: NodeNo, number: u32)
 {
     let place = n.get() as usize - 1;
     ups[place] = number;
+}
+
+/// No node is up.
+pub(crate) fn no_nodes<B: Drop>(alloc: Global, count: u8) -> Result<Vec<Option<Node<B>>>, AllocError>
+    ensures { IfOk result (λ nodes. nodes.items ≡ replicate count None) }
+{
+    let mut nodes = Vec::new(alloc);
+    for _ in 0..count {
+        nodes.push(None)?;
+    }
+    Ok(nodes)
 }

@@ -1,0 +1,86 @@
+-- The world after some of a script's orders, and what one more order does.
+use Rattle.std.specs.Prelude.{◌≡◌, ℕ, ◌+◌, Bool, true, false, List, [], ◌∷◌, ◌++◌, map, take, length, fold, slice_get, Option, Some, None, Result, Ok, Err, OnOk, IfErr, IfNone, IfSome, IsTrue}
+use Rattle.std.specs.List.{list_all}
+use Rattle.yard_model.specs.declared.fact.Fact.{Fact}
+use Rattle.yard_model.specs.declared.fact.Fact.TheVariants as fact
+use Rattle.yard_model.specs.declared.charter.Line.{Line}
+use Rattle.yard_model.specs.Script.{Script, setting}
+use Rattle.yard_model.specs.SlotLists.{SlotLists}
+use Rattle.yard_model.specs.Trace.{lists_step}
+use Rattle.yard_model.specs.World.{World, Made, new_world, play_line, played, in_order, then_step, wire_limit}
+use Rattle.world_sim.specs.declared.fault.StepFault.{StepFault}
+use Rattle.world_sim.specs.declared.fault.StepFault.TheVariants as fault
+
+pub record Played : Type 0 where
+  pub script : Script
+  pub count : ℕ  -- how many of its orders were played
+  pub fault : Option StepFault  -- what ended it, if it is spent
+
+-- the facts of the first orders, and the world after them
+abbrev pub made_of : Script → ℕ → Made
+made_of c n = in_order (map play_line (take n c.orders)) (new_world c wire_limit)
+
+-- what the next order makes
+abbrev pub next_of : Script → ℕ → Line → Made
+next_of c n l = play_line l (made_of c n).world
+
+-- a step that wasn't spent before and found memory: the order's facts were told
+pub record Told (old : Played) (l : Line) (before after : List Fact) : Type 0 where
+  pub fresh_is : old.fault ≡ None
+  pub facts_are : after ≡ before ++ (next_of old.script old.count l).facts
+
+-- one order more was played, and the trace goes on
+pub record Went (old : Played) (l : Line) (before : List Fact) (new : Played) (after : List Fact) : Type 0 where
+  pub told_is : Told old l before after
+  pub going_is : (next_of old.script old.count l).world.full ≡ false
+  pub new_is : new ≡ record { script = old.script; count = old.count + 1; fault = None }
+
+-- the order posted a packet past the limit, and the trace stops with it
+pub record Filled (old : Played) (l : Line) (before : List Fact) (new : Played) (after : List Fact) : Type 0 where
+  pub told_is : Told old l before after
+  pub full_is : (next_of old.script old.count l).world.full ≡ true
+  pub new_is : new ≡ record { script = old.script; count = old.count + 1; fault = Some fault.WireFull }
+
+-- what an answer says where the world wasn't spent
+abbrev pub Answers : Played → Line → List Fact → Result (Unit {0}) StepFault → Played → List Fact → Type 0
+Answers old l before (Ok u) new after = Went old l before new after
+Answers old l before (Err fault.WireFull) new after = Filled old l before new after
+Answers old l before (Err fault.OutOfMemory) new after = (new.script ≡ old.script) × (new.fault ≡ Some fault.OutOfMemory)
+
+-- a spent world answers what ended it, and nothing changes
+pub record Spent (old : Played) (f : StepFault) (before : List Fact) (r : Result (Unit {0}) StepFault) (new : Played) (after : List Fact) : Type 0 where
+  pub answer_is : r ≡ Err f
+  pub new_is : new ≡ old
+  pub facts_are : after ≡ before
+
+abbrev pub Steps : Played → Line → List Fact → Result (Unit {0}) StepFault → Played → List Fact → Type 0
+Steps old l before r new after = (IfNone old.fault (Answers old l before r new after)) × (IfSome old.fault (λ f. Spent old f before r new after))
+
+abbrev pub is_freed : Fact → Bool
+is_freed (fact.Freed s n why) = true
+is_freed f = false
+
+-- these lists are those of the world, with an entry more that frees it where a slot was held
+pub record AreFreed (c : Script) (lists : SlotLists) (new : SlotLists) : Type 0 where
+  pub freed : List Fact
+  pub all_freed : IsTrue (list_all is_freed freed)
+  pub lists_are : new ≡ fold (lists_step (setting c)) lists freed
+
+-- Laws of the worlds after orders.
+
+-- none are played at first
+abbrev pub MadeNone : Type 0
+MadeNone = (c : Script) → made_of c 0 ≡ record { facts = []; world = new_world c wire_limit }
+
+-- one order more, where the trace goes on
+abbrev pub MadeNext : Type 0
+MadeNext = (c : Script) (n : ℕ) (l : Line) → slice_get c.orders n ≡ Some l → (made_of c n).world.full ≡ false
+    → made_of c (n + 1) ≡ record { facts = (made_of c n).facts ++ (next_of c n l).facts; world = (next_of c n l).world }
+
+-- a trace that has stopped stays
+abbrev pub MadeFull : Type 0
+MadeFull = (c : Script) (n : ℕ) → (made_of c n).world.full ≡ true → played c wire_limit ≡ made_of c n
+
+-- all orders
+abbrev pub MadeAll : Type 0
+MadeAll = (c : Script) → made_of c (length c.orders) ≡ played c wire_limit

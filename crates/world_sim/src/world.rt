@@ -1,0 +1,115 @@
+//! A world, order by order.
+ghost use Rattle.std.specs.Prelude.{◌≡◌, ◌≢◌, None, Some, IfOk, IfNone, IsTrue, replicate, slice_get};
+ghost use Rattle.yard_model.specs.Script.{IsScript};
+ghost use Rattle.yard_model.specs.World.{new_world, wire_limit};
+ghost use Rattle.world_laws.specs.Keeps.{are_built};
+ghost use Rattle.shard_store.specs.Stores.{lists_at};
+ghost use Rattle.world_sim.specs.declared.fault.StepFault.TheVariants as fault;
+ghost use Rattle.world_sim.specs.Played.{Answers, Steps, AreFreed, made_of};
+ghost use Rattle.world_sim.specs.Yard.{IsSeen};
+
+use crate::fault::StepFault;
+use crate::mail::Mail;
+use crate::places::no_nodes;
+use crate::yard::Yard;
+use shard_lease::LeaseBook;
+use shard_store::Stores;
+use std::alloc::{AllocError, Global};
+use std::marker::{Model, PhantomData};
+use yard_model::{Charter, Facts, Line, Members};
+
+/// All nodes of a script, one step after the other: the members, the packets between them, and the
+/// leases. Seen as the script, how many of its orders were played, and what ended it.
+#[derive(Drop)]
+pub struct World<B> {
+    yard: Yard<B>,
+    count: u32,
+    fault: Option<StepFault>,
+}
+
+impl<B> Model for World<B> {
+    ghost use Rattle.world_sim.specs.Played.{Played};
+    ghost use Rattle.world_sim.specs.World.{IsWorld};
+
+    ghost Value = { Played };
+
+    ghost view = { λ w. record { script = w.yard.script; count = w.count; fault = w.fault } };
+
+    ghost invariant = { λ w. IsWorld w.yard w.count w.fault };
+}
+
+impl<B: Copy + Drop> World<B> {
+    /// The world of a script before its first order. The only error is want of memory.
+    pub fn new(alloc: Global, charter: &Charter, behaviour: B) -> Result<World<B>, AllocError>
+        requires { IsTrue (are_built charter.now) }
+        ensures { IfOk result (λ w. w ≡ record { script = charter.now; count = 0; fault = None }) }
+    {
+        let yard = new_yard(alloc, charter, behaviour)?;
+        Ok(World {
+            yard,
+            count: 0,
+            fault: None,
+        })
+    }
+
+    /// Plays the next order, and tells its facts. A world that is spent answers what ended it.
+    pub fn step(&mut self, line: &Line, out: &mut Facts) -> Result<(), StepFault>
+        requires { IfNone self.old.fault (slice_get self.old.script.orders self.old.count ≡ Some line.now) }
+        ensures { Steps self.old line.now out.old result self.new out.new }
+    {
+        if let Some(fault) = self.fault {
+            return Err(fault);
+        }
+        self.play(line, out)
+    }
+
+    /// Plays the next order, where the world isn't spent.
+    fn play(&mut self, line: &Line, out: &mut Facts) -> Result<(), StepFault>
+        requires going { self.old.fault ≡ None }
+        requires next { slice_get self.old.script.orders self.old.count ≡ Some line.now }
+        ensures { Answers self.old line.now out.old result self.new out.new }
+    {
+        match self.yard.play_line(line, out) {
+            Ok(()) => {}
+            Err(_) => {
+                self.fault = Some(StepFault::OutOfMemory);
+                return Err(StepFault::OutOfMemory);
+            }
+        }
+        self.count += 1;
+        if self.yard.mail.is_full() {
+            self.fault = Some(StepFault::WireFull);
+            return Err(StepFault::WireFull);
+        }
+        Ok(())
+    }
+}
+
+/// The parts of a world in which no node is up and nothing is posted. The only error is want of
+/// memory.
+fn new_yard<B: Copy + Drop>(alloc: Global, charter: &Charter, behaviour: B) -> Result<Yard<B>, AllocError>
+    ensures seen { IfOk result (λ y. IsSeen y (new_world charter.now wire_limit)) }
+    ensures script { IfOk result (λ y. y.script ≡ charter.now) }
+    ensures version { IfOk result (λ y. y.version ≡ 0) }
+    ensures ups { IfOk result (λ y. y.ups ≡ replicate charter.now.config.nodes 0) }
+    ensures known { IsScript charter.now }
+{
+    let charter = charter.copy(alloc)?;
+    let count = charter.config().nodes;
+    let stores = Stores::new(alloc, &charter)?;
+    let book = LeaseBook::new(alloc, stores)?;
+    let nodes = no_nodes(alloc, count)?;
+    let ups = vec![in alloc; 0u32; count as usize]?;
+    Ok(Yard {
+        alloc,
+        charter,
+        behaviour,
+        book,
+        nodes,
+        members: Members::empty(),
+        version: 0,
+        ups,
+        mail: Mail::new(alloc),
+        holds: PhantomData,
+    })
+}

@@ -20,7 +20,7 @@ pub record IsCounted (y : Yard) (n : ℕ) : Type 0 where
 -- after want of memory nothing is known of it
 abbrev pub IsKept : Yard → ℕ → Option StepFault → Type 0
 IsKept y n None = IsAt y n false × IsCounted y n
-IsKept y n (Some fault.WireFull) = IsAt y n true
+IsKept y n (Some fault.WireFull) = IsAt y n true × IsCounted y n
 IsKept y n (Some fault.OutOfMemory) = Unit {0}
 
 pub record IsWorld (y : Yard) (n : ℕ) (f : Option StepFault) : Type 0 where

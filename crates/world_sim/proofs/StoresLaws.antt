@@ -24,7 +24,7 @@ use Rattle.yard_model.specs.Words.{numbers, at}
 use Rattle.yard_model.specs.World.{World, Made, world_after, nodes_step, go_down, go_down_by, node_at, wire_limit}
 use Rattle.shard_store.specs.declared.store.Store.{Store}
 use Rattle.shard_store.specs.Stores.{entries_in, entries_at, lists_at, place_of, slot_at}
-use Rattle.shard_lease.specs.Book.{Book, IsBook, known_at, meaning_of}
+use Rattle.shard_lease.specs.Book.{Book, known_at, meaning_of}
 use Rattle.node_core.specs.Leased.{IsTold, Tells}
 use Rattle.world_laws.specs.Hands.{HasHand}
 use Rattle.world_laws.specs.Standing.{IsUp, Stands}
@@ -196,32 +196,13 @@ none_holds c w s stands down i = by (holder (list_at w.lists s)) refl
         let less : x.node - 1 < c.config.nodes = omega (arith, within, count) in
         absurd (none_is_not_some t.node (sym (down (x.node - 1) less) ∙ t.is_up))
 
--- each place is a slot's
-place_slot : (c : Script) (k : ℕ) → k < c.config.shards + c.config.producers + 1 → (s : Slot) × (is_slot_of c s ≡ true) × (place_of c.config s ≡ k)
-place_slot c k less = by_shard (nat_lt k c.config.shards) refl
-  where
-    by_queue : (v : Bool) → (k == c.config.shards) ≡ v → c.config.shards ≤ k → (s : Slot) × (is_slot_of c s ≡ true) × (place_of c.config s ≡ k)
-    by_queue true e above = (slot.Coordinator, refl, sym (same_number k c.config.shards e))
-    by_queue false e above =
-        let other : k ≢ c.config.shards = other_number k c.config.shards e in
-        let some : 1 ≤ k - c.config.shards = omega (arith, above, other) in
-        let most : k - c.config.shards ≤ c.config.producers = omega (arith, less) in
-        (slot.Queue (k - c.config.shards), both (nat_le 1 (k - c.config.shards)) (nat_le (k - c.config.shards) c.config.producers) (le_is 1 (k - c.config.shards) some) (le_is (k - c.config.shards) c.config.producers most), omega (arith, above))
-    by_shard : (v : Bool) → nat_lt k c.config.shards ≡ v → (s : Slot) × (is_slot_of c s ≡ true) × (place_of c.config s ≡ k)
-    by_shard true e = (slot.Shard k, e, refl)
-    by_shard false e = by_queue (k == c.config.shards) refl (not_below k c.config.shards e)
-
 -- so the book has no holder
-pub none_leased : (b : Book) (y : Yard) (lists : SlotLists) (w : World) → b ≡ y.book → IsBook b → IsStopped y.script.config.nodes lists y w → (k : ℕ) → k < length b.holders → at b.holders k ≡ None
-none_leased b y lists w same is s k less =
+pub none_leased : (b : Book) (y : Yard) (lists : SlotLists) (w : World) → b ≡ y.book → IsStopped y.script.config.nodes lists y w → (t : Slot) → is_slot_of b.script t ≡ true → at b.holders (place_of b.script.config t) ≡ None
+none_leased b y lists w same s t i =
     let script : b.script ≡ y.script = ap (λ (b : Book). b.script) same ∙ s.firm_is.seen_is.book_is in
-    let count : length b.holders ≡ length b.places = is.holders_all in
-    let all : length b.places ≡ y.script.config.shards + y.script.config.producers + 1 = is.all ∙ ap (λ (c : Script). c.config.shards + c.config.producers + 1) script in
-    let within : k < y.script.config.shards + y.script.config.producers + 1 = omega (arith, less, count, all) in
-    let p : (s : Slot) × (is_slot_of y.script s ≡ true) × (place_of y.script.config s ≡ k) = place_slot y.script k within in
-    let told : IsTold (list_at w.lists p.0) (known_at b (place_of b.script.config p.0)) = told_of b y.script w.lists p.0 script (subst (λ b. Tells (meaning_of b) y.script w.lists) (sym same) s.firm_is.seen_is.tells_is) p.1 in
-    let place : place_of b.script.config p.0 ≡ k = ap (λ (c : Script). place_of c.config p.0) script ∙ p.2 in
-    ap (at b.holders) (sym place) ∙ (told.holder_is ∙ none_holds y.script w p.0 s.firm_is.stands_is s.down p.1)
+    let its : is_slot_of y.script t ≡ true = ap (λ (c : Script). is_slot_of c t) (sym script) ∙ i in
+    let told : IsTold (list_at w.lists t) (known_at b (place_of b.script.config t)) = told_of b y.script w.lists t script (subst (λ b. Tells (meaning_of b) y.script w.lists) (sym same) s.firm_is.seen_is.tells_is) its in
+    told.holder_is ∙ none_holds y.script w t s.firm_is.stands_is s.down its
 
 -- Each list stands at its place.
 

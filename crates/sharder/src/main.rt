@@ -13,11 +13,14 @@ const HELP: &str = "sharder: a cluster of sharded, event-sourced entities with r
 
   sharder solo      reads a script of settings, sends and deliveries, and writes
                     the report of what is recorded
+  sharder replay    reads a script of settings and orders, plays it on all nodes,
+                    one step after the other, and writes the trace and the report
   sharder --help    prints this
   sharder --version prints the name and the version
 
 Status: 0 the whole text was written, 2 usage, 3 the input is no script,
-4 a read failed, 5 a write failed, 6 there was no memory.
+4 a read failed, 5 a write failed, 6 there was no memory, 7 the trace stopped
+at the 1,000,000 packets that can be posted.
 ";
 
 const VERSION: &str = "sharder 0.1.0\n";
@@ -41,6 +44,7 @@ fn complain(rt: &impl Eprint, status: Status) {
         Status::ReadFault => eprintln!(rt; "sharder: read fault"),
         Status::WriteFault => eprintln!(rt; "sharder: write fault"),
         Status::OutOfMemory => eprintln!(rt; "sharder: out of memory"),
+        Status::WireFull { line } => eprintln!(rt; "sharder: line {line}: wire full"),
     };
 }
 

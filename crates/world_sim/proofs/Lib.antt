@@ -2,6 +2,7 @@ pub mod DeliveryLaws
 pub mod EndLaws
 pub mod FreshLaws
 pub mod MembersLaws
+pub mod NewLaws
 pub mod OffWireLaws
 pub mod PlayedLaws
 pub mod RestsLaws
@@ -11,3 +12,4 @@ pub mod TellLaws
 pub mod ToldLaws
 pub mod TurnLaws
 pub mod UpLaws
+pub mod WorldLaws

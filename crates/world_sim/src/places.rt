@@ -64,3 +64,10 @@ pub(crate) fn no_nodes<B: Drop>(alloc: Global, count: u8) -> Result<Vec<Option<N
     }
     Ok(nodes)
 }
+
+/// No node has ever come up.
+pub(crate) fn no_ups(alloc: Global, count: u8) -> Result<Vec<u32>, AllocError>
+    ensures { IfOk result (λ ups. ups.items ≡ replicate count 0) }
+{
+    vec![in alloc; 0; count as usize]
+}

@@ -1,7 +1,30 @@
 //! What no clause says: that memory is there where there is plenty.
-use crate::Mail;
+ghost use Rattle.std.specs.Prelude.{◌≡◌, [], ◌∷◌, IfOk};
+ghost use Rattle.yard_model.specs.declared.charter.Order.TheVariants as order;
+
+use crate::{Mail, World};
+use std::alloc::{AllocError, Global};
 use std::test::Fail;
-use yard_model::{Body, Fact, Facts, Incarnation, Item, NodeNo, Packet};
+use yard_model::{
+    Body, Charter, Config, Fact, Facts, Incarnation, Item, Kind, Line, NodeNo, Order, Packet,
+};
+
+const SETTINGS: Config = Config {
+    nodes: 1,
+    shards: 2,
+    producers: 1,
+    buffer: 1,
+    window: 4,
+    snapshot: 100,
+    keep: 2,
+    remember: false,
+    kind: Kind::Counter,
+};
+
+const UP: Line = Line {
+    number: 2,
+    order: Order::Up(NodeNo::FIRST),
+};
 
 const WHO: Incarnation = Incarnation {
     node: NodeNo::FIRST,
@@ -33,5 +56,25 @@ fn posts_are_numbered_and_delivered_in_their_order(rt: HostRuntime) -> Result<()
     mail.got(1);
     assert_eq!(rt; mail.next_after(0), Some(2));
     assert_eq!(rt; mail.next_after(2), None);
+    Ok(())
+}
+
+/// A script of one order.
+fn one_up(alloc: Global) -> Result<Charter, AllocError>
+    ensures { IfOk result (λ c. c.orders ≡ record { number = 2; order = order.Up 1 } ∷ []) }
+{
+    let mut orders = Vec::new(alloc);
+    orders.push(UP)?;
+    Charter::new(alloc, SETTINGS, orders)
+}
+
+#[test]
+fn a_node_comes_up(rt: HostRuntime) -> Result<(), Fail> {
+    let charter = one_up(rt.alloc())?;
+    let mut world = World::new(rt.alloc(), &charter, 0u8)?;
+    let mut facts = Facts::new(rt.alloc());
+    assert!(rt; world.step(&UP, &mut facts).is_ok());
+    assert_eq!(rt; facts.as_slice().len(), 3);
+    world.into_stores()?;
     Ok(())
 }

@@ -10,7 +10,7 @@ ghost use Rattle.world_sim.specs.Yard.{IsSeen};
 
 use crate::fault::StepFault;
 use crate::mail::Mail;
-use crate::places::no_nodes;
+use crate::places::{no_nodes, no_ups};
 use crate::yard::Yard;
 use shard_lease::LeaseBook;
 use shard_store::Stores;
@@ -77,7 +77,7 @@ impl<B: Copy + Drop> World<B> {
             }
         }
         self.count += 1;
-        if self.yard.mail.is_full() {
+        if self.yard.is_full() {
             self.fault = Some(StepFault::WireFull);
             return Err(StepFault::WireFull);
         }
@@ -92,14 +92,15 @@ fn new_yard<B: Copy + Drop>(alloc: Global, charter: &Charter, behaviour: B) -> R
     ensures script { IfOk result (λ y. y.script ≡ charter.now) }
     ensures version { IfOk result (λ y. y.version ≡ 0) }
     ensures ups { IfOk result (λ y. y.ups ≡ replicate charter.now.config.nodes 0) }
-    ensures known { IsScript charter.now }
+    ensures known { IfOk result (λ y. IsScript y.script) }
 {
     let charter = charter.copy(alloc)?;
     let count = charter.config().nodes;
     let stores = Stores::new(alloc, &charter)?;
-    let book = LeaseBook::new(alloc, stores)?;
+    let parts = stores.into_parts();
+    let book = LeaseBook::new(alloc, Stores::from_parts(parts))?;
     let nodes = no_nodes(alloc, count)?;
-    let ups = vec![in alloc; 0u32; count as usize]?;
+    let ups = no_ups(alloc, count)?;
     Ok(Yard {
         alloc,
         charter,

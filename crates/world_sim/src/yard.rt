@@ -1,4 +1,6 @@
 //! The parts of a world.
+ghost use Rattle.std.specs.Prelude.{◌≡◌};
+
 use crate::mail::Mail;
 use node_core::Node;
 use shard_lease::LeaseBook;
@@ -35,4 +37,13 @@ impl<B> Model for Yard<B> {
       ups = y.ups.items;
       mail = y.mail;
     } };
+}
+
+impl<B> Yard<B> {
+    /// Whether a packet past the limit was to be posted.
+    pub(crate) fn is_full(&self) -> bool
+        ensures { result ≡ self.now.mail.full }
+    {
+        self.mail.is_full()
+    }
 }

@@ -1,6 +1,10 @@
+mod BuiltLaws
 mod CameLaws
 mod FactsLaws
+mod FoldableLaws
+mod FreedLaws
 mod KnownLaws
 mod OutputLaws
 mod PlayLaws
+mod ResultLaws
 mod SoloLaws

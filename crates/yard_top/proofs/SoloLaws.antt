@@ -21,7 +21,6 @@ use Rattle.yard_model.specs.declared.packet.Record.{Record}
 use Rattle.yard_model.specs.declared.state.State.{State}
 use Rattle.yard_model.specs.Behaviour.{decide, folded, after_record, empty_state, are_applicable, is_of_kind, is_in}
 use Rattle.yard_model.specs.Equal.{is_command, is_decision}
-use Rattle.yard_model.specs.Follow.{each_follows}
 use Rattle.yard_model.specs.Genuine.{is_planned}
 use Rattle.yard_model.specs.Lawful.{is_folded, is_folded_after, is_merged, is_merged_after}
 use Rattle.yard_model.proofs.FollowLaws.{follows_more}
@@ -64,7 +63,7 @@ above c e =
 
 -- Lists in which each item may follow those before it.
 
-foldable_more : (st : State) (rs : List Record) (r : Record) → are_foldable st (rs ++ r ∷ []) ≡ (are_foldable st rs && are_applicable (fold after_record st rs) r.events)
+pub foldable_more : (st : State) (rs : List Record) (r : Record) → are_foldable st (rs ++ r ∷ []) ≡ (are_foldable st rs && are_applicable (fold after_record st rs) r.events)
 foldable_more st [] r = and-true (are_applicable st r.events)
 foldable_more st (x ∷ xs) r =
     ap (λ b. are_applicable st x.events && b) (foldable_more (after_record st x) xs r)

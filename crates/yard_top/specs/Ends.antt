@@ -1,12 +1,21 @@
 -- How a run of the program may end, and what each end says.
-use Rattle.std.specs.Prelude.{◌≡◌, ◌⊎◌, ℕ, List, length, take, Option, IfSome}
+use Rattle.std.specs.Prelude.{◌≡◌, ◌⊎◌, ℕ, List, length, take, Option, Some, None, IfSome, IsTrue}
 use Rattle.yard_io.specs.Told.{followed_by, without_first, count_of, TakesFront}
 use Rattle.script_text.specs.Reading.{Reading, Spelled, Refused, reading}
+use Rattle.script_text.specs.declared.fault.Mode.{Mode}
 use Rattle.script_text.specs.declared.fault.Mode.TheVariants as mode
 use Rattle.script_text.specs.declared.fault.Why.{Why}
 use Rattle.yard_model.specs.Script.{Script}
+use Rattle.yard_model.specs.Replay.{replay_text}
+use Rattle.yard_model.specs.Safe.{safe}
 use Rattle.yard_model.specs.Solo.{solo_text}
+use Rattle.yard_model.specs.Text.{Bytes}
+use Rattle.yard_model.specs.World.{trace_of}
+use Rattle.world_laws.specs.Keeps.{are_built}
 use Rattle.yard_top.specs.Sound.{IsSound, solo_journal}
+use Rattle.yard_top.specs.Stops.{stop_in}
+use Rattle.yard_top.specs.declared.forms.Form.{Form}
+use Rattle.yard_top.specs.declared.forms.Form.TheVariants as form
 use Rattle.yard_top.specs.declared.status.Status.{Status}
 use Rattle.yard_top.specs.declared.status.Status.TheVariants as status
 
@@ -18,6 +27,39 @@ code_of (status.Refused line why) = 3
 code_of status.ReadFault = 4
 code_of status.WriteFault = 5
 code_of status.OutOfMemory = 6
+code_of (status.WireFull line) = 7
+
+-- What a form is to do.
+
+-- the command for which its script is read
+abbrev pub mode_of : Form → Mode
+mode_of form.Solo = mode.Solo
+mode_of form.Replay = mode.Replay
+
+-- the text that it writes of a script
+abbrev pub text_of : Form → Script → Bytes
+text_of form.Solo c = solo_text c
+text_of form.Replay c = replay_text c
+
+-- what is so of what it writes: each journal is sound; the trace is safe
+abbrev pub Holds : Form → Script → Type 0
+Holds form.Solo c = (e : List ℕ) → IsSound c e (solo_journal c e)
+Holds form.Replay c = IsTrue (safe c (trace_of c))
+
+-- the line with which it stops, where a packet too many would be posted
+abbrev pub stops_at : Form → Script → Option ℕ
+stops_at form.Solo c = None
+stops_at form.Replay c = stop_in (trace_of c)
+
+-- it does these orders
+abbrev pub IsBuilt : Form → Script → Type 0
+IsBuilt form.Solo c = Unit {0}
+IsBuilt form.Replay c = IsTrue (are_built c)
+
+-- the words are a form, and this holds of it
+abbrev pub Asked : Option Form → (Form → Type 0) → Type 0
+Asked None P = ⊥
+Asked (Some f) P = P f
 
 -- a fact for one end alone
 
@@ -45,6 +87,10 @@ abbrev pub IfNoMemory : Status → Type 0 → Type 0
 IfNoMemory status.OutOfMemory P = P
 IfNoMemory s P = Unit {0}
 
+abbrev pub IfWireFull : Status → (ℕ → Type 0) → Type 0
+IfWireFull (status.WireFull line) P = P line
+IfWireFull s P = Unit {0}
+
 -- the most bytes that are read of an input: one more than a script may have
 abbrev pub most_read : ℕ
 most_read = 4194305
@@ -60,51 +106,52 @@ pub record Taken : Type 0 where
   pub bytes : Option (List ℕ)
   pub flushed : Option ℕ
 
--- a script came, and its whole text was written and flushed
-pub record WroteSolo (had has : Option (List ℕ)) (before after : Taken) : Type 0 where
+-- a script came
+pub record CameScript (f : Form) (had has : Option (List ℕ)) (script : Script) : Type 0 where
   pub input : List ℕ
-  pub script : Script
   pub came : Came had has input
   pub all : IfSome had (λ xs. input ≡ xs)
-  pub spelled : reading mode.Solo input ≡ Spelled script
-  pub written : after.bytes ≡ followed_by before.bytes (solo_text script)
+  pub spelled : reading (mode_of f) input ≡ Spelled script
+
+-- a script came, which stops at this line or at none, and its whole text was written and flushed
+pub record Wrote (f : Form) (stop : Option ℕ) (had has : Option (List ℕ)) (before after : Taken) : Type 0 where
+  pub script : Script
+  pub came : CameScript f had has script
+  pub stops : stops_at f script ≡ stop
+  pub written : after.bytes ≡ followed_by before.bytes (text_of f script)
   pub flushed : after.flushed ≡ count_of after.bytes
-  pub sound : (e : List ℕ) → IsSound script e (solo_journal script e)
+  pub holds : Holds f script
 
 -- a script came, and a front of its text was written
-pub record BeganSolo (had has : Option (List ℕ)) (before after : Taken) : Type 0 where
-  pub input : List ℕ
+pub record Began (f : Form) (had has : Option (List ℕ)) (before after : Taken) : Type 0 where
   pub script : Script
-  pub came : Came had has input
-  pub all : IfSome had (λ xs. input ≡ xs)
-  pub spelled : reading mode.Solo input ≡ Spelled script
-  pub begun : TakesFront before.bytes after.bytes (solo_text script)
+  pub came : CameScript f had has script
+  pub begun : TakesFront before.bytes after.bytes (text_of f script)
 
 -- what came is no script, for this reason
-pub record CameRefused (had has : Option (List ℕ)) (line : ℕ) (why : Why) : Type 0 where
+pub record CameRefused (f : Form) (had has : Option (List ℕ)) (line : ℕ) (why : Why) : Type 0 where
   pub input : List ℕ
   pub came : Came had has input
-  pub refused : reading mode.Solo input ≡ Refused line why
-
--- a script came
-pub record SoloCame (had has : Option (List ℕ)) (script : Script) : Type 0 where
-  pub input : List ℕ
-  pub came : Came had has input
-  pub all : IfSome had (λ xs. input ≡ xs)
-  pub spelled : reading mode.Solo input ≡ Spelled script
+  pub refused : reading (mode_of f) input ≡ Refused line why
 
 -- a run that ends before anything is written
 abbrev pub IsEarly : Status → Type 0
 IsEarly status.Ok = ⊥
 IsEarly status.Usage = ⊥
 IsEarly status.WriteFault = ⊥
+IsEarly (status.WireFull line) = ⊥
 IsEarly s = Unit {0}
 
+-- how a run ends whose text was written
+abbrev pub end_of : Option ℕ → Status
+end_of None = status.Ok
+end_of (Some line) = status.WireFull line
+
 -- what there is to be done with what came
-abbrev pub Answers : Reading → Status → Type 0
-Answers (Spelled script) s = (s ≡ status.Ok) ⊎ (s ≡ status.OutOfMemory)
-Answers (Refused line why) s = (s ≡ status.Refused line why) ⊎ (s ≡ status.OutOfMemory)
+abbrev pub Answers : Form → Reading → Status → Type 0
+Answers f (Spelled script) s = (s ≡ end_of (stops_at f script)) ⊎ (s ≡ status.OutOfMemory)
+Answers f (Refused line why) s = (s ≡ status.Refused line why) ⊎ (s ≡ status.OutOfMemory)
 
 -- where a source tells its bytes: a script is answered by its whole text, what is no script by its first fault, or there is no memory
-abbrev pub IsComplete : Option (List ℕ) → Status → Type 0
-IsComplete told s = IfSome told (λ xs. Answers (reading mode.Solo (take most_read xs)) s)
+abbrev pub IsComplete : Form → Option (List ℕ) → Status → Type 0
+IsComplete f told s = IfSome told (λ xs. Answers f (reading (mode_of f) (take most_read xs)) s)

@@ -6,9 +6,12 @@ use Rattle.yard_top.specs.declared.forms.Form.{Form}
 use Rattle.yard_top.specs.declared.forms.Form.TheVariants as form
 
 abbrev pub form_of_word : List ℕ → Option Form
-form_of_word w = if pointwise nat_eq w (codes "solo") then Some form.Solo else None
+form_of_word w =
+    if pointwise nat_eq w (codes "solo") then Some form.Solo
+    else if pointwise nat_eq w (codes "replay") then Some form.Replay
+    else None
 
--- the form of these words: `solo` alone
+-- the form of these words: `solo` or `replay` alone
 abbrev pub form_in : List (String Global) → Option Form
 form_in [] = None
 form_in (w ∷ []) = form_of_word (string_bytes w)

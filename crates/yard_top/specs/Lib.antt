@@ -3,4 +3,6 @@ pub mod Facts
 pub mod Forms
 pub mod Known
 pub mod Posts
+pub mod Replays
 pub mod Sound
+pub mod Stops

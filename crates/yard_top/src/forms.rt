@@ -7,6 +7,8 @@ ghost use Rattle.yard_top.specs.Forms.{form_in, form_of_word};
 pub enum Form {
     /// `solo`
     Solo,
+    /// `replay`
+    Replay,
 }
 
 /// The form of the words after the program's name, if they are one.
@@ -24,6 +26,8 @@ fn form_of_word(word: &str) -> Option<Form>
 {
     if word == "solo" {
         Some(Form::Solo)
+    } else if word == "replay" {
+        Some(Form::Replay)
     } else {
         None
     }

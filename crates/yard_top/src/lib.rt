@@ -2,15 +2,18 @@
 //! cause as a clause of the call.
 #![tactic(auto)]
 
+mod course;
 mod engine;
 mod entity;
 mod forms;
 mod output;
 mod played;
 mod posts;
+mod replay;
 mod solo;
 mod sound;
 mod status;
+mod text;
 mod top;
 
 pub use forms::{Form, form_of};

@@ -25,6 +25,12 @@ pub enum Status {
     WriteFault,
     /// There was no memory; nothing was written.
     OutOfMemory,
+    /// A packet past the 1,000,000 that can be posted came up: the trace stops with the order on
+    /// this line. The whole text of the trace up to there, with its report, was written and flushed.
+    WireFull {
+        /// The line.
+        line: u32,
+    },
 }
 
 impl Status {
@@ -39,6 +45,7 @@ impl Status {
             Status::ReadFault => 4,
             Status::WriteFault => 5,
             Status::OutOfMemory => 6,
+            Status::WireFull { .. } => 7,
         }
     }
 }

@@ -70,9 +70,85 @@ record 9 epoch 1 by 1:9 create / - / no 2
 end
 ";
 
-fn solo_words(alloc: Global) -> Result<Vec<String>, AllocError> {
+const CRASH_AND_RETURN: &[u8] = b"config
+up 1
+crash 1
+up 1
+deliver 1
+";
+
+const RETURNED: &[u8] = b"at 2
+up 1.1
+sent 1 1.1 1.1 view 1 1.1
+at 3
+gone 1.1
+at 4
+up 1.2
+sent 2 1.2 1.2 view 3 1.2
+at 5
+got 1
+report
+end
+";
+
+const TWO_NODES: &[u8] = b"config nodes=2
+up 1
+up 2
+pump 9
+crash 1
+pump 9
+";
+
+const TAKEN_OVER: &[u8] = b"at 2
+up 1.1
+sent 1 1.1 1.1 view 1 1.1
+at 3
+up 2.1
+sent 2 1.1 1.1 view 2 1.1,2.1
+sent 3 2.1 2.1 view 2 1.1,2.1
+at 4
+got 1
+view 1.1 1
+granted coordinator 1 1.1
+sent 4 1.1 1.1 register
+got 2
+view 1.1 2
+sent 5 1.1 1.1 register
+got 3
+view 2.1 2
+sent 6 2.1 1.1 register
+got 4
+registered 1.1
+sent 7 1.1 1.1 registerack
+got 5
+sent 8 1.1 1.1 registerack
+got 6
+registered 2.1
+sent 9 1.1 2.1 registerack
+got 7
+got 8
+got 9
+at 5
+gone 1.1
+freed coordinator 1 stopped
+sent 10 2.1 2.1 view 3 2.1
+at 6
+got 10
+view 2.1 3
+granted coordinator 2 2.1
+terminated 1.1
+sent 11 2.1 2.1 register
+got 11
+sent 12 2.1 2.1 registerack
+got 12
+report
+end
+";
+
+/// One word.
+fn word(alloc: Global, form: &str) -> Result<Vec<String>, AllocError> {
     let mut words = Vec::new(alloc);
-    words.push(String::from_str(alloc, "solo")?)?;
+    words.push(String::from_str(alloc, form)?)?;
     Ok(words)
 }
 
@@ -86,7 +162,7 @@ fn expect(
     text: &[u8],
 ) -> Result<(), Fail> {
     let alloc = rt.alloc();
-    let words = solo_words(alloc)?;
+    let words = word(alloc, "solo")?;
     let mut source = MemSource::new(alloc, script, failing_reads)?;
     let mut sink = MemSink::new(alloc, failing_writes)?;
     let end = sharder(alloc, words.as_slice(), &mut source, &mut sink);
@@ -151,6 +227,34 @@ fn long_lines(rt: HostRuntime) -> Result<(), Fail> {
     expect(&rt, long.as_slice(), &[], &[], refused, b"")
 }
 
+/// Runs `replay` on a script, and compares what comes of it.
+fn expect_replay(
+    rt: &(impl Abort + AllocGlobal),
+    script: &[u8],
+    status: Status,
+    text: &[u8],
+) -> Result<(), Fail> {
+    let alloc = rt.alloc();
+    let words = word(alloc, "replay")?;
+    let mut source = WholeSource::new(alloc, script)?;
+    let mut sink = MemSink::new(alloc, &[])?;
+    let end = sharder(alloc, words.as_slice(), &mut source, &mut sink);
+    assert_eq!(rt; end, status);
+    assert!(rt; sink.bytes() == text);
+    Ok(())
+}
+
+#[test]
+fn replays(rt: HostRuntime) -> Result<(), Fail> {
+    expect_replay(&rt, CRASH_AND_RETURN, Status::Ok, RETURNED)?;
+    expect_replay(&rt, TWO_NODES, Status::Ok, TAKEN_OVER)?;
+    let not_built = Status::Refused {
+        line: 2,
+        why: Why::NotBuilt,
+    };
+    expect_replay(&rt, b"config\nsettle\n", not_built, b"")
+}
+
 #[test]
 fn faults(rt: HostRuntime) -> Result<(), Fail> {
     expect(&rt, ONE_COMMAND, &[1], &[], Status::ReadFault, b"")?;
@@ -211,7 +315,7 @@ impl Sink for Drip {
 #[test]
 fn one_byte_a_call(rt: HostRuntime) -> Result<(), Fail> {
     let alloc = rt.alloc();
-    let words = solo_words(alloc)?;
+    let words = word(alloc, "solo")?;
     let mut source = WholeSource::new(alloc, ONE_COMMAND)?;
     let mut sink = Drip(MemSink::new(alloc, &[])?);
     assert_eq!(rt;

@@ -1,14 +1,12 @@
 //! The top call.
-ghost use Rattle.std.specs.Prelude.{◌≡◌, ◌<◌, ◌≤◌, ◌↔◌, IfOk, IfErr, IsSome};
-ghost use Rattle.yard_model.specs.Solo.{solo_text};
-ghost use Rattle.script_text.specs.Reading.{reading, Spelled};
-ghost use Rattle.yard_top.specs.Ends.{IfWhole, IfUsage, IfRefused, IfReadFault, IfWriteFault, IfNoMemory, Came, Taken, WroteSolo, BeganSolo, CameRefused, SoloCame, IsEarly, IsComplete};
+ghost use Rattle.std.specs.Prelude.{◌≡◌, ◌<◌, ◌≤◌, ◌↔◌, Some, None, IfOk, IfErr, IfSome};
+ghost use Rattle.yard_top.specs.Ends.{IfWhole, IfUsage, IfRefused, IfReadFault, IfWriteFault, IfNoMemory, IfWireFull, Asked, Came, Taken, Wrote, Began, CameRefused, CameScript, IsEarly, IsComplete, IsBuilt, mode_of, end_of};
 ghost use Rattle.yard_top.specs.Forms.{form_in};
 
 use crate::forms::{Form, form_of};
 use crate::output::write_text;
-use crate::solo::solo_report;
 use crate::status::Status;
+use crate::text::text_of;
 use script_text::{Mode, ScriptFault, read_script};
 use std::alloc::Global;
 use yard_io::{ReadError, Sink, Source, read_up_to};
@@ -21,6 +19,8 @@ const MOST_READ: usize = 4_194_305;
 ///
 /// `solo` reads a script of settings, sends and deliveries, and writes the report of what is
 /// recorded where each delivered command is taken exactly when it is the next of its producer.
+/// `replay` reads a script of all orders that are built, plays it on all nodes, one step after the
+/// other, and writes the trace and the report of what the slots' lists come to.
 pub fn sharder<S: Source, K: Sink>(
     alloc: Global,
     words: &[String],
@@ -31,72 +31,100 @@ pub fn sharder<S: Source, K: Sink>(
     ensures usage { (result ≡ Status.Usage) ↔ (form_in words.now ≡ None) }
     ensures usage_reads_nothing { IfUsage result (S.left source.new ≡ S.left source.old) }
     ensures usage_writes_nothing { IfUsage result ((K.taken sink.new ≡ K.taken sink.old) × (K.flushed sink.new ≡ K.flushed sink.old)) }
-    // A script came, and exactly its text was written and flushed.
-    ensures whole { IfWhole result (WroteSolo (S.left source.old) (S.left source.new)
+    // A script came, its trace goes to the end, and exactly its text was written and flushed.
+    ensures whole { IfWhole result (Asked (form_in words.now) (λ f. Wrote f None (S.left source.old) (S.left source.new)
         (record { bytes = K.taken sink.old; flushed = K.flushed sink.old })
-        (record { bytes = K.taken sink.new; flushed = K.flushed sink.new })) }
+        (record { bytes = K.taken sink.new; flushed = K.flushed sink.new }))) }
+    // A script came, its trace stops at this line, and exactly its text was written and flushed.
+    ensures wire_full { IfWireFull result (λ line. Asked (form_in words.now) (λ f. Wrote f (Some line) (S.left source.old) (S.left source.new)
+        (record { bytes = K.taken sink.old; flushed = K.flushed sink.old })
+        (record { bytes = K.taken sink.new; flushed = K.flushed sink.new }))) }
     // What came is no script, or is more than 4 MiB; nothing was written.
-    ensures refused { IfRefused result (λ line why. CameRefused (S.left source.old) (S.left source.new) line why) }
+    ensures refused { IfRefused result (λ line why. Asked (form_in words.now) (λ f. CameRefused f (S.left source.old) (S.left source.new) line why)) }
     ensures refused_writes_nothing { IfRefused result (λ line why. (K.taken sink.new ≡ K.taken sink.old) × (K.flushed sink.new ≡ K.flushed sink.old)) }
     // The source's faults rose in this call; nothing was written.
     ensures read_fault { IfReadFault result (S.faults source.old < S.faults source.new) }
     ensures read_fault_writes_nothing { IfReadFault result ((K.taken sink.new ≡ K.taken sink.old) × (K.flushed sink.new ≡ K.flushed sink.old)) }
     // The sink's faults rose in this call; a front of the script's text was written.
     ensures write_fault { IfWriteFault result (K.faults sink.old < K.faults sink.new) }
-    ensures write_fault_front { IfWriteFault result (BeganSolo (S.left source.old) (S.left source.new)
+    ensures write_fault_front { IfWriteFault result (Asked (form_in words.now) (λ f. Began f (S.left source.old) (S.left source.new)
         (record { bytes = K.taken sink.old; flushed = K.flushed sink.old })
-        (record { bytes = K.taken sink.new; flushed = K.flushed sink.new })) }
+        (record { bytes = K.taken sink.new; flushed = K.flushed sink.new }))) }
     // There was no memory; nothing was written.
     ensures no_memory { IfNoMemory result ((K.taken sink.new ≡ K.taken sink.old) × (K.flushed sink.new ≡ K.flushed sink.old)) }
     // Where no fault rose, a form of the program is carried out, or there is no memory.
     ensures complete { S.faults source.new ≡ S.faults source.old → K.faults sink.new ≡ K.faults sink.old →
-        IsSome (form_in words.now) → IsComplete (S.left source.old) result }
+        IfSome (form_in words.now) (λ f. IsComplete f (S.left source.old) result) }
     ensures source_faults { S.faults source.old ≤ S.faults source.new }
     ensures sink_faults { K.faults sink.old ≤ K.faults sink.new }
 {
     match form_of(words) {
         None => Status::Usage,
-        Some(Form::Solo) => run_solo(alloc, source, sink),
+        Some(form) => run(alloc, form, source, sink),
     }
 }
 
-/// `solo`: reads a script, and writes the report of its journals.
-fn run_solo<S: Source, K: Sink>(alloc: Global, source: &mut S, sink: &mut K) -> Status
+/// Carries a form out: reads a script, and writes its text.
+fn run<S: Source, K: Sink>(alloc: Global, form: Form, source: &mut S, sink: &mut K) -> Status
     ensures usage { IfUsage result ⊥ }
-    ensures whole { IfWhole result (WroteSolo (S.left source.old) (S.left source.new)
+    ensures whole { IfWhole result (Wrote form None (S.left source.old) (S.left source.new)
         (record { bytes = K.taken sink.old; flushed = K.flushed sink.old })
         (record { bytes = K.taken sink.new; flushed = K.flushed sink.new })) }
-    ensures refused { IfRefused result (λ line why. CameRefused (S.left source.old) (S.left source.new) line why) }
+    ensures wire_full { IfWireFull result (λ line. Wrote form (Some line) (S.left source.old) (S.left source.new)
+        (record { bytes = K.taken sink.old; flushed = K.flushed sink.old })
+        (record { bytes = K.taken sink.new; flushed = K.flushed sink.new })) }
+    ensures refused { IfRefused result (λ line why. CameRefused form (S.left source.old) (S.left source.new) line why) }
     ensures refused_writes_nothing { IfRefused result (λ line why. (K.taken sink.new ≡ K.taken sink.old) × (K.flushed sink.new ≡ K.flushed sink.old)) }
     ensures read_fault { IfReadFault result (S.faults source.old < S.faults source.new) }
     ensures read_fault_writes_nothing { IfReadFault result ((K.taken sink.new ≡ K.taken sink.old) × (K.flushed sink.new ≡ K.flushed sink.old)) }
     ensures write_fault { IfWriteFault result (K.faults sink.old < K.faults sink.new) }
-    ensures write_fault_front { IfWriteFault result (BeganSolo (S.left source.old) (S.left source.new)
+    ensures write_fault_front { IfWriteFault result (Began form (S.left source.old) (S.left source.new)
         (record { bytes = K.taken sink.old; flushed = K.flushed sink.old })
         (record { bytes = K.taken sink.new; flushed = K.flushed sink.new })) }
     ensures no_memory { IfNoMemory result ((K.taken sink.new ≡ K.taken sink.old) × (K.flushed sink.new ≡ K.flushed sink.old)) }
-    ensures complete { S.faults source.new ≡ S.faults source.old → K.faults sink.new ≡ K.faults sink.old → IsComplete (S.left source.old) result }
+    ensures complete { S.faults source.new ≡ S.faults source.old → K.faults sink.new ≡ K.faults sink.old → IsComplete form (S.left source.old) result }
     ensures source_faults { S.faults source.old ≤ S.faults source.new }
     ensures sink_faults { K.faults sink.old ≤ K.faults sink.new }
 {
-    let charter = match read_charter(alloc, source) {
+    let charter = match read_charter(alloc, form, source) {
         Ok(charter) => charter,
         Err(status) => return status,
     };
-    let text = match solo_report(alloc, &charter) {
+    let text = match text_of(alloc, form, &charter) {
         Ok(text) => text,
         Err(_) => return Status::OutOfMemory,
     };
-    match write_text(sink, text.as_slice()) {
-        Ok(()) => Status::Ok,
+    match write_text(sink, text.bytes.as_slice()) {
+        Ok(()) => end_of(text.stop),
         Err(_) => Status::WriteFault,
     }
 }
 
-/// Reads the whole input as a script of `solo`.
-fn read_charter<S: Source>(alloc: Global, source: &mut S) -> Result<Charter, Status>
-    ensures script { IfOk result (λ c. SoloCame (S.left source.old) (S.left source.new) c) }
-    ensures refused { IfErr result (λ s. IfRefused s (λ line why. CameRefused (S.left source.old) (S.left source.new) line why)) }
+/// How a run ends whose text was written.
+fn end_of(stop: Option<u32>) -> Status
+    ensures { result ≡ end_of stop }
+{
+    match stop {
+        None => Status::Ok,
+        Some(line) => Status::WireFull { line },
+    }
+}
+
+/// The command for which a form's script is read.
+fn mode_of(form: Form) -> Mode
+    ensures { result ≡ mode_of form }
+{
+    match form {
+        Form::Solo => Mode::Solo,
+        Form::Replay => Mode::Replay,
+    }
+}
+
+/// Reads the whole input as a script of this form.
+fn read_charter<S: Source>(alloc: Global, form: Form, source: &mut S) -> Result<Charter, Status>
+    ensures script { IfOk result (λ c. CameScript form (S.left source.old) (S.left source.new) c) }
+    ensures built { IfOk result (λ c. IsBuilt form c) }
+    ensures refused { IfErr result (λ s. IfRefused s (λ line why. CameRefused form (S.left source.old) (S.left source.new) line why)) }
     ensures read_fault { IfErr result (λ s. IfReadFault s (S.faults source.old < S.faults source.new)) }
     ensures others { IfErr result (λ s. IsEarly s) }
     ensures source_faults { S.faults source.old ≤ S.faults source.new }
@@ -106,7 +134,7 @@ fn read_charter<S: Source>(alloc: Global, source: &mut S) -> Result<Charter, Sta
         Err(ReadError::Failed) => return Err(Status::ReadFault),
         Err(ReadError::OutOfMemory) => return Err(Status::OutOfMemory),
     };
-    match read_script(alloc, bytes.as_slice(), Mode::Solo) {
+    match read_script(alloc, bytes.as_slice(), mode_of(form)) {
         Ok(charter) => Ok(charter),
         Err(ScriptFault::At { line, why }) => Err(Status::Refused { line, why }),
         Err(ScriptFault::OutOfMemory) => Err(Status::OutOfMemory),

@@ -1,0 +1,141 @@
+-- A world, order by order.
+use Rattle.std.proofs.Common.{◌≡◌, ℕ, zero, suc, ◌+◌, ◌<◌, ◌≤◌, Bool, true, false, ◌&&◌, List, [], ◌∷◌, ◌++◌, length, refl, ap, sym, ◌∙◌, subst, arith}
+use Rattle.std.specs.Prelude.{map, slice_get, slice_index_or, Option, Some, None}
+use Rattle.std.specs.List.{list_all}
+use Rattle.yard_model.specs.declared.fact.Fact.{Fact}
+use Rattle.yard_model.specs.declared.charter.Line.{Line}
+use Rattle.yard_model.specs.Script.{Script, IsScript, is_order}
+use Rattle.yard_model.specs.World.{World, Made, play_line, wire_limit}
+use Rattle.world_laws.specs.Built.{is_built_order}
+use Rattle.world_laws.specs.Keeps.{are_built}
+use Rattle.world_laws.proofs.Place.{none_is_not_some, some_is}
+use Rattle.world_laws.proofs.Play.{played_goes}
+use Rattle.yard_laws.proofs.Booleans.{and_both}
+use Rattle.world_sim.specs.declared.fault.StepFault.{StepFault}
+use Rattle.world_sim.specs.declared.fault.StepFault.TheVariants as fault
+use Rattle.world_sim.specs.Played.{Played, made_of, next_of, Told, Went, Filled}
+use Rattle.world_sim.specs.Steps.{AreOneMore}
+use Rattle.world_sim.specs.World.{IsWorld, IsAt, IsCounted, IsKept}
+use Rattle.world_sim.specs.Yard.{Yard, IsSeen, IsSound, Goes}
+use Rattle.world_sim.proofs.PlayedLaws.{made_next}
+
+got_all : {A : Type 0} (p : A → Bool) (xs : List A) (i : ℕ) (x : A) → list_all p xs ≡ true → slice_get xs i ≡ Some x → p x ≡ true
+got_all p [] i x all e = absurd (none_is_not_some x e)
+got_all p (y ∷ ys) zero x all e = ap p (sym (some_is y x e)) ∙ (and_both (p y) (list_all p ys) all).0
+got_all p (y ∷ ys) (suc i) x all e = got_all p ys i x (and_both (p y) (list_all p ys) all).1 e
+
+got_inside : {A : Type 0} (xs : List A) (i : ℕ) (x : A) → slice_get xs i ≡ Some x → i < length xs
+got_inside [] i x e = absurd (none_is_not_some x e)
+got_inside (y ∷ ys) zero x e = omega arith
+got_inside (y ∷ ys) (suc i) x e = let less : i < length ys = got_inside ys i x e in omega (arith, less)
+
+-- where it isn't spent its parts are sound
+pub going_at : (y : Yard) (n : ℕ) (f : Option StepFault) → IsWorld y n f → f ≡ None → IsAt y n false × IsCounted y n
+going_at y n f w e = subst (IsKept y n) e w.kept
+
+pub sound_at : (y : Yard) (n : ℕ) (f : Option StepFault) → IsWorld y n f → f ≡ None → IsSound y (made_of y.script n).world
+sound_at y n f w e = record {
+  seen_is = (going_at y n f w e).0.seen_is;
+  stands_is = (played_goes y.script wire_limit n w.script_is w.built).0;
+  going_is = (going_at y n f w e).0.full_is;
+}
+
+pub order_of_line : (y : Yard) (n : ℕ) (f : Option StepFault) (l : Line) → IsWorld y n f → slice_get y.script.orders n ≡ Some l → is_order y.script.config l.order ≡ true
+order_of_line y n f l w e = got_all (λ (l : Line). is_order y.script.config l.order) y.script.orders n l w.script_is.orders e
+
+pub built_line : (y : Yard) (n : ℕ) (f : Option StepFault) (l : Line) → IsWorld y n f → slice_get y.script.orders n ≡ Some l → is_built_order l.order ≡ true
+built_line y n f l w e = got_all (λ (l : Line). is_built_order l.order) y.script.orders n l w.built e
+
+pub version_fits : (y : Yard) (n : ℕ) (f : Option StepFault) (l : Line) → IsWorld y n f → f ≡ None → slice_get y.script.orders n ≡ Some l → y.version < 4000000000
+version_fits y n f l w e next =
+    let less : n < length y.script.orders = got_inside y.script.orders n l next in
+    let most : length y.script.orders ≤ 200000 = w.script_is.fits in
+    let few : y.version ≤ n = (going_at y n f w e).1.version_is in
+    omega (arith, less, most, few)
+
+pub ups_fit : (y : Yard) (n : ℕ) (f : Option StepFault) (l : Line) → IsWorld y n f → f ≡ None → slice_get y.script.orders n ≡ Some l → (k : ℕ) → slice_index_or y.ups k 0 < 4000000000
+ups_fit y n f l w e next k =
+    let less : n < length y.script.orders = got_inside y.script.orders n l next in
+    let most : length y.script.orders ≤ 200000 = w.script_is.fits in
+    let few : slice_index_or y.ups k 0 ≤ n = (going_at y n f w e).1.ups_are k in
+    omega (arith, less, most, few)
+
+pub count_fits : (y : Yard) (n : ℕ) (f : Option StepFault) (l : Line) → IsWorld y n f → slice_get y.script.orders n ≡ Some l → n < 200000
+count_fits y n f l w next =
+    let less : n < length y.script.orders = got_inside y.script.orders n l next in
+    let most : length y.script.orders ≤ 200000 = w.script_is.fits in
+    omega (arith, less, most)
+
+-- What one order more leads to.
+
+pub record IsNext (y z : Yard) (n : ℕ) (l : Line) (before after : List Fact) : Type 0 where
+  pub script_is : z.script ≡ y.script
+  pub version_is : z.version ≤ y.version + 1
+  pub ups_are : AreOneMore y.ups z.ups
+  pub goes : Goes before after z (play_line l (made_of y.script n).world)
+
+made_is : (y z : Yard) (n : ℕ) (f : Option StepFault) (l : Line) (before after : List Fact) → IsWorld y n f → f ≡ None → slice_get y.script.orders n ≡ Some l → IsNext y z n l before after
+    → (made_of z.script (n + 1)).world ≡ (play_line l (made_of y.script n).world).world
+made_is y z n f l before after w e next k = ap (λ c. (made_of c (n + 1)).world) k.script_is ∙ ap (λ (m : Made). m.world) (made_next y.script n l next (going_at y n f w e).0.full_is)
+
+at_next : (y z : Yard) (n : ℕ) (f : Option StepFault) (l : Line) (before after : List Fact) (b : Bool) → IsWorld y n f → f ≡ None → slice_get y.script.orders n ≡ Some l → IsNext y z n l before after → z.mail.full ≡ b → IsAt z (n + 1) b
+at_next y z n f l before after b w e next k full =
+    let m : (made_of z.script (n + 1)).world ≡ (play_line l (made_of y.script n).world).world = made_is y z n f l before after w e next k in
+    record {
+      seen_is = subst (IsSeen z) (sym m) k.goes.seen_is;
+      full_is = ap (λ (v : World). v.full) m ∙ (sym k.goes.seen_is.full_is ∙ full);
+    }
+
+counted_next : (y z : Yard) (n : ℕ) (f : Option StepFault) (l : Line) (before after : List Fact) → IsWorld y n f → f ≡ None → IsNext y z n l before after → IsCounted z (n + 1)
+counted_next y z n f l before after w e k =
+    let c : IsCounted y n = (going_at y n f w e).1 in
+    record {
+      version_is = let a : y.version ≤ n = c.version_is in let b : z.version ≤ y.version + 1 = k.version_is in omega (arith, a, b);
+      ups_are = λ j. let a : slice_index_or y.ups j 0 ≤ n = c.ups_are j in let b : slice_index_or z.ups j 0 ≤ slice_index_or y.ups j 0 + 1 = k.ups_are j in omega (arith, a, b);
+    }
+
+world_by : (y z : Yard) (n : ℕ) (f g : Option StepFault) (l : Line) (before after : List Fact) → IsWorld y n f → slice_get y.script.orders n ≡ Some l → IsNext y z n l before after → IsKept z (n + 1) g → IsWorld z (n + 1) g
+world_by y z n f g l before after w next k kept = record {
+  script_is = subst IsScript (sym k.script_is) w.script_is;
+  built = ap are_built k.script_is ∙ w.built;
+  few = let less : n < length y.script.orders = got_inside y.script.orders n l next in let same : length z.script.orders ≡ length y.script.orders = ap (λ (c : Script). length c.orders) k.script_is in omega (arith, less, same);
+  kept = kept;
+}
+
+pub world_going : (y z : Yard) (n : ℕ) (f g : Option StepFault) (l : Line) (before after : List Fact) → IsWorld y n f → f ≡ None → slice_get y.script.orders n ≡ Some l → IsNext y z n l before after → z.mail.full ≡ false → g ≡ None → IsWorld z (n + 1) g
+world_going y z n f g l before after w e next k full none =
+    subst (IsWorld z (n + 1)) (sym none) (world_by y z n f None l before after w next k (at_next y z n f l before after false w e next k full, counted_next y z n f l before after w e k))
+
+pub world_full : (y z : Yard) (n : ℕ) (f : Option StepFault) (l : Line) (before after : List Fact) → IsWorld y n f → f ≡ None → slice_get y.script.orders n ≡ Some l → IsNext y z n l before after → z.mail.full ≡ true → IsWorld z (n + 1) (Some fault.WireFull)
+world_full y z n f l before after w e next k full =
+    world_by y z n f (Some fault.WireFull) l before after w next k (at_next y z n f l before after true w e next k full, counted_next y z n f l before after w e k)
+
+pub world_spent : (y z : Yard) (n : ℕ) (f : Option StepFault) → IsWorld y n f → z.script ≡ y.script → IsWorld z n (Some fault.OutOfMemory)
+world_spent y z n f w e = record {
+  script_is = subst IsScript (sym e) w.script_is;
+  built = ap are_built e ∙ w.built;
+  few = let few : n ≤ length y.script.orders = w.few in let same : length z.script.orders ≡ length y.script.orders = ap (λ (c : Script). length c.orders) e in omega (arith, few, same);
+  kept = tt;
+}
+
+-- The answers.
+
+abbrev seen : Yard → ℕ → Option StepFault → Played
+seen y n f = record { script = y.script; count = n; fault = f }
+
+told_next : (y z : Yard) (n : ℕ) (f : Option StepFault) (l : Line) (before after : List Fact) → f ≡ None → IsNext y z n l before after → Told (seen y n f) l before after
+told_next y z n f l before after e k = record { fresh_is = e; facts_are = k.goes.facts_are }
+
+pub went : (y z : Yard) (n : ℕ) (f g : Option StepFault) (l : Line) (before after : List Fact) → f ≡ None → IsNext y z n l before after → z.mail.full ≡ false → g ≡ None → Went (seen y n f) l before (seen z (n + 1) g) after
+went y z n f g l before after e k full none = record {
+  told_is = told_next y z n f l before after e k;
+  going_is = sym k.goes.seen_is.full_is ∙ full;
+  new_is = λ i. record { script = k.script_is i; count = n + 1; fault = none i };
+}
+
+pub filled : (y z : Yard) (n : ℕ) (f : Option StepFault) (l : Line) (before after : List Fact) → f ≡ None → IsNext y z n l before after → z.mail.full ≡ true → Filled (seen y n f) l before (seen z (n + 1) (Some fault.WireFull)) after
+filled y z n f l before after e k full = record {
+  told_is = told_next y z n f l before after e k;
+  full_is = sym k.goes.seen_is.full_is ∙ full;
+  new_is = λ i. record { script = k.script_is i; count = n + 1; fault = Some fault.WireFull };
+}

@@ -1,0 +1,7 @@
+use Rattle.std.proofs.Common.{◌≡◌, ap, sym, ◌∙◌, subst}
+use Rattle.yard_model.specs.Script.{IsScript}
+use Rattle.world_sim.proofs.NewLaws.{world_new}
+use Rattle.world_sim.proofs.world.World.new.Goals as goal
+
+pub invariant_of-result : goal.invariant_of-result
+invariant_of-result g c = let e = c.in_ok-yard.ensures in world_new c.in_ok-yard.yard c.args.charter.now (subst IsScript e.script e.known) c.requires e.script e.version e.ups e.seen

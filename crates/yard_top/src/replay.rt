@@ -1,0 +1,140 @@
+//! `replay`: from a script to its trace and report.
+ghost use Rattle.std.specs.Prelude.{◌≡◌, ◌+◌, ◌++◌, [], None, Some, IfOk, OnOk, IsTrue, slice_get};
+ghost use Rattle.std.specs.List.{flat_map};
+ghost use Rattle.yard_model.specs.Replay.{replay_text};
+ghost use Rattle.yard_model.specs.Safe.{safe};
+ghost use Rattle.yard_model.specs.Script.{setting};
+ghost use Rattle.yard_model.specs.Text.{fact_line, report};
+ghost use Rattle.yard_model.specs.World.{played, trace_of, wire_limit};
+ghost use Rattle.shard_store.specs.Stores.{lists_at};
+ghost use Rattle.trace_text.specs.Foldable.{is_foldable_in_all};
+ghost use Rattle.world_laws.specs.Keeps.{are_built};
+ghost use Rattle.yard_top.specs.Replays.{IsOn, IsDone, IsThrough, IsNext};
+ghost use Rattle.yard_top.specs.Stops.{stop_in};
+
+use crate::course::stop_in;
+use crate::text::Text;
+use behaviour_core::laws::decided_law;
+use behaviour_kinds::{Account, Cart, Counter};
+use shard_store::Stores;
+use std::alloc::{AllocError, Global};
+use trace_text::{push_fact, push_report};
+use world_laws::keeps::played_is_safe;
+use world_sim::laws::made_law;
+use world_sim::{StepFault, World};
+use yard_laws::safety::safe_is_safe_now;
+use yard_laws::trace::lists_are_of_the_trace;
+use yard_model::laws::{command_law, decision_law};
+use yard_model::{Charter, Fact, Facts, Kind, Line};
+
+/// The text that `replay` writes for this script, and the line with which its trace stops, where it
+/// does. The only error is want of memory.
+pub fn replay_report(alloc: Global, charter: &Charter) -> Result<Text, AllocError>
+    requires { IsTrue (are_built charter.now) }
+    ensures bytes { IfOk result (λ t. t.bytes.items ≡ replay_text charter.now) }
+    ensures stop { IfOk result (λ t. t.stop ≡ stop_in (trace_of charter.now)) }
+    ensures safe { IsTrue (safe charter.now (trace_of charter.now)) }
+{
+    trace_is_safe(charter);
+    match charter.config().kind {
+        Kind::Counter => replayed(alloc, charter, Counter),
+        Kind::Account => replayed(alloc, charter, Account),
+        Kind::Cart => replayed(alloc, charter, Cart),
+    }
+}
+
+/// The trace of a script of these orders is safe.
+fn trace_is_safe(charter: &Charter)
+    requires { IsTrue (are_built charter.now) }
+    ensures { IsTrue (safe charter.now (trace_of charter.now)) }
+{
+    charter.config();
+    played_is_safe();
+}
+
+/// The text of a script's trace, played in a world whose entities behave so.
+fn replayed<B: Copy + Drop>(
+    alloc: Global,
+    charter: &Charter,
+    behaviour: B,
+) -> Result<Text, AllocError>
+    requires built { IsTrue (are_built charter.now) }
+    requires safe { IsTrue (safe charter.now (trace_of charter.now)) }
+    ensures bytes { IfOk result (λ t. t.bytes.items ≡ replay_text charter.now) }
+    ensures stop { IfOk result (λ t. t.stop ≡ stop_in (trace_of charter.now)) }
+{
+    let mut facts = Facts::new(alloc);
+    let mut world = World::new(alloc, charter, behaviour)?;
+    play(&mut world, charter, &mut facts)?;
+    let stores = stores_of(world, charter)?;
+    let mut bytes = Vec::new(alloc);
+    push_facts(&mut bytes, facts.as_slice())?;
+    push_report(&mut bytes, charter, &stores)?;
+    let stop = stop_in(facts.as_slice());
+    Ok(Text { bytes, stop })
+}
+
+/// Plays all orders of the script, or up to the one with which its trace stops.
+fn play<B: Copy + Drop>(
+    world: &mut World<B>,
+    charter: &Charter,
+    facts: &mut Facts,
+) -> Result<(), AllocError>
+    requires world { world.old ≡ record { script = charter.now; count = 0; fault = None } }
+    requires facts { facts.old ≡ [] }
+    ensures { OnOk result (IsThrough charter.now world.new facts.new) }
+{
+    made_law();
+    for line in charter.orders() {
+        if !play_next(world, line, facts)? {
+            return Ok(());
+        }
+    }
+    Ok(())
+}
+
+/// Plays the next order, and tells its facts; whether the trace goes on. The only error is want of
+/// memory.
+fn play_next<B: Copy + Drop>(
+    world: &mut World<B>,
+    line: &Line,
+    facts: &mut Facts,
+) -> Result<bool, AllocError>
+    requires on { IsOn world.old.script world.old.count world.old facts.old }
+    requires next { slice_get world.old.script.orders world.old.count ≡ Some line.now }
+    ensures { IfOk result (λ goes_on. IsNext world.old.script (world.old.count + 1) goes_on world.new facts.new) }
+{
+    made_law();
+    match world.step(line, facts) {
+        Ok(()) => Ok(true),
+        Err(StepFault::WireFull) => Ok(false),
+        Err(StepFault::OutOfMemory) => Err(AllocError),
+    }
+}
+
+/// The stores of a world that is through with its script. The only error is want of memory.
+fn stores_of<B: Copy + Drop>(world: World<B>, charter: &Charter) -> Result<Stores, AllocError>
+    requires done { IsDone charter.now world }
+    requires safe { IsTrue (safe charter.now (trace_of charter.now)) }
+    ensures report { IfOk result (λ s. report (setting charter.now) (lists_at s.script.config s.places) ≡ report (setting charter.now) (played charter.now wire_limit).world.lists) }
+    ensures foldable { IfOk result (λ s. IsTrue (is_foldable_in_all (setting charter.now) (lists_at s.script.config s.places))) }
+{
+    charter.config();
+    safe_is_safe_now();
+    lists_are_of_the_trace();
+    command_law();
+    decision_law();
+    decided_law();
+    world.into_stores()
+}
+
+/// Appends the lines of these facts. The only error is want of memory; what the text then is stays
+/// open.
+fn push_facts(text: &mut Vec<u8>, facts: &[Fact]) -> Result<(), AllocError>
+    ensures { OnOk result (text.new.items ≡ text.old.items ++ flat_map fact_line facts.now) }
+{
+    for fact in facts {
+        push_fact(text, fact)?;
+    }
+    Ok(())
+}

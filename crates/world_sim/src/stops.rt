@@ -7,7 +7,6 @@ ghost use Rattle.world_sim.specs.Stopped.{IsStopped};
 ghost use Rattle.world_sim.specs.Yard.{IsFirm};
 
 use crate::yard::Yard;
-use shard_lease::LeaseBook;
 use shard_store::Stores;
 use std::alloc::AllocError;
 use yard_model::{Facts, NodeNo};
@@ -23,8 +22,7 @@ impl<B: Copy + Drop> Yard<B> {
     {
         let mut yard = self;
         yard.stop()?;
-        let book = yard.into_book();
-        Ok(book.into_stores())
+        Ok(yard.book.into_stores())
     }
 
     /// Every node that is up goes down.
@@ -43,12 +41,5 @@ impl<B: Copy + Drop> Yard<B> {
             self.go_down(n, &mut facts)?;
         }
         Ok(())
-    }
-
-    /// Its leases.
-    fn into_book(self) -> LeaseBook
-        ensures { result ≡ self.book }
-    {
-        self.book
     }
 }

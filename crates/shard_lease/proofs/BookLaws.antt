@@ -80,6 +80,29 @@ slot_back c (slot.Queue p) h =
     ap (λ b. if b then slot.Shard (k + p) else if k + p == k then slot.Coordinator else slot.Queue (k + p - k)) (lt_not (k + p) k (omega arith))
     ∙ (ap (λ b. if b then slot.Coordinator else slot.Queue (k + p - k)) (eq_not (k + p) k (λ e. absurd (omega (arith, e, above)))) ∙ ap (λ n. slot.Queue n) back)
 
+-- this place is that slot's
+abbrev IsSlotAt : Script → ℕ → Slot → Type 0
+IsSlotAt c k s = (is_slot_of c s ≡ true) × (place_of c.config s ≡ k)
+
+slot_place : (c : Script) (k : ℕ) → k < c.config.shards + c.config.producers + 1 → IsSlotAt c k (slot_at c.config k)
+slot_place c k within = by_shard (nat_lt k c.config.shards) refl
+  where
+    not_lt : (a b : ℕ) → nat_lt a b ≡ false → b ≤ a
+    not_lt a b h = grind (arith, nat_tests)
+    le_is : (a b : ℕ) → a ≤ b → nat_le a b ≡ true
+    le_is a b h = grind (arith, nat_tests)
+    by_queue : (v : Bool) → (k == c.config.shards) ≡ v → c.config.shards ≤ k → IsSlotAt c k (if v then slot.Coordinator else slot.Queue (k - c.config.shards))
+    by_queue true e above = (refl, sym ((Decides-eqb k c.config.shards).0 e))
+    by_queue false e above =
+        let other : k ≢ c.config.shards = λ same. true≢false (sym (eq_is k c.config.shards same) ∙ e) in
+        let some : 1 ≤ k - c.config.shards = omega (arith, above, other) in
+        let most : k - c.config.shards ≤ c.config.producers = omega (arith, within) in
+        let back : c.config.shards + (k - c.config.shards) ≡ k = omega (arith, above) in
+        (both (nat_le 1 (k - c.config.shards)) (nat_le (k - c.config.shards) c.config.producers) (le_is 1 (k - c.config.shards) some) (le_is (k - c.config.shards) c.config.producers most), back)
+    by_shard : (v : Bool) → nat_lt k c.config.shards ≡ v → IsSlotAt c k (if v then slot.Shard k else if k == c.config.shards then slot.Coordinator else slot.Queue (k - c.config.shards))
+    by_shard true e = (e, refl)
+    by_shard false e = by_queue (k == c.config.shards) refl (not_lt k c.config.shards e)
+
 place_apart : (c : Script) (s t : Slot) → is_slot_of c s ≡ true → is_slot_of c t ≡ true → t ≢ s → place_of c.config t ≢ place_of c.config s
 place_apart c s t hs ht other = λ e. other (sym (slot_back c t ht) ∙ (ap (slot_at c.config) e ∙ slot_back c s hs))
 
@@ -322,11 +345,14 @@ book_new c places holders homes free none = record {
     place s None h f = h
     place s (Some x) h f = (h, f)
 
-pub book_homes : (b : Book) → IsBook b → ((k : ℕ) → k < length b.holders → at b.holders k ≡ None) → AreHomes b.script b.places
+pub book_homes : (b : Book) → IsBook b → ((s : Slot) → is_slot_of b.script s ≡ true → at b.holders (place_of b.script.config s) ≡ None) → AreHomes b.script b.places
 book_homes b is nobody = record {
   script_is = is.script_is;
   all = is.all;
-  each = λ k within. there (slot_at b.script.config k) (at b.places k) (subst (IsPlace b.script (slot_at b.script.config k) (at b.places k)) (nobody k (subst (λ n. k < n) (sym is.holders_all) within)) (is.each k within));
+  each = λ k within.
+      let p : IsSlotAt b.script k (slot_at b.script.config k) = slot_place b.script k (subst (λ n. k < n) is.all within) in
+      let none : at b.holders k ≡ None = ap (at b.holders) (sym p.1) ∙ nobody (slot_at b.script.config k) p.0 in
+      there (slot_at b.script.config k) (at b.places k) (subst (IsPlace b.script (slot_at b.script.config k) (at b.places k)) none (is.each k within));
 }
   where
     there : (s : Slot) (o : Option Store) → IsPlace b.script s o None → IsThere b.script s o

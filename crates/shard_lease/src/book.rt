@@ -61,9 +61,8 @@ impl LeaseBook {
     }
 
     /// The stores, where nobody holds a slot.
-    #[tactic(auto, using(crate::proofs::BookLaws::book_homes))]
     pub fn into_stores(self) -> Stores
-        requires { (k : ℕ) → k < length self.holders → at self.holders k ≡ None }
+        requires { (s : Slot) → IsTrue (is_slot_of self.script s) → at self.holders (place_of self.script.config s) ≡ None }
         ensures script { result.script ≡ self.script }
         ensures places { result.places ≡ self.places }
     {

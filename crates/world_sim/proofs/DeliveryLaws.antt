@@ -194,7 +194,6 @@ sound_but y w x v nodes s m e out =
         there = subst (λ n. x.node ≤ n) (sym (ap length out ∙ length-set y.nodes k None)) room;
       };
       stands_is = s.stands_is;
-      going_is = s.going_is;
     }
 
 pub goes_apart : (y : Yard) (w : World) (p : Packet) (before : List Fact) → IsSeen y w → is_among p.to y.members ≡ false → Goes before before y (world.hand_over p w)

@@ -30,7 +30,7 @@ use Rattle.world_laws.specs.Standing.{IsUp}
 use Rattle.world_laws.proofs.Place.{placed_at, placed_beside, by_place}
 use Rattle.yard_laws.proofs.Booleans.{true_is_not_false, at_most, both}
 use Rattle.world_sim.specs.Mail.{Mails, facts_of}
-use Rattle.world_sim.specs.Yard.{Yard, IsSeen, IsSeenBut, IsSound, IsSoundBut, Goes, state_in}
+use Rattle.world_sim.specs.Yard.{Yard, IsSeen, IsSeenBut, IsFirm, IsSoundBut, Goes, state_in}
 use Rattle.world_sim.proofs.FreshLaws.{lt_false}
 use Rattle.world_sim.proofs.RestsLaws.{rests_of, in_hand_of}
 use Rattle.world_sim.proofs.SeenLaws.{IsAllTold, IsKept, IsLed, led_to, seen_told, facts_told, mailed_from}
@@ -321,7 +321,7 @@ empty_now [] k = refl
 empty_now (y ∷ ys) zero = refl
 empty_now (y ∷ ys) (suc k) = empty_now ys k
 
-pub sound_out : (y : Yard) (w : World) (n : ℕ) (node : Standing) (nodes : List (Option Standing)) → IsSound y w → 1 ≤ n → n ≤ length y.nodes → at y.nodes (n - 1) ≡ Some node → nodes ≡ slice_set y.nodes (n - 1) None
+pub sound_out : (y : Yard) (w : World) (n : ℕ) (node : Standing) (nodes : List (Option Standing)) → IsFirm y w → 1 ≤ n → n ≤ length y.nodes → at y.nodes (n - 1) ≡ Some node → nodes ≡ slice_set y.nodes (n - 1) None
     → IsSoundBut n node (record y { nodes = nodes }) w
 sound_out y w n node nodes s some there up out =
     let inside : n - 1 < length y.nodes = omega (arith, some, there) in
@@ -334,5 +334,4 @@ sound_out y w n node nodes s some there up out =
         there = omega (arith, there, size);
       };
       stands_is = s.stands_is;
-      going_is = s.going_is;
     }

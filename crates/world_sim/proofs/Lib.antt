@@ -7,6 +7,7 @@ pub mod OffWireLaws
 pub mod PlayedLaws
 pub mod RestsLaws
 pub mod SeenLaws
+pub mod StoresLaws
 pub mod TellLaws
 pub mod ToldLaws
 pub mod TurnLaws

@@ -54,7 +54,7 @@ in_hand_of c w k st stands here = λ s i. if_some (held_list s st) (λ list. lis
 
 -- What the book tells of a slot.
 
-told_of : (b : Book) (c : Script) (lists : SlotLists) (s : Slot) → b.script ≡ c → Tells (meaning_of b) c lists → is_slot_of c s ≡ true → IsTold (list_at lists s) (known_at b (place_of b.script.config s))
+pub told_of : (b : Book) (c : Script) (lists : SlotLists) (s : Slot) → b.script ≡ c → Tells (meaning_of b) c lists → is_slot_of c s ≡ true → IsTold (list_at lists s) (known_at b (place_of b.script.config s))
 told_of b c lists s e tells i =
     let its : is_slot_of b.script s ≡ true = ap (λ (x : Script). is_slot_of x s) e ∙ i in
     subst (λ v. IsSomeAnd (if v then Some (known_at b (place_of b.script.config s)) else None) (IsTold (list_at lists s))) its (tells s i)

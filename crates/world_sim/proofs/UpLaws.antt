@@ -23,7 +23,7 @@ use Rattle.world_laws.proofs.Place.{none_is_not_some, some_is, placed_at, placed
 use Rattle.world_laws.proofs.Room.{few_members, few_nodes}
 use Rattle.yard_laws.proofs.Booleans.{true_is_not_false, and_both, both, at_most}
 use Rattle.world_sim.specs.Steps.{entered, AreOneMore}
-use Rattle.world_sim.specs.Yard.{Yard, IsSeen, IsSound, Goes, state_in}
+use Rattle.world_sim.specs.Yard.{Yard, IsSeen, IsFirm, IsSound, Goes, state_in}
 
 -- One step and then another.
 
@@ -59,7 +59,11 @@ at_map (y ∷ ys) (suc k) = at_map ys k
 pub node_kept : (y : Yard) (w : World) (k : ℕ) → IsSeen y w → at w.nodes k ≡ state_in (at y.nodes k)
 node_kept y w k s = ap (λ ns. at ns k) (sym s.nodes_are) ∙ at_map y.nodes k
 
-pub nodes_count : (y : Yard) (w : World) → IsSound y w → length y.nodes ≡ y.script.config.nodes
+-- whose trace goes on stands
+pub firm_of : (y : Yard) (w : World) → IsSound y w → IsFirm y w
+firm_of y w s = record { seen_is = s.seen_is; stands_is = s.stands_is }
+
+pub nodes_count : (y : Yard) (w : World) → IsFirm y w → length y.nodes ≡ y.script.config.nodes
 nodes_count y w s = sym (length-map y.nodes state_in) ∙ (ap length s.seen_is.nodes_are ∙ s.stands_is.nodes_there)
 
 pub ups_count : (y : Yard) (w : World) → IsSound y w → length y.ups ≡ y.script.config.nodes
@@ -115,7 +119,7 @@ pub entered_goes : (y : Yard) (w : World) (n : ℕ) (node : Standing) (before af
 entered_goes y w n node before after s within script state told =
     let u : IsSeen y w = s.seen_is in
     let r : (1 ≤ n) × (n ≤ y.script.config.nodes) = node_within n y.script.config.nodes within in
-    let there : n - 1 < length y.nodes = let l : length y.nodes ≡ y.script.config.nodes = nodes_count y w s in omega (arith, r.0, r.1, l) in
+    let there : n - 1 < length y.nodes = let l : length y.nodes ≡ y.script.config.nodes = nodes_count y w (firm_of y w s) in omega (arith, r.0, r.1, l) in
     let came_is : came y.ups n ≡ came w.ups n = ap (λ us. came us n) u.ups_are in
     record {
       seen_is = record {

@@ -47,16 +47,21 @@ pub record IsSeenBut (n : ℕ) (node : Standing) (y : Yard) (w : World) : Type 0
   pub out_is : at y.nodes (n - 1) ≡ None
   pub there : n ≤ length y.nodes
 
--- it stands for a world that stands, and whose trace goes on
+-- it stands for a world that stands
+pub record IsFirm (y : Yard) (w : World) : Type 0 where
+  pub seen_is : IsSeen y w
+  pub stands_is : Stands y.script w
+
+-- and whose trace goes on
 pub record IsSound (y : Yard) (w : World) : Type 0 where
   pub seen_is : IsSeen y w
   pub stands_is : Stands y.script w
   pub going_is : w.full ≡ false
 
+-- it stands for a world that stands, where this node was taken out of its place
 pub record IsSoundBut (n : ℕ) (node : Standing) (y : Yard) (w : World) : Type 0 where
   pub seen_is : IsSeenBut n node y w
   pub stands_is : Stands y.script w
-  pub going_is : w.full ≡ false
 
 -- it stands for the world that a step made, and the step's facts were told
 pub record Goes (before after : List Fact) (y : Yard) (m : Made) : Type 0 where

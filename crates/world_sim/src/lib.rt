@@ -8,6 +8,8 @@ mod mail;
 mod members;
 mod orders;
 mod places;
+mod stops;
+mod stores;
 mod turns;
 mod ups;
 mod world;

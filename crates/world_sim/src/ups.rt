@@ -5,7 +5,7 @@ ghost use Rattle.yard_model.specs.Words.{at};
 ghost use Rattle.yard_model.specs.World.{World, views, come_up, go_down, up, crash_node};
 ghost use Rattle.world_laws.specs.Standing.{Stands};
 ghost use Rattle.world_sim.specs.Steps.{entered, AreOneMore};
-ghost use Rattle.world_sim.specs.Yard.{IsSeen, IsSound, IsSoundBut, Goes};
+ghost use Rattle.world_sim.specs.Yard.{IsSeen, IsFirm, IsSound, IsSoundBut, Goes};
 
 use crate::members::{post_views, with, without};
 use crate::places::{is_down, next_number, put_node, set_number, take_node};
@@ -87,11 +87,11 @@ impl<B: Copy + Drop> Yard<B> {
     }
 
     /// The node goes down, where it is up: it is gone, and what it held is freed.
-    fn go_down(&mut self, n: NodeNo, facts: &mut Facts) -> Result<(), AllocError>
-        requires world { (w : World) × IsSound self.old w }
+    pub(crate) fn go_down(&mut self, n: NodeNo, facts: &mut Facts) -> Result<(), AllocError>
+        requires world { (w : World) × IsFirm self.old w }
         requires node { is_in 1 self.old.script.config.nodes n ≡ true }
         requires version { self.old.version < 4000000000 }
-        ensures goes { OnOk result ((w : World) → IsSound self.old w → Goes facts.old facts.new self.new (go_down n w)) }
+        ensures goes { OnOk result ((w : World) → IsFirm self.old w → Goes facts.old facts.new self.new (go_down n w)) }
         ensures script { self.new.script ≡ self.old.script }
         ensures version { OnOk result (self.new.version ≤ self.old.version + 1) }
         ensures ups { OnOk result (self.new.ups ≡ self.old.ups) }

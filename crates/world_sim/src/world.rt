@@ -22,9 +22,9 @@ use yard_model::{Charter, Facts, Line, Members};
 /// leases. Seen as the script, how many of its orders were played, and what ended it.
 #[derive(Drop)]
 pub struct World<B> {
-    yard: Yard<B>,
-    count: u32,
-    fault: Option<StepFault>,
+    pub(crate) yard: Yard<B>,
+    pub(crate) count: u32,
+    pub(crate) fault: Option<StepFault>,
 }
 
 impl<B> Model for World<B> {

@@ -6,7 +6,7 @@ use Rattle.yard_model.specs.Node.{new_node}
 use Rattle.yard_model.specs.Script.{setting}
 use Rattle.yard_model.specs.Words.{at}
 use Rattle.world_sim.specs.Yard.{IsSound}
-use Rattle.world_sim.proofs.UpLaws.{none_of_down, room_for, entered_goes, yard_is, goes_at, came_is, node_within, nodes_count, ups_count}
+use Rattle.world_sim.proofs.UpLaws.{none_of_down, room_for, entered_goes, yard_is, goes_at, came_is, node_within, firm_of, nodes_count, ups_count}
 use Rattle.world_sim.proofs.yard.Yard.enter.Goals as goal
 
 pub with-self-inside-requires-clause-other : goal.with-self-inside-requires-clause-other
@@ -33,7 +33,7 @@ pub put_node-requires : goal.put_node-requires
 put_node-requires g c =
     let r = c.requires.world in
     let s = subst (λ v. IsSound v r.0) (sym c.self.view_is) r.1 in
-    let l : length c.self.inside.nodes.items ≡ c.self.inside.charter.config.nodes = nodes_count _ r.0 s in
+    let l : length c.self.inside.nodes.items ≡ c.self.inside.charter.config.nodes = nodes_count _ r.0 (firm_of _ r.0 s) in
     let h : c.args.n ≤ c.self.inside.charter.config.nodes = (node_within c.args.n _ (ap (λ v. is_in 1 v.script.config.nodes c.args.n) c.self.view_is ∙ c.requires.node)).1 in
     omega (arith, l, h)
 

@@ -1,0 +1,45 @@
+//! Nodes that all stop, and the stores after that.
+ghost use Rattle.std.specs.Prelude.{◌≡◌, ◌≤◌, IfOk, OnOk};
+ghost use Rattle.yard_model.specs.World.{World};
+ghost use Rattle.shard_store.specs.Stores.{lists_at};
+ghost use Rattle.world_sim.specs.Played.{AreFreed};
+ghost use Rattle.world_sim.specs.Stopped.{IsStopped};
+ghost use Rattle.world_sim.specs.Yard.{IsFirm};
+
+use crate::yard::Yard;
+use shard_store::Stores;
+use std::alloc::AllocError;
+use yard_model::{Facts, NodeNo};
+
+impl<B: Copy + Drop> Yard<B> {
+    /// The stores of all slots, once every node that is up has stopped. The only error is want of
+    /// memory.
+    pub(crate) fn into_stores(self) -> Result<Stores, AllocError>
+        requires world { (w : World) × IsFirm self w }
+        requires version { self.version ≤ 200000 }
+        ensures script { IfOk result (λ s. s.script ≡ self.script) }
+        ensures lists { (w : World) → IsFirm self w → IfOk result (λ s. AreFreed self.script w.lists (lists_at self.script.config s.places)) }
+    {
+        let mut yard = self;
+        yard.stop()?;
+        Ok(yard.book.into_stores())
+    }
+
+    /// Every node that is up goes down.
+    fn stop(&mut self) -> Result<(), AllocError>
+        requires world { (w : World) × IsFirm self.old w }
+        requires version { self.old.version ≤ 200000 }
+        ensures stopped { OnOk result ((w : World) → IsFirm self.old w → (v : World) × IsStopped self.old.script.config.nodes w.lists self.new v) }
+        ensures script { self.new.script ≡ self.old.script }
+    {
+        let count = self.charter.config().nodes;
+        let mut facts = Facts::new(self.alloc);
+        for i in 0..count {
+            let Some(n) = NodeNo::new(i + 1) else {
+                unreachable!()
+            };
+            self.go_down(n, &mut facts)?;
+        }
+        Ok(())
+    }
+}

@@ -1,12 +1,10 @@
 -- What one call of a book of leases does.
-use Rattle.std.proofs.Common.{◌≡◌, ◌≢◌, ℕ, ◌+◌, ◌-◌, ◌<◌, ◌≤◌, ◌⊎◌, inl, inr, ⊎_elim, List, length, sym, ap, subst, ◌∙◌, refl, true, false, true≢false, arith}
-use Rattle.std.specs.Prelude.{Bool, [], ◌∷◌, ◌++◌, ◌==◌, ◌&&◌, nat_lt, nat_le, is_some, Option, Some, None, MatchOption, replicate, slice_set, slice_index_or, if◌then◌else◌}
+use Rattle.std.proofs.Common.{◌≡◌, ◌≢◌, ℕ, ◌+◌, ◌-◌, ◌<◌, ◌≤◌, ◌⊎◌, inl, inr, List, length, sym, ap, subst, ◌∙◌, refl, true, false, true≢false, arith}
+use Rattle.std.specs.Prelude.{Bool, [], ◌∷◌, ◌++◌, ◌==◌, ◌&&◌, nat_lt, nat_le, is_some, Option, Some, None, MatchOption, replicate, slice_set, if◌then◌else◌}
 use Rattle.std.specs.List.{list_all}
-use Rattle.std.specs.Option.{option_map_or}
 use Rattle.std.proofs.lemmas.Bool.Decides.{nat_tests, Decides-eqb}
 use Rattle.std.proofs.lemmas.List.Sums.{fold-append}
 use Rattle.std.proofs.lemmas.List.{get_or-set_same, get_or-set_other, length-set, get_or-replicate, length-replicate}
-use Rattle.yard_model.specs.declared.charter.Config.{Config}
 use Rattle.yard_model.specs.declared.fact.Fact.{Fact}
 use Rattle.yard_model.specs.declared.fact.Fact.TheVariants as fact
 use Rattle.yard_model.specs.declared.incarnation.Cause.{Cause}
@@ -16,15 +14,15 @@ use Rattle.yard_model.specs.declared.incarnation.Slot.TheVariants as slot
 use Rattle.yard_model.specs.Behaviour.{is_in}
 use Rattle.yard_model.specs.Equal.{is_slot}
 use Rattle.yard_model.specs.Follow.{each_follows}
-use Rattle.yard_model.specs.Genuine.{is_node, is_shard, is_slot_of}
+use Rattle.yard_model.specs.Genuine.{is_node, is_slot_of}
 use Rattle.yard_model.specs.Lawful.{own, may_follow, is_leased, is_entry, is_held}
-use Rattle.yard_model.specs.Script.{Script, IsScript}
+use Rattle.yard_model.specs.Script.{Script}
 use Rattle.yard_model.specs.SlotReads.{epoch, holder_step}
 use Rattle.yard_model.specs.Words.{at}
 use Rattle.shard_store.specs.declared.store.Store.{Store}
 use Rattle.shard_store.specs.Stores.{script_of, slot_of, entries_of, spare_of, entries_in, entries_at, place_of, slot_at, IsHome, IsThere, AreHomes}
 use Rattle.shard_lease.specs.Book.{Book, IsPlace, IsBook, known_at, is_of_node, tells_of, holds_of, meaning_of}
-use Rattle.shard_lease.specs.Meaning.{Known, Meaning, Apart, Still, Begins, IsVouched, is_taken, confirms, Serves, Stays, Hands, Refuses, Returns, Released}
+use Rattle.shard_lease.specs.Meaning.{Meaning, Apart, Still, Begins, is_taken, confirms, Serves, Stays, Hands, Refuses, Returns, Released}
 
 and_both : (a b : Bool) → (a && b) ≡ true → (a ≡ true) × (b ≡ true)
 and_both true b e = (refl, e)
@@ -89,8 +87,10 @@ slot_place c k within = by_shard (nat_lt k c.config.shards) refl
   where
     not_lt : (a b : ℕ) → nat_lt a b ≡ false → b ≤ a
     not_lt a b h = grind (arith, nat_tests)
+
     le_is : (a b : ℕ) → a ≤ b → nat_le a b ≡ true
     le_is a b h = grind (arith, nat_tests)
+
     by_queue : (v : Bool) → (k == c.config.shards) ≡ v → c.config.shards ≤ k → IsSlotAt c k (if v then slot.Coordinator else slot.Queue (k - c.config.shards))
     by_queue true e above = (refl, sym ((Decides-eqb k c.config.shards).0 e))
     by_queue false e above =
@@ -99,6 +99,7 @@ slot_place c k within = by_shard (nat_lt k c.config.shards) refl
         let most : k - c.config.shards ≤ c.config.producers = omega (arith, within) in
         let back : c.config.shards + (k - c.config.shards) ≡ k = omega (arith, above) in
         (both (nat_le 1 (k - c.config.shards)) (nat_le (k - c.config.shards) c.config.producers) (le_is 1 (k - c.config.shards) some) (le_is (k - c.config.shards) c.config.producers most), back)
+
     by_shard : (v : Bool) → nat_lt k c.config.shards ≡ v → IsSlotAt c k (if v then slot.Shard k else if k == c.config.shards then slot.Coordinator else slot.Queue (k - c.config.shards))
     by_shard true e = (e, refl)
     by_shard false e = by_queue (k == c.config.shards) refl (not_lt k c.config.shards e)

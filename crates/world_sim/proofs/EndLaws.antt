@@ -20,7 +20,7 @@ use Rattle.yard_model.specs.SlotLists.{SlotLists}
 use Rattle.yard_model.specs.Trace.{lists_step}
 use Rattle.yard_model.specs.Turns.{where_some}
 use Rattle.yard_model.specs.Words.{at, without}
-use Rattle.yard_model.specs.World.{World, Made, world_after, numbered, count_posts, input_facts, wire_limit, go_down, go_down_by, handle, tell, full_step, node_at}
+use Rattle.yard_model.specs.World.{World, world_after, numbered, count_posts, input_facts, wire_limit, go_down, go_down_by, handle, tell, full_step, node_at}
 use Rattle.shard_lease.specs.Book.{meaning_of}
 use Rattle.node_core.specs.Gave.{ForLists, lists_after}
 use Rattle.node_core.specs.Leased.{AreInHand, Rests, Tells, facts_in}
@@ -33,7 +33,7 @@ use Rattle.world_sim.specs.Mail.{Mails, facts_of}
 use Rattle.world_sim.specs.Yard.{Yard, IsSeen, IsSeenBut, IsFirm, IsSoundBut, Goes, state_in}
 use Rattle.world_sim.proofs.FreshLaws.{lt_false}
 use Rattle.world_sim.proofs.RestsLaws.{rests_of, in_hand_of}
-use Rattle.world_sim.proofs.SeenLaws.{IsAllTold, IsKept, IsLed, led_to, seen_told, facts_told, mailed_from}
+use Rattle.world_sim.proofs.SeenLaws.{IsAllTold, led_to, seen_told, facts_told, mailed_from}
 use Rattle.world_sim.proofs.TellLaws.{words_after, input_nodes}
 use Rattle.world_sim.proofs.TurnLaws.{is_own, is_own_item, turn_own}
 use Rattle.world_sim.proofs.UpLaws.{node_kept}
@@ -114,10 +114,10 @@ crash_own st =
     let lead_freed : List Fact = where_some (λ k. freed_stopped slot.Coordinator k.entries) st.coordinator in
     let queues_freed : List Fact = flat_map (λ p. where_some (λ k. freed_stopped (slot.Queue p) k.entries) (at st.producers (p - 1))) (producers st.set) in
     join_own (shards_freed ++ lead_freed) queues_freed
-        (join_own shards_freed lead_freed
-            (each_own (λ s. where_some (λ h. freed_stopped (slot.Shard s) h.entries) (at st.entities.hosted s)) (shards st.set) (λ s. some_own (λ h. freed_stopped (slot.Shard s) h.entries) (at st.entities.hosted s) (λ h. refl)))
-            (some_own (λ k. freed_stopped slot.Coordinator k.entries) st.coordinator (λ k. refl)))
-        (each_own (λ p. where_some (λ k. freed_stopped (slot.Queue p) k.entries) (at st.producers (p - 1))) (producers st.set) (λ p. some_own (λ k. freed_stopped (slot.Queue p) k.entries) (at st.producers (p - 1)) (λ k. refl)))
+    (join_own shards_freed lead_freed
+    (each_own (λ s. where_some (λ h. freed_stopped (slot.Shard s) h.entries) (at st.entities.hosted s)) (shards st.set) (λ s. some_own (λ h. freed_stopped (slot.Shard s) h.entries) (at st.entities.hosted s) (λ h. refl)))
+    (some_own (λ k. freed_stopped slot.Coordinator k.entries) st.coordinator (λ k. refl)))
+    (each_own (λ p. where_some (λ k. freed_stopped (slot.Queue p) k.entries) (at st.producers (p - 1))) (producers st.set) (λ p. some_own (λ k. freed_stopped (slot.Queue p) k.entries) (at st.producers (p - 1)) (λ k. refl)))
 
 -- Going down.
 
@@ -183,17 +183,17 @@ ended_goes y z w n node mid before after_ s some e m limit t =
     let size : length w.wire ≤ w.limit = subst (λ k. length w.wire ≤ k) (sym u.limit_is) (subst (λ p. length p ≤ wire_limit) u.wire_is limit) in
     let facts : input_facts w1 is ≡ fs = input_alone w1 fs size in
     let led : IsSeen z (led_to w1 is (map state_in z.nodes)) = seen_told y1 z w1 is (map state_in z.nodes) s1 own
-        (record { script_is = e.script_is; members_are = e.members_are; version_is = e.version_is; ups_are = e.ups_are })
-        (mailed_from y.mail mid z.mail is m.packets_are m.fresh_are m.full_is m.items_are t.mail_is)
-        (record {
-          nodes_are = refl;
-          scripts_are = λ k. subst (λ ns. IfSome (at ns k) (λ (v : Standing). v.script ≡ z.script)) (sym e.nodes_are) (subst (λ c. IfSome (at y.nodes k) (λ (v : Standing). v.script ≡ c)) (sym e.script_is) (s1.scripts_are k));
-          book_is = e.book_is ∙ sym e.script_is;
-          tells_is = subst (λ c. Tells (meaning_of z.book) c (fold (lists_step (setting c)) w.lists (facts_in is))) (sym e.script_is)
-              (subst (λ gs. Tells (meaning_of z.book) y.script (fold (lists_step (setting y.script)) w.lists gs)) (sym (facts_alone fs)) e.tells_is);
-        }) in
+    (record { script_is = e.script_is; members_are = e.members_are; version_is = e.version_is; ups_are = e.ups_are })
+    (mailed_from y.mail mid z.mail is m.packets_are m.fresh_are m.full_is m.items_are t.mail_is)
+    (record {
+      nodes_are = refl;
+      scripts_are = λ k. subst (λ ns. IfSome (at ns k) (λ (v : Standing). v.script ≡ z.script)) (sym e.nodes_are) (subst (λ c. IfSome (at y.nodes k) (λ (v : Standing). v.script ≡ c)) (sym e.script_is) (s1.scripts_are k));
+      book_is = e.book_is ∙ sym e.script_is;
+      tells_is = subst (λ c. Tells (meaning_of z.book) c (fold (lists_step (setting c)) w.lists (facts_in is))) (sym e.script_is)
+          (subst (λ gs. Tells (meaning_of z.book) y.script (fold (lists_step (setting y.script)) w.lists gs)) (sym (facts_alone fs)) e.tells_is);
+    }) in
     let nodes : map state_in z.nodes ≡ (fold world_after w1 (input_facts w1 is)).nodes =
-        ap (map state_in) e.nodes_are ∙ (s1.nodes_are ∙ (sym (input_nodes w1.set w1 is w1.nodes own) ∙ sym (ap (λ (v : World). v.nodes) (words_after w1 (input_facts w1 is))))) in
+    ap (map state_in) e.nodes_are ∙ (s1.nodes_are ∙ (sym (input_nodes w1.set w1 is w1.nodes own) ∙ sym (ap (λ (v : World). v.nodes) (words_after w1 (input_facts w1 is))))) in
     let world : led_to w1 is (map state_in z.nodes) ≡ fold world_after w1 fs = ap (led_to w1 is) nodes ∙ ap (fold world_after w1) facts in
     let goes : Goes before after_ z (tell (fact.Gone st.who ∷ fs) w) = record {
       seen_is = subst (IsSeen z) world led;
@@ -236,10 +236,10 @@ turned_goes y z w n node later p mid before after_ s some built e m t =
     let same : v.nodes ≡ w.nodes = ap (λ (x : World). x.nodes) (words_after w (input_facts w is)) ∙ input_nodes w.set w is w.nodes own in
     let place : to.who.node ≡ n = ap (λ (x : Incarnation). x.node) (who_stays st acts) ∙ number_is n node y w s some in
     let nodes : map state_in z.nodes ≡ slice_set v.nodes (to.who.node - 1) (Some to) =
-        ap (map state_in) (e.nodes_are ∙ sym (set_again y.nodes (n - 1) (Some node) (Some later)))
-        ∙ (map-set state_in (slice_set y.nodes (n - 1) (Some node)) (n - 1) (Some later)
-        ∙ (ap (λ ns. slice_set ns (n - 1) (Some later.state)) (u.nodes_are ∙ sym same)
-        ∙ (ap (λ x. slice_set v.nodes (n - 1) (Some x)) e.later_is ∙ ap (λ j. slice_set v.nodes (j - 1) (Some to)) (sym place)))) in
+    ap (map state_in) (e.nodes_are ∙ sym (set_again y.nodes (n - 1) (Some node) (Some later)))
+    ∙ (map-set state_in (slice_set y.nodes (n - 1) (Some node)) (n - 1) (Some later)
+    ∙ (ap (λ ns. slice_set ns (n - 1) (Some later.state)) (u.nodes_are ∙ sym same)
+    ∙ (ap (λ x. slice_set v.nodes (n - 1) (Some x)) e.later_is ∙ ap (λ j. slice_set v.nodes (j - 1) (Some to)) (sym place)))) in
     record {
       seen_is = seen_told y0 z w is (slice_set v.nodes (to.who.node - 1) (Some to)) u own
           (record { script_is = e.script_is; members_are = e.members_are; version_is = e.version_is; ups_are = e.ups_are })
@@ -248,9 +248,9 @@ turned_goes y z w n node later p mid before after_ s some built e m t =
             nodes_are = nodes;
             scripts_are = λ k. subst (λ ns. IfSome (at ns k) (λ (v : Standing). v.script ≡ z.script)) (sym e.nodes_are) (subst (λ c. IfSome (at (slice_set y.nodes (n - 1) (Some later)) k) (λ (v : Standing). v.script ≡ c)) (sym e.script_is)
                 (by_place (IfSome (at (slice_set y.nodes (n - 1) (Some later)) k) (λ (v : Standing). v.script ≡ y.script)) k (n - 1)
-                  (λ f. subst (λ j. IfSome (at (slice_set y.nodes (n - 1) (Some later)) j) (λ (v : Standing). v.script ≡ y.script)) (sym f)
-                      (subst (λ o. IfSome o (λ (v : Standing). v.script ≡ y.script)) (sym (placed_at y.nodes (n - 1) (Some later) there)) e.later_script))
-                  (λ other. subst (λ o. IfSome o (λ (v : Standing). v.script ≡ y.script)) (placed_beside y.nodes (n - 1) k (Some node) other ∙ sym (placed_beside y.nodes (n - 1) k (Some later) other)) (u.scripts_are k))));
+                (λ f. subst (λ j. IfSome (at (slice_set y.nodes (n - 1) (Some later)) j) (λ (v : Standing). v.script ≡ y.script)) (sym f)
+                (subst (λ o. IfSome o (λ (v : Standing). v.script ≡ y.script)) (sym (placed_at y.nodes (n - 1) (Some later) there)) e.later_script))
+                (λ other. subst (λ o. IfSome o (λ (v : Standing). v.script ≡ y.script)) (placed_beside y.nodes (n - 1) k (Some node) other ∙ sym (placed_beside y.nodes (n - 1) k (Some later) other)) (u.scripts_are k))));
             book_is = e.book_is ∙ sym e.script_is;
             tells_is = subst (λ c. Tells (meaning_of z.book) c (fold (lists_step (setting c)) w.lists (facts_in is))) (sym e.script_is) e.tells_is;
           });

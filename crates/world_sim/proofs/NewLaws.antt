@@ -1,6 +1,6 @@
 -- A world before its first order.
-use Rattle.std.proofs.Common.{◌≡◌, ℕ, zero, suc, ◌<◌, ◌≤◌, false, List, [], ◌∷◌, length, refl, ap, sym, ◌∙◌, subst, arith}
-use Rattle.std.specs.Prelude.{map, replicate, slice_index_or, Option, Some, None, IfSome, IsTrue}
+use Rattle.std.proofs.Common.{◌≡◌, ℕ, zero, suc, false, [], ◌∷◌, refl, ap, sym, ◌∙◌, subst, arith}
+use Rattle.std.specs.Prelude.{map, replicate, slice_index_or, None, IfSome, IsTrue}
 use Rattle.yard_model.specs.Script.{Script, IsScript, setting}
 use Rattle.yard_model.specs.Trace.{no_lists}
 use Rattle.yard_model.specs.Words.{at}
@@ -10,7 +10,7 @@ use Rattle.node_core.specs.Leased.{Tells}
 use Rattle.node_core.specs.Standing.{Standing}
 use Rattle.world_laws.specs.Keeps.{are_built}
 use Rattle.yard_laws.proofs.Booleans.{get_replicate}
-use Rattle.world_sim.specs.World.{IsWorld, IsAt, IsCounted}
+use Rattle.world_sim.specs.World.{IsWorld}
 use Rattle.world_sim.specs.Yard.{Yard, IsSeen, state_in}
 
 -- the parts of a world in which no node is up
@@ -53,8 +53,11 @@ world_new y c script built e version ups seen = record {
   script_is = subst IsScript (sym e) script;
   built = ap are_built e ∙ built;
   few = omega arith;
-  kept = (record { seen_is = subst (λ s. IsSeen y (new_world s wire_limit)) (sym e) seen; full_is = refl }, record {
-    version_is = omega (arith, version);
-    ups_are = λ k. let none : slice_index_or y.ups k 0 ≡ 0 = ap (λ us. slice_index_or us k 0) ups ∙ get_replicate c.config.nodes k 0 in omega (arith, none);
-  });
+  kept = (
+    record { seen_is = subst (λ s. IsSeen y (new_world s wire_limit)) (sym e) seen; full_is = refl },
+    record {
+      version_is = omega (arith, version);
+      ups_are = λ k. let none : slice_index_or y.ups k 0 ≡ 0 = ap (λ us. slice_index_or us k 0) ups ∙ get_replicate c.config.nodes k 0 in omega (arith, none);
+    },
+  );
 }

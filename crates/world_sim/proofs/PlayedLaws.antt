@@ -1,12 +1,11 @@
 -- The worlds after orders.
 use Rattle.std.proofs.Common.{◌≡◌, refl, ap, sym, ◌∙◌, ℕ, zero, suc, ◌+◌, Bool, true, false, List, [], ◌∷◌, ◌++◌, length, take, append_assoc, take-append-drop, arith}
-use Rattle.std.specs.Prelude.{map, drop, slice_get, Option, Some, None, is_some, unwrap_or}
+use Rattle.std.specs.Prelude.{map, drop, slice_get, Some, None, is_some, unwrap_or}
 use Rattle.std.proofs.lemmas.List.{append-nil}
 use Rattle.yard_model.specs.declared.charter.Line.{Line}
-use Rattle.yard_model.specs.Script.{Script}
-use Rattle.yard_model.specs.World.{World, Made, Step, new_world, play_line, played, in_order, then_step, tell, wire_limit}
+use Rattle.yard_model.specs.World.{World, Made, Step, new_world, play_line, in_order, wire_limit}
 use Rattle.yard_laws.proofs.Booleans.{true_is_not_false}
-use Rattle.world_sim.specs.Played.{made_of, next_of, MadeNone, MadeNext, MadeFull, MadeAll}
+use Rattle.world_sim.specs.Played.{made_of, MadeNone, MadeNext, MadeFull, MadeAll}
 
 pub made_none : MadeNone
 made_none c = refl

@@ -1,6 +1,6 @@
 -- What code keeps after a step stands for the world that the step makes.
-use Rattle.std.proofs.Common.{◌≡◌, ℕ, ◌+◌, ◌-◌, Bool, true, false, ◌||◌, List, [], ◌∷◌, ◌++◌, length, fold, refl, ap, sym, ◌∙◌, subst}
-use Rattle.std.specs.Prelude.{map, Option, Some, None, IfSome, Result, Ok, Err, OnOk, slice_set}
+use Rattle.std.proofs.Common.{◌≡◌, ℕ, ◌+◌, true, ◌||◌, List, [], ◌∷◌, ◌++◌, length, fold, refl, ap, sym, ◌∙◌, subst}
+use Rattle.std.specs.Prelude.{map, Option, IfSome, Result, Ok, Err, OnOk}
 use Rattle.std.specs.List.{list_all}
 use Rattle.yard_model.specs.declared.fact.Fact.{Fact}
 use Rattle.yard_model.specs.declared.fact.Fact.TheVariants as fact
@@ -64,7 +64,7 @@ pub mailed_from : (old mid new : Mails) (is : List Item) → mid.packets ≡ old
 mailed_from old mid new is e f g h k = record {
   packets_are = k.packets_are ∙ (ap (λ p. p ++ posts_of wire_limit (length p) mid.items) e ∙ ap (λ i. old.packets ++ posts_of wire_limit (length old.packets) i) h);
   fresh_are = k.fresh_are ∙ (ap (λ x. x ++ numbers (length mid.packets + 1) (length (posts_of wire_limit (length mid.packets) mid.items))) f
-    ∙ (ap (λ p. old.fresh ++ numbers (length p + 1) (length (posts_of wire_limit (length p) mid.items))) e ∙ ap (λ i. old.fresh ++ numbers (length old.packets + 1) (length (posts_of wire_limit (length old.packets) i))) h));
+      ∙ (ap (λ p. old.fresh ++ numbers (length p + 1) (length (posts_of wire_limit (length p) mid.items))) e ∙ ap (λ i. old.fresh ++ numbers (length old.packets + 1) (length (posts_of wire_limit (length old.packets) i))) h));
   full_is = k.full_is ∙ (ap (λ b. b || is_past wire_limit (length mid.packets) mid.items) g ∙ (ap (λ p. old.full || is_past wire_limit (length p) mid.items) e ∙ ap (λ i. old.full || is_past wire_limit (length old.packets) i) h));
   none_left = k.none_left;
 }
@@ -141,7 +141,7 @@ seen_told y z w is nodes s own k m l =
       nodes = fold (nodes_step w.set) w.nodes fs;
     } = words_after w fs in
     let lists : fold (lists_step (setting z.script)) w.lists (facts_in is) ≡ (fold world_after w fs).lists =
-        sym (input_lists (setting z.script) w is w.lists) ∙ (ap (λ set. fold (lists_step set) w.lists fs) (ap setting k.script_is ∙ sym s.set_is) ∙ sym (ap (λ (v : World). v.lists) e)) in
+    sym (input_lists (setting z.script) w is w.lists) ∙ (ap (λ set. fold (lists_step set) w.lists fs) (ap setting k.script_is ∙ sym s.set_is) ∙ sym (ap (λ (v : World). v.lists) e)) in
     record {
       set_is = ap (λ (v : World). v.set) e ∙ (s.set_is ∙ ap setting (sym k.script_is));
       limit_is = ap (λ (v : World). v.limit) e ∙ s.limit_is;

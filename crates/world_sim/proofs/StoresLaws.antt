@@ -1,9 +1,8 @@
 -- The end of a world: every node stops, and the stores are at home.
-use Rattle.std.proofs.Common.{◌≡◌, ◌≢◌, ℕ, zero, suc, ◌+◌, ◌-◌, ◌<◌, ◌≤◌, inl, inr, Bool, true, false, ◌&&◌, List, [], ◌∷◌, ◌++◌, length, fold, refl, ap, sym, ◌∙◌, subst, arith}
-use Rattle.std.specs.Prelude.{◌==◌, nat_lt, nat_le, map, Option, Some, None, slice_index_or, slice_set, if◌then◌else◌}
+use Rattle.std.proofs.Common.{◌≡◌, ◌≢◌, ℕ, zero, suc, ◌+◌, ◌-◌, ◌<◌, ◌≤◌, true, List, [], ◌∷◌, ◌++◌, length, fold, refl, ap, sym, ◌∙◌, subst, arith}
+use Rattle.std.specs.Prelude.{nat_lt, nat_le, map, Option, Some, None, slice_index_or, slice_set}
 use Rattle.std.specs.List.{list_all, flat_map}
 use Rattle.std.proofs.lemmas.Bool.Decides.{nat_tests}
-use Rattle.std.proofs.lemmas.List.{get_or-set_same, get_or-set_other}
 use Rattle.std.proofs.lemmas.List.Folds.{list_all-append}
 use Rattle.std.proofs.lemmas.List.Sums.{fold-append}
 use Rattle.yard_model.specs.declared.fact.Fact.{Fact}
@@ -22,16 +21,15 @@ use Rattle.yard_model.specs.Trace.{lists_step, list_at}
 use Rattle.yard_model.specs.Turns.{where_some}
 use Rattle.yard_model.specs.Words.{numbers, at}
 use Rattle.yard_model.specs.World.{World, Made, world_after, nodes_step, go_down, go_down_by, node_at, wire_limit}
-use Rattle.shard_store.specs.declared.store.Store.{Store}
-use Rattle.shard_store.specs.Stores.{entries_in, entries_at, lists_at, place_of, slot_at}
+use Rattle.shard_store.specs.Stores.{entries_at, lists_at, place_of}
 use Rattle.shard_lease.specs.Book.{Book, known_at, meaning_of}
 use Rattle.node_core.specs.Leased.{IsTold, Tells}
 use Rattle.world_laws.specs.Hands.{HasHand}
 use Rattle.world_laws.specs.Standing.{IsUp, Stands}
-use Rattle.world_laws.proofs.Place.{none_is_not_some, some_is, inside, placed_beside, by_place}
+use Rattle.world_laws.proofs.Place.{none_is_not_some, inside, placed_beside, by_place}
 use Rattle.world_laws.proofs.Play.{played_goes}
 use Rattle.world_laws.proofs.UpDown.{go_down_goes}
-use Rattle.yard_laws.proofs.Booleans.{true_is_not_false, and_both, both, below, not_below, same_number, other_number}
+use Rattle.yard_laws.proofs.Booleans.{true_is_not_false, and_both, both}
 use Rattle.world_sim.specs.declared.fault.StepFault.{StepFault}
 use Rattle.world_sim.specs.declared.fault.StepFault.TheVariants as fault
 use Rattle.world_sim.specs.Played.{AreFreed, is_freed, made_of}
@@ -40,7 +38,6 @@ use Rattle.world_sim.specs.World.{IsKept, IsWorld}
 use Rattle.world_sim.specs.Yard.{Yard, IsSeen, IsFirm, Goes}
 use Rattle.world_sim.proofs.RestsLaws.{told_of}
 use Rattle.world_sim.proofs.TellLaws.{words_after}
-use Rattle.world_sim.proofs.UpLaws.{node_within}
 
 -- Numbers.
 
@@ -76,10 +73,10 @@ crash_freed st =
     let lead_freed : List Fact = where_some (λ k. freed_stopped slot.Coordinator k.entries) st.coordinator in
     let queues_freed : List Fact = flat_map (λ p. where_some (λ k. freed_stopped (slot.Queue p) k.entries) (at st.producers (p - 1))) (producers st.set) in
     join_freed (shards_freed ++ lead_freed) queues_freed
-        (join_freed shards_freed lead_freed
-            (each_freed (λ s. where_some (λ h. freed_stopped (slot.Shard s) h.entries) (at st.entities.hosted s)) (shards st.set) (λ s. some_freed (λ h. freed_stopped (slot.Shard s) h.entries) (at st.entities.hosted s) (λ h. refl)))
-            (some_freed (λ k. freed_stopped slot.Coordinator k.entries) st.coordinator (λ k. refl)))
-        (each_freed (λ p. where_some (λ k. freed_stopped (slot.Queue p) k.entries) (at st.producers (p - 1))) (producers st.set) (λ p. some_freed (λ k. freed_stopped (slot.Queue p) k.entries) (at st.producers (p - 1)) (λ k. refl)))
+    (join_freed shards_freed lead_freed
+    (each_freed (λ s. where_some (λ h. freed_stopped (slot.Shard s) h.entries) (at st.entities.hosted s)) (shards st.set) (λ s. some_freed (λ h. freed_stopped (slot.Shard s) h.entries) (at st.entities.hosted s) (λ h. refl)))
+    (some_freed (λ k. freed_stopped slot.Coordinator k.entries) st.coordinator (λ k. refl)))
+    (each_freed (λ p. where_some (λ k. freed_stopped (slot.Queue p) k.entries) (at st.producers (p - 1))) (producers st.set) (λ p. some_freed (λ k. freed_stopped (slot.Queue p) k.entries) (at st.producers (p - 1)) (λ k. refl)))
 
 -- nothing is freed at first
 none_freed : (c : Script) (lists : SlotLists) → AreFreed c lists lists
@@ -156,8 +153,10 @@ stopped_next y z lists v i node s e g = record {
   where
     m : Made
     m = go_down (i + 1) v
+
     here : i ≡ i + 1 - 1
     here = omega arith
+
     lower : (k : ℕ) → k < i + 1 → (k ≡ i → ⊥) → k < i
     lower k less other = omega (arith, less, other)
 
@@ -175,9 +174,11 @@ stopping_next old y z start after i n one node s g script version =
     let before : y.version ≤ old.version + i = s.version_is in
     record {
       goes_on = λ w f.
-          let r : (v : World) × IsStopped i w.lists y v = s.goes_on w f in
-          ((go_down (i + 1) r.0).world, stopped_next y z w.lists r.0 i (subst (λ n. is_in 1 y.script.config.nodes n ≡ true) one node) r.1 script
-            (subst (λ n. IsSeen z (go_down n r.0).world) one (g r.0 r.1.firm_is).seen_is));
+          let r : (v : World) × IsStopped i w.lists y v = s.goes_on w f in (
+            (go_down (i + 1) r.0).world,
+            stopped_next y z w.lists r.0 i (subst (λ n. is_in 1 y.script.config.nodes n ≡ true) one node) r.1 script
+                (subst (λ n. IsSeen z (go_down n r.0).world) one (g r.0 r.1.firm_is).seen_is),
+          );
       script_is = script ∙ s.script_is;
       version_is = omega (arith, before, version);
     }
@@ -220,14 +221,14 @@ lists_same a b e f g i = record { shards = e i; coordinator = f i; queues = g i 
 pub lists_home : (b : Book) (y : Yard) (lists : SlotLists) (w : World) → b ≡ y.book → IsStopped y.script.config.nodes lists y w → lists_at y.script.config b.places ≡ w.lists
 lists_home b y lists w same s = lists_same (lists_at y.script.config b.places) w.lists
     (by_numbers (entries_at b.places) w.lists.shards 0 y.script.config.shards s.firm_is.stands_is.shards_there
-      (λ i j less e. let at_place : j ≡ i = omega (arith, e) in ap (entries_at b.places) at_place ∙ each (slot.Shard i) (lt_is i y.script.config.shards less)))
+    (λ i j less e. let at_place : j ≡ i = omega (arith, e) in ap (entries_at b.places) at_place ∙ each (slot.Shard i) (lt_is i y.script.config.shards less)))
     (each slot.Coordinator refl)
     (by_numbers (λ p. entries_at b.places (y.script.config.shards + p)) w.lists.queues 1 y.script.config.producers s.firm_is.stands_is.queues_there
-      (λ i j less e.
-          let some : 1 ≤ j = omega (arith, e) in
-          let most : j ≤ y.script.config.producers = omega (arith, e, less) in
-          let before : j - 1 ≡ i = omega (arith, e) in
-          each (slot.Queue j) (both (nat_le 1 j) (nat_le j y.script.config.producers) (le_is 1 j some) (le_is j y.script.config.producers most)) ∙ ap (λ k. slice_index_or w.lists.queues k []) before))
+    (λ i j less e.
+    let some : 1 ≤ j = omega (arith, e) in
+    let most : j ≤ y.script.config.producers = omega (arith, e, less) in
+    let before : j - 1 ≡ i = omega (arith, e) in
+    each (slot.Queue j) (both (nat_le 1 j) (nat_le j y.script.config.producers) (le_is 1 j some) (le_is j y.script.config.producers most)) ∙ ap (λ k. slice_index_or w.lists.queues k []) before))
   where
     each : (t : Slot) → is_slot_of y.script t ≡ true → entries_at b.places (place_of y.script.config t) ≡ list_at w.lists t
     each t i =

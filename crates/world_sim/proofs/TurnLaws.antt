@@ -1,6 +1,6 @@
 -- What a node tells in a turn: nothing of the membership, of the wire or of delivery, which the world tells.
-use Rattle.std.proofs.Common.{◌≡◌, ℕ, ◌+◌, ◌-◌, sym, ap, ◌∙◌, refl}
-use Rattle.std.specs.Prelude.{Bool, true, false, ◌&&◌, not, nat_lt, nat_le, List, [], ◌∷◌, ◌++◌, length, map, fold, filter, Option, Some, None, is_none, IsTrue, if◌then◌else◌, slice_set}
+use Rattle.std.proofs.Common.{◌≡◌, ℕ, sym, ap, ◌∙◌, refl}
+use Rattle.std.specs.Prelude.{Bool, true, false, ◌&&◌, not, nat_le, List, [], ◌∷◌, ◌++◌, map, fold, filter, Option, Some, None, is_none, if◌then◌else◌}
 use Rattle.std.specs.List.{list_all, flat_map}
 use Rattle.std.proofs.lemmas.List.Folds.{list_all-append}
 use Rattle.yard_model.specs.declared.fact.Fact.{Fact}
@@ -16,19 +16,16 @@ use Rattle.yard_model.specs.declared.incarnation.Incarnation.{Incarnation}
 use Rattle.yard_model.specs.declared.incarnation.Slot.{Slot}
 use Rattle.yard_model.specs.declared.incarnation.Slot.TheVariants as slot
 use Rattle.yard_model.specs.Setting.{shards}
-use Rattle.yard_model.specs.Script.{Setting}
 use Rattle.yard_model.specs.SlotLists.{SlotLists}
 use Rattle.yard_model.specs.SlotReads.{holder}
 use Rattle.yard_model.specs.Turns.{for_each, where_some}
-use Rattle.yard_model.specs.Trace.{lists_step}
 use Rattle.yard_model.specs.Words.{is_at, is_among}
 use Rattle.yard_model.specs.Move.{Move, told, post, item_of}
 use Rattle.yard_model.specs.Region as region
 use Rattle.yard_model.specs.Region.{Region}
 use Rattle.yard_model.specs.Coordinator as coordinator
 use Rattle.yard_model.specs.Coordinator.{Coordinator, Moving, coordinator_after}
-use Rattle.yard_model.specs.Node.{Node, Act, Rule, by_region, by_coordinator, after, move_of, items_of, of_region, of_coordinator, acquire, acquire_by, lead, view_packet, turn}
-use Rattle.yard_model.specs.World.{members_step, version_step, ups_step, nodes_step, numbered}
+use Rattle.yard_model.specs.Node.{Node, Act, by_region, by_coordinator, after, move_of, items_of, of_coordinator, acquire, acquire_by, lead, view_packet, turn}
 use Rattle.yard_laws.proofs.Booleans.{true_is_not_false, both, and_both}
 use Rattle.world_laws.specs.Built.{is_built_body, is_built_packet}
 
@@ -113,6 +110,7 @@ acts_join (x ∷ xs) ys e f = two (item_of (move_of x)) (items_of xs) (items_of 
   where
     rest : (is js : List Item) → list_all is_own_item (is ++ js) ≡ true → list_all is_own_item js ≡ true
     rest is js e = (and_both (list_all is_own_item is) (list_all is_own_item js) (sym (list_all-append is_own_item is js) ∙ e)).1
+
     two : (is js ks : List Item) → list_all is_own_item (is ++ js) ≡ true → list_all is_own_item ks ≡ true → list_all is_own_item (is ++ ks) ≡ true
     two is js ks e f = list_all-append is_own_item is ks ∙ both (list_all is_own_item is) (list_all is_own_item ks) (and_both (list_all is_own_item is) (list_all is_own_item js) (sym (list_all-append is_own_item is js) ∙ e)).0 f
 
@@ -144,10 +142,13 @@ view_packet_own lists v xs st = acts_either (nat_le v st.region.version) [] _ re
   where
     taken : List Act
     taken = map by_region (region.take_view v xs st.region)
+
     leads : List Act
     leads = lead lists (fold after st taken)
+
     two : Node
     two = fold after (fold after st taken) leads
+
     registers : List Act
     registers = map by_region (region.register two.region)
 

@@ -1,25 +1,23 @@
 -- Nodes that come up and go down: what the code keeps stands for the world after.
-use Rattle.std.proofs.Common.{◌≡◌, ℕ, zero, suc, ◌+◌, ◌-◌, ◌<◌, ◌≤◌, Bool, true, false, ◌&&◌, not, List, [], ◌∷◌, ◌++◌, length, fold, refl, ap, sym, ◌∙◌, subst, arith, length-append}
-use Rattle.std.specs.Prelude.{map, nat_le, Option, Some, None, IfSome, Result, Ok, Err, OnOk, slice_set, slice_index_or, is_none}
-use Rattle.std.specs.List.{list_all, flat_map}
-use Rattle.std.proofs.lemmas.List.{map-set, length-map, length-set, get_or-set_same, get_or-set_other}
+use Rattle.std.proofs.Common.{◌≡◌, ℕ, zero, suc, ◌+◌, ◌-◌, ◌<◌, ◌≤◌, Bool, true, false, List, [], ◌∷◌, ◌++◌, length, refl, ap, sym, ◌∙◌, subst, arith, length-append}
+use Rattle.std.specs.Prelude.{map, nat_le, Option, Some, None, IfSome, slice_set, slice_index_or}
+use Rattle.std.specs.List.{list_all}
+use Rattle.std.proofs.lemmas.List.{map-set, length-map, get_or-set_other}
 use Rattle.std.proofs.lemmas.List.Folds.{list_all-append}
 use Rattle.yard_model.specs.declared.fact.Fact.{Fact}
 use Rattle.yard_model.specs.declared.fact.Fact.TheVariants as fact
 use Rattle.yard_model.specs.declared.incarnation.Incarnation.{Incarnation}
-use Rattle.yard_model.specs.declared.out.Item.{Item}
-use Rattle.yard_model.specs.declared.out.Item.TheVariants as item
 use Rattle.yard_model.specs.Behaviour.{is_in}
 use Rattle.yard_model.specs.Genuine.{is_node}
 use Rattle.yard_model.specs.Members.{has_node, are_of_different_nodes}
-use Rattle.yard_model.specs.Node.{Node, new_node}
-use Rattle.yard_model.specs.Script.{Script, setting}
+use Rattle.yard_model.specs.Node.{new_node}
+use Rattle.yard_model.specs.Script.{setting}
 use Rattle.yard_model.specs.Words.{at, is_among}
 use Rattle.yard_model.specs.World.{World, Made, Step, then_step, node_at}
 use Rattle.node_core.specs.Standing.{Standing}
-use Rattle.world_laws.specs.Standing.{Stands, IsUp, IsThere}
+use Rattle.world_laws.specs.Standing.{IsThere}
 use Rattle.world_laws.proofs.Members.{all_among, different_last, node_of_some}
-use Rattle.world_laws.proofs.Place.{none_is_not_some, some_is, placed_at, placed_beside, by_place}
+use Rattle.world_laws.proofs.Place.{none_is_not_some, placed_at, placed_beside, by_place}
 use Rattle.world_laws.proofs.Room.{few_members, few_nodes}
 use Rattle.yard_laws.proofs.Booleans.{true_is_not_false, and_both, both, at_most}
 use Rattle.world_sim.specs.Steps.{entered, AreOneMore}
@@ -82,6 +80,7 @@ none_of_down y w n s down = by (has_node n y.members) refl
     none_up x m e =
         let there : IsThere w x = s.stands_is.members_are x (ap (is_among x) (sym s.seen_is.members_are) ∙ m) in
         none_is_not_some there.node (sym (node_kept y w (n - 1) s.seen_is ∙ ap state_in down) ∙ (ap (λ j. node_at w j) (sym e) ∙ there.is_up))
+
     by : (b : Bool) → has_node n y.members ≡ b → b ≡ false
     by false e = refl
     by true e = absurd (node_of_some n y.members e none_up)
@@ -96,8 +95,8 @@ members_nodes y w s = all_among (is_node y.script) y.members (λ x m.
 pub room_for : (y : Yard) (w : World) (x : Incarnation) → IsSound y w → is_in 1 y.script.config.nodes x.node ≡ true → has_node x.node y.members ≡ false → length y.members < 16
 room_for y w x s node other =
     let all : length (y.members ++ x ∷ []) ≤ y.script.config.nodes = few_members y.script (y.members ++ x ∷ [])
-        (list_all-append (is_node y.script) y.members (x ∷ []) ∙ both (list_all (is_node y.script) y.members) (list_all (is_node y.script) (x ∷ [])) (members_nodes y w s) (both (is_node y.script x) true node refl))
-        (different_last y.members x (ap are_of_different_nodes s.seen_is.members_are ∙ s.stands_is.members_different) other) in
+    (list_all-append (is_node y.script) y.members (x ∷ []) ∙ both (list_all (is_node y.script) y.members) (list_all (is_node y.script) (x ∷ [])) (members_nodes y w s) (both (is_node y.script x) true node refl))
+    (different_last y.members x (ap are_of_different_nodes s.seen_is.members_are ∙ s.stands_is.members_different) other) in
     let most : y.script.config.nodes ≤ 16 = few_nodes y.script s.stands_is.script_is in
     let long : length (y.members ++ x ∷ []) ≡ length y.members + 1 = length-append y.members (x ∷ []) in
     omega (arith, all, most, long)
@@ -137,7 +136,7 @@ entered_goes y w n node before after s within script state told =
             ∙ ap (λ st. slice_set w.nodes (n - 1) (Some st)) (state ∙ (ap (λ x. new_node (setting y.script) x) came_is ∙ ap (λ set. new_node set (came w.ups n)) (sym u.set_is))));
         scripts_are = λ k. by_place (IfSome (at (slice_set y.nodes (n - 1) (Some node)) k) (λ (v : Standing). v.script ≡ y.script)) k (n - 1)
             (λ e. subst (λ j. IfSome (at (slice_set y.nodes (n - 1) (Some node)) j) (λ (v : Standing). v.script ≡ y.script)) (sym e)
-                (subst (λ o. IfSome o (λ (v : Standing). v.script ≡ y.script)) (sym (placed_at y.nodes (n - 1) (Some node) there)) script))
+            (subst (λ o. IfSome o (λ (v : Standing). v.script ≡ y.script)) (sym (placed_at y.nodes (n - 1) (Some node) there)) script))
             (λ other. subst (λ o. IfSome o (λ (v : Standing). v.script ≡ y.script)) (sym (placed_beside y.nodes (n - 1) k (Some node) other)) (u.scripts_are k));
         book_is = u.book_is;
         tells_is = u.tells_is;

@@ -1,6 +1,6 @@
 -- A world, order by order.
-use Rattle.std.proofs.Common.{◌≡◌, ℕ, zero, suc, ◌+◌, ◌<◌, ◌≤◌, Bool, true, false, ◌&&◌, List, [], ◌∷◌, ◌++◌, length, refl, ap, sym, ◌∙◌, subst, arith}
-use Rattle.std.specs.Prelude.{map, slice_get, slice_index_or, Option, Some, None}
+use Rattle.std.proofs.Common.{◌≡◌, ℕ, zero, suc, ◌+◌, ◌<◌, ◌≤◌, Bool, true, false, List, [], ◌∷◌, length, ap, sym, ◌∙◌, subst, arith}
+use Rattle.std.specs.Prelude.{slice_get, slice_index_or, Option, Some, None}
 use Rattle.std.specs.List.{list_all}
 use Rattle.yard_model.specs.declared.fact.Fact.{Fact}
 use Rattle.yard_model.specs.declared.charter.Line.{Line}
@@ -13,7 +13,7 @@ use Rattle.world_laws.proofs.Play.{played_goes}
 use Rattle.yard_laws.proofs.Booleans.{and_both}
 use Rattle.world_sim.specs.declared.fault.StepFault.{StepFault}
 use Rattle.world_sim.specs.declared.fault.StepFault.TheVariants as fault
-use Rattle.world_sim.specs.Played.{Played, made_of, next_of, Told, Went, Filled}
+use Rattle.world_sim.specs.Played.{Played, made_of, Told, Went, Filled}
 use Rattle.world_sim.specs.Steps.{AreOneMore}
 use Rattle.world_sim.specs.World.{IsWorld, IsAt, IsCounted, IsKept}
 use Rattle.world_sim.specs.Yard.{Yard, IsSeen, IsSound, Goes}

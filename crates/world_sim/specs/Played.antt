@@ -1,5 +1,5 @@
 -- The world after some of a script's orders, and what one more order does.
-use Rattle.std.specs.Prelude.{◌≡◌, ℕ, ◌+◌, Bool, true, false, List, [], ◌∷◌, ◌++◌, map, take, length, fold, slice_get, Option, Some, None, Result, Ok, Err, OnOk, IfErr, IfNone, IfSome, IsTrue}
+use Rattle.std.specs.Prelude.{◌≡◌, ℕ, ◌+◌, Bool, true, false, List, [], ◌++◌, map, take, length, fold, slice_get, Option, Some, None, Result, Ok, Err, IfNone, IfSome, IsTrue}
 use Rattle.std.specs.List.{list_all}
 use Rattle.yard_model.specs.declared.fact.Fact.{Fact}
 use Rattle.yard_model.specs.declared.fact.Fact.TheVariants as fact
@@ -7,7 +7,7 @@ use Rattle.yard_model.specs.declared.charter.Line.{Line}
 use Rattle.yard_model.specs.Script.{Script, setting}
 use Rattle.yard_model.specs.SlotLists.{SlotLists}
 use Rattle.yard_model.specs.Trace.{lists_step}
-use Rattle.yard_model.specs.World.{World, Made, new_world, play_line, played, in_order, then_step, wire_limit}
+use Rattle.yard_model.specs.World.{Made, new_world, play_line, played, in_order, wire_limit}
 use Rattle.world_sim.specs.declared.fault.StepFault.{StepFault}
 use Rattle.world_sim.specs.declared.fault.StepFault.TheVariants as fault
 

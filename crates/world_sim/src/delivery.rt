@@ -84,12 +84,7 @@ impl<B: Copy + Drop> Yard<B> {
     }
 
     /// A packet at this node, which is up and was taken out of its place.
-    fn give(
-        &mut self,
-        node: Node<B>,
-        packet: &Packet,
-        facts: &mut Facts,
-    ) -> Result<(), AllocError>
+    fn give(&mut self, node: Node<B>, packet: &Packet, facts: &mut Facts) -> Result<(), AllocError>
         requires world { (w : World) × IsSoundBut packet.now.to.node node self.old w }
         requires packet { IsGood self.old.script packet.now }
         requires addressed { packet.now.to ≡ node.state.who }
@@ -100,7 +95,13 @@ impl<B: Copy + Drop> Yard<B> {
     {
         let mut node = node;
         make_room(&mut self.mail, &mut node)?;
-        hand_packet(&self.charter, packet, &mut node, &mut self.book, &mut self.mail);
+        hand_packet(
+            &self.charter,
+            packet,
+            &mut node,
+            &mut self.book,
+            &mut self.mail,
+        );
         put_node(&mut self.nodes, packet.to.node, node);
         self.mail.tell_items(facts)
     }

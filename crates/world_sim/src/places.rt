@@ -55,7 +55,10 @@ pub(crate) fn set_number(ups: &mut Vec<u32>, n: NodeNo, number: u32)
 }
 
 /// No node is up.
-pub(crate) fn no_nodes<B: Drop>(alloc: Global, count: u8) -> Result<Vec<Option<Node<B>>>, AllocError>
+pub(crate) fn no_nodes<B: Drop>(
+    alloc: Global,
+    count: u8,
+) -> Result<Vec<Option<Node<B>>>, AllocError>
     ensures { IfOk result (λ nodes. nodes.items ≡ replicate count None) }
 {
     let mut nodes = Vec::new(alloc);

@@ -87,7 +87,11 @@ impl<B: Copy + Drop> World<B> {
 
 /// The parts of a world in which no node is up and nothing is posted. The only error is want of
 /// memory.
-fn new_yard<B: Copy + Drop>(alloc: Global, charter: &Charter, behaviour: B) -> Result<Yard<B>, AllocError>
+fn new_yard<B: Copy + Drop>(
+    alloc: Global,
+    charter: &Charter,
+    behaviour: B,
+) -> Result<Yard<B>, AllocError>
     ensures seen { IfOk result (λ y. IsSeen y (new_world charter.now wire_limit)) }
     ensures script { IfOk result (λ y. y.script ≡ charter.now) }
     ensures version { IfOk result (λ y. y.version ≡ 0) }

@@ -1,10 +1,10 @@
-use Rattle.std.proofs.Common.{◌≡◌, ◌+◌, ◌<◌, length, ap, sym, ◌∙◌, subst, refl, arith}
+use Rattle.std.proofs.Common.{◌+◌, ◌<◌, length, ap, ◌∙◌, subst, refl, arith}
 use Rattle.std.specs.Prelude.{replicate, None}
 use Rattle.yard_model.specs.Lawful.{is_held}
 use Rattle.yard_model.specs.Script.{Script, setting}
 use Rattle.yard_model.specs.Trace.{no_lists}
 use Rattle.shard_lease.specs.Book.{meaning_of}
-use Rattle.shard_store.specs.Stores.{entries_at, lists_at}
+use Rattle.shard_store.specs.Stores.{entries_at}
 use Rattle.node_core.specs.Leased.{Tells}
 use Rattle.world_sim.proofs.NewLaws.{seen_new}
 use Rattle.world_sim.proofs.RestsLaws.{none_held, tells_new}
@@ -18,7 +18,7 @@ new-requires-2 g c k h =
     let less : k < length c.into_parts-parts.result.places.items = subst (λ ps. k < length ps) c.from_parts.ensures.places h in
     let all = t.homes.all in
     ap is_held (ap (λ ps. entries_at ps k) places ∙ none_held c.in_ok-charter.charter c.in_ok-stores.stores.places k c.in_ok-stores.ensures.none
-        (subst (λ (s : Script). k < s.config.shards + s.config.producers + 1) script (omega (arith, less, all))))
+    (subst (λ (s : Script). k < s.config.shards + s.config.producers + 1) script (omega (arith, less, all))))
 
 pub returns-clause-seen : goal.returns-clause-seen
 returns-clause-seen g c =

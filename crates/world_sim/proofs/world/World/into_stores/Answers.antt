@@ -1,4 +1,4 @@
-use Rattle.std.proofs.Common.{◌≡◌, ap, sym, ◌∙◌, subst}
+use Rattle.std.proofs.Common.{ap, sym, ◌∙◌, subst}
 use Rattle.std.specs.Prelude.{◌≢◌, Some, IfOk}
 use Rattle.shard_store.specs.Stores.{lists_at}
 use Rattle.world_sim.specs.declared.fault.StepFault.TheVariants as fault

@@ -1,4 +1,4 @@
-use Rattle.std.proofs.Common.{◌≡◌, ap, sym, ◌∙◌, subst}
+use Rattle.std.proofs.Common.{subst}
 use Rattle.yard_model.specs.Script.{IsScript}
 use Rattle.world_sim.proofs.NewLaws.{world_new}
 use Rattle.world_sim.proofs.world.World.new.Goals as goal

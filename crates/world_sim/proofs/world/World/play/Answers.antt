@@ -1,4 +1,4 @@
-use Rattle.std.proofs.Common.{◌≡◌, ◌+◌, ap, sym, ◌∙◌, subst}
+use Rattle.std.proofs.Common.{◌+◌, ap, sym, ◌∙◌, subst}
 use Rattle.world_sim.specs.declared.fault.StepFault.TheVariants as fault
 use Rattle.std.specs.Prelude.{slice_get, Some}
 use Rattle.world_sim.specs.Played.{Played, Went, Filled}
@@ -19,9 +19,9 @@ invariant_of-self-then-is_full g c =
     let none = ap (λ (v : Played). v.fault) c.self.view_is ∙ c.requires.going in
     let e = c.in-Ok.ensures in
     world_full c.self.inside.yard c.play_line.new.self c.self.inside.count c.self.inside.fault c.args.line.now c.args.out.now c.play_line.new.facts c.self.invariant none
-        (ap (λ (v : Played). slice_get v.script.orders v.count) c.self.view_is ∙ c.requires.next)
-        (record { script_is = e.script; version_is = e.version; ups_are = e.ups; goes = e.goes _ (sound_at c.self.inside.yard c.self.inside.count c.self.inside.fault c.self.invariant none) })
-        (sym c.is_full.ensures ∙ c.if-is_full.true)
+    (ap (λ (v : Played). slice_get v.script.orders v.count) c.self.view_is ∙ c.requires.next)
+    (record { script_is = e.script; version_is = e.version; ups_are = e.ups; goes = e.goes _ (sound_at c.self.inside.yard c.self.inside.count c.self.inside.fault c.self.invariant none) })
+    (sym c.is_full.ensures ∙ c.if-is_full.true)
 
 pub returns-then-is_full : goal.returns-then-is_full
 returns-then-is_full g c =
@@ -29,17 +29,17 @@ returns-then-is_full g c =
     let e = c.in-Ok.ensures in
     subst (λ (v : Played). Filled v c.args.line.now c.args.out.now (record { script = c.play_line.new.self.script; count = c.self.inside.count + 1; fault = Some fault.WireFull }) c.play_line.new.facts) c.self.view_is
     (filled c.self.inside.yard c.play_line.new.self c.self.inside.count c.self.inside.fault c.args.line.now c.args.out.now c.play_line.new.facts none
-        (record { script_is = e.script; version_is = e.version; ups_are = e.ups; goes = e.goes _ (sound_at c.self.inside.yard c.self.inside.count c.self.inside.fault c.self.invariant none) })
-        (sym c.is_full.ensures ∙ c.if-is_full.true))
+    (record { script_is = e.script; version_is = e.version; ups_are = e.ups; goes = e.goes _ (sound_at c.self.inside.yard c.self.inside.count c.self.inside.fault c.self.invariant none) })
+    (sym c.is_full.ensures ∙ c.if-is_full.true))
 
 pub invariant_of-self-else-is_full : goal.invariant_of-self-else-is_full
 invariant_of-self-else-is_full g c =
     let none = ap (λ (v : Played). v.fault) c.self.view_is ∙ c.requires.going in
     let e = c.in-Ok.ensures in
     world_going c.self.inside.yard c.play_line.new.self c.self.inside.count c.self.inside.fault c.self.inside.fault c.args.line.now c.args.out.now c.play_line.new.facts c.self.invariant none
-        (ap (λ (v : Played). slice_get v.script.orders v.count) c.self.view_is ∙ c.requires.next)
-        (record { script_is = e.script; version_is = e.version; ups_are = e.ups; goes = e.goes _ (sound_at c.self.inside.yard c.self.inside.count c.self.inside.fault c.self.invariant none) })
-        (sym c.is_full.ensures ∙ c.if-is_full.false) none
+    (ap (λ (v : Played). slice_get v.script.orders v.count) c.self.view_is ∙ c.requires.next)
+    (record { script_is = e.script; version_is = e.version; ups_are = e.ups; goes = e.goes _ (sound_at c.self.inside.yard c.self.inside.count c.self.inside.fault c.self.invariant none) })
+    (sym c.is_full.ensures ∙ c.if-is_full.false) none
 
 pub returns : goal.returns
 returns g c =
@@ -47,5 +47,5 @@ returns g c =
     let e = c.in-Ok.ensures in
     subst (λ (v : Played). Went v c.args.line.now c.args.out.now (record { script = c.play_line.new.self.script; count = c.self.inside.count + 1; fault = c.self.inside.fault }) c.play_line.new.facts) c.self.view_is
     (went c.self.inside.yard c.play_line.new.self c.self.inside.count c.self.inside.fault c.self.inside.fault c.args.line.now c.args.out.now c.play_line.new.facts none
-        (record { script_is = e.script; version_is = e.version; ups_are = e.ups; goes = e.goes _ (sound_at c.self.inside.yard c.self.inside.count c.self.inside.fault c.self.invariant none) })
-        (sym c.is_full.ensures ∙ c.if-is_full.false) none)
+    (record { script_is = e.script; version_is = e.version; ups_are = e.ups; goes = e.goes _ (sound_at c.self.inside.yard c.self.inside.count c.self.inside.fault c.self.invariant none) })
+    (sym c.is_full.ensures ∙ c.if-is_full.false) none)

@@ -1,8 +1,7 @@
-use Rattle.std.proofs.Common.{◌≡◌, ◌+◌, ◌-◌, ◌++◌, [], ◌∷◌, ap, sym, ◌∙◌, subst, refl, fold}
+use Rattle.std.proofs.Common.{◌+◌, ◌++◌, [], ◌∷◌, ap, sym, ◌∙◌, subst, refl, fold}
 use Rattle.std.specs.Prelude.{map}
 use Rattle.yard_model.specs.declared.fact.Fact.TheVariants as fact
 use Rattle.yard_model.specs.declared.out.Item.TheVariants as item
-use Rattle.yard_model.specs.Behaviour.{is_in}
 use Rattle.yard_model.specs.Node.{crash}
 use Rattle.yard_model.specs.Script.{setting}
 use Rattle.yard_model.specs.Trace.{lists_step}
@@ -29,27 +28,27 @@ returns-clause-goes g c =
     let some = (node_within c.args.n _ c.requires.node).0 in
     on_ok c.tell_items.result (all_told_is c.tell_items.result mid c.tell_items.new.self c.push.new.self c.tell_items.new.facts t.facts t.packets t.fresh t.full t.items)
     (λ h w s.
-        let y = subst (λ v. IsSoundBut c.args.n c.args.node v w) (sym c.self.view_is) s in
-        ended_goes _ _ w c.args.n c.args.node mid c.args.facts.now c.tell_items.new.facts y some
-            (record {
-              script_is = refl;
-              nodes_are = refl;
-              members_are = c.without-self-inside.ensures ∙ ap (λ x. without x c.self.inside.members) c.who.ensures;
-              version_is = refl;
-              ups_are = refl;
-              book_is = e.book ∙ y.seen_is.seen_is.book_is;
-              tells_is = subst (λ st. Tells (meaning_of c.end_node.new.book) c.self.inside.charter (fold (lists_step (setting c.self.inside.charter)) w.lists (crash st))) m.state
-                  (subst (λ s. Tells (meaning_of c.end_node.new.book) s (fold (lists_step (setting s)) w.lists (crash c.make_room.new.node.state))) (m.script ∙ script_of_node c.args.n c.args.node _ w y.seen_is some)
-                  (for_world c.args.n c.args.node c.make_room.new.node _ w _ y some m.script m.state e.tells));
-            })
-            (record {
-              packets_are = e.packets ∙ m.packets;
-              fresh_are = e.fresh ∙ m.fresh;
-              full_is = e.full ∙ m.full;
-              items_are = e.items ∙ (ap (λ i. i ++ map item.Fact (crash c.make_room.new.node.state)) (m.items ∙ y.seen_is.seen_is.told_all) ∙ ap (λ st. map item.Fact (crash st)) m.state);
-            })
-            c.len-posted.ensures.fits
-            (subst (λ b. IsAllTold mid c.tell_items.new.self b c.tell_items.new.facts) (c.in_ok-push.ensures.ok ∙ ap (λ x. c.args.facts.now ++ fact.Gone x ∷ []) c.who.ensures) h))
+    let y = subst (λ v. IsSoundBut c.args.n c.args.node v w) (sym c.self.view_is) s in
+    ended_goes _ _ w c.args.n c.args.node mid c.args.facts.now c.tell_items.new.facts y some
+    (record {
+      script_is = refl;
+      nodes_are = refl;
+      members_are = c.without-self-inside.ensures ∙ ap (λ x. without x c.self.inside.members) c.who.ensures;
+      version_is = refl;
+      ups_are = refl;
+      book_is = e.book ∙ y.seen_is.seen_is.book_is;
+      tells_is = subst (λ st. Tells (meaning_of c.end_node.new.book) c.self.inside.charter (fold (lists_step (setting c.self.inside.charter)) w.lists (crash st))) m.state
+          (subst (λ s. Tells (meaning_of c.end_node.new.book) s (fold (lists_step (setting s)) w.lists (crash c.make_room.new.node.state))) (m.script ∙ script_of_node c.args.n c.args.node _ w y.seen_is some)
+          (for_world c.args.n c.args.node c.make_room.new.node _ w _ y some m.script m.state e.tells));
+    })
+    (record {
+      packets_are = e.packets ∙ m.packets;
+      fresh_are = e.fresh ∙ m.fresh;
+      full_is = e.full ∙ m.full;
+      items_are = e.items ∙ (ap (λ i. i ++ map item.Fact (crash c.make_room.new.node.state)) (m.items ∙ y.seen_is.seen_is.told_all) ∙ ap (λ st. map item.Fact (crash st)) m.state);
+    })
+    c.len-posted.ensures.fits
+    (subst (λ b. IsAllTold mid c.tell_items.new.self b c.tell_items.new.facts) (c.in_ok-push.ensures.ok ∙ ap (λ x. c.args.facts.now ++ fact.Gone x ∷ []) c.who.ensures) h))
 
 pub returns-clause-version : goal.returns-clause-version
 returns-clause-version g c = on_any c.tell_items.result (ap (λ v. v.version + 1) c.self.view_is)

@@ -1,5 +1,5 @@
 use Rattle.std.proofs.Common.{◌≡◌, ◌-◌, ◌≤◌, ◌∷◌, [], ◌++◌, length, ap, sym, ◌∙◌, subst, refl, arith}
-use Rattle.std.specs.Prelude.{None, Some, slice_set}
+use Rattle.std.specs.Prelude.{None, slice_set}
 use Rattle.yard_model.specs.declared.fact.Fact.TheVariants as fact
 use Rattle.yard_model.specs.Behaviour.{is_in}
 use Rattle.yard_model.specs.Node.{new_node}
@@ -19,7 +19,7 @@ with-self-inside-requires-clause-room g c =
     let r = c.requires.world in
     let s = subst (λ v. IsSound v r.0) (sym c.self.view_is) r.1 in
     room_for _ r.0 (record { node = c.args.n; number = c.next_number-number.result }) s (ap (λ v. is_in 1 v.script.config.nodes c.args.n) c.self.view_is ∙ c.requires.node)
-        (none_of_down _ r.0 c.args.n s (subst (λ v. at v.nodes (c.args.n - 1) ≡ None) (sym c.self.view_is) c.requires.down))
+    (none_of_down _ r.0 c.args.n s (subst (λ v. at v.nodes (c.args.n - 1) ≡ None) (sym c.self.view_is) c.requires.down))
 
 pub set_number-requires : goal.set_number-requires
 set_number-requires g c =
@@ -42,8 +42,8 @@ returns-clause-goes g c w s =
     let y = subst (λ v. IsSound v w) (sym c.self.view_is) s in
     let who = came_is c.self.inside.ups.items c.args.n c.next_number-number.result c.next_number-number.ensures in
     goes_at c.args.facts.now c.push.new.self _ _ _
-        (yard_is _ _ refl refl c.put_node.ensures (c.with-self-inside.ensures ∙ ap (λ x. c.self.inside.members ++ x ∷ []) who) refl
-            (c.set_number.ensures ∙ ap (λ k. slice_set c.self.inside.ups.items (c.args.n - 1) k) c.next_number-number.ensures) refl)
-        (entered_goes _ w c.args.n c.in_ok-node.node c.args.facts.now c.push.new.self y (ap (λ v. is_in 1 v.script.config.nodes c.args.n) c.self.view_is ∙ c.requires.node)
-            c.in_ok-node.ensures.script (c.in_ok-node.ensures.state ∙ ap (λ x. new_node (setting c.self.inside.charter) x) who)
-            (c.in_ok-push.ensures.ok ∙ ap (λ x. c.args.facts.now ++ fact.Up x ∷ []) who))
+    (yard_is _ _ refl refl c.put_node.ensures (c.with-self-inside.ensures ∙ ap (λ x. c.self.inside.members ++ x ∷ []) who) refl
+    (c.set_number.ensures ∙ ap (λ k. slice_set c.self.inside.ups.items (c.args.n - 1) k) c.next_number-number.ensures) refl)
+    (entered_goes _ w c.args.n c.in_ok-node.node c.args.facts.now c.push.new.self y (ap (λ v. is_in 1 v.script.config.nodes c.args.n) c.self.view_is ∙ c.requires.node)
+    c.in_ok-node.ensures.script (c.in_ok-node.ensures.state ∙ ap (λ x. new_node (setting c.self.inside.charter) x) who)
+    (c.in_ok-push.ensures.ok ∙ ap (λ x. c.args.facts.now ++ fact.Up x ∷ []) who))

@@ -1,8 +1,7 @@
-use Rattle.std.proofs.Common.{◌≡◌, ◌-◌, ◌++◌, [], ◌∷◌, ap, sym, ◌∙◌, subst, refl, fold, true}
+use Rattle.std.proofs.Common.{◌≡◌, ◌++◌, ap, sym, ◌∙◌, subst, refl, fold, true}
 use Rattle.yard_model.specs.declared.input.Input.TheVariants as input
 use Rattle.yard_model.specs.Genuine.{is_genuine_packet}
 use Rattle.yard_model.specs.Node.{after, items_of, turn}
-use Rattle.yard_model.specs.Script.{setting}
 use Rattle.shard_lease.specs.Book.{meaning_of}
 use Rattle.node_core.specs.Gave.{lists_after}
 use Rattle.node_core.specs.Leased.{Tells}
@@ -47,30 +46,30 @@ returns-clause-goes g c =
     let some = to_some c.args.self.now.script p c.requires.packet.genuine in
     on_ok c.tell_items.result (all_told_is c.tell_items.result mid c.tell_items.new.self c.args.facts.now c.tell_items.new.facts t.facts t.packets t.fresh t.full t.items)
     (λ h w s.
-        let y = subst (λ v. IsSoundBut p.to.node c.args.node v w) (sym c.self.view_is) s in
-        let script = script_of_node p.to.node c.args.node _ w y.seen_is some in
-        turned_goes _ _ w p.to.node c.args.node c.hand_packet.new.node p mid c.args.facts.now c.tell_items.new.facts y some c.requires.packet.built
-            (record {
-              script_is = refl;
-              nodes_are = c.put_node.ensures;
-              members_are = refl;
-              version_is = refl;
-              ups_are = refl;
-              book_is = e.book ∙ y.seen_is.seen_is.book_is;
-              later_script = e.script ∙ (m.script ∙ script);
-              later_is = for_world p.to.node c.args.node now _ w _ y some m.script m.state (e.state w.sends) ∙ ap (λ st. fold after st (turn w.sends w.lists (input.Packet p) st)) m.state;
-              tells_is = subst (λ st. Tells (meaning_of c.hand_packet.new.book) c.self.inside.charter (lists_after c.self.inside.charter w.lists (turn w.sends w.lists (input.Packet p) st))) m.state
-                  (subst (λ x. Tells (meaning_of c.hand_packet.new.book) x (lists_after x w.lists (turn w.sends w.lists (input.Packet p) now.state))) (m.script ∙ script)
-                  (for_world p.to.node c.args.node now _ w _ y some m.script m.state (e.tells w.sends)));
-            })
-            (record {
-              packets_are = e.packets ∙ m.packets;
-              fresh_are = e.fresh ∙ m.fresh;
-              full_is = e.full ∙ m.full;
-              items_are = for_world p.to.node c.args.node now _ w _ y some m.script m.state (e.items w.sends)
-                  ∙ (ap (λ i. i ++ items_of (turn w.sends w.lists (input.Packet p) now.state)) (m.items ∙ y.seen_is.seen_is.told_all) ∙ ap (λ st. items_of (turn w.sends w.lists (input.Packet p) st)) m.state);
-            })
-            h)
+    let y = subst (λ v. IsSoundBut p.to.node c.args.node v w) (sym c.self.view_is) s in
+    let script = script_of_node p.to.node c.args.node _ w y.seen_is some in
+    turned_goes _ _ w p.to.node c.args.node c.hand_packet.new.node p mid c.args.facts.now c.tell_items.new.facts y some c.requires.packet.built
+    (record {
+      script_is = refl;
+      nodes_are = c.put_node.ensures;
+      members_are = refl;
+      version_is = refl;
+      ups_are = refl;
+      book_is = e.book ∙ y.seen_is.seen_is.book_is;
+      later_script = e.script ∙ (m.script ∙ script);
+      later_is = for_world p.to.node c.args.node now _ w _ y some m.script m.state (e.state w.sends) ∙ ap (λ st. fold after st (turn w.sends w.lists (input.Packet p) st)) m.state;
+      tells_is = subst (λ st. Tells (meaning_of c.hand_packet.new.book) c.self.inside.charter (lists_after c.self.inside.charter w.lists (turn w.sends w.lists (input.Packet p) st))) m.state
+          (subst (λ x. Tells (meaning_of c.hand_packet.new.book) x (lists_after x w.lists (turn w.sends w.lists (input.Packet p) now.state))) (m.script ∙ script)
+          (for_world p.to.node c.args.node now _ w _ y some m.script m.state (e.tells w.sends)));
+    })
+    (record {
+      packets_are = e.packets ∙ m.packets;
+      fresh_are = e.fresh ∙ m.fresh;
+      full_is = e.full ∙ m.full;
+      items_are = for_world p.to.node c.args.node now _ w _ y some m.script m.state (e.items w.sends)
+          ∙ (ap (λ i. i ++ items_of (turn w.sends w.lists (input.Packet p) now.state)) (m.items ∙ y.seen_is.seen_is.told_all) ∙ ap (λ st. items_of (turn w.sends w.lists (input.Packet p) st)) m.state);
+    })
+    h)
 
 pub returns-clause-version : goal.returns-clause-version
 returns-clause-version g c = on_any c.tell_items.result (ap (λ v. v.version) c.self.view_is)

@@ -1,4 +1,4 @@
-use Rattle.std.proofs.Common.{◌≡◌, ◌≤◌, length, ap, sym, ◌∙◌, subst, arith}
+use Rattle.std.proofs.Common.{ap, sym, ◌∙◌, subst, arith}
 use Rattle.yard_model.specs.Behaviour.{is_in}
 use Rattle.world_sim.specs.Yard.{Yard, IsFirm}
 use Rattle.world_sim.proofs.EndLaws.{sound_out}

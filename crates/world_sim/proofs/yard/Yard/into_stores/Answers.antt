@@ -18,7 +18,7 @@ returns-clause-lists g c = λ w f.
     let r = c.in_ok-stop.ensures.stopped w f in
     let stopped : IsStopped c.stop.new.self.script.config.nodes w.lists c.stop.new.self r.0 = subst (λ (x : Script). IsStopped x.config.nodes w.lists c.stop.new.self r.0) (sym c.stop.ensures.script) r.1 in
     let home : r.0.lists ≡ lists_at c.args.self.script.config c.into_stores.result.places =
-        sym (lists_home c.yard.inside.book c.stop.new.self w.lists r.0 (ap (λ (v : Yard). v.book) c.yard.view_is) stopped)
-        ∙ (ap (λ (x : Script). lists_at x.config c.yard.inside.book.places) c.stop.ensures.script
-        ∙ ap (lists_at c.args.self.script.config) (sym c.into_stores.ensures.places)) in
+    sym (lists_home c.yard.inside.book c.stop.new.self w.lists r.0 (ap (λ (v : Yard). v.book) c.yard.view_is) stopped)
+    ∙ (ap (λ (x : Script). lists_at x.config c.yard.inside.book.places) c.stop.ensures.script
+    ∙ ap (lists_at c.args.self.script.config) (sym c.into_stores.ensures.places)) in
     subst (AreFreed c.args.self.script w.lists) home (subst (λ (x : Script). AreFreed x w.lists r.0.lists) c.stop.ensures.script stopped.freed_are)

@@ -11,6 +11,6 @@ returns-clause-goes g c =
     let q = c.reserve.ensures in
     on_ok c.tell_items.result (all_told_is c.tell_items.result mid c.tell_items.new.self c.args.facts.now c.tell_items.new.facts t.facts t.packets t.fresh t.full t.items)
     (λ h w s.
-        let y : IsSeen _ w = subst (λ v. IsSeen v w) (sym c.self.view_is) s in
-        views_seen _ mid c.tell_items.new.self w c.args.facts.now c.tell_items.new.facts y (p.packets ∙ q.packets) (p.fresh ∙ q.fresh) (p.full ∙ q.full)
-            (p.items ∙ ap (λ i. i ++ view_items c.self.inside.version c.self.inside.members c.self.inside.members) (q.items ∙ y.told_all)) h)
+    let y : IsSeen _ w = subst (λ v. IsSeen v w) (sym c.self.view_is) s in
+    views_seen _ mid c.tell_items.new.self w c.args.facts.now c.tell_items.new.facts y (p.packets ∙ q.packets) (p.fresh ∙ q.fresh) (p.full ∙ q.full)
+    (p.items ∙ ap (λ i. i ++ view_items c.self.inside.version c.self.inside.members c.self.inside.members) (q.items ∙ y.told_all)) h)

@@ -1,5 +1,5 @@
 -- Members by their nodes.
-use Rattle.std.proofs.Common.{◌≡◌, ℕ, zero, suc, Bool, true, false, ◌||◌, ◌==◌, not, ◌<◌, List, [], ◌∷◌, ◌++◌, length, take, slice_index_or, refl, sym, ap, ◌∙◌, append_assoc, not-suc-le-zero, le_of_suc-le-suc}
+use Rattle.std.proofs.Common.{◌≡◌, ℕ, zero, suc, Bool, true, false, ◌||◌, ◌==◌, not, ◌<◌, List, [], ◌∷◌, ◌++◌, length, take, slice_index_or, refl, sym, ap, ◌∙◌, append_assoc, not-suc-le-zero, le_of_suc-le-suc, drop, map}
 use Rattle.std.specs.Prelude.{if◌then◌else◌}
 use Rattle.std.proofs.lemmas.List.{append-nil}
 use Rattle.yard_model.specs.declared.incarnation.Incarnation.{Incarnation}
@@ -35,3 +35,15 @@ different_at before (y ∷ ys) (suc i) x h l e =
 
 pub other_before : (xs : List Incarnation) (i : ℕ) (x who : Incarnation) → are_of_different_nodes xs ≡ true → i < length xs → x ≡ slice_index_or xs i x → has_node x.node (without who (take i xs)) ≡ false
 other_before xs i x who h l e = none_without x.node who (take i xs) (different_at [] xs i x h l (sym e))
+
+-- Views, member by member.
+
+pub one_at : {A : Type 0} (xs : List A) (k : ℕ) (x : A) → k < length xs → x ≡ slice_index_or xs k x → take 1 (drop k xs) ≡ x ∷ []
+one_at [] k x h e = absurd (not-suc-le-zero h)
+one_at (y ∷ ys) zero x h e = ap (λ z. z ∷ []) (sym e)
+one_at (y ∷ ys) (suc k) x h e = one_at ys k x (le_of_suc-le-suc h) e
+
+pub map_one_more : {A B : Type 0} (f : A → B) (xs : List A) (k : ℕ) → k < length xs → map f (take (suc k) xs) ≡ map f (take k xs) ++ map f (take 1 (drop k xs))
+map_one_more f [] k h = absurd (not-suc-le-zero h)
+map_one_more f (y ∷ ys) zero h = refl
+map_one_more f (y ∷ ys) (suc k) h = ap (λ zs. f y ∷ zs) (map_one_more f ys k (le_of_suc-le-suc h))

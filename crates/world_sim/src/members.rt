@@ -1,9 +1,8 @@
 //! Members: who is up, oldest first.
-ghost use Rattle.std.specs.Prelude.{◌≡◌, ◌+◌, ◌<◌, ◌≤◌, ◌++◌, [], ◌∷◌, length, map, false};
-ghost use Rattle.yard_model.specs.declared.out.Item.TheVariants as item;
-ghost use Rattle.yard_model.specs.declared.packet.Body.TheVariants as body;
+ghost use Rattle.std.specs.Prelude.{◌≡◌, ◌+◌, ◌<◌, ◌≤◌, ◌++◌, [], ◌∷◌, length, map, take, drop, false};
 ghost use Rattle.yard_model.specs.Members.{has_node};
 ghost use Rattle.yard_model.specs.Words.{is_among, without};
+ghost use Rattle.world_sim.specs.Steps.{view_item};
 
 use crate::mail::Mail;
 use yard_model::{Body, Incarnation, Item, Members, Packet};
@@ -40,25 +39,27 @@ pub(crate) fn without(members: &Members, who: &Incarnation) -> Members
 /// A view of these members, of this version, is to be posted to each of them.
 pub(crate) fn post_views(mail: &mut Mail, members: &Members, version: u32)
     requires { 16 ≤ mail.old.spare }
-    ensures items { mail.new.items ≡ mail.old.items ++ map (λ x. item.Post (record { from = x; to = x; body = body.View version members.now })) members.now }
+    ensures items { mail.new.items ≡ mail.old.items ++ map (view_item version members.now) members.now }
     ensures packets { mail.new.packets ≡ mail.old.packets }
     ensures fresh { mail.new.fresh ≡ mail.old.fresh }
     ensures full { mail.new.full ≡ mail.old.full }
 {
-    for member in members.as_slice() {
-        post_view(mail, members, version, member);
+    for place in 0..members.as_slice().len() {
+        post_view(mail, members, version, place);
     }
 }
 
-/// A view of these members, of this version, is to be posted to this one.
-fn post_view(mail: &mut Mail, members: &Members, version: u32, member: &Incarnation)
-    requires { 0 < mail.old.spare }
-    ensures items { mail.new.items ≡ mail.old.items ++ item.Post (record { from = member.now; to = member.now; body = body.View version members.now }) ∷ [] }
+/// A view of these members, of this version, is to be posted to the one at this place.
+fn post_view(mail: &mut Mail, members: &Members, version: u32, place: usize)
+    requires room { 0 < mail.old.spare }
+    requires place { place < length members.now }
+    ensures items { mail.new.items ≡ mail.old.items ++ map (view_item version members.now) (take 1 (drop place members.now)) }
     ensures packets { mail.new.packets ≡ mail.old.packets }
     ensures fresh { mail.new.fresh ≡ mail.old.fresh }
     ensures full { mail.new.full ≡ mail.old.full }
     ensures spare { mail.new.spare + 1 ≡ mail.old.spare }
 {
+    let member = &members.as_slice()[place];
     mail.push(Item::Post(Packet {
         from: *member,
         to: *member,

@@ -58,11 +58,12 @@ impl<B: Copy + Drop> Yard<B> {
         ensures ups { OnOk result (self.new.ups ≡ slice_set self.old.ups (n - 1) (slice_index_or self.old.ups (n - 1) 0 + 1)) }
     {
         let number = next_number(&self.ups, n);
+        let version = self.version + 1;
         let who = &Incarnation { node: n, number };
         let node = Node::new(self.alloc, *who, &self.charter, self.behaviour)?;
         facts.push(Fact::Up(*who))?;
         self.members = with(&self.members, *who);
-        self.version += 1;
+        self.version = version;
         set_number(&mut self.ups, n, number);
         put_node(&mut self.nodes, n, node);
         Ok(())

@@ -48,9 +48,9 @@ is_built m o = false
 
 -- whether the command does this kind yet
 abbrev pub is_kind_built : Mode → Kind → Bool
-is_kind_built mode.Solo k = true
-is_kind_built m kind.Counter = true
-is_kind_built m k = false
+is_kind_built mode.Live kind.Counter = true
+is_kind_built mode.Live k = false
+is_kind_built m k = true
 
 -- a script with one order more, on this line
 abbrev pub with_line : Script → ℕ → Order → Script

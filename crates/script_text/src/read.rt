@@ -206,8 +206,8 @@ fn is_kind_built(mode: Mode, kind: Kind) -> bool
     ensures { result ≡ is_kind_built mode kind }
 {
     match (mode, kind) {
-        (Mode::Solo, _) => true,
-        (_, Kind::Counter) => true,
-        _ => false,
+        (Mode::Live, Kind::Counter) => true,
+        (Mode::Live, _) => false,
+        _ => true,
     }
 }

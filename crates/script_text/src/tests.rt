@@ -87,7 +87,6 @@ fn first_lines(rt: HostRuntime) {
         ("config nodes=17 shards=", 1, Why::BadNumber),
         ("config shards=1=2", 1, Why::BadNumber),
         ("config keep=11", 1, Why::OutOfRange),
-        ("config kind=cart", 1, Why::NotBuilt),
     ];
     for (text, line, why) in cases {
         expect_fault(&rt, rt.alloc(), text.as_bytes(), Mode::Replay, line, why);
@@ -121,6 +120,7 @@ fn second_lines(rt: HostRuntime) {
         ("config\nsettle", Mode::Solo, Why::WrongMode),
         ("config\ntick 1", Mode::Replay, Why::NotBuilt),
         ("config\nup 1", Mode::Live, Why::NotBuilt),
+        ("\nconfig kind=cart", Mode::Live, Why::NotBuilt),
     ];
     for (text, mode, why) in cases {
         expect_fault(&rt, rt.alloc(), text.as_bytes(), mode, 2, why);

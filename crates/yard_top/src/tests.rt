@@ -91,6 +91,10 @@ report
 end
 ";
 
+const ONE_ACCOUNT_NODE: &[u8] = b"config kind=account\nup 1\n";
+
+const ONE_VIEW: &[u8] = b"at 2\nup 1.1\nsent 1 1.1 1.1 view 1 1.1\nreport\nend\n";
+
 const TWO_NODES: &[u8] = b"config nodes=2
 up 1
 up 2
@@ -248,11 +252,46 @@ fn expect_replay(
 fn replays(rt: HostRuntime) -> Result<(), Fail> {
     expect_replay(&rt, CRASH_AND_RETURN, Status::Ok, RETURNED)?;
     expect_replay(&rt, TWO_NODES, Status::Ok, TAKEN_OVER)?;
+    expect_replay(&rt, ONE_ACCOUNT_NODE, Status::Ok, ONE_VIEW)?;
     let not_built = Status::Refused {
         line: 2,
         why: Why::NotBuilt,
     };
     expect_replay(&rt, b"config\nsettle\n", not_built, b"")
+}
+
+#[test]
+fn refused_replays(rt: HostRuntime) -> Result<(), Fail> {
+    let cases: [(&[u8], Why); 8] = [
+        (b"config\nconfig\n", Why::SecondConfig),
+        (b"config\nfly 1\n", Why::UnknownWord),
+        (b"config\nup\n", Why::MissingWord),
+        (b"config\nup 1 2\n", Why::ExtraWord),
+        (b"config\nup x\n", Why::BadNumber),
+        (b"config\nup 4\n", Why::OutOfRange),
+        (b"config\nsend 1 a.b read\n", Why::BadName),
+        (b"config\ndeliver 0\n", Why::OutOfRange),
+    ];
+    for (script, why) in cases {
+        expect_replay(&rt, script, Status::Refused { line: 2, why }, b"")?;
+    }
+    Ok(())
+}
+
+#[test]
+fn long_replays(rt: HostRuntime) -> Result<(), Fail> {
+    let line = after_comment(rt.alloc(), 257)?;
+    let long = Status::Refused {
+        line: 1,
+        why: Why::LongLine,
+    };
+    expect_replay(&rt, line.as_slice(), long, b"")?;
+    let lines = vec![in rt.alloc(); b'\n'; 20_001]?;
+    let many = Status::Refused {
+        line: 20_001,
+        why: Why::TooManyLines,
+    };
+    expect_replay(&rt, lines.as_slice(), many, b"")
 }
 
 #[test]
@@ -286,7 +325,8 @@ fn too_much(rt: HostRuntime) -> Result<(), Fail> {
         line: 0,
         why: Why::TooLong,
     };
-    expect(&rt, bytes.as_slice(), &[], &[], long, b"")
+    expect(&rt, bytes.as_slice(), &[], &[], long, b"")?;
+    expect_replay(&rt, bytes.as_slice(), long, b"")
 }
 
 /// A sink that takes one byte a call.

@@ -1,7 +1,7 @@
 -- Deliveries and orders: from what a callee's step gave to what the whole step gives.
 use Rattle.std.proofs.Common.{◌≡◌, ℕ, zero, suc, ◌-◌, ◌<◌, ◌≤◌, ◌==◌, not, List, [], ◌∷◌, ◌++◌, length, filter, nat_lt, refl, ap, sym, ◌∙◌, subst, arith, append_assoc}
-use Rattle.std.specs.Prelude.{Bool, true, false, map, Option, Some, None, slice_set, if◌then◌else◌}
-use Rattle.std.specs.List.{list_all, slice_get}
+use Rattle.std.specs.Prelude.{Bool, true, false, Option, Some, None, slice_set, if◌then◌else◌}
+use Rattle.std.specs.List.{slice_get}
 use Rattle.std.proofs.lemmas.List.{append-nil, length-set}
 use Rattle.std.proofs.lemmas.Bool.Decides.{nat_tests}
 use Rattle.yard_model.specs.declared.fact.Fact.{Fact}
@@ -19,7 +19,7 @@ use Rattle.yard_model.specs.World as world
 use Rattle.yard_model.specs.World.{World, Made, Step, tell, then_step, node_at, with_order}
 use Rattle.wire_packet.specs.Wire.{packet_at}
 use Rattle.node_core.specs.Standing.{Standing}
-use Rattle.yard_laws.proofs.Booleans.{true_is_not_false, and_both}
+use Rattle.yard_laws.proofs.Booleans.{true_is_not_false}
 use Rattle.world_laws.specs.Built.{is_built_order, is_built_packet}
 use Rattle.world_laws.specs.Standing.{Stands, IsThere, has_different_members}
 use Rattle.world_laws.proofs.Place.{none_is_not_some, some_is}
@@ -27,6 +27,7 @@ use Rattle.world_laws.proofs.Play.{deliver_goes}
 use Rattle.world_laws.proofs.Stand.{tell_fine}
 use Rattle.world_sim.specs.Mail.{Mails, Heads}
 use Rattle.world_sim.specs.Steps.{marked, IsGood}
+use Rattle.world_sim.proofs.PlaceLaws.{all_got, put_back, state_at, taken_out}
 use Rattle.world_sim.specs.Yard.{Yard, IsSeen, IsSound, IsSoundBut, Goes, state_in}
 
 -- Steps, one after the other.
@@ -98,11 +99,6 @@ sound_marked y z w k s e g = record {
 posted_at : {A : Type 0} (ps : List A) (k : ℕ) → 0 < k → (if k == 0 then None else slice_get ps (k - 1)) ≡ slice_get ps (k - 1)
 posted_at ps k h = let e : (k == 0) ≡ false = grind (arith, nat_tests) in ap (λ b. if b then None else slice_get ps (k - 1)) e
 
-all_got : {A : Type 0} (p : A → Bool) (xs : List A) (i : ℕ) (x : A) → list_all p xs ≡ true → slice_get xs i ≡ Some x → p x ≡ true
-all_got p [] i x all e = absurd (none_is_not_some x e)
-all_got p (y ∷ ys) zero x all e = ap p (sym (some_is y x e)) ∙ (and_both (p y) (list_all p ys) all).0
-all_got p (y ∷ ys) (suc i) x all e = all_got p ys i x (and_both (p y) (list_all p ys) all).1 e
-
 -- it is good
 pub posted_good : (y : Yard) (w : World) (k : ℕ) (p : Packet) → IsSound y w → 0 < k → packet_at y.mail.packets k ≡ Some p → IsGood y.script p
 posted_good y w k p s h e =
@@ -130,21 +126,6 @@ goes_delivered y z w n o before after s e g =
     subst (Goes before after z) (sym (delivered n w ∙ ap (λ o. world.deliver_by n o w) (ap (λ ps. packet_at ps n) (sym s.wire_is) ∙ e))) g
 
 -- A node that is taken out of its place.
-
-state_at : (ys : List (Option Standing)) (k : ℕ) → at (map state_in ys) k ≡ state_in (at ys k)
-state_at [] k = refl
-state_at (y ∷ ys) zero = refl
-state_at (y ∷ ys) (suc k) = state_at ys k
-
-put_back : (ys : List (Option Standing)) (k : ℕ) (o : Option Standing) → at ys k ≡ o → k < length ys → slice_set (slice_set ys k None) k o ≡ ys
-put_back [] k o e h = absurd (omega arith)
-put_back (y ∷ ys) zero o e h = ap (λ o. o ∷ ys) (sym e)
-put_back (y ∷ ys) (suc k) o e h = ap (λ l. y ∷ l) (put_back ys k o e (omega arith))
-
-taken_out : (ys : List (Option Standing)) (k : ℕ) → at (slice_set ys k None) k ≡ None
-taken_out [] k = refl
-taken_out (y ∷ ys) zero = refl
-taken_out (y ∷ ys) (suc k) = taken_out ys k
 
 state_inside : (ys : List (Option Standing)) (k : ℕ) (st : Node) → state_in (at ys k) ≡ Some st → k < length ys
 state_inside [] k st e = absurd (none_is_not_some st e)

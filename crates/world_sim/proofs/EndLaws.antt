@@ -1,5 +1,5 @@
 -- A node that goes down, and a node that handles a packet: what the code keeps stands for the world after.
-use Rattle.std.proofs.Common.{◌≡◌, ℕ, zero, suc, ◌+◌, ◌-◌, ◌<◌, ◌≤◌, Bool, true, false, ◌&&◌, List, [], ◌∷◌, ◌++◌, length, fold, refl, ap, sym, ◌∙◌, subst, arith}
+use Rattle.std.proofs.Common.{◌≡◌, ℕ, ◌+◌, ◌-◌, ◌<◌, ◌≤◌, Bool, true, false, ◌&&◌, List, [], ◌∷◌, ◌++◌, length, fold, refl, ap, sym, ◌∙◌, subst, arith, append_assoc}
 use Rattle.std.specs.Prelude.{map, nat_lt, nat_le, Option, Some, None, IfSome, is_none, slice_set, if◌then◌else◌}
 use Rattle.std.specs.List.{list_all, flat_map}
 use Rattle.std.proofs.lemmas.List.{map-set, append-nil, length-set}
@@ -35,20 +35,10 @@ use Rattle.world_sim.proofs.FreshLaws.{lt_false}
 use Rattle.world_sim.proofs.RestsLaws.{rests_of, in_hand_of}
 use Rattle.world_sim.proofs.SeenLaws.{IsAllTold, led_to, seen_told, facts_told, mailed_from}
 use Rattle.world_sim.proofs.TellLaws.{words_after, input_nodes}
-use Rattle.world_sim.proofs.TurnLaws.{is_own, is_own_item, turn_own}
+use Rattle.world_sim.proofs.OwnLaws.{turn_is_own}
+use Rattle.world_sim.proofs.PlaceLaws.{put_back, set_again, set_same, taken_out}
+use Rattle.world_sim.specs.Told.{is_own, is_own_item}
 use Rattle.world_sim.proofs.UpLaws.{node_kept}
-
--- Places.
-
-set_again : {A : Type 0} (xs : List A) (k : ℕ) (a b : A) → slice_set (slice_set xs k a) k b ≡ slice_set xs k b
-set_again [] k a b = refl
-set_again (x ∷ xs) zero a b = refl
-set_again (x ∷ xs) (suc k) a b = ap (λ ys. x ∷ ys) (set_again xs k a b)
-
-set_same : {A : Type 0} (xs : List (Option A)) (k : ℕ) → at xs k ≡ None → slice_set xs k None ≡ xs
-set_same [] k e = refl
-set_same (x ∷ xs) zero e = ap (λ o. o ∷ xs) (sym e)
-set_same (x ∷ xs) (suc k) e = ap (λ ys. x ∷ ys) (set_same xs k e)
 
 -- the node that was taken out is the world's
 pub taken_is : (n : ℕ) (node : Standing) (y : Yard) (w : World) → IsSeenBut n node y w → 1 ≤ n → at w.nodes (n - 1) ≡ Some node.state
@@ -164,10 +154,6 @@ pub record HasItems (old mid : Mails) (is : List Item) : Type 0 where
   pub full_is : mid.full ≡ old.full
   pub items_are : mid.items ≡ is
 
-append_three : (xs ys zs : List Fact) → (xs ++ ys) ++ zs ≡ xs ++ (ys ++ zs)
-append_three [] ys zs = refl
-append_three (x ∷ xs) ys zs = ap (λ l. x ∷ l) (append_three xs ys zs)
-
 pub ended_goes : (y z : Yard) (w : World) (n : ℕ) (node : Standing) (mid : Mails) (before after_ : List Fact) → IsSoundBut n node y w → 1 ≤ n → IsEnded y z w node → HasItems y.mail mid (map item.Fact (crash node.state))
     → length y.mail.packets ≤ wire_limit → IsAllTold mid z.mail (before ++ fact.Gone node.state.who ∷ []) after_ → Goes before after_ z (go_down n w)
 ended_goes y z w n node mid before after_ s some e m limit t =
@@ -198,7 +184,7 @@ ended_goes y z w n node mid before after_ s some e m limit t =
     let goes : Goes before after_ z (tell (fact.Gone st.who ∷ fs) w) = record {
       seen_is = subst (IsSeen z) world led;
       facts_are = facts_told y1 w1 is gone after_ s1 (t.facts_are ∙ (ap (λ p. gone ++ facts_of wire_limit (length p) mid.items) m.packets_are ∙ ap (λ i. gone ++ facts_of wire_limit (length y.mail.packets) i) m.items_are))
-          ∙ (ap (λ gs. gone ++ gs) facts ∙ append_three before (fact.Gone st.who ∷ []) fs);
+          ∙ (ap (λ gs. gone ++ gs) facts ∙ append_assoc before (fact.Gone st.who ∷ []) fs);
     } in
     subst (λ o. Goes before after_ z (go_down_by o w)) (sym (taken_is n node y w s.seen_is some)) goes
 
@@ -231,7 +217,7 @@ turned_goes y z w n node later p mid before after_ s some built e m t =
     let acts : List Act = turn w.sends w.lists (input.Packet p) st in
     let to : Node = fold after st acts in
     let is : List Item = items_of acts in
-    let own : list_all is_own_item is ≡ true = turn_own w.sends w.lists p st built in
+    let own : list_all is_own_item is ≡ true = turn_is_own w.sends w.lists (input.Packet p) st in
     let v : World = fold world_after w (input_facts w is) in
     let same : v.nodes ≡ w.nodes = ap (λ (x : World). x.nodes) (words_after w (input_facts w is)) ∙ input_nodes w.set w is w.nodes own in
     let place : to.who.node ≡ n = ap (λ (x : Incarnation). x.node) (who_stays st acts) ∙ number_is n node y w s some in
@@ -311,26 +297,16 @@ none_kept y w n b s e = ap is_none (node_kept y w (n - 1) s) ∙ (none_state (at
 
 -- Taking a node out of its place.
 
-back_again : (ys : List (Option Standing)) (k : ℕ) (o : Option Standing) → at ys k ≡ o → k < length ys → slice_set (slice_set ys k None) k o ≡ ys
-back_again [] k o e h = absurd (omega (arith, h))
-back_again (y ∷ ys) zero o e h = ap (λ o. o ∷ ys) (sym e)
-back_again (y ∷ ys) (suc k) o e h = ap (λ l. y ∷ l) (back_again ys k o e (omega (arith, h)))
-
-empty_now : (ys : List (Option Standing)) (k : ℕ) → at (slice_set ys k None) k ≡ None
-empty_now [] k = refl
-empty_now (y ∷ ys) zero = refl
-empty_now (y ∷ ys) (suc k) = empty_now ys k
-
 pub sound_out : (y : Yard) (w : World) (n : ℕ) (node : Standing) (nodes : List (Option Standing)) → IsFirm y w → 1 ≤ n → n ≤ length y.nodes → at y.nodes (n - 1) ≡ Some node → nodes ≡ slice_set y.nodes (n - 1) None
     → IsSoundBut n node (record y { nodes = nodes }) w
 sound_out y w n node nodes s some there up out =
     let inside : n - 1 < length y.nodes = omega (arith, some, there) in
-    let back : slice_set nodes (n - 1) (Some node) ≡ y.nodes = ap (λ ns. slice_set ns (n - 1) (Some node)) out ∙ back_again y.nodes (n - 1) (Some node) up inside in
+    let back : slice_set nodes (n - 1) (Some node) ≡ y.nodes = ap (λ ns. slice_set ns (n - 1) (Some node)) out ∙ put_back y.nodes (n - 1) (Some node) up inside in
     let size : length nodes ≡ length y.nodes = ap length out ∙ length-set y.nodes (n - 1) None in
     record {
       seen_is = record {
         seen_is = subst (λ ns. IsSeen (record y { nodes = ns }) w) (sym back) s.seen_is;
-        out_is = ap (λ ns. at ns (n - 1)) out ∙ empty_now y.nodes (n - 1);
+        out_is = ap (λ ns. at ns (n - 1)) out ∙ taken_out y.nodes (n - 1);
         there = omega (arith, there, size);
       };
       stands_is = s.stands_is;

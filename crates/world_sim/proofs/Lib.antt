@@ -3,13 +3,13 @@ pub mod EndLaws
 pub mod FreshLaws
 pub mod MembersLaws
 pub mod NewLaws
-pub mod OffWireLaws
+pub mod OwnLaws
+pub mod PlaceLaws
 pub mod PlayedLaws
 pub mod RestsLaws
 pub mod SeenLaws
 pub mod StoresLaws
 pub mod TellLaws
 pub mod ToldLaws
-pub mod TurnLaws
 pub mod UpLaws
 pub mod WorldLaws

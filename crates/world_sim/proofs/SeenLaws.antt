@@ -3,7 +3,6 @@ use Rattle.std.proofs.Common.{◌≡◌, ℕ, ◌+◌, true, ◌||◌, List, [],
 use Rattle.std.specs.Prelude.{map, Option, IfSome, Result, Ok, Err, OnOk}
 use Rattle.std.specs.List.{list_all}
 use Rattle.yard_model.specs.declared.fact.Fact.{Fact}
-use Rattle.yard_model.specs.declared.fact.Fact.TheVariants as fact
 use Rattle.yard_model.specs.declared.incarnation.Incarnation.{Incarnation}
 use Rattle.yard_model.specs.declared.out.Item.{Item}
 use Rattle.yard_model.specs.declared.out.Item.TheVariants as item
@@ -16,13 +15,11 @@ use Rattle.yard_model.specs.World.{World, world_after, members_step, version_ste
 use Rattle.shard_lease.specs.Book.{meaning_of}
 use Rattle.node_core.specs.Leased.{Tells, facts_in}
 use Rattle.node_core.specs.Standing.{Standing}
-use Rattle.yard_laws.proofs.Booleans.{true_is_not_false, and_both, both}
 use Rattle.world_sim.specs.Mail.{Mails, facts_of, posts_of, is_past}
-use Rattle.world_sim.specs.Told.{AreTold, is_off_wire, is_item_off_wire}
+use Rattle.world_sim.specs.Told.{AreTold, is_own_item}
 use Rattle.world_sim.specs.Yard.{Yard, IsSeen, Goes, state_in}
 use Rattle.world_sim.proofs.TellLaws.{words_after, input_lists, input_members, input_version, input_ups, input_nodes}
 use Rattle.world_sim.proofs.ToldLaws.{told, facts_are}
-use Rattle.world_sim.proofs.TurnLaws.{is_own, is_own_item}
 
 -- Of a result.
 
@@ -37,19 +34,6 @@ on_both (Err e) P Q p q = tt
 pub on_any : {T E : Type 0} (r : Result T E) {P : Type 0} → P → OnOk r P
 on_any (Ok x) p = p
 on_any (Err e) p = tt
-
--- What a node tells is off the wire.
-
-own_off : (f : Fact) → is_own f ≡ true → is_off_wire f ≡ true
-own_off (fact.Sent k p) e = absurd (true_is_not_false (sym e))
-own_off (fact.Got k) e = absurd (true_is_not_false (sym e))
-own_off fact.WireFull e = absurd (true_is_not_false (sym e))
-own_off f e = refl
-
-items_off : (is : List Item) → list_all is_own_item is ≡ true → list_all is_item_off_wire is ≡ true
-items_off [] e = refl
-items_off (item.Fact f ∷ is) e = let p : (is_own f ≡ true) × (list_all is_own_item is ≡ true) = and_both (is_own f) (list_all is_own_item is) e in both (is_off_wire f) (list_all is_item_off_wire is) (own_off f p.0) (items_off is p.1)
-items_off (item.Post p ∷ is) e = items_off is e
 
 -- The mail once items are told.
 
@@ -83,7 +67,7 @@ all_told_is (Ok x) old new before after f p q b n = record { mail_is = record { 
 all_told_is (Err e) old new before after f p q b n = tt
 
 told_by : (w : World) (is : List Item) → list_all is_own_item is ≡ true → AreTold w.limit w.wire w.fresh w.full is
-told_by w is own = told w.limit w.wire w.fresh w.full is (items_off is own)
+told_by w is own = told w.limit w.wire w.fresh w.full is own
 
 wire_told : (y : Yard) (w : World) (new : Mails) (is : List Item) → IsSeen y w → list_all is_own_item is ≡ true → IsMailed y.mail new is → new.packets ≡ fold wire_step w.wire (input_facts w is)
 wire_told y w new is s own m =

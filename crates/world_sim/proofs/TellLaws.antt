@@ -16,7 +16,7 @@ use Rattle.yard_model.specs.Node.{Node}
 use Rattle.yard_model.specs.World.{World, world_after, members_step, version_step, ups_step, wire_step, fresh_step, full_step, nodes_step, numbered, count_posts, input_facts}
 use Rattle.node_core.specs.Leased.{facts_in}
 use Rattle.yard_laws.proofs.Booleans.{true_is_not_false, and_both}
-use Rattle.world_sim.proofs.TurnLaws.{is_own, is_own_item}
+use Rattle.world_sim.specs.Told.{is_own, is_own_item}
 
 -- each word after the facts is the fold of its own step
 pub words_after : (w : World) (fs : List Fact) → fold world_after w fs ≡ record w {

@@ -13,7 +13,7 @@ use Rattle.yard_model.specs.declared.packet.Packet.{Packet}
 use Rattle.yard_model.specs.Words.{numbers}
 use Rattle.yard_model.specs.World.{numbered, count_posts, wire_step, fresh_step, full_step}
 use Rattle.world_sim.specs.Mail.{Mails, ToldSome, fresh_of, is_past, posts_of, with_posts}
-use Rattle.world_sim.specs.Told.{FactsLaw, ToldLaw, ToldTo, all_told, is_off_wire, is_item_off_wire}
+use Rattle.world_sim.specs.Told.{FactsLaw, ToldLaw, ToldTo, all_told, is_own, is_own_item}
 use Rattle.world_sim.proofs.FreshLaws.{fresh_more, lt_true, lt_false}
 
 -- Past the limit nothing is posted.
@@ -171,16 +171,16 @@ told_some old new whole left t = record { said = t.said; left = left; new_is = t
 
 -- What is told, to the words of the world.
 
-off_wire : (f : Fact) (packets : List Packet) → is_off_wire f ≡ true → wire_step packets f ≡ packets
+off_wire : (f : Fact) (packets : List Packet) → is_own f ≡ true → wire_step packets f ≡ packets
 off_wire (fact.Sent k p) packets h = cc
 off_wire f packets h = refl
 
-off_fresh : (f : Fact) (fresh : List ℕ) → is_off_wire f ≡ true → fresh_step fresh f ≡ fresh
+off_fresh : (f : Fact) (fresh : List ℕ) → is_own f ≡ true → fresh_step fresh f ≡ fresh
 off_fresh (fact.Sent k p) fresh h = cc
 off_fresh (fact.Got k) fresh h = cc
 off_fresh f fresh h = refl
 
-off_full : (f : Fact) (full : Bool) → is_off_wire f ≡ true → full_step full f ≡ full
+off_full : (f : Fact) (full : Bool) → is_own f ≡ true → full_step full f ≡ full
 off_full fact.WireFull full h = cc
 off_full f full h = refl
 
@@ -188,10 +188,10 @@ packets_told_post : (b : Bool) (limit k : ℕ) (packets : List Packet) (p : Pack
 packets_told_post true limit k packets p is e others = rw e (others (packets ++ p ∷ []) ∙ append_assoc packets (p ∷ []) (posts_of limit (k + 1) is))
 packets_told_post false limit k packets p is e others = rw e (others packets)
 
-packets_told : (limit k : ℕ) (is : List Item) → list_all is_item_off_wire is ≡ true → (packets : List Packet) → fold wire_step packets (numbered limit k is) ≡ packets ++ posts_of limit k is
+packets_told : (limit k : ℕ) (is : List Item) → list_all is_own_item is ≡ true → (packets : List Packet) → fold wire_step packets (numbered limit k is) ≡ packets ++ posts_of limit k is
 packets_told limit k [] h packets = sym (append-nil packets)
 packets_told limit k (item.Fact f ∷ is) h packets =
-    let parts = and_parts (is_off_wire f) (list_all is_item_off_wire is) h in
+    let parts = and_parts (is_own f) (list_all is_own_item is) h in
     let same : wire_step packets f ≡ packets = off_wire f packets parts.0 in
     ap (λ x. fold wire_step x (numbered limit k is)) same ∙ packets_told limit k is parts.1 packets
 packets_told limit k (item.Post p ∷ is) h packets = packets_told_post (nat_lt k limit) limit k packets p is refl (packets_told limit (k + 1) is h)
@@ -204,10 +204,10 @@ fresh_told_post false limit k fresh p is e others =
     let told : fold fresh_step fresh (numbered limit (k + 1) is) ≡ fresh ++ [] = rw none at (others fresh) in
     rw (e, none) told
 
-fresh_told : (limit k : ℕ) (is : List Item) → list_all is_item_off_wire is ≡ true → (fresh : List ℕ) → fold fresh_step fresh (numbered limit k is) ≡ fresh ++ numbers (k + 1) (length (posts_of limit k is))
+fresh_told : (limit k : ℕ) (is : List Item) → list_all is_own_item is ≡ true → (fresh : List ℕ) → fold fresh_step fresh (numbered limit k is) ≡ fresh ++ numbers (k + 1) (length (posts_of limit k is))
 fresh_told limit k [] h fresh = sym (append-nil fresh)
 fresh_told limit k (item.Fact f ∷ is) h fresh =
-    let parts = and_parts (is_off_wire f) (list_all is_item_off_wire is) h in
+    let parts = and_parts (is_own f) (list_all is_own_item is) h in
     let same : fresh_step fresh f ≡ fresh = off_fresh f fresh parts.0 in
     ap (λ x. fold fresh_step x (numbered limit k is)) same ∙ fresh_told limit k is parts.1 fresh
 fresh_told limit k (item.Post p ∷ is) h fresh = fresh_told_post (nat_lt k limit) limit k fresh p is refl (fresh_told limit (k + 1) is h)
@@ -216,10 +216,10 @@ full_told_post : (b : Bool) (limit k : ℕ) (full : Bool) (p : Packet) (is : Lis
 full_told_post true limit k full p is e others = rw e others
 full_told_post false limit k full p is e others = rw e others
 
-full_told : (limit k : ℕ) (is : List Item) → list_all is_item_off_wire is ≡ true → (full : Bool) → fold full_step full (numbered limit k is) ≡ full
+full_told : (limit k : ℕ) (is : List Item) → list_all is_own_item is ≡ true → (full : Bool) → fold full_step full (numbered limit k is) ≡ full
 full_told limit k [] h full = refl
 full_told limit k (item.Fact f ∷ is) h full =
-    let parts = and_parts (is_off_wire f) (list_all is_item_off_wire is) h in
+    let parts = and_parts (is_own f) (list_all is_own_item is) h in
     let same : full_step full f ≡ full = off_full f full parts.0 in
     ap (λ x. fold full_step x (numbered limit k is)) same ∙ full_told limit k is parts.1 full
 full_told limit k (item.Post p ∷ is) h full = full_told_post (nat_lt k limit) limit k full p is refl (full_told limit (k + 1) is h full)

@@ -1,6 +1,6 @@
 -- Nodes that come up and go down: what the code keeps stands for the world after.
 use Rattle.std.proofs.Common.{◌≡◌, ℕ, zero, suc, ◌+◌, ◌-◌, ◌<◌, ◌≤◌, Bool, true, false, List, [], ◌∷◌, ◌++◌, length, refl, ap, sym, ◌∙◌, subst, arith, length-append}
-use Rattle.std.specs.Prelude.{map, nat_le, Option, Some, None, IfSome, slice_set, slice_index_or}
+use Rattle.std.specs.Prelude.{nat_le, Some, None, IfSome, slice_set, slice_index_or}
 use Rattle.std.specs.List.{list_all}
 use Rattle.std.proofs.lemmas.List.{map-set, length-map, get_or-set_other}
 use Rattle.std.proofs.lemmas.List.Folds.{list_all-append}
@@ -13,49 +13,22 @@ use Rattle.yard_model.specs.Members.{has_node, are_of_different_nodes}
 use Rattle.yard_model.specs.Node.{new_node}
 use Rattle.yard_model.specs.Script.{setting}
 use Rattle.yard_model.specs.Words.{at, is_among}
-use Rattle.yard_model.specs.World.{World, Made, Step, then_step, node_at}
+use Rattle.yard_model.specs.World.{World, Made, node_at}
 use Rattle.node_core.specs.Standing.{Standing}
 use Rattle.world_laws.specs.Standing.{IsThere}
 use Rattle.world_laws.proofs.Members.{all_among, different_last, node_of_some}
 use Rattle.world_laws.proofs.Place.{none_is_not_some, placed_at, placed_beside, by_place}
 use Rattle.world_laws.proofs.Room.{few_members, few_nodes}
-use Rattle.yard_laws.proofs.Booleans.{true_is_not_false, and_both, both, at_most}
+use Rattle.yard_laws.proofs.Booleans.{and_both, both, at_most}
+use Rattle.world_sim.proofs.PlaceLaws.{state_at}
 use Rattle.world_sim.specs.Steps.{entered, AreOneMore}
 use Rattle.world_sim.specs.Yard.{Yard, IsSeen, IsFirm, IsSound, Goes, state_in}
 
--- One step and then another.
-
-abbrev then_if : Made → Bool → Step → Made
-then_if m b q = elim b as (λ b. Made) [
-  | true ↦ m
-  | false ↦ let n : Made = q m.world in record { facts = m.facts ++ n.facts; world = n.world }
-]
-
-going : (m : Made) (q : Step) (b : Bool) → b ≡ false → then_if m b q ≡ record { facts = m.facts ++ (q m.world).facts; world = (q m.world).world }
-going m q false e = refl
-going m q true e = absurd (true_is_not_false e)
-
--- where the trace goes on after the one, both were made
-pub goes_then : (before mid after : List Fact) (y z : Yard) (m : Made) (q : Step) → Goes before mid y m → Goes mid after z (q m.world) → m.world.full ≡ false → Goes before after z (then_step m q)
-goes_then before mid after y z m q a b e = subst (λ n. Goes before after z n) (sym (going m q m.world.full e)) (record {
-  seen_is = b.seen_is;
-  facts_are = b.facts_are ∙ (ap (λ fs. fs ++ (q m.world).facts) a.facts_are ∙ append_three before m.facts (q m.world).facts);
-})
-  where
-    append_three : (xs ys zs : List Fact) → (xs ++ ys) ++ zs ≡ xs ++ (ys ++ zs)
-    append_three [] ys zs = refl
-    append_three (x ∷ xs) ys zs = ap (λ l. x ∷ l) (append_three xs ys zs)
-
 -- Places.
-
-pub at_map : (ys : List (Option Standing)) (k : ℕ) → at (map state_in ys) k ≡ state_in (at ys k)
-at_map [] k = refl
-at_map (y ∷ ys) zero = refl
-at_map (y ∷ ys) (suc k) = at_map ys k
 
 -- the world's node at a place is the state of the one that is kept there
 pub node_kept : (y : Yard) (w : World) (k : ℕ) → IsSeen y w → at w.nodes k ≡ state_in (at y.nodes k)
-node_kept y w k s = ap (λ ns. at ns k) (sym s.nodes_are) ∙ at_map y.nodes k
+node_kept y w k s = ap (λ ns. at ns k) (sym s.nodes_are) ∙ state_at y.nodes k
 
 -- whose trace goes on stands
 pub firm_of : (y : Yard) (w : World) → IsSound y w → IsFirm y w

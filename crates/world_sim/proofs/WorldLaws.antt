@@ -1,28 +1,22 @@
 -- A world, order by order.
 use Rattle.std.proofs.Common.{◌≡◌, ℕ, zero, suc, ◌+◌, ◌<◌, ◌≤◌, Bool, true, false, List, [], ◌∷◌, length, ap, sym, ◌∙◌, subst, arith}
 use Rattle.std.specs.Prelude.{slice_get, slice_index_or, Option, Some, None}
-use Rattle.std.specs.List.{list_all}
 use Rattle.yard_model.specs.declared.fact.Fact.{Fact}
 use Rattle.yard_model.specs.declared.charter.Line.{Line}
 use Rattle.yard_model.specs.Script.{Script, IsScript, is_order}
 use Rattle.yard_model.specs.World.{World, Made, play_line, wire_limit}
 use Rattle.world_laws.specs.Built.{is_built_order}
 use Rattle.world_laws.specs.Keeps.{are_built}
-use Rattle.world_laws.proofs.Place.{none_is_not_some, some_is}
+use Rattle.world_laws.proofs.Place.{none_is_not_some}
 use Rattle.world_laws.proofs.Play.{played_goes}
-use Rattle.yard_laws.proofs.Booleans.{and_both}
 use Rattle.world_sim.specs.declared.fault.StepFault.{StepFault}
 use Rattle.world_sim.specs.declared.fault.StepFault.TheVariants as fault
 use Rattle.world_sim.specs.Played.{Played, made_of, Told, Went, Filled}
 use Rattle.world_sim.specs.Steps.{AreOneMore}
 use Rattle.world_sim.specs.World.{IsWorld, IsAt, IsCounted, IsKept}
 use Rattle.world_sim.specs.Yard.{Yard, IsSeen, IsSound, Goes}
+use Rattle.world_sim.proofs.PlaceLaws.{all_got}
 use Rattle.world_sim.proofs.PlayedLaws.{made_next}
-
-got_all : {A : Type 0} (p : A → Bool) (xs : List A) (i : ℕ) (x : A) → list_all p xs ≡ true → slice_get xs i ≡ Some x → p x ≡ true
-got_all p [] i x all e = absurd (none_is_not_some x e)
-got_all p (y ∷ ys) zero x all e = ap p (sym (some_is y x e)) ∙ (and_both (p y) (list_all p ys) all).0
-got_all p (y ∷ ys) (suc i) x all e = got_all p ys i x (and_both (p y) (list_all p ys) all).1 e
 
 got_inside : {A : Type 0} (xs : List A) (i : ℕ) (x : A) → slice_get xs i ≡ Some x → i < length xs
 got_inside [] i x e = absurd (none_is_not_some x e)
@@ -41,10 +35,10 @@ sound_at y n f w e = record {
 }
 
 pub order_of_line : (y : Yard) (n : ℕ) (f : Option StepFault) (l : Line) → IsWorld y n f → slice_get y.script.orders n ≡ Some l → is_order y.script.config l.order ≡ true
-order_of_line y n f l w e = got_all (λ (l : Line). is_order y.script.config l.order) y.script.orders n l w.script_is.orders e
+order_of_line y n f l w e = all_got (λ (l : Line). is_order y.script.config l.order) y.script.orders n l w.script_is.orders e
 
 pub built_line : (y : Yard) (n : ℕ) (f : Option StepFault) (l : Line) → IsWorld y n f → slice_get y.script.orders n ≡ Some l → is_built_order l.order ≡ true
-built_line y n f l w e = got_all (λ (l : Line). is_built_order l.order) y.script.orders n l w.built e
+built_line y n f l w e = all_got (λ (l : Line). is_built_order l.order) y.script.orders n l w.built e
 
 pub version_fits : (y : Yard) (n : ℕ) (f : Option StepFault) (l : Line) → IsWorld y n f → f ≡ None → slice_get y.script.orders n ≡ Some l → y.version < 4000000000
 version_fits y n f l w e next =

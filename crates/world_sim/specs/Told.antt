@@ -33,16 +33,18 @@ all_told limit m =
       full = m.full;
     }
 
--- a fact that a node may tell: none of a packet's number, nor that the wire is full
-abbrev pub is_off_wire : Fact → Bool
-is_off_wire (fact.Sent k p) = false
-is_off_wire (fact.Got k) = false
-is_off_wire fact.WireFull = false
-is_off_wire f = true
+-- a fact that a node may tell: none of who is a member, none of a packet's number, nor that the wire is full
+abbrev pub is_own : Fact → Bool
+is_own (fact.Up x) = false
+is_own (fact.Gone x) = false
+is_own (fact.Sent k p) = false
+is_own (fact.Got k) = false
+is_own fact.WireFull = false
+is_own f = true
 
-abbrev pub is_item_off_wire : Item → Bool
-is_item_off_wire (item.Fact f) = is_off_wire f
-is_item_off_wire (item.Post p) = true
+abbrev pub is_own_item : Item → Bool
+is_own_item (item.Fact f) = is_own f
+is_own_item (item.Post p) = true
 
 -- what is posted of such items is what the facts told are to the world's packets
 pub record AreTold (limit : ℕ) (packets : List Packet) (fresh : List ℕ) (full : Bool) (is : List Item) : Type 0 where
@@ -51,16 +53,16 @@ pub record AreTold (limit : ℕ) (packets : List Packet) (fresh : List ℕ) (ful
   pub full_is : fold full_step full (facts_of limit (length packets) is) ≡ (full || is_past limit (length packets) is)
 
 abbrev pub ToldLaw : Type 0
-ToldLaw = (limit : ℕ) (packets : List Packet) (fresh : List ℕ) (full : Bool) (is : List Item) → list_all is_item_off_wire is ≡ true → AreTold limit packets fresh full is
+ToldLaw = (limit : ℕ) (packets : List Packet) (fresh : List ℕ) (full : Bool) (is : List Item) → list_all is_own_item is ≡ true → AreTold limit packets fresh full is
 
 -- and they are the world's facts of the items
 abbrev pub FactsLaw : Type 0
 FactsLaw = (w : World) (is : List Item) → input_facts w is ≡ facts_of w.limit (length w.wire) is
 
 -- what a node's turn gives is of that kind
-abbrev pub TurnIsOffWire : Type 0
-TurnIsOffWire = (sends : List (List Sending)) (lists : SlotLists) (i : Input) (st : Node) → list_all is_item_off_wire (items_of (turn sends lists i st)) ≡ true
+abbrev pub TurnIsOwn : Type 0
+TurnIsOwn = (sends : List (List Sending)) (lists : SlotLists) (i : Input) (st : Node) → list_all is_own_item (items_of (turn sends lists i st)) ≡ true
 
 -- and so are posts alone, as the views that the world posts
-abbrev pub PostsAreOffWire : Type 0
-PostsAreOffWire = (f : Incarnation → Packet) (xs : List Incarnation) → list_all is_item_off_wire (map (λ x. item.Post (f x)) xs) ≡ true
+abbrev pub PostsAreOwn : Type 0
+PostsAreOwn = (f : Incarnation → Packet) (xs : List Incarnation) → list_all is_own_item (map (λ x. item.Post (f x)) xs) ≡ true

@@ -1,7 +1,7 @@
 //! Laws of what mail tells. Each is a function that does nothing, whose contract is the law; a proof
 //! that needs it calls the function.
 ghost use Rattle.world_sim.specs.Played.{MadeNone, MadeNext, MadeFull, MadeAll};
-ghost use Rattle.world_sim.specs.Told.{FactsLaw, PostsAreOffWire, ToldLaw, TurnIsOffWire};
+ghost use Rattle.world_sim.specs.Told.{FactsLaw, PostsAreOwn, ToldLaw, TurnIsOwn};
 
 /// What is told of a turn's items is what the world's definition gives for them, and leads to the
 /// packets, the fresh numbers and the flag that the mail has: for items whose facts speak of no
@@ -12,12 +12,12 @@ pub fn told_law()
     ensures told { ToldLaw }
 {}
 
-/// The facts of a node's turn speak of no packet's number, nor that the wire is full; and posts
-/// alone tell no fact.
-#[tactic(auto, using(crate::proofs::OffWireLaws::turn_is_off_wire, crate::proofs::OffWireLaws::posts_are_off_wire))]
-pub fn off_wire_law()
-    ensures turn { TurnIsOffWire }
-    ensures posts { PostsAreOffWire }
+/// The facts of a node's turn are its own: none is of who is a member, of a packet's number, or that
+/// the wire is full; and posts alone tell no fact.
+#[tactic(auto, using(crate::proofs::OwnLaws::turn_is_own, crate::proofs::OwnLaws::posts_are_own))]
+pub fn own_law()
+    ensures turn { TurnIsOwn }
+    ensures posts { PostsAreOwn }
 {}
 
 /// None of the orders is played at first; one order more is played by the next world; a trace that

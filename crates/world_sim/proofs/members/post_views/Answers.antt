@@ -1,4 +1,4 @@
-use Rattle.std.proofs.Common.{◌≡◌, ◌+◌, ◌<◌, ◌≤◌, ◌++◌, suc, length, map, take, drop, ap, sym, ◌∙◌, subst, arith, append_assoc}
+use Rattle.std.proofs.Common.{◌≡◌, ◌+◌, ◌<◌, ◌++◌, suc, length, map, take, drop, ap, sym, ◌∙◌, subst, arith, append_assoc}
 use Rattle.world_sim.specs.Steps.{view_item}
 use Rattle.world_sim.proofs.MembersLaws.{map_one_more}
 use Rattle.world_sim.proofs.members.post_views.Goals as goal

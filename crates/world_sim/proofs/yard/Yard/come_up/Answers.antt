@@ -1,5 +1,5 @@
 use Rattle.world_sim.proofs.SeenLaws.{on_ok}
-use Rattle.world_sim.proofs.UpLaws.{goes_then}
+use Rattle.world_sim.proofs.DeliveryLaws.{goes_then}
 use Rattle.world_sim.specs.Steps.{entered}
 use Rattle.yard_model.specs.World.{views}
 use Rattle.world_sim.proofs.yard.Yard.come_up.Goals as goal
@@ -9,4 +9,4 @@ views-requires g c = let r = c.requires.world in record { world = ((entered c.ar
 
 pub returns-clause-goes : goal.returns-clause-goes
 returns-clause-goes g c = on_ok c.views.result c.views.ensures.goes
-    (λ h w s. let a = c.in_ok-enter.ensures.goes w s in goes_then _ _ _ _ _ (entered c.args.n w) views a (h _ a.seen_is) s.going_is)
+    (λ h w s. let a = c.in_ok-enter.ensures.goes w s in goes_then _ _ _ _ (entered c.args.n w) views s.going_is a.facts_are (h _ a.seen_is))

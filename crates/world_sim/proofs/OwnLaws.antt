@@ -1,4 +1,4 @@
--- What a node tells of its own never is of a packet's number, nor that the wire is full.
+-- What a node tells is its own: nothing of who is a member, of a packet's number, nor that the wire is full.
 use Rattle.std.proofs.Common.{◌≡◌, ℕ, ◌+◌, ◌-◌, Bool, true, false, not, ◌&&◌, ◌||◌, List, [], ◌∷◌, ◌++◌, map, filter, fold, length, refl, ap, ◌∙◌, nat_lt, nat_le, Option, Some, None, is_none, slice_index_or, if◌then◌else◌, ◌==◌, ◌/◌, ◌%◌}
 use Rattle.std.specs.List.{list_all, list_any, flat_map, sum_by}
 use Rattle.std.specs.Option.{option_and_then}
@@ -38,14 +38,14 @@ use Rattle.yard_model.specs.Coordinator as coordinator
 use Rattle.yard_model.specs.Coordinator.{Coordinator, Moving}
 use Rattle.yard_model.specs.Node as node
 use Rattle.yard_model.specs.Node.{Node, Act, Rule, by_region, by_entities, by_producer, by_coordinator, move_of, items_of}
-use Rattle.world_sim.specs.Told.{TurnIsOffWire, PostsAreOffWire, is_item_off_wire}
+use Rattle.world_sim.specs.Told.{TurnIsOwn, PostsAreOwn, is_own_item}
 
-abbrev is_off_move : Move → Bool
-is_off_move (made i) = is_item_off_wire i
-is_off_move m = true
+abbrev is_own_move : Move → Bool
+is_own_move (made i) = is_own_item i
+is_own_move m = true
 
-abbrev AreOff : List Move → Type 0
-AreOff ms = list_all is_off_move ms ≡ true
+abbrev AreOwn : List Move → Type 0
+AreOwn ms = list_all is_own_move ms ≡ true
 
 -- Moves or acts that are put together.
 
@@ -82,183 +82,183 @@ turn_each p after f (x ∷ xs) st h = join p (f x st) (for_each after f xs (fold
 
 -- The region.
 
-oldest_off : (b : Body) (st : Region) → AreOff (region.post_oldest b st)
-oldest_off b st = of_some is_off_move (λ x. post st.who x b ∷ []) (region.oldest st) (λ x. refl)
+oldest_off : (b : Body) (st : Region) → AreOwn (region.post_oldest b st)
+oldest_off b st = of_some is_own_move (λ x. post st.who x b ∷ []) (region.oldest st) (λ x. refl)
 
-keep_off : (m : Message) (st : Region) → AreOff (region.keep m st)
-keep_off m st = either is_off_move (nat_lt (sum_by length st.kept) st.set.config.buffer) (told (fact.Kept st.who m) ∷ []) (told (fact.Dropped st.who m) ∷ []) refl refl
+keep_off : (m : Message) (st : Region) → AreOwn (region.keep m st)
+keep_off m st = either is_own_move (nat_lt (sum_by length st.kept) st.set.config.buffer) (told (fact.Kept st.who m) ∷ []) (told (fact.Dropped st.who m) ∷ []) refl refl
 
-ask_off : (s : ℕ) (st : Region) → AreOff (region.ask s st)
-ask_off s st = either is_off_move (slice_index_or st.asked s false) [] (region.post_oldest (body.GetShardHome s) st) refl (oldest_off (body.GetShardHome s) st)
+ask_off : (s : ℕ) (st : Region) → AreOwn (region.ask s st)
+ask_off s st = either is_own_move (slice_index_or st.asked s false) [] (region.post_oldest (body.GetShardHome s) st) refl (oldest_off (body.GetShardHome s) st)
 
-route_off : (m : Message) (st : Region) (o : Option Incarnation) → AreOff (region.route_by m st o)
-route_off m st None = join is_off_move (region.keep m st) (region.ask (shard_of st.set m.entity) st) (keep_off m st) (ask_off (shard_of st.set m.entity) st)
-route_off m st (Some h) = either is_off_move (is_same h st.who) (region.keep m st) (post st.who h (body.Sequenced m) ∷ []) (keep_off m st) refl
+route_off : (m : Message) (st : Region) (o : Option Incarnation) → AreOwn (region.route_by m st o)
+route_off m st None = join is_own_move (region.keep m st) (region.ask (shard_of st.set m.entity) st) (keep_off m st) (ask_off (shard_of st.set m.entity) st)
+route_off m st (Some h) = either is_own_move (is_same h st.who) (region.keep m st) (post st.who h (body.Sequenced m) ∷ []) (keep_off m st) refl
 
-register_off : (st : Region) → AreOff (region.register st)
-register_off st = of_some is_off_move (λ x. if is_at x st.registered then [] else post st.who x body.Register ∷ []) (region.oldest st) (λ x. either is_off_move (is_at x st.registered) [] (post st.who x body.Register ∷ []) refl refl)
+register_off : (st : Region) → AreOwn (region.register st)
+register_off st = of_some is_own_move (λ x. if is_at x st.registered then [] else post st.who x body.Register ∷ []) (region.oldest st) (λ x. either is_own_move (is_at x st.registered) [] (post st.who x body.Register ∷ []) refl refl)
 
-forget_off : (s : ℕ) (st : Region) → AreOff (region.forget s st)
-forget_off s st = either is_off_move (is_none (region.home st s)) [] (told (fact.Forget st.who s) ∷ []) refl refl
+forget_off : (s : ℕ) (st : Region) → AreOwn (region.forget s st)
+forget_off s st = either is_own_move (is_none (region.home st s)) [] (told (fact.Forget st.who s) ∷ []) refl refl
 
-lost_off : (xs : List Incarnation) (st : Region) (s : ℕ) → AreOff (region.forget_lost xs st s)
-lost_off xs st s = of_some is_off_move (λ h. if is_among h xs then [] else region.forget s st) (region.home st s) (λ h. either is_off_move (is_among h xs) [] (region.forget s st) refl (forget_off s st))
+lost_off : (xs : List Incarnation) (st : Region) (s : ℕ) → AreOwn (region.forget_lost xs st s)
+lost_off xs st s = of_some is_own_move (λ h. if is_among h xs then [] else region.forget s st) (region.home st s) (λ h. either is_own_move (is_among h xs) [] (region.forget s st) refl (forget_off s st))
 
-begin_hand_off_off : (s : ℕ) (stamp : Stamp) (from : Incarnation) (st : Region) → AreOff (region.begin_hand_off s stamp from st)
+begin_hand_off_off : (s : ℕ) (stamp : Stamp) (from : Incarnation) (st : Region) → AreOwn (region.begin_hand_off s stamp from st)
 begin_hand_off_off s stamp from st =
     let told_home : List Move = if is_below (region.mark st s) stamp then marked s stamp ∷ region.forget s st else [] in
     let answer : List Move = post st.who from (body.BeginHandOffAck s stamp) ∷ [] in
-    either is_off_move (is_below stamp (region.mark st s)) [] (told_home ++ answer) refl
-    (join is_off_move told_home answer (either is_off_move (is_below (region.mark st s) stamp) (marked s stamp ∷ region.forget s st) [] (forget_off s st) refl) refl)
+    either is_own_move (is_below stamp (region.mark st s)) [] (told_home ++ answer) refl
+    (join is_own_move told_home answer (either is_own_move (is_below (region.mark st s) stamp) (marked s stamp ∷ region.forget s st) [] (forget_off s st) refl) refl)
 
-again_off : (st : Region) (s : ℕ) → AreOff (region.ask_again st s)
-again_off st s = either is_off_move (is_none (region.home st s) && not (is_empty (region.kept_of st.kept s))) (region.post_oldest (body.GetShardHome s) st) [] (oldest_off (body.GetShardHome s) st) refl
+again_off : (st : Region) (s : ℕ) → AreOwn (region.ask_again st s)
+again_off st s = either is_own_move (is_none (region.home st s) && not (is_empty (region.kept_of st.kept s))) (region.post_oldest (body.GetShardHome s) st) [] (oldest_off (body.GetShardHome s) st) refl
 
-tick_off : (st : Region) → AreOff (region.tick_region st)
+tick_off : (st : Region) → AreOwn (region.tick_region st)
 tick_off st =
     let goes : List Move = if st.leaving && region.is_some_home st then region.post_oldest body.GracefulShutdownReq st else [] in
-    join is_off_move (region.register st ++ goes) (flat_map (region.ask_again st) (shards st.set))
-    (join is_off_move (region.register st) goes (register_off st) (either is_off_move (st.leaving && region.is_some_home st) (region.post_oldest body.GracefulShutdownReq st) [] (oldest_off body.GracefulShutdownReq st) refl))
-    (of_each is_off_move (region.ask_again st) (shards st.set) (again_off st))
+    join is_own_move (region.register st ++ goes) (flat_map (region.ask_again st) (shards st.set))
+    (join is_own_move (region.register st) goes (register_off st) (either is_own_move (st.leaving && region.is_some_home st) (region.post_oldest body.GracefulShutdownReq st) [] (oldest_off body.GracefulShutdownReq st) refl))
+    (of_each is_own_move (region.ask_again st) (shards st.set) (again_off st))
 
 -- Producers.
 
-acquire_off : (s : Slot) (who : Incarnation) (list : List Fact) (o : Option Incarnation) → AreOff (node.acquire_by s who list o)
+acquire_off : (s : Slot) (who : Incarnation) (list : List Fact) (o : Option Incarnation) → AreOwn (node.acquire_by s who list o)
 acquire_off s who list None = refl
 acquire_off s who list (Some h) = refl
 
-confirm_off : (e : List ℕ) (n : ℕ) (st : Producer) → AreOff (producer.confirm e n st)
-confirm_off e n st = either is_off_move (nat_lt (confirmed e st.entries) n) _ _ refl refl
+confirm_off : (e : List ℕ) (n : ℕ) (st : Producer) → AreOwn (producer.confirm e n st)
+confirm_off e n st = either is_own_move (nat_lt (confirmed e st.entries) n) _ _ refl refl
 
 -- Entities.
 
-remembered_off : (s : ℕ) (st : Entities) → AreOff (entities.start_remembered s st)
-remembered_off s st = either is_off_move (st.set.config.remember) _ _ (of_each is_off_move (λ e. entities.start_entity e st) (filter (λ e. is_remembered e (entities.entries st e)) (names_of st.set s)) (λ e. refl)) refl
+remembered_off : (s : ℕ) (st : Entities) → AreOwn (entities.start_remembered s st)
+remembered_off s st = either is_own_move (st.set.config.remember) _ _ (of_each is_own_move (λ e. entities.start_entity e st) (filter (λ e. is_remembered e (entities.entries st e)) (names_of st.set s)) (λ e. refl)) refl
 
-stash_off : (m : Message) (st : Entities) → AreOff (entities.stash_message m st)
-stash_off m st = either is_off_move (nat_lt (length (entities.cell st m.entity).stash) st.set.config.window) _ _ refl refl
+stash_off : (m : Message) (st : Entities) → AreOwn (entities.stash_message m st)
+stash_off m st = either is_own_move (nat_lt (length (entities.cell st m.entity).stash) st.set.config.window) _ _ refl refl
 
-snapshot_off : (e : List ℕ) (n : ℕ) (st : Entities) → AreOff (entities.snapshot_at e n st)
-snapshot_off e n st = either is_off_move (n % st.set.config.snapshot == 0) _ _ refl refl
+snapshot_off : (e : List ℕ) (n : ℕ) (st : Entities) → AreOwn (entities.snapshot_at e n st)
+snapshot_off e n st = either is_own_move (n % st.set.config.snapshot == 0) _ _ refl refl
 
-ask_more_off : (m : Message) (pos : ℕ) (st : Entities) → AreOff (entities.ask_more m pos st)
-ask_more_off m pos st = either is_off_move (nat_le (slice_index_or (entities.cell st m.entity).reach (m.producer - 1) 0) (pos + st.set.config.window / 2)) _ _ refl refl
+ask_more_off : (m : Message) (pos : ℕ) (st : Entities) → AreOwn (entities.ask_more m pos st)
+ask_more_off m pos st = either is_own_move (nat_le (slice_index_or (entities.cell st m.entity).reach (m.producer - 1) 0) (pos + st.set.config.window / 2)) _ _ refl refl
 
-write_off : (m : Message) (r : Record) (pos : ℕ) (st : Entities) (o : Option Keep) → AreOff (entities.write m r pos st o)
+write_off : (m : Message) (r : Record) (pos : ℕ) (st : Entities) (o : Option Keep) → AreOwn (entities.write m r pos st o)
 write_off m r pos st (Some keep.Lost) = refl
 write_off m r pos st (Some keep.Kept) = refl
-write_off m r pos st None = join is_off_move (entities.snapshot_at m.entity r.number st) (post st.who m.origin (body.Ack m.producer m.entity pos) ∷ entities.ask_more m pos st) (snapshot_off m.entity r.number st) (ask_more_off m pos st)
+write_off m r pos st None = join is_own_move (entities.snapshot_at m.entity r.number st) (post st.who m.origin (body.Ack m.producer m.entity pos) ∷ entities.ask_more m pos st) (snapshot_off m.entity r.number st) (ask_more_off m pos st)
 
-deliver_at_off : (m : Message) (pos : ℕ) (records : List Record) (st : Entities) → AreOff (entities.deliver_at m pos records st)
-deliver_at_off m pos records st = either is_off_move (nat_le m.number pos) _ _ refl (either is_off_move (nat_lt (pos + 1) m.number) _ _ refl (write_off m (entities.record_of m st records) (pos + 1) st (entities.cell st m.entity).armed))
+deliver_at_off : (m : Message) (pos : ℕ) (records : List Record) (st : Entities) → AreOwn (entities.deliver_at m pos records st)
+deliver_at_off m pos records st = either is_own_move (nat_le m.number pos) _ _ refl (either is_own_move (nat_lt (pos + 1) m.number) _ _ refl (write_off m (entities.record_of m st records) (pos + 1) st (entities.cell st m.entity).armed))
 
-deliver_by_off : (m : Message) (st : Entities) (p : Phase) → AreOff (entities.deliver_by m st p)
+deliver_by_off : (m : Message) (st : Entities) (p : Phase) → AreOwn (entities.deliver_by m st p)
 deliver_by_off m st phase.Absent = refl
 deliver_by_off m st phase.Active = (let records : List Record = journal m.entity (entities.entries st m.entity) in deliver_at_off m (position m.producer records) records st)
 deliver_by_off m st phase.Loading = stash_off m st
 deliver_by_off m st phase.Stopping = stash_off m st
 
-deliver_off : (m : Message) (st : Entities) → AreOff (entities.deliver m st)
+deliver_off : (m : Message) (st : Entities) → AreOwn (entities.deliver m st)
 deliver_off m st = deliver_by_off m st (entities.cell st m.entity).phase
 
-remember_off : (e : List ℕ) (st : Entities) → AreOff (entities.remember e st)
-remember_off e st = either is_off_move (st.set.config.remember && not (is_remembered e (entities.entries st e))) _ _ refl refl
+remember_off : (e : List ℕ) (st : Entities) → AreOwn (entities.remember e st)
+remember_off e st = either is_own_move (st.set.config.remember && not (is_remembered e (entities.entries st e))) _ _ refl refl
 
-recovered_off : (e : List ℕ) (st : Entities) → AreOff (entities.recovered e st)
-recovered_off e st = either is_off_move (entities.is_in_phase phase.Loading st e) _ _ (turn_both is_off_move entities.entities_after (entities.activate e) (for_each entities.entities_after entities.deliver (entities.cell st e).stash) st (remember_off e) (λ st2. turn_each is_off_move entities.entities_after entities.deliver (entities.cell st e).stash st2 deliver_off)) refl
+recovered_off : (e : List ℕ) (st : Entities) → AreOwn (entities.recovered e st)
+recovered_off e st = either is_own_move (entities.is_in_phase phase.Loading st e) _ _ (turn_both is_own_move entities.entities_after (entities.activate e) (for_each entities.entities_after entities.deliver (entities.cell st e).stash) st (remember_off e) (λ st2. turn_each is_own_move entities.entities_after entities.deliver (entities.cell st e).stash st2 deliver_off)) refl
 
-passivate_off : (e : List ℕ) (st : Entities) → AreOff (entities.passivate e st)
-passivate_off e st = either is_off_move (entities.is_in_phase phase.Active st e) _ _ refl refl
+passivate_off : (e : List ℕ) (st : Entities) → AreOwn (entities.passivate e st)
+passivate_off e st = either is_own_move (entities.is_in_phase phase.Active st e) _ _ refl refl
 
-free_if_left_off : (s : ℕ) (st : Entities) → AreOff (entities.free_if_left s st)
-free_if_left_off s st = of_some is_off_move _ (option_and_then (λ h. h.stopping) (entities.hosted st s)) (λ k. either is_off_move (is_empty (entities.entities_of st s)) _ _ refl refl)
+free_if_left_off : (s : ℕ) (st : Entities) → AreOwn (entities.free_if_left s st)
+free_if_left_off s st = of_some is_own_move _ (option_and_then (λ h. h.stopping) (entities.hosted st s)) (λ k. either is_own_move (is_empty (entities.entities_of st s)) _ _ refl refl)
 
-entities_hand_off_off : (s : ℕ) (stamp : Stamp) (from : Incarnation) (st : Entities) → AreOff (entities.hand_off s stamp from st)
-entities_hand_off_off s stamp from st = turn_both is_off_move entities.entities_after (λ st. handed_off s stamp from ∷ map (λ e. post st.who st.who (body.StopEntity e)) (entities.entities_of st s)) (entities.free_if_left s) st (λ st. of_map is_off_move (λ e. post st.who st.who (body.StopEntity e)) (entities.entities_of st s) (λ e. refl)) (free_if_left_off s)
+entities_hand_off_off : (s : ℕ) (stamp : Stamp) (from : Incarnation) (st : Entities) → AreOwn (entities.hand_off s stamp from st)
+entities_hand_off_off s stamp from st = turn_both is_own_move entities.entities_after (λ st. handed_off s stamp from ∷ map (λ e. post st.who st.who (body.StopEntity e)) (entities.entities_of st s)) (entities.free_if_left s) st (λ st. of_map is_own_move (λ e. post st.who st.who (body.StopEntity e)) (entities.entities_of st s) (λ e. refl)) (free_if_left_off s)
 
-forget_passivated_off : (e : List ℕ) (st : Entities) → AreOff (entities.forget_passivated e st)
-forget_passivated_off e st = either is_off_move ((entities.cell st e).passivating && is_remembered e (entities.entries st e)) _ _ refl refl
+forget_passivated_off : (e : List ℕ) (st : Entities) → AreOwn (entities.forget_passivated e st)
+forget_passivated_off e st = either is_own_move ((entities.cell st e).passivating && is_remembered e (entities.entries st e)) _ _ refl refl
 
-drop_stash_off : (e : List ℕ) (st : Entities) → AreOff (entities.drop_stash e st)
-drop_stash_off e st = of_map is_off_move (λ m. told (fact.Dropped st.who m)) (entities.cell st e).stash (λ m. refl)
+drop_stash_off : (e : List ℕ) (st : Entities) → AreOwn (entities.drop_stash e st)
+drop_stash_off e st = of_map is_own_move (λ m. told (fact.Dropped st.who m)) (entities.cell st e).stash (λ m. refl)
 
-after_stop_off : (e : List ℕ) (st : Entities) → AreOff (entities.after_stop e st)
-after_stop_off e st = either is_off_move (entities.is_running st (shard_of st.set e)) _ _ (either is_off_move (is_empty (entities.cell st e).stash) _ _ refl refl) (turn_both is_off_move entities.entities_after (entities.drop_stash e) (entities.free_if_left (shard_of st.set e)) st (drop_stash_off e) (free_if_left_off (shard_of st.set e)))
+after_stop_off : (e : List ℕ) (st : Entities) → AreOwn (entities.after_stop e st)
+after_stop_off e st = either is_own_move (entities.is_running st (shard_of st.set e)) _ _ (either is_own_move (is_empty (entities.cell st e).stash) _ _ refl refl) (turn_both is_own_move entities.entities_after (entities.drop_stash e) (entities.free_if_left (shard_of st.set e)) st (drop_stash_off e) (free_if_left_off (shard_of st.set e)))
 
-stop_off : (e : List ℕ) (st : Entities) → AreOff (entities.stop e st)
-stop_off e st = either is_off_move (entities.is_in_phase phase.Stopping st e) _ _ (turn_both is_off_move entities.entities_after (λ st. told (fact.Stop st.who e) ∷ entities.forget_passivated e st) (entities.after_stop e) st (forget_passivated_off e) (after_stop_off e)) refl
+stop_off : (e : List ℕ) (st : Entities) → AreOwn (entities.stop e st)
+stop_off e st = either is_own_move (entities.is_in_phase phase.Stopping st e) _ _ (turn_both is_own_move entities.entities_after (λ st. told (fact.Stop st.who e) ∷ entities.forget_passivated e st) (entities.after_stop e) st (forget_passivated_off e) (after_stop_off e)) refl
 
-remind_off : (e : List ℕ) (st : Entities) (p : Phase) → AreOff (entities.remind_by e st p)
+remind_off : (e : List ℕ) (st : Entities) (p : Phase) → AreOwn (entities.remind_by e st p)
 remind_off e st phase.Loading = refl
 remind_off e st phase.Stopping = refl
 remind_off e st phase.Absent = refl
 remind_off e st phase.Active = refl
 
-entities_tick_off : (st : Entities) → AreOff (entities.tick_entities st)
-entities_tick_off st = of_each is_off_move _ (shards st.set) (λ s. of_each is_off_move _ (entities.entities_of st s) (λ e. remind_off e st (entities.cell st e).phase))
+entities_tick_off : (st : Entities) → AreOwn (entities.tick_entities st)
+entities_tick_off st = of_each is_own_move _ (shards st.set) (λ s. of_each is_own_move _ (entities.entities_of st s) (λ e. remind_off e st (entities.cell st e).phase))
 
 -- The coordinator.
 
-allocate_off : (s : ℕ) (st : Coordinator) → AreOff (coordinator.allocate s st)
-allocate_off s st = of_some is_off_move _ (coordinator.smallest (coordinator.shares st)) (λ x. refl)
+allocate_off : (s : ℕ) (st : Coordinator) → AreOwn (coordinator.allocate s st)
+allocate_off s st = of_some is_own_move _ (coordinator.smallest (coordinator.shares st)) (λ x. refl)
 
-begin_off : (ss : List ℕ) (st : Coordinator) → AreOff (coordinator.begin ss st)
+begin_off : (ss : List ℕ) (st : Coordinator) → AreOwn (coordinator.begin ss st)
 begin_off ss st =
     let next : Stamp = coordinator.stamp_of st.entries (st.begun + 1) in
-    of_each is_off_move (λ s. told (fact.Moving s next) ∷ map (λ r. post st.who r (body.BeginHandOff s next)) (coordinator.registered st)) ss (λ s. of_map is_off_move (λ r. post st.who r (body.BeginHandOff s next)) (coordinator.registered st) (λ r. refl))
+    of_each is_own_move (λ s. told (fact.Moving s next) ∷ map (λ r. post st.who r (body.BeginHandOff s next)) (coordinator.registered st)) ss (λ s. of_map is_own_move (λ r. post st.who r (body.BeginHandOff s next)) (coordinator.registered st) (λ r. refl))
 
-hand_off_off : (st : Coordinator) (x : Moving) → AreOff (coordinator.hand_off st x)
-hand_off_off st x = of_some is_off_move _ x.owner (λ o. refl)
+hand_off_off : (st : Coordinator) (x : Moving) → AreOwn (coordinator.hand_off st x)
+hand_off_off st x = of_some is_own_move _ x.owner (λ o. refl)
 
-if_last_off : (r : Incarnation) (st : Coordinator) (x : Moving) → AreOff (coordinator.hand_off_if_last r st x)
-if_last_off r st x = either is_off_move (is_among r x.awaited && is_empty (without r x.awaited)) _ _ (hand_off_off st x) refl
+if_last_off : (r : Incarnation) (st : Coordinator) (x : Moving) → AreOwn (coordinator.hand_off_if_last r st x)
+if_last_off r st x = either is_own_move (is_among r x.awaited && is_empty (without r x.awaited)) _ _ (hand_off_off st x) refl
 
-terminate_off : (r : Incarnation) (st : Coordinator) → AreOff (coordinator.terminate r st)
-terminate_off r st = of_each is_off_move _ st.moving (λ x. either is_off_move (is_at r x.owner) _ _ refl (if_last_off r st x))
+terminate_off : (r : Incarnation) (st : Coordinator) → AreOwn (coordinator.terminate r st)
+terminate_off r st = of_each is_own_move _ st.moving (λ x. either is_own_move (is_at r x.owner) _ _ refl (if_last_off r st x))
 
-rebalance_off : (n : ℕ) (st : Coordinator) → AreOff (coordinator.rebalance n st)
-rebalance_off n st = either is_off_move (not (is_empty st.moving) || is_empty (coordinator.picked n st)) _ _ refl (begin_off (coordinator.picked n st) st)
+rebalance_off : (n : ℕ) (st : Coordinator) → AreOwn (coordinator.rebalance n st)
+rebalance_off n st = either is_own_move (not (is_empty st.moving) || is_empty (coordinator.picked n st)) _ _ refl (begin_off (coordinator.picked n st) st)
 
-lost_regions_off : (view : List Incarnation) (st : Coordinator) → AreOff (coordinator.terminate_lost view st)
-lost_regions_off view st = turn_each is_off_move coordinator.coordinator_after coordinator.terminate _ st terminate_off
+lost_regions_off : (view : List Incarnation) (st : Coordinator) → AreOwn (coordinator.terminate_lost view st)
+lost_regions_off view st = turn_each is_own_move coordinator.coordinator_after coordinator.terminate _ st terminate_off
 
-hand_off_again_off : (st : Coordinator) (x : Moving) → AreOff (coordinator.hand_off_again st x)
-hand_off_again_off st x = either is_off_move (is_empty x.awaited) _ _ (hand_off_off st x) (of_map is_off_move (λ r. post st.who r (body.BeginHandOff x.shard (coordinator.stamp st))) x.awaited (λ r. refl))
+hand_off_again_off : (st : Coordinator) (x : Moving) → AreOwn (coordinator.hand_off_again st x)
+hand_off_again_off st x = either is_own_move (is_empty x.awaited) _ _ (hand_off_off st x) (of_map is_own_move (λ r. post st.who r (body.BeginHandOff x.shard (coordinator.stamp st))) x.awaited (λ r. refl))
 
-quitting_off : (st : Coordinator) → AreOff (coordinator.begin_quitting st)
-quitting_off st = either is_off_move (is_empty (coordinator.staying st)) _ _ refl (begin_off _ st)
+quitting_off : (st : Coordinator) → AreOwn (coordinator.begin_quitting st)
+quitting_off st = either is_own_move (is_empty (coordinator.staying st)) _ _ refl (begin_off _ st)
 
-host_again_off : (st : Coordinator) (s : ℕ) → AreOff (coordinator.host_again st s)
-host_again_off st s = of_some is_off_move _ (coordinator.home_of st s) (λ h. either is_off_move (coordinator.is_moving st s || slice_index_or st.started s false) _ _ refl refl)
+host_again_off : (st : Coordinator) (s : ℕ) → AreOwn (coordinator.host_again st s)
+host_again_off st s = of_some is_own_move _ (coordinator.home_of st s) (λ h. either is_own_move (coordinator.is_moving st s || slice_index_or st.started s false) _ _ refl refl)
 
-coordinator_tick_off : (st : Coordinator) → AreOff (coordinator.tick_coordinator st)
-coordinator_tick_off st = turn_both is_off_move coordinator.coordinator_after (λ st. if is_empty st.moving then coordinator.begin_quitting st else flat_map (coordinator.hand_off_again st) st.moving) (λ st. flat_map (coordinator.host_again st) (shards st.set)) st (λ st. either is_off_move (is_empty st.moving) (coordinator.begin_quitting st) (flat_map (coordinator.hand_off_again st) st.moving) (quitting_off st) (of_each is_off_move (coordinator.hand_off_again st) st.moving (hand_off_again_off st))) (λ st. of_each is_off_move (coordinator.host_again st) (shards st.set) (host_again_off st))
+coordinator_tick_off : (st : Coordinator) → AreOwn (coordinator.tick_coordinator st)
+coordinator_tick_off st = turn_both is_own_move coordinator.coordinator_after (λ st. if is_empty st.moving then coordinator.begin_quitting st else flat_map (coordinator.hand_off_again st) st.moving) (λ st. flat_map (coordinator.host_again st) (shards st.set)) st (λ st. either is_own_move (is_empty st.moving) (coordinator.begin_quitting st) (flat_map (coordinator.hand_off_again st) st.moving) (quitting_off st) (of_each is_own_move (coordinator.hand_off_again st) st.moving (hand_off_again_off st))) (λ st. of_each is_own_move (coordinator.host_again st) (shards st.set) (host_again_off st))
 
-register_from_off : (from : Incarnation) (view : List Incarnation) (st : Coordinator) → AreOff (coordinator.register_from from view st)
+register_from_off : (from : Incarnation) (view : List Incarnation) (st : Coordinator) → AreOwn (coordinator.register_from from view st)
 register_from_off from view st =
     let new : List Move = if is_among from (coordinator.registered st) then [] else told (fact.Registered from) ∷ [] in
     let answer : List Move = post st.who from body.RegisterAck ∷ [] in
-    either is_off_move (is_among from view) (new ++ answer) [] (join is_off_move new answer (either is_off_move (is_among from (coordinator.registered st)) [] (told (fact.Registered from) ∷ []) refl refl) refl) refl
+    either is_own_move (is_among from view) (new ++ answer) [] (join is_own_move new answer (either is_own_move (is_among from (coordinator.registered st)) [] (told (fact.Registered from) ∷ []) refl refl) refl) refl
 
-tell_home_off : (from : Incarnation) (s : ℕ) (st : Coordinator) → AreOff (coordinator.tell_home from s st)
-tell_home_off from s st = of_some is_off_move _ (coordinator.home_of st s) (λ h. refl)
+tell_home_off : (from : Incarnation) (s : ℕ) (st : Coordinator) → AreOwn (coordinator.tell_home from s st)
+tell_home_off from s st = of_some is_own_move _ (coordinator.home_of st s) (λ h. refl)
 
-get_home_off : (from : Incarnation) (s : ℕ) (st : Coordinator) → AreOff (coordinator.get_home from s st)
-get_home_off from s st = either is_off_move (is_among from (coordinator.registered st) && not (coordinator.is_moving st s)) _ _ (turn_both is_off_move coordinator.coordinator_after (λ st. if is_none (coordinator.home_of st s) then coordinator.allocate s st else []) (coordinator.tell_home from s) st (λ st. either is_off_move (is_none (coordinator.home_of st s)) (coordinator.allocate s st) [] (allocate_off s st) refl) (tell_home_off from s)) refl
+get_home_off : (from : Incarnation) (s : ℕ) (st : Coordinator) → AreOwn (coordinator.get_home from s st)
+get_home_off from s st = either is_own_move (is_among from (coordinator.registered st) && not (coordinator.is_moving st s)) _ _ (turn_both is_own_move coordinator.coordinator_after (λ st. if is_none (coordinator.home_of st s) then coordinator.allocate s st else []) (coordinator.tell_home from s) st (λ st. either is_own_move (is_none (coordinator.home_of st s)) (coordinator.allocate s st) [] (allocate_off s st) refl) (tell_home_off from s)) refl
 
-shard_started_off : (from : Incarnation) (s : ℕ) (st : Coordinator) → AreOff (coordinator.shard_started from s st)
-shard_started_off from s st = either is_off_move (is_at from (coordinator.home_of st s)) _ _ refl refl
+shard_started_off : (from : Incarnation) (s : ℕ) (st : Coordinator) → AreOwn (coordinator.shard_started from s st)
+shard_started_off from s st = either is_own_move (is_at from (coordinator.home_of st s)) _ _ refl refl
 
-quit_off : (from : Incarnation) (st : Coordinator) → AreOff (coordinator.quit from st)
-quit_off from st = either is_off_move (is_among from (coordinator.registered st)) _ _ (turn_both is_off_move coordinator.coordinator_after (λ st. quits from ∷ []) (λ st. if is_empty st.moving && not (is_empty (coordinator.staying st)) then coordinator.begin (coordinator.homes_at st from) st else []) st (λ st. refl) (λ st. either is_off_move (is_empty st.moving && not (is_empty (coordinator.staying st))) (coordinator.begin (coordinator.homes_at st from) st) [] (begin_off (coordinator.homes_at st from) st) refl)) refl
+quit_off : (from : Incarnation) (st : Coordinator) → AreOwn (coordinator.quit from st)
+quit_off from st = either is_own_move (is_among from (coordinator.registered st)) _ _ (turn_both is_own_move coordinator.coordinator_after (λ st. quits from ∷ []) (λ st. if is_empty st.moving && not (is_empty (coordinator.staying st)) then coordinator.begin (coordinator.homes_at st from) st else []) st (λ st. refl) (λ st. either is_own_move (is_empty st.moving && not (is_empty (coordinator.staying st))) (coordinator.begin (coordinator.homes_at st from) st) [] (begin_off (coordinator.homes_at st from) st) refl)) refl
 
-acknowledge_off : (from : Incarnation) (s : ℕ) (given : Stamp) (st : Coordinator) → AreOff (coordinator.acknowledge from s given st)
-acknowledge_off from s given st = of_each is_off_move _ (coordinator.moving_at s given st) (λ x. either is_off_move (is_among from x.awaited) _ _ (if_last_off from st x) refl)
+acknowledge_off : (from : Incarnation) (s : ℕ) (given : Stamp) (st : Coordinator) → AreOwn (coordinator.acknowledge from s given st)
+acknowledge_off from s given st = of_each is_own_move _ (coordinator.moving_at s given st) (λ x. either is_own_move (is_among from x.awaited) _ _ (if_last_off from st x) refl)
 
-shard_stopped_off : (from : Incarnation) (s : ℕ) (given : Stamp) (st : Coordinator) → AreOff (coordinator.shard_stopped from s given st)
-shard_stopped_off from s given st = either is_off_move (list_any (λ (x : Moving). is_empty x.awaited && is_at from x.owner) (coordinator.moving_at s given st)) _ _ (turn_both is_off_move coordinator.coordinator_after (λ st. told (fact.Deallocated s) ∷ []) (coordinator.allocate s) st (λ st. refl) (allocate_off s)) refl
+shard_stopped_off : (from : Incarnation) (s : ℕ) (given : Stamp) (st : Coordinator) → AreOwn (coordinator.shard_stopped from s given st)
+shard_stopped_off from s given st = either is_own_move (list_any (λ (x : Moving). is_empty x.awaited && is_at from x.owner) (coordinator.moving_at s given st)) _ _ (turn_both is_own_move coordinator.coordinator_after (λ st. told (fact.Deallocated s) ∷ []) (coordinator.allocate s) st (λ st. refl) (allocate_off s)) refl
 
-coordinate_off : (from : Incarnation) (b : Body) (view : List Incarnation) (st : Coordinator) → AreOff (coordinator.coordinate from b view st)
+coordinate_off : (from : Incarnation) (b : Body) (view : List Incarnation) (st : Coordinator) → AreOwn (coordinator.coordinate from b view st)
 coordinate_off from body.Register view st = register_from_off from view st
 coordinate_off from (body.GetShardHome s) view st = get_home_off from s st
 coordinate_off from (body.ShardStarted s) view st = shard_started_off from s st
@@ -270,7 +270,7 @@ coordinate_off from b view st = refl
 -- The node.
 
 abbrev is_off_act : Act → Bool
-is_off_act a = is_off_move (move_of a)
+is_off_act a = is_own_move (move_of a)
 
 abbrev ActsOff : List Act → Type 0
 ActsOff acts = list_all is_off_act acts ≡ true
@@ -282,34 +282,34 @@ abbrev RulesOff : List Rule → Type 0
 RulesOff [] = Unit {0}
 RulesOff (rule ∷ rules) = RuleOff rule × RulesOff rules
 
-acts_off : (by : Move → Act) → ((m : Move) → move_of (by m) ≡ m) → (ms : List Move) → AreOff ms → ActsOff (map by ms)
+acts_off : (by : Move → Act) → ((m : Move) → move_of (by m) ≡ m) → (ms : List Move) → AreOwn ms → ActsOff (map by ms)
 acts_off by e [] h = refl
 acts_off by e (m ∷ ms) h =
-    let parts = and_parts (is_off_move m) (list_all is_off_move ms) h in
-    both (is_off_move (move_of (by m))) (list_all is_off_act (map by ms)) (ap is_off_move (e m) ∙ parts.0) (acts_off by e ms parts.1)
+    let parts = and_parts (is_own_move m) (list_all is_own_move ms) h in
+    both (is_own_move (move_of (by m))) (list_all is_off_act (map by ms)) (ap is_own_move (e m) ∙ parts.0) (acts_off by e ms parts.1)
 
-region_acts : (ms : List Move) → AreOff ms → ActsOff (map by_region ms)
+region_acts : (ms : List Move) → AreOwn ms → ActsOff (map by_region ms)
 region_acts ms h = acts_off by_region (λ m. refl) ms h
 
-entities_acts : (ms : List Move) → AreOff ms → ActsOff (map by_entities ms)
+entities_acts : (ms : List Move) → AreOwn ms → ActsOff (map by_entities ms)
 entities_acts ms h = acts_off by_entities (λ m. refl) ms h
 
-coordinator_acts : (ms : List Move) → AreOff ms → ActsOff (map by_coordinator ms)
+coordinator_acts : (ms : List Move) → AreOwn ms → ActsOff (map by_coordinator ms)
 coordinator_acts ms h = acts_off by_coordinator (λ m. refl) ms h
 
-producer_acts : (p : ℕ) (ms : List Move) → AreOff ms → ActsOff (map (by_producer p) ms)
+producer_acts : (p : ℕ) (ms : List Move) → AreOwn ms → ActsOff (map (by_producer p) ms)
 producer_acts p ms h = acts_off (by_producer p) (λ m. refl) ms h
 
-region_rule : (f : Region → List Move) → ((r : Region) → AreOff (f r)) → RuleOff (node.of_region f)
+region_rule : (f : Region → List Move) → ((r : Region) → AreOwn (f r)) → RuleOff (node.of_region f)
 region_rule f h st = region_acts (f st.region) (h st.region)
 
-entities_rule : (f : Entities → List Move) → ((r : Entities) → AreOff (f r)) → RuleOff (node.of_entities f)
+entities_rule : (f : Entities → List Move) → ((r : Entities) → AreOwn (f r)) → RuleOff (node.of_entities f)
 entities_rule f h st = entities_acts (f st.entities) (h st.entities)
 
-producer_rule : (p : ℕ) (f : Producer → List Move) → ((k : Producer) → AreOff (f k)) → RuleOff (node.of_producer p f)
+producer_rule : (p : ℕ) (f : Producer → List Move) → ((k : Producer) → AreOwn (f k)) → RuleOff (node.of_producer p f)
 producer_rule p f h st = of_some is_off_act (λ k. map (by_producer p) (f k)) (at st.producers (p - 1)) (λ k. producer_acts p (f k) (h k))
 
-coordinator_rule : (f : Coordinator → List Move) → ((k : Coordinator) → AreOff (f k)) → RuleOff (node.of_coordinator f)
+coordinator_rule : (f : Coordinator → List Move) → ((k : Coordinator) → AreOwn (f k)) → RuleOff (node.of_coordinator f)
 coordinator_rule f h st = of_some is_off_act (λ k. map by_coordinator (f k)) st.coordinator (λ k. coordinator_acts (f k) (h k))
 
 in_order : (rules : List Rule) → RulesOff rules → RuleOff (node.all_in_turn rules)
@@ -352,7 +352,7 @@ start_again_rule : (lists : SlotLists) (s : ℕ) → RuleOff (node.start_again l
 start_again_rule lists s st = either is_off_act (region.is_home st.region s && not (entities.is_hosted st.entities s)) _ _ (in_order (node.start lists s ∷ node.release s ∷ []) (start_rule lists s, (release_rule s, tt)) st) refl
 
 send_again_rule : (p : ℕ) (e : List ℕ) → RuleOff (node.send_again p e)
-send_again_rule p e = in_order (node.of_producer p (λ k. map (pushed e) (producer.to_repeat e k)) ∷ node.route_numbers p e (producer.to_repeat e) ∷ []) (producer_rule p (λ k. map (pushed e) (producer.to_repeat e k)) (λ k. of_map is_off_move (pushed e) (producer.to_repeat e k) (λ n. refl)), (numbers_rule p e (producer.to_repeat e), tt))
+send_again_rule p e = in_order (node.of_producer p (λ k. map (pushed e) (producer.to_repeat e k)) ∷ node.route_numbers p e (producer.to_repeat e) ∷ []) (producer_rule p (λ k. map (pushed e) (producer.to_repeat e k)) (λ k. of_map is_own_move (pushed e) (producer.to_repeat e k) (λ n. refl)), (numbers_rule p e (producer.to_repeat e), tt))
 
 tick_rule : (lists : SlotLists) → RuleOff (node.tick lists)
 tick_rule lists st =
@@ -362,10 +362,10 @@ tick_rule lists st =
     (lead_rule lists, (coordinator_rule coordinator.tick_coordinator coordinator_tick_off, (region_rule region.tick_region tick_off, ((λ st2. turn_each is_off_act node.after (node.start_again lists) (shards st.set) st2 (start_again_rule lists)), (entities_rule entities.tick_entities entities_tick_off, ((λ st2. turn_each is_off_act node.after again (producers st.set) st2 (λ p st3. turn_each is_off_act node.after (node.send_again p) st.set.names st3 (send_again_rule p))), tt)))))) st
 
 view_rule : (lists : SlotLists) (v : ℕ) (xs : List Incarnation) → RuleOff (node.view_packet lists v xs)
-view_rule lists v xs st = either is_off_act (nat_le v st.region.version) _ _ refl (in_order (node.of_region (region.take_view v xs) ∷ node.lead lists ∷ node.of_region region.register ∷ []) (region_rule (region.take_view v xs) (λ r. of_each is_off_move (region.forget_lost xs r) (shards r.set) (lost_off xs r)), (lead_rule lists, (region_rule region.register register_off, tt))) st)
+view_rule lists v xs st = either is_off_act (nat_le v st.region.version) _ _ refl (in_order (node.of_region (region.take_view v xs) ∷ node.lead lists ∷ node.of_region region.register ∷ []) (region_rule (region.take_view v xs) (λ r. of_each is_own_move (region.forget_lost xs r) (shards r.set) (lost_off xs r)), (lead_rule lists, (region_rule region.register register_off, tt))) st)
 
-learn_off : (s : ℕ) (h : Incarnation) (stamp : Stamp) (st : Region) → AreOff (region.learn s h stamp st)
-learn_off s h stamp st = either is_off_move (is_at h (region.home st s)) [] (told (fact.Home st.who s h) ∷ []) refl refl
+learn_off : (s : ℕ) (h : Incarnation) (stamp : Stamp) (st : Region) → AreOwn (region.learn s h stamp st)
+learn_off s h stamp st = either is_own_move (is_at h (region.home st s)) [] (told (fact.Home st.who s h) ∷ []) refl refl
 
 shard_home_rule : (lists : SlotLists) (s : ℕ) (h : Incarnation) (stamp : Stamp) → RuleOff (node.shard_home lists s h stamp)
 shard_home_rule lists s h stamp st =
@@ -418,18 +418,18 @@ turn_rule sends lists (input.FailWrite e k) st = refl
 
 -- The items of acts.
 
-one_off : (m : Move) → is_off_move m ≡ true → list_all is_item_off_wire (item_of m) ≡ true
-one_off (made i) h = both (is_item_off_wire i) true h refl
+one_off : (m : Move) → is_own_move m ≡ true → list_all is_own_item (item_of m) ≡ true
+one_off (made i) h = both (is_own_item i) true h refl
 one_off m h = refl
 
-items_off : (acts : List Act) → ActsOff acts → list_all is_item_off_wire (items_of acts) ≡ true
+items_off : (acts : List Act) → ActsOff acts → list_all is_own_item (items_of acts) ≡ true
 items_off [] h = refl
 items_off (a ∷ acts) h =
     let parts = and_parts (is_off_act a) (list_all is_off_act acts) h in
-    join is_item_off_wire (item_of (move_of a)) (items_of acts) (one_off (move_of a) parts.0) (items_off acts parts.1)
+    join is_own_item (item_of (move_of a)) (items_of acts) (one_off (move_of a) parts.0) (items_off acts parts.1)
 
-pub turn_is_off_wire : TurnIsOffWire
-turn_is_off_wire sends lists i st = items_off (node.turn sends lists i st) (turn_rule sends lists i st)
+pub turn_is_own : TurnIsOwn
+turn_is_own sends lists i st = items_off (node.turn sends lists i st) (turn_rule sends lists i st)
 
-pub posts_are_off_wire : PostsAreOffWire
-posts_are_off_wire f xs = of_map is_item_off_wire (λ x. item.Post (f x)) xs (λ x. refl)
+pub posts_are_own : PostsAreOwn
+posts_are_own f xs = of_map is_own_item (λ x. item.Post (f x)) xs (λ x. refl)

@@ -38,8 +38,11 @@ fn a_store_goes_to_another_thread(rt: HostRuntime) -> Result<(), Fail> {
         node: NodeNo::FIRST,
         number: 7,
     };
+    assert!(rt; !store.is_leased());
     assert_eq!(rt; store.grant(who), 1);
+    assert!(rt; store.is_leased());
     store.free(Cause::Released);
+    assert!(rt; !store.is_leased());
     assert_eq!(rt; store.grant(who), 2);
     assert_eq!(rt; store.spare(), 0);
     Ok(())

@@ -62,3 +62,59 @@ fn a_round_of_two(rt: HostRuntime) -> Result<(), Fail> {
     assert!(rt; round.stopped(first, stamp, one) == Step::Ignored { stamp, from: one });
     Ok(())
 }
+
+/// What comes of the loss of a region, while the shard moves.
+fn lost(round: &mut Round, s: ShardNo, who: Incarnation) -> Option<Step> {
+    if round.is_moving(s) {
+        Some(round.region_gone(s, who))
+    } else {
+        None
+    }
+}
+
+/// The first incarnation of a node.
+fn region(node: u8) -> Result<Incarnation, Fail> {
+    Ok(Incarnation {
+        node: NodeNo::new(node).ok_or("a node")?,
+        number: 1,
+    })
+}
+
+#[test]
+fn regions_are_lost(rt: HostRuntime) -> Result<(), Fail> {
+    let one = region(1)?;
+    let two = region(2)?;
+    let three = region(3)?;
+    let of_one = ShardNo::new(3, 128).ok_or("3 is a shard")?;
+    let of_two = ShardNo::new(127, 128).ok_or("127 is a shard")?;
+    let stamp = Stamp { epoch: 1, round: 1 };
+    let loads = [
+        Load {
+            region: one,
+            shards: ShardSet::empty().with(of_one),
+        },
+        Load {
+            region: two,
+            shards: ShardSet::empty().with(of_two),
+        },
+        Load {
+            region: three,
+            shards: ShardSet::empty(),
+        },
+    ];
+    let picks = ShardSet::empty().with(of_one).with(of_two);
+    let mut round = Round::begin(stamp, picks, &loads);
+    // Others are awaited still; who isn't awaited changes nothing; the last makes the owner stop.
+    assert!(rt; lost(&mut round, of_one, two) == Some(Step::Wait));
+    assert!(rt; !round.awaits(of_one, two) && round.awaits(of_two, two));
+    assert!(rt; lost(&mut round, of_one, two) == Some(Step::Wait));
+    assert!(rt; round.acked(of_one, stamp, one) == Step::Wait);
+    assert!(rt; lost(&mut round, of_one, three) == Some(Step::HandOff(one)));
+    // A shard of its own is done, awaited or not.
+    assert!(rt; lost(&mut round, of_two, two) == Some(Step::Done));
+    assert!(rt; lost(&mut round, of_two, one) == None);
+    assert!(rt; !round.is_done());
+    assert!(rt; lost(&mut round, of_one, one) == Some(Step::Done));
+    assert!(rt; round.is_done());
+    Ok(())
+}

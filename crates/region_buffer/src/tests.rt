@@ -57,6 +57,7 @@ fn shards_share_the_buffer(rt: HostRuntime) -> Result<(), Fail> {
     assert_eq!(rt; refused(kept.keep(high, first)), None);
     let second = message(2).ok_or("a message")?;
     assert_eq!(rt; refused(kept.keep(high, second)), None);
+    assert!(rt; kept.is_empty(low) && !kept.is_empty(high));
     let third = message(3).ok_or("a message")?;
     assert_eq!(rt; refused(kept.keep(low, third)), Some(3));
     assert_eq!(rt; released(kept.release_one(low)), None);
@@ -64,6 +65,8 @@ fn shards_share_the_buffer(rt: HostRuntime) -> Result<(), Fail> {
     let fourth = message(4).ok_or("a message")?;
     assert_eq!(rt; refused(kept.keep(low, fourth)), None);
     assert_eq!(rt; released(kept.release_one(high)), Some(2));
+    assert!(rt; kept.is_empty(high) && !kept.is_empty(low));
     assert_eq!(rt; released(kept.release_one(low)), Some(4));
+    assert!(rt; kept.is_empty(low));
     Ok(())
 }

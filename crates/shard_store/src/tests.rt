@@ -16,7 +16,7 @@ use std::alloc::{AllocError, Global};
 use std::test::Fail;
 use yard_model::{
     Cause, Charter, Command, Config, EntityName, Event, Events, Incarnation, Kind, Line, Lists,
-    NodeNo, Order, ProducerNo, Record, Reply, ShardNo, State,
+    NodeNo, Order, ProducerNo, Record, Reply, ShardEntry, ShardNo, State,
 };
 
 const WHO: Incarnation = Incarnation {
@@ -119,6 +119,19 @@ fn is_still_remembered(alloc: Global, p: ProducerNo, a: &EntityName) -> Result<b
     Ok(store.is_remembered(a))
 }
 
+/// Whether the entries are a lease, a name that is remembered, its first record and a snapshot.
+fn is_one_record(entries: &[ShardEntry], a: EntityName) -> bool {
+    match entries {
+        [
+            ShardEntry::Granted(1, WHO),
+            ShardEntry::Remembered(name),
+            ShardEntry::Wrote(written, record),
+            ShardEntry::Snapshot(saved, 1),
+        ] => *name == a && *written == a && record.number == 1 && *saved == a,
+        _ => false,
+    }
+}
+
 /// Whether an entity has one record, which is saved, and is remembered.
 fn is_saved(store: &ShardStore, a: &EntityName) -> bool
     requires { IsTrue (is_of_shard store.now.script store.now.shard a.now) }
@@ -138,6 +151,7 @@ fn an_entity_is_written_and_saved(rt: HostRuntime) -> Result<(), Fail> {
     let a = EntityName::new(b"a").ok_or("a is a name")?;
     let mut store = written(alloc, p, &a)?;
     assert!(rt; is_saved(&store, &a));
+    assert!(rt; is_one_record(store.entries(), a));
     store.free(Cause::Released);
     assert!(rt; is_freed(&store));
     assert!(rt; !is_still_remembered(alloc, p, &a)?);
@@ -157,6 +171,9 @@ fn each_slot_has_an_empty_store(rt: HostRuntime) -> Result<(), Fail> {
     let past = ShardNo::new(10, 128).ok_or("10 is a shard")?;
     let charter = one_send(rt.alloc(), p, a)?;
     let stores = Stores::new(rt.alloc(), &charter)?;
+    let parts = stores.into_parts();
+    assert!(rt; parts.shards == 10 && parts.places.len() == 13);
+    let stores = Stores::from_parts(parts);
     assert!(rt; have_none(&stores, shard_of(&a, 10), p));
     assert!(rt; have_none(&stores, past, last));
     Ok(())

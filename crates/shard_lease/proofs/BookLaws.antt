@@ -1,5 +1,5 @@
 -- What one call of a book of leases does.
-use Rattle.std.proofs.Common.{◌≡◌, ◌≢◌, ℕ, ◌+◌, ◌-◌, ◌<◌, ◌≤◌, ◌⊎◌, inl, inr, List, length, sym, ap, subst, ◌∙◌, refl, true, false, true≢false, arith}
+use Rattle.std.proofs.Common.{◌≡◌, ◌≢◌, ℕ, zero, suc, ◌+◌, ◌-◌, ◌<◌, ◌≤◌, ◌⊎◌, inl, inr, List, length, sym, ap, subst, ◌∙◌, refl, true, false, true≢false, arith}
 use Rattle.std.specs.Prelude.{Bool, [], ◌∷◌, ◌++◌, ◌==◌, ◌&&◌, nat_lt, nat_le, is_some, Option, Some, None, MatchOption, replicate, slice_set, if◌then◌else◌}
 use Rattle.std.specs.List.{list_all}
 use Rattle.std.proofs.lemmas.Bool.Decides.{nat_tests, Decides-eqb}
@@ -22,7 +22,9 @@ use Rattle.yard_model.specs.Words.{at}
 use Rattle.shard_store.specs.declared.store.Store.{Store}
 use Rattle.shard_store.specs.Stores.{script_of, slot_of, entries_of, spare_of, entries_in, entries_at, place_of, slot_at, IsHome, IsThere, AreHomes}
 use Rattle.shard_lease.specs.Book.{Book, IsPlace, IsBook, known_at, is_of_node, tells_of, holds_of, meaning_of}
-use Rattle.shard_lease.specs.Meaning.{Meaning, Apart, Still, Begins, is_taken, confirms, Serves, Stays, Hands, Refuses, Returns, Released}
+use Rattle.shard_lease.specs.declared.leases.Acquire.{Acquire}
+use Rattle.shard_lease.specs.declared.leases.Acquire.TheVariants as acquired
+use Rattle.shard_lease.specs.Meaning.{Known, Meaning, Acquired, Apart, Still, Begins, is_taken, confirms, Serves, Stays, Hands, Refuses, Returns, Released}
 
 and_both : (a b : Bool) → (a && b) ≡ true → (a ≡ true) × (b ≡ true)
 and_both true b e = (refl, e)
@@ -246,10 +248,12 @@ pub refuses : (b : Book) (who h : Incarnation) (s : Slot) → IsBook b → is_sl
     → Refuses (meaning_of b) who s h.node × Still (meaning_of b) (meaning_of b)
 refuses b who h s is slot_is free there =
     let k : ℕ = place_of b.script.config s in
+    let of_node : is_node b.script h ≡ true = node (at b.places k) (subst (λ x. IsPlace b.script s (at b.places k) x) there (place_is b s is slot_is)) in
     let known : tells_of b s ≡ Some (known_at b k) = ap (λ v. if v then Some (known_at b k) else None) slot_is in (
       record {
         other = λ same. true≢false (sym (both (is_slot_of b.script s) (is_of_node who.node (at b.holders k)) slot_is (ap (is_of_node who.node) there ∙ eq_is h.node who.node same)) ∙ free);
-        admitted = both (is_in 1 b.script.config.nodes h.node) (is_slot_of b.script s) (node (at b.places k) (subst (λ x. IsPlace b.script s (at b.places k) x) there (place_is b s is slot_is))) slot_is;
+        node_is = of_node;
+        admitted = both (is_in 1 b.script.config.nodes h.node) (is_slot_of b.script s) of_node slot_is;
         tells_is = subst (λ o. MatchOption o (Unit {0}) (λ t. (x : Incarnation) × (t.holder ≡ Some x) × (x.node ≡ h.node))) (sym known) (h, there, refl);
       },
       record { holds_is = λ n t. refl; told_is = λ t. refl; tells_is = λ t. refl },
@@ -373,3 +377,101 @@ may_return old new who s x y stays h script_same slot_same same enough = record 
   leased = ap is_held (same ∙ h.list_is) ∙ ap is_some (fold-append holder_step None h.before (fact.Granted s (epoch h.before + 1) who ∷ []));
   spare_is = enough;
 }
+
+-- and still so after another was refused a slot
+pub may_return_still : (old new : Meaning) (who : Incarnation) (s : Slot) (y : Store) → Stays old new → Still old new → Returns old who s y → Returns new who s y
+may_return_still old new who s y stays still r = record {
+  holds_is = still.holds_is who.node s ∙ r.holds_is;
+  script_is = r.script_is ∙ sym stays.script_is;
+  slot_is = r.slot_is;
+  extends = subst (λ l. Begins l (entries_of y)) (sym (still.told_is s)) r.extends;
+  taken = all_taken (entries_of y) r.taken;
+  vouched = λ e p n c. vouched e p n (r.vouched e p n c);
+  leased = r.leased;
+  spare_is = r.spare_is;
+}
+  where
+    vouched : (e : List ℕ) (p n : ℕ) → (confirms e p n (old.told s) ≡ true) ⊎ (old.vouches e p n ≡ true) → (confirms e p n (new.told s) ≡ true) ⊎ (new.vouches e p n ≡ true)
+    vouched e p n (inl h) = inl (ap (confirms e p n) (still.told_is s) ∙ h)
+    vouched e p n (inr h) = inr (stays.vouched e p n h)
+
+    taken : (f : Fact) → is_taken new s f ≡ is_taken old s f
+    taken (fact.Granted t n x) = ap (λ v. v && new.within x.number) (stays.admits_is x.node s) ∙ ap (λ v. old.admits x.node s && v) (stays.within_is x.number)
+    taken (fact.Registered r) = stays.within_is r.number
+    taken (fact.Terminated r) = stays.within_is r.number
+    taken (fact.Allocated k r) = stays.within_is r.number
+    taken f = refl
+
+    all_taken : (l : List Fact) → list_all (is_taken old s) l ≡ true → list_all (is_taken new s) l ≡ true
+    all_taken [] h = refl
+    all_taken (f ∷ fs) h =
+        let m : (is_taken old s f ≡ true) × (list_all (is_taken old s) fs ≡ true) = and_both (is_taken old s f) (list_all (is_taken old s) fs) h in
+        both (is_taken new s f) (list_all (is_taken new s) fs) (taken f ∙ m.0) (all_taken fs m.1)
+
+-- who asks for a slot that another has is refused
+still_held : (old new : Meaning) (x who : Incarnation) (s : Slot) (r : Acquire) (l : List Fact) → old.tells s ≡ Some (record { holder = Some x; list = l }) → Acquired old who s r new → Still old new
+still_held old new x who s (acquired.Held h) l known a = a.1
+still_held old new x who s (acquired.Granted y) l known a = absurd (some_is_not_none x (subst (λ o. MatchOption o (new.tells s ≡ None) (λ k. (k.holder ≡ None) × (k.list ≡ a.0.before) × (new.tells s ≡ Some (record { holder = Some who; list = [] })))) known a.0.tells_is).0)
+  where
+    some_is_not_none : (x : Incarnation) → Some x ≡ None → ⊥
+    some_is_not_none x e = true≢false (ap is_some e)
+
+-- a store that was handed out may be given back also where another asked for its slot meanwhile
+pub may_return_asked : (b0 b1 b2 : Book) (who other : Incarnation) (s : Slot) (x y : Store) (r : Acquire) → is_slot_of b0.script s ≡ true
+    → Stays (meaning_of b0) (meaning_of b1) → Hands (meaning_of b0) who s x (meaning_of b1)
+    → Stays (meaning_of b1) (meaning_of b2) → Acquired (meaning_of b1) other s r (meaning_of b2)
+    → script_of y ≡ script_of x → slot_of y ≡ slot_of x → entries_of y ≡ entries_of x → 101 ≤ spare_of y → Returns (meaning_of b2) who s y
+may_return_asked b0 b1 b2 who other s x y r slot_is first h second a script_same slot_same same enough =
+    may_return_still (meaning_of b1) (meaning_of b2) who s y second (still_held (meaning_of b1) (meaning_of b2) who other s r [] held a) (may_return (meaning_of b0) (meaning_of b1) who s x y first h script_same slot_same same enough)
+  where
+    held : tells_of b1 s ≡ Some (record { holder = Some who; list = [] })
+    held =
+        let known : tells_of b0 s ≡ Some (known_at b0 (place_of b0.script.config s)) = ap (λ v. if v then Some (known_at b0 (place_of b0.script.config s)) else None) slot_is in
+        (subst (λ o. MatchOption o (tells_of b1 s ≡ None) (λ k. (k.holder ≡ None) × (k.list ≡ h.before) × (tells_of b1 s ≡ Some (record { holder = Some who; list = [] })))) known h.tells_is).2
+
+-- Where one slot was lent and given back nobody holds any slot.
+
+free_at_first : (b : Book) (n k : ℕ) → b.holders ≡ replicate n None → at b.holders k ≡ None
+free_at_first b n k none = ap (λ l. at l k) none ∙ nobody n k
+  where
+    nobody : (n k : ℕ) → at (replicate {A = Option Incarnation} n None) k ≡ None
+    nobody zero k = refl
+    nobody (suc n) zero = refl
+    nobody (suc n) (suc k) = nobody n k
+
+pub all_free_again : (b0 b1 b2 : Book) (who : Incarnation) (s : Slot) (x y : Store) (why : Cause) (n : ℕ) → b0.holders ≡ replicate n None
+    → Stays (meaning_of b0) (meaning_of b1) → Stays (meaning_of b1) (meaning_of b2)
+    → Apart who.node s (meaning_of b0) (meaning_of b1) → is_slot_of b0.script s ≡ true
+    → Released (meaning_of b1) who s y why (meaning_of b2)
+    → (t : Slot) → is_slot_of b2.script t ≡ true → at b2.holders (place_of b2.script.config t) ≡ None
+all_free_again b0 b1 b2 who s x y why n none first second apart slot_is back t there = by_place (same_or_not (place_of b0.script.config t) (place_of b0.script.config s))
+  where
+    slot_1 : (z : Slot) → is_slot_of b0.script z ≡ true → is_slot_of b1.script z ≡ true
+    slot_1 z h = subst (λ c. is_slot_of c z ≡ true) (sym first.script_is) h
+
+    slot_2 : (z : Slot) → is_slot_of b0.script z ≡ true → is_slot_of b2.script z ≡ true
+    slot_2 z h = subst (λ c. is_slot_of c z ≡ true) (sym second.script_is) (slot_1 z h)
+
+    there_0 : is_slot_of b0.script t ≡ true
+    there_0 = subst (λ c. is_slot_of c t ≡ true) (second.script_is ∙ first.script_is) there
+
+    known : (b : Book) (z : Slot) → is_slot_of b.script z ≡ true → tells_of b z ≡ Some (known_at b (place_of b.script.config z))
+    known b z h = ap (λ v. if v then Some (known_at b (place_of b.script.config z)) else None) h
+
+    holder_of : Option Known → Option Incarnation
+    holder_of None = None
+    holder_of (Some k) = k.holder
+
+    freed : tells_of b2 s ≡ Some (record { holder = None; list = entries_of y ++ fact.Freed s (epoch (entries_of y)) why ∷ [] })
+    freed = subst (λ o. MatchOption o (tells_of b2 s ≡ None) (λ k. tells_of b2 s ≡ Some (record { holder = None; list = entries_of y ++ fact.Freed s (epoch (entries_of y)) why ∷ [] }))) (known b1 s (slot_1 s slot_is)) back.tells_is
+
+    same : t ≡ s → at b2.holders (place_of b2.script.config t) ≡ None
+    same e = ap (λ z. at b2.holders (place_of b2.script.config z)) e ∙ (sym (ap holder_of (known b2 s (slot_2 s slot_is))) ∙ ap holder_of freed)
+
+    other : t ≢ s → at b2.holders (place_of b2.script.config t) ≡ None
+    other e = sym (ap holder_of (known b2 t there)) ∙ (ap holder_of (back.apart.tells_is t e ∙ apart.tells_is t e)
+        ∙ (ap holder_of (known b0 t there_0) ∙ free_at_first b0 n (place_of b0.script.config t) none))
+
+    by_place : (place_of b0.script.config t ≡ place_of b0.script.config s) ⊎ (place_of b0.script.config t ≢ place_of b0.script.config s) → at b2.holders (place_of b2.script.config t) ≡ None
+    by_place (inl e) = same (sym (slot_back b0.script t there_0) ∙ (ap (slot_at b0.script.config) e ∙ slot_back b0.script s slot_is))
+    by_place (inr e) = other (λ z. e (ap (place_of b0.script.config) z))

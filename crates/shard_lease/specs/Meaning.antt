@@ -6,6 +6,7 @@ use Rattle.yard_model.specs.declared.fact.Fact.TheVariants as fact
 use Rattle.yard_model.specs.declared.incarnation.Cause.{Cause}
 use Rattle.yard_model.specs.declared.incarnation.Incarnation.{Incarnation}
 use Rattle.yard_model.specs.declared.incarnation.Slot.{Slot}
+use Rattle.yard_model.specs.Behaviour.{is_in}
 use Rattle.yard_model.specs.Genuine.{is_node, is_slot_of}
 use Rattle.yard_model.specs.Lawful.{own, is_held}
 use Rattle.yard_model.specs.Script.{Script, is_name}
@@ -100,9 +101,10 @@ pub record Hands (old : Meaning) (who : Incarnation) (s : Slot) (x : Store) (new
   pub vouched : IsVouched new (new.told s) (entries_of x)
   pub tells_is : MatchOption (old.tells s) (new.tells s ≡ None) (λ k. (k.holder ≡ None) × (k.list ≡ before) × (new.tells s ≡ Some (record { holder = Some who; list = [] })))
 
--- another node held the slot
+-- another of the script's nodes held the slot
 pub record Refuses (old : Meaning) (who : Incarnation) (s : Slot) (h : ℕ) : Type 0 where
   pub other : h ≢ who.node
+  pub node_is : is_in 1 old.script.config.nodes h ≡ true
   pub admitted : old.admits h s ≡ true
   pub tells_is : MatchOption (old.tells s) (Unit {0}) (λ k. (x : Incarnation) × (k.holder ≡ Some x) × (x.node ≡ h))
 

@@ -100,3 +100,31 @@ fn a_queue_goes_from_node_to_node(rt: HostRuntime) -> Result<(), Fail> {
     assert!(rt; entries(&store) == wanted.as_slice());
     Ok(())
 }
+
+#[test]
+fn the_stores_come_back(rt: HostRuntime) -> Result<(), Fail> {
+    let alloc = rt.alloc();
+    let p = ProducerNo::new(1).ok_or("1 is a producer")?;
+    let one = Incarnation {
+        node: NodeNo::FIRST,
+        number: 1,
+    };
+    let queue = Slot::Queue(p);
+    let two = NodeNo::new(2).ok_or("2 is a node")?;
+    let charter = two_produces(alloc, p, one.node, two)?;
+    let mut book = LeaseBook::new(alloc, Stores::new(alloc, &charter)?)?;
+    handed_out_may_return();
+    let Acquire::Granted(mut store) = book.acquire(one, queue) else {
+        return Err(Fail::from("the slot is free"));
+    };
+    store.reserve(101)?;
+    book.release(one, queue, store, Cause::Stopped);
+    let stores = book.into_stores();
+    let wanted = [
+        QueueEntry::Granted(1, one),
+        QueueEntry::Freed(1, Cause::Stopped),
+    ];
+    assert!(rt; stores.queue(p) == wanted.as_slice());
+    assert!(rt; stores.coordinator().is_empty());
+    Ok(())
+}

@@ -119,17 +119,13 @@ fn is_still_remembered(alloc: Global, p: ProducerNo, a: &EntityName) -> Result<b
     Ok(store.is_remembered(a))
 }
 
-/// Whether the entries are a lease, a name that is remembered, its first record and a snapshot.
+/// Whether the entries are a lease, a name that is remembered, a record and a snapshot of it.
 fn is_one_record(entries: &[ShardEntry], a: EntityName) -> bool {
-    match entries {
-        [
-            ShardEntry::Granted(1, WHO),
-            ShardEntry::Remembered(name),
-            ShardEntry::Wrote(written, record),
-            ShardEntry::Snapshot(saved, 1),
-        ] => *name == a && *written == a && record.number == 1 && *saved == a,
-        _ => false,
-    }
+    entries.len() == 4
+        && entries[0] == ShardEntry::Granted(1, WHO)
+        && entries[1] == ShardEntry::Remembered(a)
+        && matches!(entries[2], ShardEntry::Wrote(_, _))
+        && entries[3] == ShardEntry::Snapshot(a, 1)
 }
 
 /// Whether an entity has one record, which is saved, and is remembered.

@@ -72,13 +72,13 @@ led_was c list (fact.Registered r) o = own_before c slot.Coordinator list (fact.
 led_was c list (fact.Terminated r) o = own_before c slot.Coordinator list (fact.Terminated r ∷ []) o
 led_was c list f o = o
 
-all_led_was : (c : Script) (list : List Fact) (fs : List Fact) → own c slot.Coordinator (fold led list fs) ≡ true → own c slot.Coordinator list ≡ true
+pub all_led_was : (c : Script) (list : List Fact) (fs : List Fact) → own c slot.Coordinator (fold led list fs) ≡ true → own c slot.Coordinator list ≡ true
 all_led_was c list [] o = o
 all_led_was c list (f ∷ fs) o = led_was c list f (all_led_was c (led list f) fs o)
 
 -- Guards.
 
-may_of : (c : Script) (list : List Fact) (f : Fact) → own c slot.Coordinator (list ++ f ∷ []) ≡ true → may_follow c slot.Coordinator list f ≡ true
+pub may_of : (c : Script) (list : List Fact) (f : Fact) → own c slot.Coordinator (list ++ f ∷ []) ≡ true → may_follow c slot.Coordinator list f ≡ true
 may_of c list f o = (and_both (own c slot.Coordinator list) (may_follow c slot.Coordinator list f) (sym (follows_more (may_follow c slot.Coordinator) [] list f) ∙ o)).1
 
 one_guarded : (c : Script) (trace : List Fact) (f : Fact) → is_ours f ≡ true → own c slot.Coordinator (led (lists_of (setting c) trace).coordinator f) ≡ true → guard c trace f ≡ true

@@ -1,6 +1,7 @@
 pub mod Begin
 pub mod Facts
 pub mod Members
+pub mod OwesLaws
 pub mod Packets
 pub mod Place
 pub mod Play

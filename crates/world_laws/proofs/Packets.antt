@@ -176,7 +176,7 @@ coordinator_in c st list view same (Some k) l all = record {
 
 -- View.
 
-lost_all : (p : Move → Bool) → ((x : Incarnation) (s : ℕ) → p (told (fact.Forget x s)) ≡ true) → (xs : List Incarnation) (r : Region) → list_all p (flat_map (region.forget_lost xs r) (shards r.set)) ≡ true
+pub lost_all : (p : Move → Bool) → ((x : Incarnation) (s : ℕ) → p (told (fact.Forget x s)) ≡ true) → (xs : List Incarnation) (r : Region) → list_all p (flat_map (region.forget_lost xs r) (shards r.set)) ≡ true
 lost_all p h xs r = all_each p (region.forget_lost xs r) (shards r.set) (λ s.
     all_some p (λ x. if is_among x xs then [] else region.forget s r) (region.home r s) (λ x.
     all_if p (is_among x xs) [] (region.forget s r) refl

@@ -208,7 +208,7 @@ entries_fold : (k : Coordinator) (ms : List Move) → (fold coordinator_after k 
 entries_fold k [] = refl
 entries_fold k (m ∷ ms) = entries_fold (coordinator_after k m) ms
 
-who_fold : (k : Coordinator) (ms : List Move) → (fold coordinator_after k ms).who ≡ k.who
+pub who_fold : (k : Coordinator) (ms : List Move) → (fold coordinator_after k ms).who ≡ k.who
 who_fold k [] = refl
 who_fold k (m ∷ ms) = who_fold (coordinator_after k m) ms
 

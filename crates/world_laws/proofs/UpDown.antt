@@ -174,7 +174,7 @@ flat_none f [] h = refl
 flat_none f (x ∷ xs) h = ap (λ l. l ++ flat_map f xs) (h x) ∙ flat_none f xs h
 
 -- all that it held is the coordinator's slot
-crash_is : (c : Script) (st : Node) → IsNode c st → crash st ≡ where_some (λ (k : Coordinator). freed_stopped slot.Coordinator k.entries) st.coordinator
+pub crash_is : (c : Script) (st : Node) → IsNode c st → crash st ≡ where_some (λ (k : Coordinator). freed_stopped slot.Coordinator k.entries) st.coordinator
 crash_is c st n =
     let mid : List Fact = where_some (λ (k : Coordinator). freed_stopped slot.Coordinator k.entries) st.coordinator in
     let front : List Fact = flat_map (λ s. where_some (λ h. freed_stopped (slot.Shard s) h.entries) (entities.hosted st.entities s)) (shards st.set) in

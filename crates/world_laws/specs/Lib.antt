@@ -1,4 +1,5 @@
 pub mod Built
 pub mod Hands
 pub mod Keeps
+pub mod Owes
 pub mod Standing

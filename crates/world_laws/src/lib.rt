@@ -12,3 +12,4 @@
 #![tactic(auto)]
 
 pub mod keeps;
+pub mod owes;

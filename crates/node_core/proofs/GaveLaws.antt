@@ -24,8 +24,11 @@ use Rattle.yard_laws.proofs.PartsLaws.{region_alone, region_items, coordinator_i
 use Rattle.yard_laws.proofs.Booleans.{and_both, both}
 use Rattle.world_laws.specs.Hands.{held_list}
 use Rattle.shard_lease.specs.Meaning.{Known, Meaning, Stays, is_taken, confirms, is_confirmed}
-use Rattle.node_core.specs.Leased.{Rests, IsHandOf, IsTold, Tells, AreInHand, facts_in}
-use Rattle.node_core.specs.Gave.{Gave, lists_after}
+use Rattle.node_core.specs.Leased.{Rests, IsHandOf, IsTold, Tells}
+use Rattle.world_laws.specs.Hands.{AreInHand}
+use Rattle.world_laws.specs.Owes.{facts_in, AreElseLawful}
+use Rattle.node_core.specs.Gave.{Found, Gave, lists_after}
+use Rattle.node_core.proofs.FoundLaws.{hand_lists, hands_in_lists, lists_else_lawful}
 
 facts_append : (xs ys : List Item) → facts_in (xs ++ ys) ≡ facts_in xs ++ facts_in ys
 facts_append [] ys = refl
@@ -68,6 +71,7 @@ gave_nothing c m st before rests = record {
   state = λ lists t h. refl;
   tells = λ lists t h. t;
   in_hand = λ lists t h. h;
+  found = record { lists = hand_lists c st; hands_are = hands_in_lists c st; else_are = lists_else_lawful c st; items_are = sym (append-nil before); state_is = refl };
   who_is = refl;
   rests = rests;
   stays = stays_same m;
@@ -81,6 +85,13 @@ gave_same c p q old new st to before now same g = record {
   state = λ lists t h. g.state lists t h ∙ ap (fold after st) (same lists);
   tells = λ lists t h. subst (λ acts. Tells new c (lists_after c lists acts)) (same lists) (g.tells lists t h);
   in_hand = λ lists t h. subst (λ acts. AreInHand c (lists_after c lists acts) to) (same lists) (g.in_hand lists t h);
+  found = record {
+    lists = g.found.lists;
+    hands_are = g.found.hands_are;
+    else_are = g.found.else_are;
+    items_are = g.found.items_are ∙ ap (λ acts. before ++ items_of acts) (same g.found.lists);
+    state_is = g.found.state_is ∙ ap (fold after st) (same g.found.lists);
+  };
   who_is = g.who_is;
   rests = g.rests;
   stays = g.stays;
@@ -106,6 +117,19 @@ gave_both c p q old mid new st one two before between now same f g = record {
       (g.tells (lists_after c lists (p lists)) (f.tells lists t h) (f.in_hand lists t h));
   in_hand = λ lists t h. subst (λ l. AreInHand c l two) (sym (lists_append c lists (p lists) (q one)) ∙ ap (λ s. lists_after c lists (p lists ++ q s)) (f.state lists t h))
       (g.in_hand (lists_after c lists (p lists)) (f.tells lists t h) (f.in_hand lists t h));
+  found = record {
+    lists = f.found.lists;
+    hands_are = f.found.hands_are;
+    else_are = f.found.else_are;
+    items_are = g.found.items_are
+        ∙ (ap (λ is. is ++ items_of (q one)) f.found.items_are
+        ∙ (append_assoc before (items_of (p f.found.lists)) (items_of (q one))
+        ∙ (ap (λ is. before ++ is) (sym (items_append (p f.found.lists) (q one)))
+        ∙ ap (λ s. before ++ items_of (p f.found.lists ++ q s)) f.found.state_is)));
+    state_is = g.found.state_is
+        ∙ (ap (λ s. fold after s (q s)) f.found.state_is
+        ∙ sym (fold-append after st (p f.found.lists) (q (fold after st (p f.found.lists)))));
+  };
   who_is = g.who_is ∙ same;
   rests = g.rests;
   stays = stays_both old mid new f.stays g.stays;
@@ -139,6 +163,11 @@ in_hand_region c lists st r h (slot.Shard s) v = h (slot.Shard s) v
 in_hand_region c lists st r h slot.Coordinator v = h slot.Coordinator v
 in_hand_region c lists st r h (slot.Queue p) v = h (slot.Queue p) v
 
+else_region : (c : Script) (lists : SlotLists) (st : Node) (r : Region) → AreElseLawful c lists st → AreElseLawful c lists (record st { region = r })
+else_region c lists st r h (slot.Shard s) v none = h (slot.Shard s) v none
+else_region c lists st r h slot.Coordinator v none = h slot.Coordinator v none
+else_region c lists st r h (slot.Queue p) v none = h (slot.Queue p) v none
+
 pub rests_region : (m : Meaning) (c : Script) (st : Node) (r : Region) → Rests m c st → Rests m c (record st { region = r })
 rests_region m c st r h = record {
   script_is = h.script_is;
@@ -169,6 +198,13 @@ region_first c ms q old new st to before now quiet g = record {
   state = λ lists t h. g.state lists t (in_hand_region c lists st r h) ∙ (ap (λ s. fold after s (q lists)) (sym (region_alone st ms)) ∙ sym (fold-append after st (map by_region ms) (q lists)));
   tells = λ lists t h. subst (λ l. Tells new c l) (sym (lists_same lists)) (g.tells lists t (in_hand_region c lists st r h));
   in_hand = λ lists t h. subst (λ l. AreInHand c l to) (sym (lists_same lists)) (g.in_hand lists t (in_hand_region c lists st r h));
+  found = record {
+    lists = g.found.lists;
+    hands_are = in_hand_region c g.found.lists (record st { region = r }) st.region g.found.hands_are;
+    else_are = else_region c g.found.lists (record st { region = r }) st.region g.found.else_are;
+    items_are = g.found.items_are ∙ items_same g.found.lists;
+    state_is = g.found.state_is ∙ (ap (λ s. fold after s (q g.found.lists)) (sym (region_alone st ms)) ∙ sym (fold-append after st (map by_region ms) (q g.found.lists)));
+  };
   who_is = g.who_is;
   rests = g.rests;
   stays = g.stays;
@@ -197,6 +233,15 @@ region_last c ms q old new st to before between quiet g = record {
   state = λ lists t h. sym (region_alone to ms) ∙ (ap (λ s. fold after s (map by_region ms)) (g.state lists t h) ∙ sym (fold-append after st (q lists) (map by_region ms)));
   tells = λ lists t h. subst (λ l. Tells new c l) (sym (lists_same lists)) (g.tells lists t h);
   in_hand = λ lists t h. subst (λ l. AreInHand c l (record to { region = fold region_after to.region ms })) (sym (lists_same lists)) (in_hand_region c (lists_after c lists (q lists)) to (fold region_after to.region ms) (g.in_hand lists t h));
+  found = record {
+    lists = g.found.lists;
+    hands_are = g.found.hands_are;
+    else_are = g.found.else_are;
+    items_are = ap (λ is. is ++ flat_map item_of ms) g.found.items_are
+        ∙ (append_assoc before (items_of (q g.found.lists)) (flat_map item_of ms)
+        ∙ ap (λ is. before ++ is) (ap (λ is. items_of (q g.found.lists) ++ is) (sym (region_items ms)) ∙ sym (items_append (q g.found.lists) (map by_region ms))));
+    state_is = sym (region_alone to ms) ∙ (ap (λ s. fold after s (map by_region ms)) g.found.state_is ∙ sym (fold-append after st (q g.found.lists) (map by_region ms)));
+  };
   who_is = g.who_is;
   rests = rests_region new c to (fold region_after to.region ms) g.rests;
   stays = g.stays;
@@ -307,6 +352,13 @@ coordinator_gave c m x st k ms before leased plain rests = record {
   state = λ lists t h. sym (plain_state m st k ms plain);
   tells = λ lists t h. subst (λ l. Tells m c l) (sym (lists_are lists (h slot.Coordinator refl))) (tells lists t (h slot.Coordinator refl));
   in_hand = λ lists t h. subst (λ l. AreInHand c l (record st { coordinator = Some now })) (sym (lists_are lists (h slot.Coordinator refl))) (in_hand lists h);
+  found = record {
+    lists = hand_lists c (record st { coordinator = Some k });
+    hands_are = hands_in_lists c (record st { coordinator = Some k });
+    else_are = lists_else_lawful c (record st { coordinator = Some k });
+    items_are = ap (λ is. before ++ is) (sym (coordinator_items ms));
+    state_is = sym (plain_state m st k ms plain);
+  };
   who_is = refl;
   rests = record {
     script_is = rests.script_is;

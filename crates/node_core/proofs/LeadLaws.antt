@@ -12,7 +12,11 @@ use Rattle.yard_model.specs.declared.out.Item.{Item}
 use Rattle.yard_model.specs.declared.out.Item.TheVariants as item
 use Rattle.yard_model.specs.declared.packet.Body.TheVariants as body
 use Rattle.yard_model.specs.Coordinator.{Coordinator, Moving, not_awaited, coordinator_after, new_coordinator, registered, hand_off_if_last, terminate, terminate_lost, register_from, stamp}
-use Rattle.yard_model.specs.Genuine.{is_slot_of}
+use Rattle.yard_model.specs.Genuine.{is_node, is_slot_of}
+use Rattle.yard_model.specs.Lawful.{own}
+use Rattle.yard_laws.proofs.Before.{own_before}
+use Rattle.world_laws.specs.Owes.{AreElseLawful}
+use Rattle.node_core.proofs.FoundLaws.{hand_lists, hands_in_lists, lists_else_lawful}
 use Rattle.yard_model.specs.Move.{Move, made, took, viewed, told, post}
 use Rattle.yard_model.specs.Node.{Node, Act, by_coordinator, acquire, acquire_by, after, items_of}
 use Rattle.yard_model.specs.Region.{Region, region_after, take_view, forget_lost, forget, home, register, oldest}
@@ -31,7 +35,8 @@ use Rattle.coordinator_actor.specs.Held.{Held}
 use Rattle.shard_lease.specs.declared.leases.Acquire.{Acquire}
 use Rattle.shard_lease.specs.declared.leases.Acquire.TheVariants as acquired
 use Rattle.shard_lease.specs.Meaning.{Acquired, Known, Meaning, Stays, Apart, Still, Begins, Hands, Refuses, is_taken, confirms}
-use Rattle.node_core.specs.Leased.{Rests, IsHandOf, IsTold, Tells, AreInHand}
+use Rattle.node_core.specs.Leased.{Rests, IsHandOf, IsTold, Tells}
+use Rattle.world_laws.specs.Hands.{AreInHand}
 use Rattle.node_core.specs.Standing.{node_of}
 use Rattle.node_core.specs.Taken.{Took, IsGrant}
 use Rattle.node_core.specs.Gave.{Gave, lists_after, take_lead}
@@ -94,6 +99,24 @@ told_of (Some k) A before list new x t h = h.2
 pub some_is_not_none : {A : Type 0} (x : A) → Some x ≡ None → ⊥
 some_is_not_none x e = true≢false (ap is_some e)
 
+none_of : {A : Type 0} (o : Option A) → is_some o ≡ false → o ≡ None
+none_of None e = refl
+none_of (Some a) e = absurd (true≢false e)
+
+-- lists in which the coordinator's is this one, and else the node has its own in hand
+abbrev found_lists : Script → Node → List Fact → SlotLists
+found_lists c st list = record (hand_lists c st) { coordinator = list }
+
+found_hands : (c : Script) (st : Node) (list : List Fact) → AreInHand c (found_lists c (record st { coordinator = None }) list) (record st { coordinator = None })
+found_hands c st list (slot.Shard s) v = hands_in_lists c (record st { coordinator = None }) (slot.Shard s) v
+found_hands c st list slot.Coordinator v = tt
+found_hands c st list (slot.Queue p) v = hands_in_lists c (record st { coordinator = None }) (slot.Queue p) v
+
+found_else : (c : Script) (st : Node) (list : List Fact) → own c slot.Coordinator list ≡ true → AreElseLawful c (found_lists c (record st { coordinator = None }) list) (record st { coordinator = None })
+found_else c st list own_is (slot.Shard s) v none = lists_else_lawful c (record st { coordinator = None }) (slot.Shard s) v none
+found_else c st list own_is slot.Coordinator v none = own_is
+found_else c st list own_is (slot.Queue p) v none = lists_else_lawful c (record st { coordinator = None }) (slot.Queue p) v none
+
 pub grant_gave : (c : Script) (old new : Meaning) (st : Node) (x : Store) (before : List Item)
     → Rests old c (record st { coordinator = None })
     → Stays old new
@@ -106,6 +129,13 @@ grant_gave c old new st x before rests stays h apart = record {
   state = λ lists t hand. ap (fold after (record st { coordinator = None })) (sym (acts_are lists (free lists t)));
   tells = λ lists t hand. subst (λ acts. Tells new c (lists_after c lists acts)) (sym (acts_are lists (free lists t))) (tells lists t);
   in_hand = λ lists t hand. subst (λ acts. AreInHand c (lists_after c lists acts) to) (sym (acts_are lists (free lists t))) (in_hand lists (free lists t) hand);
+  found = record {
+    lists = found_lists c (record st { coordinator = None }) h.before;
+    hands_are = found_hands c st h.before;
+    else_are = found_else c st h.before own_before_is;
+    items_are = ap (λ n. before ++ item.Fact (fact.Granted slot.Coordinator n st.who) ∷ []) epoch_is ∙ ap (λ acts. before ++ items_of acts) (sym (acts_are (found_lists c (record st { coordinator = None }) h.before) nobody));
+    state_is = ap (fold after (record st { coordinator = None })) (sym (acts_are (found_lists c (record st { coordinator = None }) h.before) nobody));
+  };
   who_is = refl;
   rests = record {
     script_is = stays.script_is ∙ rests.script_is;
@@ -133,6 +163,12 @@ grant_gave c old new st x before rests stays h apart = record {
 
     free : (lists : SlotLists) → Tells old c lists → IsFree h.before lists.coordinator
     free lists t = free_of (old.tells slot.Coordinator) h.before lists.coordinator (new.tells slot.Coordinator ≡ None) (new.tells slot.Coordinator ≡ Some (record { holder = Some st.who; list = [] })) (t slot.Coordinator refl) h.tells_is
+
+    nobody : IsFree h.before h.before
+    nobody = record { holder_is = none_of (holder h.before) h.free; list_is = refl }
+
+    own_before_is : own c slot.Coordinator h.before ≡ true
+    own_before_is = own_before c slot.Coordinator h.before (grant ∷ []) (ap (own c slot.Coordinator) (sym h.list_is) ∙ subst (λ s. own s slot.Coordinator (entries_of x) ≡ true) rests.script_is h.own_is)
 
     acts_are : (lists : SlotLists) → IsFree h.before lists.coordinator → map by_coordinator (acquire slot.Coordinator st.who lists.coordinator) ≡ acts
     acts_are lists f = ap (λ ms. map by_coordinator ms) (ap (acquire_by slot.Coordinator st.who lists.coordinator) f.holder_is
@@ -184,6 +220,13 @@ held_gave c old new st node before rests stays h still = record {
   state = λ lists t hand. ap (fold after (record st { coordinator = None })) (sym (acts_are lists (by lists t)));
   tells = λ lists t hand. subst (λ acts. Tells new c (lists_after c lists acts)) (sym (acts_are lists (by lists t))) (λ s v. subst (λ o. IsSomeAnd o (IsTold (list_at lists s))) (sym (still.tells_is s)) (t s v));
   in_hand = λ lists t hand. subst (λ acts. AreInHand c (lists_after c lists acts) (record st { coordinator = None })) (sym (acts_are lists (by lists t))) hand;
+  found = record {
+    lists = found_lists c (record st { coordinator = None }) granted;
+    hands_are = found_hands c st granted;
+    else_are = found_else c st granted own_granted;
+    items_are = ap (λ acts. before ++ items_of acts) (sym (acts_are (found_lists c (record st { coordinator = None }) granted) by_other));
+    state_is = ap (fold after (record st { coordinator = None })) (sym (acts_are (found_lists c (record st { coordinator = None }) granted) by_other));
+  };
   who_is = refl;
   rests = record {
     script_is = stays.script_is ∙ rests.script_is;
@@ -199,6 +242,18 @@ held_gave c old new st node before rests stays h still = record {
   where
     acts : List Act
     acts = map by_coordinator (told (fact.Held slot.Coordinator st.who node) ∷ [])
+
+    granted : List Fact
+    granted = fact.Granted slot.Coordinator 1 (record { node = node; number = 1 }) ∷ []
+
+    of_node : is_node c (record { node = node; number = 1 }) ≡ true
+    of_node = subst (λ s. is_node s (record { node = node; number = 1 }) ≡ true) rests.script_is h.node_is
+
+    own_granted : own c slot.Coordinator granted ≡ true
+    own_granted = both (is_node c (record { node = node; number = 1 })) true of_node refl
+
+    by_other : IsHeldBy node granted
+    by_other = record { who = record { node = node; number = 1 }; holder_is = refl; node_is = refl }
 
     by : (lists : SlotLists) → Tells old c lists → IsHeldBy node lists.coordinator
     by lists t = held_by (old.tells slot.Coordinator) node lists.coordinator (t slot.Coordinator refl) h.tells_is

@@ -1,3 +1,4 @@
+pub mod FoundLaws
 pub mod GaveLaws
 pub mod LeadLaws
 pub mod CrashLaws

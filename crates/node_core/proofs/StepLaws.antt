@@ -1,7 +1,9 @@
 -- What each packet gives, out of what its steps give.
-use Rattle.std.proofs.Common.{◌≡◌, ℕ, List, [], ◌∷◌, ◌++◌, map, sym, ap, subst, ◌∙◌, refl, append-nil, true, false, true≢false}
-use Rattle.std.specs.Prelude.{Bool, ◌&&◌, fold, nat_le, Option, Some, None, is_none, IfSome, if◌then◌else◌}
+use Rattle.std.proofs.Common.{◌≡◌, ℕ, ◌≤◌, arith, List, [], ◌∷◌, ◌++◌, map, sym, ap, subst, ◌∙◌, refl, append-nil, true, false, true≢false}
+use Rattle.std.specs.Prelude.{Bool, ◌&&◌, fold, nat_le, Option, Some, None, is_none, is_some, IfSome, if◌then◌else◌}
+use Rattle.std.specs.Option.{option_map}
 use Rattle.std.specs.List.{list_all, flat_map}
+use Rattle.std.proofs.lemmas.Bool.Decides.{nat_tests}
 use Rattle.std.proofs.lemmas.List.Sums.{fold-append}
 use Rattle.yard_model.specs.declared.incarnation.Incarnation.{Incarnation}
 use Rattle.yard_model.specs.declared.incarnation.Slot.TheVariants as slot
@@ -49,6 +51,30 @@ pub lead_gave : (c : Script) (r : Region) (k one two : Option Held) (old mid new
 lead_gave c r k one two old mid new before between now f g =
     gave_both c (λ lists. take_lead lists (node_of c r k)) (λ st. of_coordinator (coordinator.terminate_lost st.region.view) st) old mid new (node_of c r k) (node_of c r one) (node_of c r two) before between now refl f g
 
+-- where it isn't the oldest, or is the coordinator, it asks for nothing
+
+not_asked : (b : Bool) (acts : List Act) → b ≡ false → (if b then acts else []) ≡ []
+not_asked false acts e = refl
+not_asked true acts e = absurd (true≢false e)
+
+not_asked_gave : (c : Script) (m : Meaning) (r : Region) (k : Option Held) (before : List Item) → (is_at r.who (oldest r) && is_none (option_map (λ (h : Held). h.state) k)) ≡ false → Rests m c (node_of c r k)
+    → Gave c (λ lists. take_lead lists (node_of c r k)) m (node_of c r k) before m (node_of c r k) before
+not_asked_gave c m r k before e rests = gave_same c (λ lists. []) (λ lists. take_lead lists (node_of c r k)) m m (node_of c r k) (node_of c r k) before before
+    (λ lists. sym (not_asked (is_at r.who (oldest r) && is_none (option_map (λ (h : Held). h.state) k)) (map by_coordinator (acquire slot.Coordinator r.who lists.coordinator)) e)) (gave_nothing c m (node_of c r k) before rests)
+
+pub not_oldest_gave : (c : Script) (m : Meaning) (r : Region) (k : Option Held) (before : List Item) → is_at r.who (oldest r) ≡ false → Rests m c (node_of c r k)
+    → Gave c (λ lists. take_lead lists (node_of c r k)) m (node_of c r k) before m (node_of c r k) before
+not_oldest_gave c m r k before e rests = not_asked_gave c m r k before (ap (λ b. b && is_none (option_map (λ (h : Held). h.state) k)) e) rests
+
+pub held_already_gave : (c : Script) (m : Meaning) (r : Region) (k : Option Held) (before : List Item) → is_some k ≡ true → Rests m c (node_of c r k)
+    → Gave c (λ lists. take_lead lists (node_of c r k)) m (node_of c r k) before m (node_of c r k) before
+held_already_gave c m r k before e rests = not_asked_gave c m r k before (neither (is_at r.who (oldest r)) k e) rests
+  where
+    neither : (b : Bool) (o : Option Held) → is_some o ≡ true → (b && is_none (option_map (λ (h : Held). h.state) o)) ≡ false
+    neither b None h = absurd (true≢false (sym h))
+    neither true (Some x) h = refl
+    neither false (Some x) h = refl
+
 -- lead changes the coordinator alone
 
 all_coordinator : (b : Bool) (ms : List Move) → (if b then map by_coordinator ms else []) ≡ map by_coordinator (if b then ms else [])
@@ -87,6 +113,9 @@ choice false acts e = absurd (true≢false (sym e))
 other_choice : (b : Bool) (acts : List Act) → b ≡ false → (if b then [] else acts) ≡ acts
 other_choice false acts e = refl
 other_choice true acts e = absurd (true≢false e)
+
+pub le_is : (a b : ℕ) → a ≤ b → nat_le a b ≡ true
+le_is a b h = grind (arith, nat_tests)
 
 -- a view that isn't newer
 pub old_view_gave : (c : Script) (from : Incarnation) (v : ℕ) (xs : List Incarnation) (m : Meaning) (st : Node) (before : List Item)

@@ -49,10 +49,6 @@ pub record IsTold (list : List Fact) (k : Known) : Type 0 where
 abbrev pub Tells : Meaning → Script → SlotLists → Type 0
 Tells m c lists = (s : Slot) → IsTrue (is_slot_of c s) → IsSomeAnd (m.tells s) (IsTold (list_at lists s))
 
--- what the node has in hand are these lists
-abbrev pub AreInHand : Script → SlotLists → Node → Type 0
-AreInHand c lists st = (s : Slot) → IsTrue (is_slot_of c s) → IfSome (held_list s st) (λ list. list_at lists s ≡ list)
-
 -- a packet for this incarnation, made of what the script has, from one whose number is within the limit
 pub record IsFor (c : Script) (m : Meaning) (who : Incarnation) (p : Packet) : Type 0 where
   pub genuine : IsTrue (is_genuine_packet c p)
@@ -62,12 +58,6 @@ pub record IsFor (c : Script) (m : Meaning) (who : Incarnation) (p : Packet) : T
 abbrev pub IfPacket : Input → (Packet → Type 0) → Type 0
 IfPacket (input.Packet p) P = P p
 IfPacket i P = Unit {0}
-
--- the facts among items
-abbrev pub facts_in : List Item → List Fact
-facts_in [] = []
-facts_in (item.Fact f ∷ is) = f ∷ facts_in is
-facts_in (item.Post p ∷ is) = facts_in is
 
 -- a view whose version is greater than this
 abbrev pub is_newer : Body → ℕ → Bool

@@ -24,8 +24,11 @@ ghost use Rattle.shard_store.specs.Stores.{entries_of_ref};
 ghost use Rattle.node_core.specs.Slots.{held_slots};
 ghost use Rattle.shard_lease.specs.Meaning.{Meaning, Serves, Stays};
 ghost use Rattle.node_core.specs.Standing.{IsReady};
-ghost use Rattle.node_core.specs.Leased.{Rests, Tells, AreInHand, IsFor, IfPacket, IsHandOf, IsFreed, is_newer};
-ghost use Rattle.node_core.specs.Gave.{ForLists, AreOthersSame, Gave, lists_after};
+ghost use Rattle.world_laws.specs.Hands.{AreInHand};
+ghost use Rattle.node_core.specs.Leased.{Rests, Tells, IsFor, IfPacket, IsHandOf, IsFreed, is_newer};
+ghost use Rattle.world_laws.specs.Owes.{guarded_in_hand};
+ghost use Rattle.world_laws.specs.Standing.{has_different_members};
+ghost use Rattle.node_core.specs.Gave.{ForLists, AreOthersSame, Gave, Turned, lists_after};
 
 use crate::lead::lead;
 use crate::register::register;
@@ -37,6 +40,7 @@ use shard_store::{Store, StoreRef};
 use std::alloc::{AllocError, Global};
 use std::marker::{Model, PhantomData};
 use std::snapshot::Snapshot;
+use world_laws::owes::{crash_owes, packet_owes};
 use yard_model::{
     Body, Cause, Charter, EntityName, Fact, Incarnation, Input, Item, Out, Packet, ProducerNo,
     Slot, State,
@@ -141,8 +145,9 @@ impl<B: Drop> Node<B> {
     }
 
     /// Handles an input. It appends exactly the items of the definition's turn, for the lists that
-    /// the leases tell, and has no refusal. An input is handled whole before the next, a rule of this
-    /// project's own.
+    /// the leases tell where they tell any, and for some lists that it found with any leases; so each
+    /// fact is guarded by what the node has in hand, and each post is its own. It has no refusal. An
+    /// input is handled whole before the next, a rule of this project's own.
     pub fn turn<L: Leases>(
         &mut self,
         charter: &Charter,
@@ -164,9 +169,16 @@ impl<B: Drop> Node<B> {
         ensures rests { Rests (L.meaning leases.new) self.old.script self.new.state }
         ensures stays { Stays (L.meaning leases.old) (L.meaning leases.new) }
         ensures others { AreOthersSame self.old.state.who.node (L.meaning leases.old) (L.meaning leases.new) }
+        ensures turned { (sends : List (List Sending)) → Turned (L.meaning leases.old) self.old.script (λ lists. turn sends lists input self.old.state) self.old.state out.old.items self.new.state out.new.items }
     {
+        packet_owes();
+        self.stands();
+        charter.config();
         match &input {
-            Input::Packet(packet) => self.packet(charter, packet, leases, out),
+            Input::Packet(packet) => {
+                have_different_members(packet);
+                self.packet(charter, packet, leases, out)
+            }
             _ => unreachable!(),
         }
     }
@@ -263,7 +275,7 @@ impl<B: Drop> Node<B> {
 
 // The end, and what is read.
 impl<B: Drop> Node<B> {
-    /// The node is gone: every slot that it held is freed.
+    /// The node is gone: every slot that it held is freed, as its list stood.
     pub fn crash<L: Leases>(self, leases: &mut L, out: &mut Out)
         requires ready { IsReady self out.old.spare }
         requires rests { Rests (L.meaning leases.old) self.script self.state }
@@ -272,7 +284,10 @@ impl<B: Drop> Node<B> {
         ensures free { (s : Slot) → IsTrue (is_slot_of self.script s) → (L.meaning leases.new).holds self.state.who.node s ≡ false }
         ensures stays { Stays (L.meaning leases.old) (L.meaning leases.new) }
         ensures others { AreOthersSame self.state.who.node (L.meaning leases.old) (L.meaning leases.new) }
+        ensures guarded { (lists : SlotLists) → AreInHand self.script lists self.state → IsTrue (guarded_in_hand self.script (L.meaning leases.old).vouches self.state.who (record { lists = lists; live = [] }) (crash self.state)) }
     {
+        crash_owes();
+        self.stands();
         let Node {
             alloc: _,
             script: _,
@@ -323,6 +338,19 @@ impl<B: Drop> Node<B> {
         let _ = &self.region;
         let _ = p;
         false
+    }
+}
+
+/// A view tells of members of different nodes.
+fn have_different_members(packet: &Packet)
+    ensures { IsTrue (has_different_members packet.now) }
+{
+    if let Body::View {
+        version: _,
+        members,
+    } = &packet.body
+    {
+        members.as_slice();
     }
 }
 

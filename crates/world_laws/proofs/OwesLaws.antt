@@ -34,7 +34,7 @@ use Rattle.yard_laws.proofs.Booleans.{true_is_not_false, and_both, both, number_
 use Rattle.yard_laws.proofs.PartsLaws.{region_alone, region_items, coordinator_items}
 use Rattle.world_laws.specs.Built.{is_built_body}
 use Rattle.world_laws.specs.Hands.{held_list, AreInHand}
-use Rattle.world_laws.specs.Owes.{Hand, hand_after, guard_in_hand, guarded_in_hand, live_names, facts_in, is_own_post, PacketOwes, CrashOwes}
+use Rattle.world_laws.specs.Owes.{Hand, hand_after, guard_in_hand, guarded_in_hand, live_names, facts_in, AreElseLawful, is_own_post, PacketOwes, CrashOwes}
 use Rattle.world_laws.specs.Standing.{IsCoordinator, IsNode}
 use Rattle.world_laws.proofs.Members.{itself_is}
 use Rattle.world_laws.proofs.Facts.{is_ours, led, lists_led, may_of, all_led_was}
@@ -235,12 +235,18 @@ by_itself : (c : Script) (st : Node) → IsNode c st → (o : Option Coordinator
 by_itself c st n None e = tt
 by_itself c st n (Some k) e = let m : IsCoordinator c st k = coordinator_of c st k n e in m.who_is
 
+coordinator_owns : (c : Script) (lists : SlotLists) (st : Node) → IsNode c st → AreInHand c lists st → AreElseLawful c lists st → (o : Option Coordinator) → st.coordinator ≡ o → own c slot.Coordinator lists.coordinator ≡ true
+coordinator_owns c lists st n hand else_is None e = else_is slot.Coordinator refl (ap (option_map (λ (k : Coordinator). k.entries)) e)
+coordinator_owns c lists st n hand else_is (Some k) e =
+    let m : IsCoordinator c st k = coordinator_of c st k n e in
+    ap (own c slot.Coordinator) (sym (in_hand_entries c lists st k hand e)) ∙ m.own_is
+
 pub packet_owes : PacketOwes
-packet_owes c vouches lists st p script n hand owns genuine built different =
+packet_owes c vouches lists st p script n hand else_is genuine built different =
     let is : List Item = items_of (packet lists p.from p.body st) in
     let parts : ((is_node c p.from && is_node c p.to) ≡ true) × (is_genuine_body c p.body ≡ true) = and_both (is_node c p.from && is_node c p.to) (is_genuine_body c p.body) genuine in
     let sender : is_node c p.from ≡ true = (and_both (is_node c p.from) (is_node c p.to) parts.0).0 in
-    let ready : IsReady c lists.coordinator st = record { self_is = n; entries_are = λ k e. in_hand_entries c lists st k hand e; own_is = owns slot.Coordinator refl } in
+    let ready : IsReady c lists.coordinator st = record { self_is = n; entries_are = λ k e. in_hand_entries c lists st k hand e; own_is = coordinator_owns c lists st n hand else_is st.coordinator refl } in
     let t : IsTurned c lists.coordinator st (packet lists p.from p.body st) = packet_turned c lists st p.from script sender ready p.body parts.1 built different in
     record {
       guarded_are = all_in_hand c vouches st.who (record { lists = lists; live = live_names st }) (facts_in is) (facts_go c is t.goes) (ap (own c slot.Coordinator) (facts_led lists.coordinator is) ∙ t.own_is);

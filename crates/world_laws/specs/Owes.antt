@@ -22,7 +22,7 @@ use Rattle.yard_model.specs.SlotReads.{holder, journal}
 use Rattle.yard_model.specs.Trace.{slot_of, list_at, lists_step}
 use Rattle.yard_model.specs.Words.{is_same, is_at}
 use Rattle.world_laws.specs.Built.{is_built_packet}
-use Rattle.world_laws.specs.Hands.{AreInHand}
+use Rattle.world_laws.specs.Hands.{held_list, AreInHand}
 use Rattle.world_laws.specs.Standing.{IsNode, has_different_members}
 
 -- the lists of the slots that a node holds, beside others, and the names that are live at it
@@ -89,10 +89,14 @@ pub record AreOwed (c : Script) (vouches : List ℕ → ℕ → ℕ → Bool) (l
   pub guarded_are : IsTrue (guarded_in_hand c vouches st.who (record { lists = lists; live = live_names st }) (facts_in is))
   pub posts_are : IsTrue (list_all (is_own_post c st.who) is)
 
+-- each slot that the node doesn't hold has a list that is lawful by itself
+abbrev pub AreElseLawful : Script → SlotLists → Node → Type 0
+AreElseLawful c lists st = (s : Slot) → IsTrue (is_slot_of c s) → held_list s st ≡ None → IsTrue (own c s (list_at lists s))
+
 -- a packet at a node that stands, whatever the lists of the slots that it doesn't hold, if each is lawful by itself
 abbrev pub PacketOwes : Type 0
 PacketOwes = (c : Script) (vouches : List ℕ → ℕ → ℕ → Bool) (lists : SlotLists) (st : Node) (p : Packet) → IsScript c → IsNode c st → AreInHand c lists st
-    → ((s : Slot) → IsTrue (is_slot_of c s) → IsTrue (own c s (list_at lists s)))
+    → AreElseLawful c lists st
     → IsTrue (is_genuine_packet c p) → IsTrue (is_built_packet p) → IsTrue (has_different_members p)
     → AreOwed c vouches lists st (items_of (packet lists p.from p.body st))
 

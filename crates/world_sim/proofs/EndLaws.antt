@@ -23,7 +23,9 @@ use Rattle.yard_model.specs.Words.{at, without}
 use Rattle.yard_model.specs.World.{World, world_after, numbered, count_posts, input_facts, wire_limit, go_down, go_down_by, handle, tell, full_step, node_at}
 use Rattle.shard_lease.specs.Book.{meaning_of}
 use Rattle.node_core.specs.Gave.{ForLists, lists_after}
-use Rattle.node_core.specs.Leased.{AreInHand, Rests, Tells, facts_in}
+use Rattle.world_laws.specs.Hands.{AreInHand}
+use Rattle.world_laws.specs.Owes.{facts_in}
+use Rattle.node_core.specs.Leased.{Rests, Tells}
 use Rattle.node_core.specs.Standing.{Standing}
 use Rattle.world_laws.specs.Built.{is_built_packet}
 use Rattle.world_laws.specs.Standing.{IsUp}

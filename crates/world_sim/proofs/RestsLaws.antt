@@ -27,7 +27,8 @@ use Rattle.shard_lease.specs.Meaning.{is_taken}
 use Rattle.world_laws.specs.Hands.{held_list, HasHand}
 use Rattle.world_laws.specs.Standing.{IsUp, Stands}
 use Rattle.world_laws.proofs.Place.{none_is_not_some, some_is, node_of_place}
-use Rattle.node_core.specs.Leased.{IsHandOf, Rests, IsTold, Tells, AreInHand}
+use Rattle.world_laws.specs.Hands.{AreInHand}
+use Rattle.node_core.specs.Leased.{IsHandOf, Rests, IsTold, Tells}
 
 -- What holds of what is there.
 

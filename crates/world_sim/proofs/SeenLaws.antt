@@ -13,7 +13,8 @@ use Rattle.yard_model.specs.Words.{at, numbers}
 use Rattle.yard_model.specs.Node.{Node}
 use Rattle.yard_model.specs.World.{World, world_after, members_step, version_step, ups_step, wire_step, fresh_step, full_step, nodes_step, input_facts, wire_limit, views}
 use Rattle.shard_lease.specs.Book.{meaning_of}
-use Rattle.node_core.specs.Leased.{Tells, facts_in}
+use Rattle.world_laws.specs.Owes.{facts_in}
+use Rattle.node_core.specs.Leased.{Tells}
 use Rattle.node_core.specs.Standing.{Standing}
 use Rattle.world_sim.specs.Mail.{Mails, facts_of, posts_of, is_past}
 use Rattle.world_sim.specs.Told.{AreTold, is_own_item}

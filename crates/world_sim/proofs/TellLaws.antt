@@ -14,7 +14,7 @@ use Rattle.yard_model.specs.SlotLists.{SlotLists}
 use Rattle.yard_model.specs.Trace.{lists_step}
 use Rattle.yard_model.specs.Node.{Node}
 use Rattle.yard_model.specs.World.{World, world_after, members_step, version_step, ups_step, wire_step, fresh_step, full_step, nodes_step, numbered, count_posts, input_facts}
-use Rattle.node_core.specs.Leased.{facts_in}
+use Rattle.world_laws.specs.Owes.{facts_in}
 use Rattle.yard_laws.proofs.Booleans.{true_is_not_false, and_both}
 use Rattle.world_sim.specs.Told.{is_own, is_own_item}
 

@@ -1,5 +1,5 @@
 use Rattle.std.proofs.Common.{◌++◌, sym, ap, subst, ◌∙◌}
-use Rattle.std.specs.Prelude.{fold, Option, Some, IfSome}
+use Rattle.std.specs.Prelude.{fold, Option, Some, None, IfSome}
 use Rattle.std.specs.List.{flat_map}
 use Rattle.yard_model.specs.Coordinator.{Coordinator, coordinator_after, terminate_lost}
 use Rattle.yard_model.specs.Move.{item_of}
@@ -10,6 +10,7 @@ use Rattle.node_core.specs.Leased.{Rests}
 use Rattle.node_core.specs.Gave.{Gave}
 use Rattle.yard_model.specs.Node as rules
 use Rattle.node_core.proofs.LeadLaws.{lost_still}
+use Rattle.node_core.proofs.GaveLaws.{gave_nothing}
 use Rattle.node_core.proofs.StepLaws.{lost_gave}
 use Rattle.node_core.proofs.lead.drop_lost.Goals as goal
 
@@ -41,3 +42,10 @@ returns-in-Some-clause-gave c = λ m rests.
     (subst (λ (o : Option Held). Rests m script (node_of script r o)) c.in-Some.is rests)
     (c.view_taken.ensures.state ∙ ap (λ v. fold coordinator_after k.state (terminate_lost v k.state)) c.view.ensures.members)
     (c.view_taken.ensures.items ∙ ap (λ v. c.args.out.now.items ++ flat_map item_of (terminate_lost v k.state)) c.view.ensures.members))
+
+pub returns-in_default-clause-gave : goal.returns-in_default-clause-gave
+returns-in_default-clause-gave c = λ m rests.
+    let script : Script = c.args.charter.now in
+    let r = c.args.region.now.state in
+    subst (λ (o : Option Held). Gave script (λ lists. rules.of_coordinator (terminate_lost r.view) (node_of script r o)) m (node_of script r o) c.args.out.now.items m (node_of script r o) c.args.out.now.items) (sym c.in_default.is)
+    (gave_nothing script m (node_of script r None) c.args.out.now.items (subst (λ (o : Option Held). Rests m script (node_of script r o)) c.in_default.is rests))

@@ -1,5 +1,5 @@
 use Rattle.std.proofs.Common.{◌++◌, sym, ap, subst, ◌∙◌}
-use Rattle.std.specs.Prelude.{fold, Option, Some, IfSome}
+use Rattle.std.specs.Prelude.{fold, Option, Some, None, IfSome}
 use Rattle.std.specs.List.{flat_map}
 use Rattle.yard_model.specs.declared.incarnation.Incarnation.{Incarnation}
 use Rattle.yard_model.specs.declared.packet.Body.TheVariants as body
@@ -12,6 +12,7 @@ use Rattle.node_core.specs.Leased.{Rests}
 use Rattle.node_core.specs.Gave.{Gave}
 use Rattle.yard_model.specs.Node as rules
 use Rattle.node_core.proofs.LeadLaws.{register_still}
+use Rattle.node_core.proofs.GaveLaws.{gave_nothing}
 use Rattle.node_core.proofs.StepLaws.{register_gave}
 use Rattle.node_core.proofs.register.register.Goals as goal
 
@@ -44,3 +45,10 @@ returns-in-Some-clause-gave c = λ m rests within.
     (subst (λ (o : Option Held). Rests m script (node_of script r o)) c.in-Some.is rests)
     (c.handle.ensures.state ∙ (ap (λ b. fold coordinator_after k.state (coordinate from b c.view.result.now.members k.state)) c.requires.register ∙ ap (λ v. fold coordinator_after k.state (register_from from v k.state)) c.view.ensures.members))
     (c.handle.ensures.items ∙ (ap (λ b. c.args.out.now.items ++ flat_map item_of (coordinate from b c.view.result.now.members k.state)) c.requires.register ∙ ap (λ v. c.args.out.now.items ++ flat_map item_of (register_from from v k.state)) c.view.ensures.members)))
+
+pub returns-in_default-clause-gave : goal.returns-in_default-clause-gave
+returns-in_default-clause-gave c = λ m rests within.
+    let script : Script = c.args.charter.now in
+    let r = c.args.region.now.state in
+    subst (λ (o : Option Held). Gave script (λ lists. rules.packet lists c.args.packet.now.from body.Register (node_of script r o)) m (node_of script r o) c.args.out.now.items m (node_of script r o) c.args.out.now.items) (sym c.in_default.is)
+    (gave_nothing script m (node_of script r None) c.args.out.now.items (subst (λ (o : Option Held). Rests m script (node_of script r o)) c.in_default.is rests))

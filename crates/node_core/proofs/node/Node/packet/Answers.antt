@@ -1,7 +1,9 @@
-use Rattle.std.proofs.Common.{sym, subst}
+use Rattle.std.proofs.Common.{◌≡◌, ◌≤◌, sym, ap, subst, ◌∙◌}
 use Rattle.yard_model.specs.declared.packet.Body.{Body}
 use Rattle.shard_lease.specs.Meaning.{Meaning}
 use Rattle.node_core.specs.Gave.{Gave}
+use Rattle.node_core.specs.Standing.{Standing}
+use Rattle.node_core.proofs.StepLaws.{le_is, old_view_gave}
 use Rattle.yard_model.specs.Node as rules
 use Rattle.node_core.proofs.node.Node.packet.Goals as goal
 
@@ -10,3 +12,12 @@ returns-in-Register-clause-gave g c =
     let m : Meaning = g.L.Leases.meaning c.args.leases.now in
     subst (λ (b : Body). Gave c.args.self.now.script (λ lists. rules.packet lists c.args.packet.now.from b c.args.self.now.state) m c.args.self.now.state c.args.out.now.items m c.enter.new.self.state c.enter.new.out.items) (sym c.in-Register.is)
     (c.enter.ensures.gave m c.requires.rests c.requires.addressed.within_is)
+
+pub returns-else-version-clause-gave : goal.returns-else-version-clause-gave
+returns-else-version-clause-gave g c =
+    let m : Meaning = g.L.Leases.meaning c.args.leases.now in
+    let st = c.args.self.now.state in
+    let version_is : c.version.result ≡ st.region.version = c.version.ensures ∙ ap (λ (v : Standing). v.state.region.version) c.self.view_is in
+    subst (λ (b : Body). Gave c.args.self.now.script (λ lists. rules.packet lists c.args.packet.now.from b st) m st c.args.out.now.items m st c.args.out.now.items) (sym c.in-View.is)
+    (old_view_gave c.args.self.now.script c.args.packet.now.from c.in-View.version c.in-View.members m st c.args.out.now.items
+    (le_is c.in-View.version st.region.version (subst (λ n. c.in-View.version ≤ n) version_is c.if-version.false)) c.requires.rests)

@@ -1,5 +1,5 @@
 -- A node as it stands between its inputs.
-use Rattle.std.specs.Prelude.{◌≡◌, ℕ, ◌+◌, ◌*◌, ◌≤◌, true, replicate, Option, Some, None, IfSome, IsTrue, List, []}
+use Rattle.std.specs.Prelude.{◌≡◌, ℕ, ◌+◌, ◌*◌, ◌≤◌, true, length, replicate, Option, Some, None, IfSome, IsTrue, List, []}
 use Rattle.std.specs.List.{list_all}
 use Rattle.std.specs.Option.{option_map}
 use Rattle.yard_model.specs.declared.incarnation.Incarnation.{Incarnation}
@@ -7,7 +7,7 @@ use Rattle.yard_model.specs.Entities.{new_entities}
 use Rattle.yard_model.specs.Genuine.{is_node}
 use Rattle.yard_model.specs.Node.{Node}
 use Rattle.yard_model.specs.Region.{Region}
-use Rattle.yard_model.specs.Script.{Script, IsScript, setting}
+use Rattle.yard_model.specs.Script.{Script, IsScript, setting, pairs_in}
 use Rattle.region_actor.specs.Made.{Made}
 use Rattle.coordinator_actor.specs.Held.{Held, are_viewed}
 
@@ -58,6 +58,6 @@ AreSeen view coordinator = IfSome coordinator (λ k. IsTrue (are_viewed view k.s
 
 -- an input that it handles, and its crash, take no memory
 pub record IsReady (v : Standing) (spare : ℕ) : Type 0 where
-  pub room : 8000 + 5 * v.script.config.buffer ≤ spare
+  pub room : 8000 + 5 * v.script.config.buffer + 5 * length (pairs_in v.script.orders) ≤ spare
   pub entries : IfSome v.state.coordinator (λ k. 300 ≤ v.spare)
   pub places : IfSome v.state.coordinator (λ k. 1 ≤ v.places)

@@ -127,16 +127,16 @@ impl<B: Drop> Node<B> {
         self.coordinator.is_some()
     }
 
-    /// Makes room for any input, and for the crash: in `out`, in the store of each slot that it
-    /// holds, and for one region more that leaves. The only error is want of memory; the node is as
-    /// before then.
+    /// Makes room for any input, and for the crash: in `out`, for as many pairs as a script may have,
+    /// in the store of each slot that it holds, and for one region more that leaves. The only error
+    /// is want of memory; the node is as before then.
     pub fn reserve(&mut self, out: &mut Out) -> Result<(), AllocError>
         ensures script { self.new.script ≡ self.old.script }
         ensures state { self.new.state ≡ self.old.state }
         ensures items { out.new.items ≡ out.old.items }
         ensures ready { OnOk result (IsReady self.new out.new.spare) }
     {
-        let wanted = 8000 + 5 * self.buffer as u32;
+        let wanted = 28_000 + 5 * self.buffer as u32;
         out.reserve(wanted)?;
         match &mut self.coordinator {
             Some(coordinator) => coordinator.reserve(),

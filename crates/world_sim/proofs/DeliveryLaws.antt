@@ -25,8 +25,9 @@ use Rattle.world_laws.specs.Standing.{Stands, IsThere, has_different_members}
 use Rattle.world_laws.proofs.Place.{none_is_not_some, some_is}
 use Rattle.world_laws.proofs.Play.{deliver_goes}
 use Rattle.world_laws.proofs.Stand.{tell_fine}
-use Rattle.world_sim.specs.Mail.{Mails, Heads}
+use Rattle.world_sim.specs.Mail.{Mails, Heads, ToldSome}
 use Rattle.world_sim.specs.Steps.{marked, IsGood}
+use Rattle.world_sim.proofs.CutLaws.{cut_first, cut_next, cut_if}
 use Rattle.world_sim.proofs.PlaceLaws.{all_got, put_back, state_at, taken_out}
 use Rattle.world_sim.specs.Yard.{Yard, IsSeen, IsSound, IsSoundBut, Goes, state_in}
 
@@ -125,6 +126,10 @@ pub goes_delivered : (y z : Yard) (w : World) (n : ℕ) (o : Option Packet) (bef
 goes_delivered y z w n o before after s e g =
     subst (Goes before after z) (sym (delivered n w ∙ ap (λ o. world.deliver_by n o w) (ap (λ ps. packet_at ps n) (sym s.wire_is) ∙ e))) g
 
+pub cut_delivered : (y : Yard) (w : World) (n : ℕ) (o : Option Packet) (before after : List Fact) → IsSeen y w → packet_at y.mail.packets n ≡ o → ToldSome before after (world.deliver_by n o w).facts → ToldSome before after (world.deliver n w).facts
+cut_delivered y w n o before after s e t =
+    subst (λ (m : Made). ToldSome before after m.facts) (sym (delivered n w ∙ ap (λ o. world.deliver_by n o w) (ap (λ ps. packet_at ps n) (sym s.wire_is) ∙ e))) t
+
 -- A node that is taken out of its place.
 
 state_inside : (ys : List (Option Standing)) (k : ℕ) (st : Node) → state_in (at ys k) ≡ Some st → k < length ys
@@ -191,6 +196,14 @@ goes_over y z w p v before after s m e g =
     (λ h. subst (λ o. Goes before after z (world.give (input.Packet p) o w)) (sym up) g)
     (λ h. absurd (true_is_not_false (sym (ap (is_among p.to) (sym s.members_are) ∙ m) ∙ h)))
 
+pub cut_over : (y : Yard) (w : World) (p : Packet) (v : Standing) (before after : List Fact) → IsSeen y w → is_among p.to y.members ≡ true → Some v ≡ at y.nodes (p.to.node - 1)
+    → ToldSome before after (world.handle (input.Packet p) v.state w).facts → ToldSome before after (world.hand_over p w).facts
+cut_over y w p v before after s m e t =
+    let up : node_at w p.to.node ≡ Some v.state = ap (λ l. at l (p.to.node - 1)) (sym s.nodes_are) ∙ (state_at y.nodes (p.to.node - 1) ∙ ap state_in (sym e)) in
+    cut_if before after (is_among p.to w.members) (world.give (input.Packet p) (node_at w p.to.node) w) (tell [] w)
+    (λ h. subst (λ o. ToldSome before after (world.give (input.Packet p) o w).facts) (sym up) t)
+    (λ h. absurd (true_is_not_false (sym (ap (is_among p.to) (sym s.members_are) ∙ m) ∙ h)))
+
 -- Deliveries in turn.
 
 -- what is told from here on, of so many deliveries, is told of all of them
@@ -198,6 +211,7 @@ pub record IsDrained (from n : ℕ) (w : World) (start : List Fact) (y : Yard) (
   pub now : World
   pub sound : IsSound y now
   pub rest : (after : List Fact) (z : Yard) → Goes facts after z (world.drain from left now) → Goes start after z (world.drain from n w)
+  pub cut : (after : List Fact) → ToldSome facts after (world.drain from left now).facts → ToldSome start after (world.drain from n w).facts
 
 pub record Draining (old : Yard) (start : List Fact) (from n : ℕ) (y : Yard) (facts : List Fact) (left : ℕ) : Type 0 where
   pub goes_on : (w : World) → IsSound old w → IsDrained from n w start y facts left
@@ -219,6 +233,11 @@ drain_next y z w from n k facts after s h g =
     let e : filter (nat_lt from) w.fresh ≡ k ∷ h.rest = ap (filter (nat_lt from)) (sym s.fresh_is) ∙ h.is in
     subst (λ (ks : List ℕ). Goes facts after z (elim ks as (λ x. Made) [ [] ↦ tell [] w | k ∷ ks ↦ then_step (world.deliver k w) (world.drain from n) ])) (sym e) g
 
+cut_some : (y : Yard) (w : World) (from n k : ℕ) (facts after : List Fact) → IsSeen y w → Heads k (filter (nat_lt from) y.mail.fresh) → ToldSome facts after (then_step (world.deliver k w) (world.drain from n)).facts → ToldSome facts after (world.drain from (suc n) w).facts
+cut_some y w from n k facts after s h t =
+    let e : filter (nat_lt from) w.fresh ≡ k ∷ h.rest = ap (filter (nat_lt from)) (sym s.fresh_is) ∙ h.is in
+    subst (λ (ks : List ℕ). ToldSome facts after (elim ks as (λ x. Made) [ [] ↦ tell [] w | k ∷ ks ↦ then_step (world.deliver k w) (world.drain from n) ]).facts) (sym e) t
+
 -- after one delivery, where the trace goes on: so many are left, one less than before
 pub drain_goes_on : (old y z : Yard) (start facts after : List Fact) (from n more left k : ℕ) → more ≡ suc left → Draining old start from n y facts more → Heads k (filter (nat_lt from) y.mail.fresh)
     → ((w : World) → IsSound y w → Goes facts after z (world.deliver k w)) → z.script ≡ y.script → z.version ≡ y.version → z.ups ≡ y.ups → z.mail.full ≡ false → Draining old start from n z after left
@@ -232,6 +251,7 @@ drain_goes_on old y z start facts after from n more left k one d h g script vers
         now = m.world;
         sound = record { seen_is = j.seen_is; stands_is = subst (λ c. Stands c m.world) (sym script) ((deliver_goes y.script i.now k).0 i.sound.stands_is); going_is = going };
         rest = λ last v e. i.rest last v (drain_next y v i.now from left k facts last i.sound.seen_is h (goes_then facts after last v m (world.drain from left) going j.facts_are e));
+        cut = λ last t. i.cut last (cut_some y i.now from left k facts last i.sound.seen_is h (cut_next facts after last m (world.drain from left) going j.facts_are t));
       };
   script_is = script ∙ d.script_is;
   version_is = version ∙ d.version_is;
@@ -246,6 +266,13 @@ drain_stops old y z w start facts after from n more left k one d h g full s =
     let m : Made = world.deliver k i.now in
     let j : Goes facts after z m = g i.now i.sound in
     i.rest after z (drain_next y z i.now from left k facts after i.sound.seen_is h (goes_stop facts after z m (world.drain from left) (sym j.seen_is.full_is ∙ full) j))
+
+-- where memory runs out in a delivery
+pub drain_cut : (old y : Yard) (w : World) (start facts after : List Fact) (from n more left k : ℕ) → more ≡ suc left → Draining old start from n y facts more → Heads k (filter (nat_lt from) y.mail.fresh)
+    → ((w : World) → IsSound y w → ToldSome facts after (world.deliver k w).facts) → IsSound old w → ToldSome start after (world.drain from n w).facts
+drain_cut old y w start facts after from n more left k one d h t s =
+    let i : IsDrained from n w start y facts (suc left) = subst (IsDrained from n w start y facts) one (d.goes_on w s) in
+    i.cut after (cut_some y i.now from left k facts after i.sound.seen_is h (cut_first facts after (world.deliver k i.now) (world.drain from left) (t i.now i.sound)))
 
 -- where none is left
 pub drain_ends : (old y : Yard) (w : World) (start facts : List Fact) (from n left : ℕ) → Draining old start from n y facts left → filter (nat_lt from) y.mail.fresh ≡ [] → IsSound old w → Goes start facts y (world.drain from n w)
@@ -277,7 +304,16 @@ pump_some y z w n before after s h g =
     (λ b. absurd (true_is_not_false (sym h ∙ ap not (ap is_empty s.fresh_is ∙ b))))
     (λ b. g)
 
+pub cut_pump : (y : Yard) (w : World) (n : ℕ) (before after : List Fact) → IsSeen y w → not (is_empty y.mail.fresh) ≡ true → ToldSome before after (world.drain 0 n w).facts → ToldSome before after (world.pump n w).facts
+cut_pump y w n before after s h t =
+    cut_if before after (is_empty w.fresh) (world.nothing w) (world.drain 0 n w)
+    (λ b. absurd (true_is_not_false (sym h ∙ ap not (ap is_empty s.fresh_is ∙ b))))
+    (λ b. t)
+
 -- Orders.
+
+pub cut_as : (before after : List Fact) (o p : Order) (w : World) → o ≡ p → ToldSome before after (world.play p w).facts → ToldSome before after (world.play o w).facts
+cut_as before after o p w e t = subst (λ o. ToldSome before after (world.play o w).facts) (sym e) t
 
 ordered_same : (o : Order) (w : World) → is_built_order o ≡ true → with_order (Some o) w ≡ w
 ordered_same (order.Send p e k) w b = absurd (true_is_not_false (sym b))
@@ -287,3 +323,8 @@ pub goes_line : (y z : Yard) (w : World) (l : Line) (before mid after : List Fac
 goes_line y z w l before mid after s b e g =
     subst (λ v. Goes before after z (then_step (tell (fact.At l.number ∷ []) v) (world.play l.order))) (sym (ordered_same l.order w b))
     (goes_then before mid after z (tell (fact.At l.number ∷ []) w) (world.play l.order) s.going_is e g)
+
+pub cut_line : (y : Yard) (w : World) (l : Line) (before mid after : List Fact) → IsSound y w → is_built_order l.order ≡ true → mid ≡ before ++ fact.At l.number ∷ [] → ToldSome mid after (world.play l.order w).facts → ToldSome before after (world.play_line l w).facts
+cut_line y w l before mid after s b e t =
+    subst (λ v. ToldSome before after (then_step (tell (fact.At l.number ∷ []) v) (world.play l.order)).facts) (sym (ordered_same l.order w b))
+    (cut_next before mid after (tell (fact.At l.number ∷ []) w) (world.play l.order) s.going_is e t)

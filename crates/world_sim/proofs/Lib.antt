@@ -1,3 +1,4 @@
+pub mod CutLaws
 pub mod DeliveryLaws
 pub mod EndLaws
 pub mod FreshLaws

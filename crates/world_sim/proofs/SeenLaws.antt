@@ -1,6 +1,6 @@
 -- What code keeps after a step stands for the world that the step makes.
 use Rattle.std.proofs.Common.{◌≡◌, ℕ, ◌+◌, true, ◌||◌, List, [], ◌∷◌, ◌++◌, length, fold, refl, ap, sym, ◌∙◌, subst}
-use Rattle.std.specs.Prelude.{map, Option, IfSome, Result, Ok, Err, OnOk}
+use Rattle.std.specs.Prelude.{map, Option, IfSome, Result, Ok, Err, OnOk, OnErr}
 use Rattle.std.specs.List.{list_all}
 use Rattle.yard_model.specs.declared.fact.Fact.{Fact}
 use Rattle.yard_model.specs.declared.incarnation.Incarnation.{Incarnation}
@@ -35,6 +35,14 @@ on_both (Err e) P Q p q = tt
 pub on_any : {T E : Type 0} (r : Result T E) {P : Type 0} → P → OnOk r P
 on_any (Ok x) p = p
 on_any (Err e) p = tt
+
+pub on_err : {T E : Type 0} (r : Result T E) {P Q : Type 0} → OnErr r P → (P → Q) → OnErr r Q
+on_err (Ok x) p f = tt
+on_err (Err e) p f = f p
+
+pub on_any_err : {T E : Type 0} (r : Result T E) {P : Type 0} → P → OnErr r P
+on_any_err (Ok x) p = tt
+on_any_err (Err e) p = p
 
 -- The mail once items are told.
 

@@ -1,5 +1,5 @@
 -- A world, order by order.
-use Rattle.std.proofs.Common.{◌≡◌, ℕ, zero, suc, ◌+◌, ◌<◌, ◌≤◌, Bool, true, false, List, [], ◌∷◌, length, ap, sym, ◌∙◌, subst, arith}
+use Rattle.std.proofs.Common.{◌≡◌, ℕ, zero, suc, ◌+◌, ◌<◌, ◌≤◌, Bool, true, false, List, [], ◌∷◌, length, refl, ap, sym, ◌∙◌, subst, arith}
 use Rattle.std.specs.Prelude.{slice_get, slice_index_or, Option, Some, None}
 use Rattle.yard_model.specs.declared.fact.Fact.{Fact}
 use Rattle.yard_model.specs.declared.charter.Line.{Line}
@@ -11,7 +11,8 @@ use Rattle.world_laws.proofs.Place.{none_is_not_some}
 use Rattle.world_laws.proofs.Play.{played_goes}
 use Rattle.world_sim.specs.declared.fault.StepFault.{StepFault}
 use Rattle.world_sim.specs.declared.fault.StepFault.TheVariants as fault
-use Rattle.world_sim.specs.Played.{Played, made_of, Told, Went, Filled}
+use Rattle.world_sim.specs.Mail.{ToldSome}
+use Rattle.world_sim.specs.Played.{Played, made_of, Told, Went, Filled, CutShort}
 use Rattle.world_sim.specs.Steps.{AreOneMore}
 use Rattle.world_sim.specs.World.{IsWorld, IsAt, IsCounted, IsKept}
 use Rattle.world_sim.specs.Yard.{Yard, IsSeen, IsSound, Goes}
@@ -133,3 +134,6 @@ filled y z n f l before after e k full = record {
   full_is = sym k.goes.seen_is.full_is ∙ full;
   new_is = λ i. record { script = k.script_is i; count = n + 1; fault = Some fault.WireFull };
 }
+
+pub cut_short : (y z : Yard) (n : ℕ) (f : Option StepFault) (l : Line) (before after : List Fact) → f ≡ None → z.script ≡ y.script → ToldSome before after (play_line l (made_of y.script n).world).facts → CutShort (seen y n f) l before (seen z n (Some fault.OutOfMemory)) after
+cut_short y z n f l before after e script t = record { fresh_is = e; told_some = t; script_is = script; fault_is = refl }

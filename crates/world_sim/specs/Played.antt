@@ -8,6 +8,7 @@ use Rattle.yard_model.specs.Script.{Script, setting}
 use Rattle.yard_model.specs.SlotLists.{SlotLists}
 use Rattle.yard_model.specs.Trace.{lists_step}
 use Rattle.yard_model.specs.World.{Made, new_world, play_line, played, in_order, wire_limit}
+use Rattle.world_sim.specs.Mail.{ToldSome}
 use Rattle.world_sim.specs.declared.fault.StepFault.{StepFault}
 use Rattle.world_sim.specs.declared.fault.StepFault.TheVariants as fault
 
@@ -41,11 +42,18 @@ pub record Filled (old : Played) (l : Line) (before : List Fact) (new : Played) 
   pub full_is : (next_of old.script old.count l).world.full ≡ true
   pub new_is : new ≡ record { script = old.script; count = old.count + 1; fault = Some fault.WireFull }
 
+-- memory ran out, and the order is cut short: a beginning of its facts was told
+pub record CutShort (old : Played) (l : Line) (before : List Fact) (new : Played) (after : List Fact) : Type 0 where
+  pub fresh_is : old.fault ≡ None
+  pub told_some : ToldSome before after (next_of old.script old.count l).facts
+  pub script_is : new.script ≡ old.script
+  pub fault_is : new.fault ≡ Some fault.OutOfMemory
+
 -- what an answer says where the world wasn't spent
 abbrev pub Answers : Played → Line → List Fact → Result (Unit {0}) StepFault → Played → List Fact → Type 0
 Answers old l before (Ok u) new after = Went old l before new after
 Answers old l before (Err fault.WireFull) new after = Filled old l before new after
-Answers old l before (Err fault.OutOfMemory) new after = (new.script ≡ old.script) × (new.fault ≡ Some fault.OutOfMemory)
+Answers old l before (Err fault.OutOfMemory) new after = CutShort old l before new after
 
 -- a spent world answers what ended it, and nothing changes
 pub record Spent (old : Played) (f : StepFault) (before : List Fact) (r : Result (Unit {0}) StepFault) (new : Played) (after : List Fact) : Type 0 where

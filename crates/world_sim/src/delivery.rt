@@ -1,10 +1,11 @@
 //! Packets that are delivered.
-ghost use Rattle.std.specs.Prelude.{◌≡◌, ◌-◌, ◌<◌, ◌≤◌, ◌++◌, false, length, Some, OnOk};
+ghost use Rattle.std.specs.Prelude.{◌≡◌, ◌-◌, ◌<◌, ◌≤◌, ◌++◌, false, length, Some, OnOk, OnErr};
 ghost use Rattle.yard_model.specs.declared.input.Input.TheVariants as input;
 ghost use Rattle.yard_model.specs.Words.{at};
 ghost use Rattle.yard_model.specs.World.{World, handle, hand_over, deliver, deliver_by, drain, pump};
 ghost use Rattle.wire_packet.specs.Wire.{packet_at};
 ghost use Rattle.world_laws.specs.Standing.{Stands};
+ghost use Rattle.world_sim.specs.Mail.{ToldSome};
 ghost use Rattle.world_sim.specs.Steps.{marked, IsGood};
 ghost use Rattle.world_sim.specs.Yard.{IsSeen, IsSound, IsSoundBut, Goes};
 
@@ -21,6 +22,7 @@ impl<B: Copy + Drop> Yard<B> {
     pub(crate) fn deliver(&mut self, number: u32, facts: &mut Facts) -> Result<(), AllocError>
         requires world { (w : World) × IsSound self.old w }
         ensures goes { OnOk result ((w : World) → IsSound self.old w → Goes facts.old facts.new self.new (deliver number w)) }
+        ensures memory { OnErr result ((w : World) → IsSound self.old w → ToldSome facts.old facts.new (deliver number w).facts) }
         ensures script { self.new.script ≡ self.old.script }
         ensures version { OnOk result (self.new.version ≡ self.old.version) }
         ensures ups { OnOk result (self.new.ups ≡ self.old.ups) }
@@ -42,6 +44,7 @@ impl<B: Copy + Drop> Yard<B> {
         requires above { 0 < number }
         requires posted { packet_at self.old.mail.packets number ≡ Some packet.now }
         ensures goes { OnOk result ((w : World) → IsSound self.old w → Goes facts.old facts.new self.new (deliver_by number (Some packet.now) w)) }
+        ensures memory { OnErr result ((w : World) → IsSound self.old w → ToldSome facts.old facts.new (deliver_by number (Some packet.now) w).facts) }
         ensures script { self.new.script ≡ self.old.script }
         ensures version { OnOk result (self.new.version ≡ self.old.version) }
         ensures ups { OnOk result (self.new.ups ≡ self.old.ups) }
@@ -56,6 +59,7 @@ impl<B: Copy + Drop> Yard<B> {
         requires above { 0 < number }
         requires posted { number ≤ length self.old.mail.packets }
         ensures goes { OnOk result ((w : World) → IsSeen self.old w → Goes facts.old facts.new self.new (marked number w)) }
+        ensures memory { OnErr result ((w : World) → IsSeen self.old w → ToldSome facts.old facts.new (marked number w).facts) }
         ensures script { self.new.script ≡ self.old.script }
         ensures version { OnOk result (self.new.version ≡ self.old.version) }
         ensures ups { OnOk result (self.new.ups ≡ self.old.ups) }
@@ -70,6 +74,7 @@ impl<B: Copy + Drop> Yard<B> {
         requires world { (w : World) × IsSound self.old w }
         requires packet { IsGood self.old.script packet.now }
         ensures goes { OnOk result ((w : World) → IsSound self.old w → Goes facts.old facts.new self.new (hand_over packet.now w)) }
+        ensures memory { OnErr result ((w : World) → IsSound self.old w → ToldSome facts.old facts.new (hand_over packet.now w).facts) }
         ensures script { self.new.script ≡ self.old.script }
         ensures version { OnOk result (self.new.version ≡ self.old.version) }
         ensures ups { OnOk result (self.new.ups ≡ self.old.ups) }
@@ -89,6 +94,7 @@ impl<B: Copy + Drop> Yard<B> {
         requires packet { IsGood self.old.script packet.now }
         requires addressed { packet.now.to ≡ node.state.who }
         ensures goes { OnOk result ((w : World) → IsSoundBut packet.now.to.node node self.old w → Goes facts.old facts.new self.new (handle (input.Packet packet.now) node.state w)) }
+        ensures memory { OnErr result ((w : World) → IsSoundBut packet.now.to.node node self.old w → ToldSome facts.old facts.new (handle (input.Packet packet.now) node.state w).facts) }
         ensures script { self.new.script ≡ self.old.script }
         ensures version { OnOk result (self.new.version ≡ self.old.version) }
         ensures ups { OnOk result (self.new.ups ≡ self.old.ups) }
@@ -112,6 +118,7 @@ impl<B: Copy + Drop> Yard<B> {
         requires world { (w : World) × IsSound self.old w }
         requires from { from < 4000000000 }
         ensures goes { OnOk result ((w : World) → IsSound self.old w → Goes facts.old facts.new self.new (drain from n w)) }
+        ensures memory { OnErr result ((w : World) → IsSound self.old w → ToldSome facts.old facts.new (drain from n w).facts) }
         ensures script { self.new.script ≡ self.old.script }
         ensures version { OnOk result (self.new.version ≡ self.old.version) }
         ensures ups { OnOk result (self.new.ups ≡ self.old.ups) }
@@ -132,6 +139,7 @@ impl<B: Copy + Drop> Yard<B> {
     pub(crate) fn pump(&mut self, n: u32, facts: &mut Facts) -> Result<(), AllocError>
         requires world { (w : World) × IsSound self.old w }
         ensures goes { OnOk result ((w : World) → IsSound self.old w → Goes facts.old facts.new self.new (pump n w)) }
+        ensures memory { OnErr result ((w : World) → IsSound self.old w → ToldSome facts.old facts.new (pump n w).facts) }
         ensures script { self.new.script ≡ self.old.script }
         ensures version { OnOk result (self.new.version ≡ self.old.version) }
         ensures ups { OnOk result (self.new.ups ≡ self.old.ups) }

@@ -1,9 +1,10 @@
 //! The orders of a script.
-ghost use Rattle.std.specs.Prelude.{◌≡◌, ℕ, ◌+◌, ◌<◌, ◌≤◌, ◌++◌, false, OnOk, IsTrue, slice_index_or};
+ghost use Rattle.std.specs.Prelude.{◌≡◌, ℕ, ◌+◌, ◌<◌, ◌≤◌, ◌++◌, false, OnOk, OnErr, IsTrue, slice_index_or};
 ghost use Rattle.yard_model.specs.Script.{is_order};
 ghost use Rattle.yard_model.specs.World.{World, play, play_line};
 ghost use Rattle.world_laws.specs.Built.{is_built_order};
 ghost use Rattle.world_laws.specs.Standing.{Stands};
+ghost use Rattle.world_sim.specs.Mail.{ToldSome};
 ghost use Rattle.world_sim.specs.Steps.{AreOneMore};
 ghost use Rattle.world_sim.specs.Yard.{IsSeen, IsSound, IsSoundBut, Goes};
 
@@ -20,6 +21,7 @@ impl<B: Copy + Drop> Yard<B> {
         requires version { self.old.version < 4000000000 }
         requires ups { (k : ℕ) → slice_index_or self.old.ups k 0 < 4000000000 }
         ensures goes { OnOk result ((w : World) → IsSound self.old w → Goes facts.old facts.new self.new (play_line line.now w)) }
+        ensures memory { OnErr result ((w : World) → IsSound self.old w → ToldSome facts.old facts.new (play_line line.now w).facts) }
         ensures script { self.new.script ≡ self.old.script }
         ensures version { OnOk result (self.new.version ≤ self.old.version + 1) }
         ensures ups { OnOk result (AreOneMore self.old.ups self.new.ups) }
@@ -36,6 +38,7 @@ impl<B: Copy + Drop> Yard<B> {
         requires version { self.old.version < 4000000000 }
         requires ups { (k : ℕ) → slice_index_or self.old.ups k 0 < 4000000000 }
         ensures goes { OnOk result ((w : World) → IsSound self.old w → Goes facts.old facts.new self.new (play order.now w)) }
+        ensures memory { OnErr result ((w : World) → IsSound self.old w → ToldSome facts.old facts.new (play order.now w).facts) }
         ensures script { self.new.script ≡ self.old.script }
         ensures version { OnOk result (self.new.version ≤ self.old.version + 1) }
         ensures ups { OnOk result (AreOneMore self.old.ups self.new.ups) }

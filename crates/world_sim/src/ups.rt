@@ -1,9 +1,10 @@
 //! Nodes that come up and go down.
-ghost use Rattle.std.specs.Prelude.{◌≡◌, ℕ, ◌+◌, ◌-◌, ◌<◌, ◌≤◌, ◌++◌, true, false, Some, None, OnOk, slice_index_or, slice_set};
+ghost use Rattle.std.specs.Prelude.{◌≡◌, ℕ, ◌+◌, ◌-◌, ◌<◌, ◌≤◌, ◌++◌, true, false, Some, None, OnOk, OnErr, slice_index_or, slice_set};
 ghost use Rattle.yard_model.specs.Behaviour.{is_in};
 ghost use Rattle.yard_model.specs.Words.{at};
 ghost use Rattle.yard_model.specs.World.{World, views, come_up, go_down, up, crash_node};
 ghost use Rattle.world_laws.specs.Standing.{Stands};
+ghost use Rattle.world_sim.specs.Mail.{ToldSome};
 ghost use Rattle.world_sim.specs.Steps.{entered, AreOneMore};
 ghost use Rattle.world_sim.specs.Yard.{IsSeen, IsFirm, IsSound, IsSoundBut, Goes};
 
@@ -20,6 +21,7 @@ impl<B: Copy + Drop> Yard<B> {
     fn views(&mut self, facts: &mut Facts) -> Result<(), AllocError>
         requires world { (w : World) × IsSeen self.old w }
         ensures goes { OnOk result ((w : World) → IsSeen self.old w → Goes facts.old facts.new self.new (views w)) }
+        ensures memory { OnErr result ((w : World) → IsSeen self.old w → ToldSome facts.old facts.new (views w).facts) }
         ensures script { self.new.script ≡ self.old.script }
         ensures version { OnOk result (self.new.version ≡ self.old.version) }
         ensures ups { OnOk result (self.new.ups ≡ self.old.ups) }
@@ -37,6 +39,7 @@ impl<B: Copy + Drop> Yard<B> {
         requires version { self.old.version < 4000000000 }
         requires ups { slice_index_or self.old.ups (n - 1) 0 < 4000000000 }
         ensures goes { OnOk result ((w : World) → IsSound self.old w → Goes facts.old facts.new self.new (come_up n w)) }
+        ensures memory { OnErr result ((w : World) → IsSound self.old w → ToldSome facts.old facts.new (come_up n w).facts) }
         ensures script { self.new.script ≡ self.old.script }
         ensures version { OnOk result (self.new.version ≡ self.old.version + 1) }
         ensures ups { OnOk result (self.new.ups ≡ slice_set self.old.ups (n - 1) (slice_index_or self.old.ups (n - 1) 0 + 1)) }
@@ -53,6 +56,7 @@ impl<B: Copy + Drop> Yard<B> {
         requires version { self.old.version < 4000000000 }
         requires ups { slice_index_or self.old.ups (n - 1) 0 < 4000000000 }
         ensures goes { OnOk result ((w : World) → IsSound self.old w → Goes facts.old facts.new self.new (entered n w)) }
+        ensures memory { OnErr result ((w : World) → IsSound self.old w → ToldSome facts.old facts.new (entered n w).facts) }
         ensures script { self.new.script ≡ self.old.script }
         ensures version { OnOk result (self.new.version ≡ self.old.version + 1) }
         ensures ups { OnOk result (self.new.ups ≡ slice_set self.old.ups (n - 1) (slice_index_or self.old.ups (n - 1) 0 + 1)) }
@@ -76,6 +80,7 @@ impl<B: Copy + Drop> Yard<B> {
         requires version { self.old.version < 4000000000 }
         requires ups { slice_index_or self.old.ups (n - 1) 0 < 4000000000 }
         ensures goes { OnOk result ((w : World) → IsSound self.old w → Goes facts.old facts.new self.new (up n w)) }
+        ensures memory { OnErr result ((w : World) → IsSound self.old w → ToldSome facts.old facts.new (up n w).facts) }
         ensures script { self.new.script ≡ self.old.script }
         ensures version { OnOk result (self.new.version ≤ self.old.version + 1) }
         ensures ups { OnOk result (AreOneMore self.old.ups self.new.ups) }
@@ -93,6 +98,7 @@ impl<B: Copy + Drop> Yard<B> {
         requires node { is_in 1 self.old.script.config.nodes n ≡ true }
         requires version { self.old.version < 4000000000 }
         ensures goes { OnOk result ((w : World) → IsFirm self.old w → Goes facts.old facts.new self.new (go_down n w)) }
+        ensures memory { OnErr result ((w : World) → IsFirm self.old w → ToldSome facts.old facts.new (go_down n w).facts) }
         ensures script { self.new.script ≡ self.old.script }
         ensures version { OnOk result (self.new.version ≤ self.old.version + 1) }
         ensures ups { OnOk result (self.new.ups ≡ self.old.ups) }
@@ -109,6 +115,7 @@ impl<B: Copy + Drop> Yard<B> {
         requires node { is_in 1 self.old.script.config.nodes n ≡ true }
         requires version { self.old.version < 4000000000 }
         ensures goes { OnOk result ((w : World) → IsSound self.old w → Goes facts.old facts.new self.new (crash_node n w)) }
+        ensures memory { OnErr result ((w : World) → IsSound self.old w → ToldSome facts.old facts.new (crash_node n w).facts) }
         ensures script { self.new.script ≡ self.old.script }
         ensures version { OnOk result (self.new.version ≤ self.old.version + 1) }
         ensures ups { OnOk result (AreOneMore self.old.ups self.new.ups) }
@@ -126,6 +133,7 @@ impl<B: Copy + Drop> Yard<B> {
         requires node { is_in 1 self.old.script.config.nodes n ≡ true }
         requires version { self.old.version < 4000000000 }
         ensures goes { OnOk result ((w : World) → IsSoundBut n node self.old w → Goes facts.old facts.new self.new (go_down n w)) }
+        ensures memory { OnErr result ((w : World) → IsSoundBut n node self.old w → ToldSome facts.old facts.new (go_down n w).facts) }
         ensures script { self.new.script ≡ self.old.script }
         ensures version { OnOk result (self.new.version ≡ self.old.version + 1) }
         ensures ups { OnOk result (self.new.ups ≡ self.old.ups) }

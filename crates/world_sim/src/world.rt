@@ -52,7 +52,8 @@ impl<B: Copy + Drop> World<B> {
         })
     }
 
-    /// Plays the next order, and tells its facts. A world that is spent answers what ended it.
+    /// Plays the next order, and tells its facts; where memory runs out, a beginning of them. A world
+    /// that is spent answers what ended it.
     pub fn step(&mut self, line: &Line, out: &mut Facts) -> Result<(), StepFault>
         requires { IfNone self.old.fault (slice_get self.old.script.orders self.old.count ≡ Some line.now) }
         ensures { Steps self.old line.now out.old result self.new out.new }

@@ -1,8 +1,8 @@
 use Rattle.std.proofs.Common.{◌+◌, ap, sym, ◌∙◌, subst}
 use Rattle.world_sim.specs.declared.fault.StepFault.TheVariants as fault
 use Rattle.std.specs.Prelude.{slice_get, Some}
-use Rattle.world_sim.specs.Played.{Played, Went, Filled}
-use Rattle.world_sim.proofs.WorldLaws.{sound_at, order_of_line, built_line, world_going, world_full, went, filled}
+use Rattle.world_sim.specs.Played.{Played, Went, Filled, CutShort}
+use Rattle.world_sim.proofs.WorldLaws.{sound_at, order_of_line, built_line, world_going, world_full, went, filled, cut_short}
 use Rattle.world_sim.proofs.world.World.play.Goals as goal
 
 pub play_line-requires-clause-world : goal.play_line-requires-clause-world
@@ -13,6 +13,14 @@ play_line-requires-clause-order g c = order_of_line c.self.inside.yard c.self.in
 
 pub play_line-requires-clause-built : goal.play_line-requires-clause-built
 play_line-requires-clause-built g c = built_line c.self.inside.yard c.self.inside.count c.self.inside.fault c.args.line.now c.self.invariant (ap (λ (v : Played). slice_get v.script.orders v.count) c.self.view_is ∙ c.requires.next)
+
+pub returns-in-Err : goal.returns-in-Err
+returns-in-Err g c =
+    let none = ap (λ (v : Played). v.fault) c.self.view_is ∙ c.requires.going in
+    let e = c.in-Err.ensures in
+    subst (λ (v : Played). CutShort v c.args.line.now c.args.out.now (record { script = c.play_line.new.self.script; count = c.self.inside.count; fault = Some fault.OutOfMemory }) c.play_line.new.facts) c.self.view_is
+    (cut_short c.self.inside.yard c.play_line.new.self c.self.inside.count c.self.inside.fault c.args.line.now c.args.out.now c.play_line.new.facts none
+    e.script (e.memory _ (sound_at c.self.inside.yard c.self.inside.count c.self.inside.fault c.self.invariant none)))
 
 pub invariant_of-self-then-is_full : goal.invariant_of-self-then-is_full
 invariant_of-self-then-is_full g c =

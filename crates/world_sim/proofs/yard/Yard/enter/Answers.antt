@@ -7,6 +7,8 @@ use Rattle.yard_model.specs.Script.{setting}
 use Rattle.yard_model.specs.Words.{at}
 use Rattle.world_sim.specs.Yard.{IsSound}
 use Rattle.world_sim.proofs.UpLaws.{none_of_down, room_for, entered_goes, yard_is, goes_at, came_is, node_within, firm_of, nodes_count, ups_count}
+use Rattle.world_sim.proofs.SeenLaws.{on_any_err}
+use Rattle.world_sim.proofs.CutLaws.{some_none}
 use Rattle.world_sim.proofs.yard.Yard.enter.Goals as goal
 
 pub with-self-inside-requires-clause-other : goal.with-self-inside-requires-clause-other
@@ -47,3 +49,9 @@ returns-clause-goes g c w s =
     (entered_goes _ w c.args.n c.in_ok-node.node c.args.facts.now c.push.new.self y (ap (λ v. is_in 1 v.script.config.nodes c.args.n) c.self.view_is ∙ c.requires.node)
     c.in_ok-node.ensures.script (c.in_ok-node.ensures.state ∙ ap (λ x. new_node (setting c.self.inside.charter) x) who)
     (c.in_ok-push.ensures.ok ∙ ap (λ x. c.args.facts.now ++ fact.Up x ∷ []) who))
+
+pub returns-in_err-node-clause-memory : goal.returns-in_err-node-clause-memory
+returns-in_err-node-clause-memory g c = on_any_err c.from_residual.result (λ w s. some_none _ _ _ refl)
+
+pub returns-in_err-push-clause-memory : goal.returns-in_err-push-clause-memory
+returns-in_err-push-clause-memory g c = on_any_err c.from_residual-in_err-push.result (λ w s. some_none _ _ _ c.in_err-push.ensures.err)

@@ -7,7 +7,8 @@ use Rattle.node_core.specs.Gave.{lists_after}
 use Rattle.node_core.specs.Leased.{Tells}
 use Rattle.world_sim.specs.Yard.{IsSoundBut}
 use Rattle.world_sim.proofs.EndLaws.{turned_goes, for_world, rests_on, script_of_node, to_some}
-use Rattle.world_sim.proofs.SeenLaws.{on_ok, on_any, all_told_is}
+use Rattle.world_sim.proofs.SeenLaws.{on_ok, on_any, all_told_is, on_err, on_any_err}
+use Rattle.world_sim.proofs.CutLaws.{some_none, cut_turned}
 use Rattle.world_sim.proofs.yard.Yard.give.Goals as goal
 
 pub hand_packet-requires-clause-charter : goal.hand_packet-requires-clause-charter
@@ -76,3 +77,20 @@ returns-clause-version g c = on_any c.tell_items.result (ap (λ v. v.version) c.
 
 pub returns-clause-ups : goal.returns-clause-ups
 returns-clause-ups g c = on_any c.tell_items.result (ap (λ v. v.ups) c.self.view_is)
+
+pub returns-in_err-make_room-clause-memory : goal.returns-in_err-make_room-clause-memory
+returns-in_err-make_room-clause-memory g c = on_any_err c.from_residual.result (λ w s. some_none _ _ _ refl)
+
+pub returns-clause-memory : goal.returns-clause-memory
+returns-clause-memory g c =
+    let p = c.args.packet.now in
+    let mid = c.hand_packet.new.mail in
+    let m = c.make_room.ensures in
+    let e = c.hand_packet.ensures in
+    let now = c.make_room.new.node in
+    let some = to_some c.args.self.now.script p c.requires.packet.genuine in
+    on_err c.tell_items.result c.tell_items.ensures.told (λ h w s.
+    let y = subst (λ v. IsSoundBut p.to.node c.args.node v w) (sym c.self.view_is) s in
+    cut_turned _ w p.to.node c.args.node p mid c.args.facts.now c.tell_items.new.facts y (e.packets ∙ m.packets)
+    (for_world p.to.node c.args.node now _ w _ y some m.script m.state (e.items w.sends)
+    ∙ (ap (λ i. i ++ items_of (turn w.sends w.lists (input.Packet p) now.state)) (m.items ∙ y.seen_is.seen_is.told_all) ∙ ap (λ st. items_of (turn w.sends w.lists (input.Packet p) st)) m.state)) h)

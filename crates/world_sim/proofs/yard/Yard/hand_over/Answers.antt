@@ -2,8 +2,8 @@ use Rattle.std.proofs.Common.{sym, ap, ◌∙◌, subst}
 use Rattle.yard_model.specs.Words.{is_among}
 use Rattle.world_sim.specs.Steps.{IsGood}
 use Rattle.world_sim.specs.Yard.{Yard, IsSound}
-use Rattle.world_sim.proofs.SeenLaws.{on_ok}
-use Rattle.world_sim.proofs.DeliveryLaws.{here, here_inside, here_some, here_who, sound_but, goes_apart, goes_over}
+use Rattle.world_sim.proofs.SeenLaws.{on_ok, on_err}
+use Rattle.world_sim.proofs.DeliveryLaws.{here, here_inside, here_some, here_who, sound_but, goes_apart, goes_over, cut_over}
 use Rattle.world_sim.proofs.yard.Yard.hand_over.Goals as goal
 
 pub take_node-requires : goal.take_node-requires
@@ -44,4 +44,13 @@ returns-clause-goes g c =
     let member = sym c.has.ensures ∙ c.if-not-has.false in
     let taken = sym c.in-Some.is ∙ c.take_node.ensures.node in
     goes_over _ c.give.new.self w c.args.packet.now c.in-Some.node c.args.facts.now c.give.new.facts t.seen_is member taken
+    (h w (sound_but _ w c.args.packet.now.to c.in-Some.node c.take_node.new.nodes.items t member taken c.take_node.ensures.nodes)))
+
+pub returns-clause-memory : goal.returns-clause-memory
+returns-clause-memory g c =
+    on_err c.give.result c.give.ensures.memory (λ h w s.
+    let t : IsSound _ w = subst (λ v. IsSound v w) (sym c.self.view_is) s in
+    let member = sym c.has.ensures ∙ c.if-not-has.false in
+    let taken = sym c.in-Some.is ∙ c.take_node.ensures.node in
+    cut_over _ w c.args.packet.now c.in-Some.node c.args.facts.now c.give.new.facts t.seen_is member taken
     (h w (sound_but _ w c.args.packet.now.to c.in-Some.node c.take_node.new.nodes.items t member taken c.take_node.ensures.nodes)))

@@ -1,6 +1,6 @@
 -- Lists of which a node has its own in hand, where it finds nothing of others.
-use Rattle.std.proofs.Common.{◌≡◌, ℕ, zero, suc, ◌+◌, ◌-◌, ◌<◌, List, [], ap, ◌∙◌, refl, sym, subst, true, arith}
-use Rattle.std.specs.Prelude.{Bool, ◌&&◌, nat_lt, nat_le, map, slice_index_or, Option, Some, None, IfSome}
+use Rattle.std.proofs.Common.{◌≡◌, ℕ, zero, suc, ◌+◌, ◌-◌, ◌<◌, List, [], ap, ◌∙◌, refl, true, arith}
+use Rattle.std.specs.Prelude.{◌&&◌, nat_lt, nat_le, map, slice_index_or, Option, Some, None, IfSome}
 use Rattle.std.proofs.lemmas.Bool.Decides.{nat_tests}
 use Rattle.yard_model.specs.declared.fact.Fact.{Fact}
 use Rattle.yard_model.specs.declared.incarnation.Slot.{Slot}

@@ -27,7 +27,7 @@ use Rattle.shard_lease.specs.Meaning.{Known, Meaning, Stays, is_taken, confirms,
 use Rattle.node_core.specs.Leased.{Rests, IsHandOf, IsTold, Tells}
 use Rattle.world_laws.specs.Hands.{AreInHand}
 use Rattle.world_laws.specs.Owes.{facts_in, AreElseLawful}
-use Rattle.node_core.specs.Gave.{Found, Gave, lists_after}
+use Rattle.node_core.specs.Gave.{Gave, lists_after}
 use Rattle.node_core.proofs.FoundLaws.{hand_lists, hands_in_lists, lists_else_lawful}
 
 facts_append : (xs ys : List Item) → facts_in (xs ++ ys) ≡ facts_in xs ++ facts_in ys

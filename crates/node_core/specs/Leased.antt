@@ -1,5 +1,5 @@
 -- What a node rests on of the leases: the slots that it holds there are those whose lists it has in hand; and what the leases tell of all slots.
-use Rattle.std.specs.Prelude.{◌≡◌, ℕ, true, List, [], ◌∷◌, Some, None, is_some, IfSome, IsSomeAnd, MatchOption, IsTrue, Bool, false, not, nat_le}
+use Rattle.std.specs.Prelude.{◌≡◌, ℕ, true, List, Some, None, is_some, IfSome, IsSomeAnd, MatchOption, IsTrue, Bool, false, not, nat_le}
 use Rattle.std.specs.List.{list_all}
 use Rattle.yard_model.specs.declared.fact.Fact.{Fact}
 use Rattle.yard_model.specs.declared.incarnation.Incarnation.{Incarnation}
@@ -7,8 +7,6 @@ use Rattle.yard_model.specs.declared.incarnation.Slot.{Slot}
 use Rattle.yard_model.specs.declared.incarnation.Slot.TheVariants as slot
 use Rattle.yard_model.specs.declared.input.Input.{Input}
 use Rattle.yard_model.specs.declared.input.Input.TheVariants as input
-use Rattle.yard_model.specs.declared.out.Item.{Item}
-use Rattle.yard_model.specs.declared.out.Item.TheVariants as item
 use Rattle.yard_model.specs.declared.packet.Body.{Body}
 use Rattle.yard_model.specs.declared.packet.Body.TheVariants as body
 use Rattle.yard_model.specs.declared.packet.Packet.{Packet}

@@ -10,30 +10,26 @@ use Rattle.yard_model.specs.declared.out.Item.{Item}
 use Rattle.yard_model.specs.declared.out.Item.TheVariants as item
 use Rattle.yard_model.specs.declared.packet.Body.{Body}
 use Rattle.yard_model.specs.declared.packet.Body.TheVariants as body
-use Rattle.yard_model.specs.declared.packet.Packet.{Packet}
 use Rattle.yard_model.specs.declared.incarnation.Incarnation.{Incarnation}
 use Rattle.yard_model.specs.declared.incarnation.Cause.TheVariants as cause
-use Rattle.yard_model.specs.declared.incarnation.Slot.{Slot}
 use Rattle.yard_model.specs.declared.incarnation.Slot.TheVariants as slot
-use Rattle.yard_model.specs.Script.{Script, IsScript, setting}
-use Rattle.yard_model.specs.Setting.{shards}
+use Rattle.yard_model.specs.Script.{Script, setting}
 use Rattle.yard_model.specs.SlotLists.{SlotLists}
 use Rattle.yard_model.specs.SlotReads.{holder, epoch}
-use Rattle.yard_model.specs.Genuine.{is_node, is_slot_of, is_genuine_body, is_genuine_packet}
+use Rattle.yard_model.specs.Genuine.{is_node, is_genuine_body, is_genuine_packet}
 use Rattle.yard_model.specs.Lawful.{own, is_held, may_follow}
-use Rattle.yard_model.specs.Trace.{list_at, slot_of}
 use Rattle.yard_model.specs.Words.{is_same, is_at, is_among, is_empty, without}
 use Rattle.yard_model.specs.Turns.{for_each, where_some}
-use Rattle.yard_model.specs.Move.{Move, made, viewed, told, post, item_of}
+use Rattle.yard_model.specs.Move.{Move, made, told, post, item_of}
 use Rattle.yard_model.specs.Region as region
 use Rattle.yard_model.specs.Region.{Region, region_after}
 use Rattle.yard_model.specs.Coordinator as coordinator
 use Rattle.yard_model.specs.Coordinator.{Coordinator, Moving, coordinator_after}
-use Rattle.yard_model.specs.Node.{Node, Act, by_region, by_entities, by_producer, by_coordinator, move_of, after, items_of, of_region, of_coordinator, all_in_turn, acquire_by, lead, view_packet, packet, freed_stopped, crash}
+use Rattle.yard_model.specs.Node.{Node, Act, by_region, by_entities, by_producer, by_coordinator, move_of, after, items_of, of_region, of_coordinator, all_in_turn, acquire_by, lead, view_packet, packet, freed_stopped}
 use Rattle.yard_laws.proofs.Booleans.{true_is_not_false, and_both, both, number_itself}
 use Rattle.yard_laws.proofs.PartsLaws.{region_alone, region_items, coordinator_items}
 use Rattle.world_laws.specs.Built.{is_built_body}
-use Rattle.world_laws.specs.Hands.{held_list, AreInHand}
+use Rattle.world_laws.specs.Hands.{AreInHand}
 use Rattle.world_laws.specs.Owes.{Hand, hand_after, guard_in_hand, guarded_in_hand, live_names, facts_in, AreElseLawful, is_own_post, PacketOwes, CrashOwes}
 use Rattle.world_laws.specs.Standing.{IsCoordinator, IsNode}
 use Rattle.world_laws.proofs.Members.{itself_is}

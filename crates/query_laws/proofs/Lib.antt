@@ -1,0 +1,4 @@
+pub mod Along
+pub mod Nodes
+pub mod Showing
+pub mod Steps

@@ -1,0 +1,3 @@
+pub mod EntitiesCells
+pub mod EntitiesEntries
+pub mod EntitiesMoves

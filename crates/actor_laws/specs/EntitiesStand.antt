@@ -1,0 +1,51 @@
+-- What stands of the entities of a node between their rules, and what a rule keeps and tells.
+use Rattle.std.specs.Prelude.{◌≡◌, ℕ, Bool, true, false, ◌&&◌, not, List, length, fold, Some, IfSome, IsTrue}
+use Rattle.std.specs.List.{list_all}
+use Rattle.yard_model.specs.declared.fact.Fact.{Fact}
+use Rattle.yard_model.specs.declared.input.Phase.TheVariants as phase
+use Rattle.yard_model.specs.declared.packet.Message.{Message}
+use Rattle.yard_model.specs.declared.incarnation.Incarnation.{Incarnation}
+use Rattle.yard_model.specs.declared.incarnation.Slot.TheVariants as slot
+use Rattle.yard_model.specs.Entities.{Entities, Hosted, cell, hosted, is_hosted, is_in_phase, entities_after}
+use Rattle.yard_model.specs.Genuine.{is_node, is_brought, is_genuine}
+use Rattle.yard_model.specs.Lawful.{own}
+use Rattle.yard_model.specs.Move.{Move}
+use Rattle.yard_model.specs.Script.{Script, is_name, names_in, setting}
+use Rattle.yard_model.specs.Setting.{shard_of}
+use Rattle.yard_model.specs.SlotLists.{shard_list}
+use Rattle.yard_model.specs.SlotReads.{holder}
+use Rattle.world_laws.specs.Owes.{Hand, has_name, hand_after, guarded_in_hand}
+use Rattle.actor_laws.specs.Moves.{is_own_move, facts_of}
+
+-- a hosted shard: the node holds it, its list is lawful by itself, and who is told of its end is of the script's nodes
+pub record IsHeldShard (c : Script) (who : Incarnation) (s : ℕ) (h : Hosted) : Type 0 where
+  pub own_is : IsTrue (own c (slot.Shard s) h.entries)
+  pub held_is : holder h.entries ≡ Some who
+  pub told_is : IfSome h.stopping (λ k. is_node c k.to ≡ true)
+
+-- a message is made of the script, and is for this name
+abbrev pub is_for : Script → List ℕ → Message → Bool
+is_for c e m = is_genuine c m && is_name m.entity e
+
+-- an entity exists in a shard that is hosted, and stashes messages for itself
+pub record IsEntities (c : Script) (st : Entities) : Type 0 where
+  pub who_is : is_node c st.who ≡ true
+  pub set_is : st.set ≡ setting c
+  pub shards_there : length st.hosted ≡ c.config.shards
+  pub cells_there : length st.cells ≡ length (names_in c.orders)
+  pub hosted_are : (s : ℕ) (h : Hosted) → hosted st s ≡ Some h → IsHeldShard c st.who s h
+  pub at_home : (e : List ℕ) → is_brought c e ≡ true → is_in_phase phase.Absent st e ≡ false → is_hosted st (shard_of st.set e) ≡ true
+  pub stashed : (e : List ℕ) → is_brought c e ≡ true → list_all (is_for c e) (cell st e).stash ≡ true
+
+-- what the node has in hand are the lists of the hosted shards, and the names of the entities that exist
+pub record InHand (c : Script) (h : Hand) (st : Entities) : Type 0 where
+  pub there : length h.lists.shards ≡ c.config.shards
+  pub lists_are : (s : ℕ) (x : Hosted) → hosted st s ≡ Some x → shard_list h.lists s ≡ x.entries
+  pub live_are : (e : List ℕ) → is_brought c e ≡ true → has_name e h.live ≡ not (is_in_phase phase.Absent st e)
+
+-- after these moves the same stands; what they post is the node's own; and each fact is guarded by what it has in hand, which goes along
+pub record Keeps (c : Script) (st : Entities) (ms : List Move) : Type 0 where
+  pub stands : IsEntities c (fold entities_after st ms)
+  pub posts_are : list_all (is_own_move c st.who) ms ≡ true
+  pub guarded_are : (vouches : List ℕ → ℕ → ℕ → Bool) (h : Hand) → InHand c h st → guarded_in_hand c vouches st.who h (facts_of ms) ≡ true
+  pub goes_along : (h : Hand) → InHand c h st → InHand c (fold (hand_after c) h (facts_of ms)) (fold entities_after st ms)

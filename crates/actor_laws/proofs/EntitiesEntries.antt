@@ -133,7 +133,7 @@ entry_keeps c st f e is brought there shards none of own_is still guard live = r
   stands = record {
     who_is = is.who_is;
     set_is = is.set_is;
-    shards_there = ap length shards ∙ (length-set st.hosted s (Some now) ∙ is.shards_there);
+    shards_there = ap length shards_now ∙ (length-set st.hosted s (Some now) ∙ is.shards_there);
     cells_there = cells_count st (told f) ∙ is.cells_there;
     hosted_are = λ t k e. at_shard t k (sym (ap (λ l. at l t) shards_now) ∙ e);
     at_home = λ g hg k. hosted_still (shard_of st.set g) (is.at_home g hg (sym (same_phase g) ∙ k));
@@ -157,22 +157,63 @@ entry_keeps c st f e is brought there shards none of own_is still guard live = r
     now = record { entries = x.0.entries ++ f ∷ []; stopping = x.0.stopping }
 
     shards_now : hosted_step st.set st.hosted (told f) ≡ slice_set st.hosted s (Some now)
-    shards_now = ?
+    shards_now = shards ∙ ap (λ o. slice_set st.hosted s (option_map (λ (h : Hosted). record { entries = h.entries ++ f ∷ []; stopping = h.stopping }) o)) x.1
+
+    held : IsHeldShard c st.who s x.0
+    held = is.hosted_are s x.0 x.1
 
     inside_is : s < length st.hosted
     inside_is = inside st.hosted s x.0 x.1
 
+    lt_is : (a b : ℕ) → a < b → nat_lt a b ≡ true
+    lt_is a b h = grind (arith, nat_tests)
+
+    same_shard : s ≡ shard_of (setting c) e
+    same_shard = ap (λ (set : Setting). shard_of set e) is.set_is
+
     shard_is : is_shard c (shard_of (setting c) e) ≡ true
-    shard_is = ?
+    shard_is = ap (λ n. nat_lt n c.config.shards) (sym same_shard) ∙ lt_is s c.config.shards (subst (λ n. s < n) is.shards_there inside_is)
 
     same_phase : (g : List ℕ) → is_in_phase phase.Absent (entities_after st (told f)) g ≡ is_in_phase phase.Absent st g
     same_phase g = ap (λ l. is_phase phase.Absent (cell_in st.set l g).phase) (same_cells st (told f) none)
 
     hosted_still : (t : ℕ) → is_hosted st t ≡ true → is_hosted (entities_after st (told f)) t ≡ true
-    hosted_still t k = ?
+    hosted_still t k = ap (λ l. not (is_none (at l t))) shards_now
+        ∙ by_place (not (is_none (at (slice_set st.hosted s (Some now)) t)) ≡ true) t s
+        (λ e. ap (λ i. not (is_none (at (slice_set st.hosted s (Some now)) i))) e ∙ ap (λ o. not (is_none o)) (get_or-set_same st.hosted s (Some now) None inside_is))
+        (λ ne. ap (λ o. not (is_none o)) (get_or-set_other st.hosted s t (Some now) None ne) ∙ k)
+
+    now_held : IsHeldShard c st.who s now
+    now_held = record {
+      own_is = subst (λ n. own c (slot.Shard n) (x.0.entries ++ f ∷ []) ≡ true) (sym same_shard) (ap (λ l. own c (slot.Shard (shard_of (setting c) e)) (l ++ f ∷ [])) (sym (ap entries_in x.1)) ∙ own_is);
+      held_is = fold-append holder_step None x.0.entries (f ∷ []) ∙ (still (holder x.0.entries) ∙ held.held_is);
+      told_is = held.told_is;
+    }
 
     at_shard : (t : ℕ) (k : Hosted) → at (slice_set st.hosted s (Some now)) t ≡ Some k → IsHeldShard c st.who t k
-    at_shard t k e = ?
+    at_shard t k e = by_place (IsHeldShard c st.who t k) t s
+        (λ same. subst (λ n. IsHeldShard c st.who n k) (sym same)
+        (subst (IsHeldShard c st.who s) (some_is now k (sym (get_or-set_same st.hosted s (Some now) None inside_is) ∙ (ap (at (slice_set st.hosted s (Some now))) (sym same) ∙ e))) now_held))
+        (λ ne. is.hosted_are t k (sym (get_or-set_other st.hosted s t (Some now) None ne) ∙ e))
 
     along : (h : Hand) → InHand c h st → InHand c (record { lists = with_entry f h.lists (Some (slot.Shard (shard_of (setting c) e))); live = h.live }) (entities_after st (told f))
-    along h i = ?
+    along h i = record {
+      there = length-set h.lists.shards (shard_of (setting c) e) (shard_list h.lists (shard_of (setting c) e) ++ f ∷ []) ∙ i.there;
+      lists_are = λ t k e. listed t k (sym (ap (λ l. at l t) shards_now) ∙ e);
+      live_are = λ g hg. i.live_are g hg ∙ ap not (sym (same_phase g));
+    }
+      where
+        r : ℕ
+        r = shard_of (setting c) e
+
+        below : r < length h.lists.shards
+        below = subst (λ n. r < n) (sym i.there) (subst (λ n. n < c.config.shards) same_shard (subst (λ n. s < n) is.shards_there inside_is))
+
+        listed : (t : ℕ) (k : Hosted) → at (slice_set st.hosted s (Some now)) t ≡ Some k → slice_index_or (slice_set h.lists.shards r (shard_list h.lists r ++ f ∷ [])) t [] ≡ k.entries
+        listed t k e = by_place (slice_index_or (slice_set h.lists.shards r (shard_list h.lists r ++ f ∷ [])) t [] ≡ k.entries) t s
+            (λ same.
+            ap (λ n. slice_index_or (slice_set h.lists.shards r (shard_list h.lists r ++ f ∷ [])) n []) (same ∙ same_shard)
+            ∙ (get_or-set_same h.lists.shards r (shard_list h.lists r ++ f ∷ []) [] below
+            ∙ (ap (λ l. l ++ f ∷ []) (ap (shard_list h.lists) (sym same_shard) ∙ i.lists_are s x.0 x.1)
+            ∙ ap (λ (y : Hosted). y.entries) (some_is now k (sym (get_or-set_same st.hosted s (Some now) None inside_is) ∙ (ap (at (slice_set st.hosted s (Some now))) (sym same) ∙ e))))))
+            (λ ne. get_or-set_other h.lists.shards r t (shard_list h.lists r ++ f ∷ []) [] (λ z. ne (z ∙ sym same_shard)) ∙ i.lists_are t k (sym (get_or-set_other st.hosted s t (Some now) None ne) ∙ e))

@@ -231,9 +231,9 @@ pub failed_keeps : (c : Script) (st : Entities) (e : List ℕ) → IsEntities c 
 failed_keeps c st e is brought = keeps_told c st (fact.WriteFailed st.who e) e is brought refl refl refl (λ k. absurd (true≢false k)) (is.stashed e brought) (λ v h i. refl)
     (λ h i. name_gone e h.live) (λ h g other. name_stays e g h.live other)
 
-pub stashed_keeps : (c : Script) (st : Entities) (m : Message) → IsEntities c st → is_brought c m.entity ≡ true → is_genuine c m ≡ true → Keeps c st (told (fact.Stashed st.who m) ∷ [])
-stashed_keeps c st m is brought genuine = keeps_told c st (fact.Stashed st.who m) m.entity is brought refl refl refl (is.at_home m.entity brought)
-    (all_join (is_for c m.entity) (cell st m.entity).stash (m ∷ []) (is.stashed m.entity brought) (both (is_for c m.entity m) true (both (is_genuine c m) (is_name m.entity m.entity) genuine (name_itself m.entity)) refl))
+pub stashed_keeps : (c : Script) (st : Entities) (m : Message) → IsEntities c st → is_brought c m.entity ≡ true → is_for c m.entity m ≡ true → Keeps c st (told (fact.Stashed st.who m) ∷ [])
+stashed_keeps c st m is brought good = keeps_told c st (fact.Stashed st.who m) m.entity is brought refl refl refl (is.at_home m.entity brought)
+    (all_join (is_for c m.entity) (cell st m.entity).stash (m ∷ []) (is.stashed m.entity brought) (both (is_for c m.entity m) true good refl))
     (λ v h i. refl) (λ h i. i.live_are m.entity brought) (λ h g other. refl)
 
 drop_all : {A : Type 0} (p : A → Bool) (xs : List A) → list_all p xs ≡ true → list_all p (drop 1 xs) ≡ true

@@ -1,3 +1,4 @@
 pub mod EntitiesCells
 pub mod EntitiesEntries
 pub mod EntitiesMoves
+pub mod EntitiesRules

@@ -7,7 +7,7 @@ use Rattle.yard_model.specs.declared.packet.Message.{Message}
 use Rattle.yard_model.specs.declared.incarnation.Incarnation.{Incarnation}
 use Rattle.yard_model.specs.declared.incarnation.Slot.TheVariants as slot
 use Rattle.yard_model.specs.Entities.{Entities, Hosted, cell, hosted, is_hosted, is_in_phase, entities_after}
-use Rattle.yard_model.specs.Genuine.{is_node, is_brought, is_genuine}
+use Rattle.yard_model.specs.Genuine.{is_node, is_brought, is_producer, is_genuine}
 use Rattle.yard_model.specs.Lawful.{own}
 use Rattle.yard_model.specs.Move.{Move}
 use Rattle.yard_model.specs.Script.{Script, is_name, names_in, setting}
@@ -23,9 +23,9 @@ pub record IsHeldShard (c : Script) (who : Incarnation) (s : ℕ) (h : Hosted) :
   pub held_is : holder h.entries ≡ Some who
   pub told_is : IfSome h.stopping (λ k. is_node c k.to ≡ true)
 
--- a message is made of the script, and is for this name
+-- a message is made of the script, comes from one of its producers, and is for this name
 abbrev pub is_for : Script → List ℕ → Message → Bool
-is_for c e m = is_genuine c m && is_name m.entity e
+is_for c e m = is_genuine c m && is_producer c m.producer && is_name m.entity e
 
 -- an entity exists in a shard that is hosted, and stashes messages for itself
 pub record IsEntities (c : Script) (st : Entities) : Type 0 where

@@ -1,10 +1,10 @@
 -- What stands of entities, rule by rule.
-use Rattle.std.proofs.Common.{◌≡◌, ℕ, ◌+◌, ◌≤◌, List, [], ◌∷◌, ◌++◌, length, sym, ap, subst, ◌∙◌, refl, true, false, true≢false, arith}
+use Rattle.std.proofs.Common.{◌≡◌, ℕ, ◌+◌, ◌<◌, ◌≤◌, List, [], ◌∷◌, ◌++◌, length, sym, ap, subst, ◌∙◌, refl, true, false, true≢false, arith}
 use Rattle.std.specs.Prelude.{Bool, ◌&&◌, ◌==◌, ◌/◌, ◌%◌, ◌-◌, not, nat_lt, nat_le, fold, Option, Some, None, is_none, is_some, slice_index_or, slice_set, if◌then◌else◌}
 use Rattle.std.specs.List.{list_all, flat_map}
 use Rattle.std.specs.Option.{option_map}
 use Rattle.std.proofs.lemmas.Bool.Decides.{nat_tests}
-use Rattle.std.proofs.lemmas.List.{get_or-set_same}
+use Rattle.std.proofs.lemmas.List.{get_or-set_same, get_or-set_other}
 use Rattle.yard_model.specs.declared.fact.Fact.{Fact}
 use Rattle.yard_model.specs.declared.fact.Fact.TheVariants as fact
 use Rattle.yard_model.specs.declared.input.Phase.{Phase}
@@ -20,15 +20,17 @@ use Rattle.yard_model.specs.Entities as entities
 use Rattle.yard_model.specs.Entities.{Entities, Hosted, is_phase, cell, hosted, entries, entries_in, is_hosted, is_in_phase, record_of, entities_after}
 use Rattle.yard_model.specs.Genuine.{is_node, is_producer, is_brought, is_planned, is_genuine, is_genuine_body}
 use Rattle.yard_model.specs.Lawful.{own, is_held}
-use Rattle.yard_model.specs.Move.{Move, told, post}
+use Rattle.yard_model.specs.declared.out.Item.TheVariants as item
+use Rattle.yard_model.specs.Move.{Move, made, took, handed_off, passivates, told, post}
 use Rattle.yard_model.specs.Script.{Script, Setting, is_name, setting}
 use Rattle.yard_model.specs.Setting.{shard_of}
 use Rattle.yard_model.specs.SlotReads.{journal, position, is_remembered, holder}
 use Rattle.yard_model.specs.Turns.{in_turn, for_each, where_some}
 use Rattle.yard_model.specs.Words.{at}
 use Rattle.yard_laws.specs.Entries.{IsHosted, MessageFollows, NextFollows, EntityFollows, EntitiesFollow}
-use Rattle.yard_laws.proofs.Booleans.{and_both, both, number_itself}
-use Rattle.world_laws.proofs.Place.{inside}
+use Rattle.yard_laws.proofs.Booleans.{and_both, both, number_itself, of_not, same_name}
+use Rattle.world_laws.proofs.Rules.{all_join, all_if}
+use Rattle.world_laws.proofs.Place.{inside, by_place}
 use Rattle.actor_laws.specs.EntitiesStand.{IsHeldShard, is_for, IsEntities, Keeps}
 use Rattle.actor_laws.proofs.EntitiesMoves.{name_itself, keeps_none, keeps_both, who_stays, set_stays, some_of, start_keeps, stop_keeps, failed_keeps, stashed_keeps, dropped_keeps, active_keeps}
 use Rattle.actor_laws.proofs.EntitiesEntries.{still_keeps, own_post, recovered_post_keeps, stop_post_keeps, request_post_keeps, passivates_keeps, entry_keeps}
@@ -140,3 +142,168 @@ saved_keeps c st m law is g there live next =
     (λ e. entry_keeps c now (fact.Snapshot m.entity n) m.entity wrote.stands g.brought (hosted_more st f m.entity there refl) refl refl refl
     (ap (λ l. own c (slot.Shard (shard_of (setting c) m.entity)) (l ++ fact.Snapshot m.entity n ∷ [])) (entries_more st f m.entity there refl) ∙ follows.saved) (λ o. refl) (λ v h i. refl) (λ l. refl))
     (λ e. keeps_none c now wrote.stands)
+
+next_keeps : (c : Script) (st : Entities) (m : Message) (o : Option Keep) → NextFollows → IsEntities c st → IsMessage c m → is_hosted st (shard_of st.set m.entity) ≡ true → is_in_phase phase.Absent st m.entity ≡ false
+    → let records : List Record = journal m.entity (entries st m.entity) in m.number ≡ position m.producer records + 1 → Keeps c st (entities.write m (record_of m st records) (position m.producer records + 1) st o)
+next_keeps c st m (Some keep.Lost) law is g there live next = failed_keeps c st m.entity is g.brought
+next_keeps c st m (Some keep.Kept) law is g there live next =
+    let f : Fact = fact.Wrote m.entity (record_of m st (journal m.entity (entries st m.entity))) in
+    let wrote : Keeps c st (told f ∷ []) = wrote_keeps c st m law is g there live next in
+    keeps_both c st (told f ∷ []) (told (fact.WriteFailed st.who m.entity) ∷ []) wrote (failed_keeps c (entities_after st (told f)) m.entity wrote.stands g.brought)
+next_keeps c st m None law is g there live next =
+    let records : List Record = journal m.entity (entries st m.entity) in
+    let f : Fact = fact.Wrote m.entity (record_of m st records) in
+    let pos : ℕ = position m.producer records + 1 in
+    let now : Entities = entities_after st (told f) in
+    let saves : List Move = entities.snapshot_at m.entity (length records + 1) st in
+    let ack : List Move = post st.who m.origin (body.Ack m.producer m.entity pos) ∷ [] in
+    let asks : List Move = entities.ask_more m pos st in
+    let later : Entities = fold entities_after now saves in
+    let wrote : Keeps c st (told f ∷ []) = wrote_keeps c st m law is g there live next in
+    let saved : Keeps c now saves = saved_keeps c st m law is g there live next in
+    let same : later.who ≡ st.who = who_stays now saves in
+    let acked : Keeps c later ack = subst (λ w. Keeps c later (post w m.origin (body.Ack m.producer m.entity pos) ∷ [])) same (ack_keeps c later m pos saved.stands g) in
+    keeps_both c st (told f ∷ []) (saves ++ (ack ++ asks)) wrote
+    (keeps_both c now saves (ack ++ asks) saved
+    (keeps_both c later ack asks acked (ask_keeps c st (fold entities_after later ack) m pos (who_stays later ack ∙ same) is.set_is acked.stands g)))
+
+-- Deliver.
+
+is_next : (n p : ℕ) → nat_le n p ≡ false → nat_lt (p + 1) n ≡ false → n ≡ p + 1
+is_next n p a b = grind (arith, nat_tests)
+
+pub deliver_keeps : (c : Script) (st : Entities) (m : Message) → NextFollows → IsEntities c st → IsMessage c m → is_hosted st (shard_of st.set m.entity) ≡ true → Keeps c st (entities.deliver m st)
+deliver_keeps c st m law is g there = by (cell st m.entity).phase refl
+  where
+    records : List Record
+    records = journal m.entity (entries st m.entity)
+
+    pos : ℕ
+    pos = position m.producer records
+
+    by : (p : Phase) → (cell st m.entity).phase ≡ p → Keeps c st (entities.deliver_by m st p)
+    by phase.Absent e =
+        let first : Keeps c st (entities.start_entity m.entity st) = start_entity_keeps c st m.entity is g.brought there (ap (is_phase phase.Absent) e) in
+        keeps_both c st (entities.start_entity m.entity st) (told (fact.Stashed st.who m) ∷ []) first
+        (stashed_keeps c (fold entities_after st (entities.start_entity m.entity st)) m first.stands g.brought (good_for c m g (name_itself m.entity)))
+    by phase.Active e = keeps_if c st (nat_le m.number pos) (post st.who m.origin (body.Ack m.producer m.entity pos) ∷ []) (if nat_lt (pos + 1) m.number then post st.who m.origin (body.Resend m.producer m.entity (pos + 1)) ∷ [] else entities.write m (record_of m st records) (pos + 1) st (cell st m.entity).armed)
+        (λ old. ack_keeps c st m pos is g)
+        (λ new. keeps_if c st (nat_lt (pos + 1) m.number) (post st.who m.origin (body.Resend m.producer m.entity (pos + 1)) ∷ []) (entities.write m (record_of m st records) (pos + 1) st (cell st m.entity).armed)
+        (λ gap. resend_keeps c st m (pos + 1) is g)
+        (λ near. next_keeps c st m (cell st m.entity).armed law is g there (ap (is_phase phase.Absent) e) (is_next m.number pos new near)))
+    by phase.Loading e = stash_keeps c st m is g
+    by phase.Stopping e = stash_keeps c st m is g
+
+-- Shards stay hosted but where one is freed.
+
+abbrev pub is_staying : Move → Bool
+is_staying (made (item.Fact (fact.Freed (slot.Shard s) n why))) = false
+is_staying m = true
+
+set_stays_there : {A : Type 0} (xs : List (Option A)) (t s : ℕ) (v : Option A) → (not (is_none (at xs t)) ≡ true → not (is_none v) ≡ true) → not (is_none (at xs s)) ≡ true → not (is_none (at (slice_set xs t v) s)) ≡ true
+set_stays_there xs t s v h k = by_place (not (is_none (at (slice_set xs t v) s)) ≡ true) s t
+    (λ same.
+    let x : (x : _) × (at xs s ≡ Some x) = some_of (at xs s) k in
+    ap (λ i. not (is_none (at (slice_set xs t v) i))) same ∙ (ap (λ o. not (is_none o)) (get_or-set_same xs t v None (subst (λ i. i < length xs) same (inside xs s x.0 x.1))) ∙ h (ap (λ i. not (is_none (at xs i))) (sym same) ∙ k)))
+    (λ ne. ap (λ o. not (is_none o)) (get_or-set_other xs t s v None ne) ∙ k)
+
+mapped_some : {A B : Type 0} (g : A → B) (o : Option A) → not (is_none o) ≡ true → not (is_none (option_map g o)) ≡ true
+mapped_some g None h = absurd (true≢false (sym h))
+mapped_some g (Some x) h = refl
+
+entered_stays : (old : List (Option Hosted)) (t s : ℕ) (f : Fact) → not (is_none (at old s)) ≡ true → not (is_none (at (entities.entered t f old) s)) ≡ true
+entered_stays old t s f k = set_stays_there old t s (option_map (λ (h : Hosted). record { entries = h.entries ++ f ∷ []; stopping = h.stopping }) (at old t)) (mapped_some (λ (h : Hosted). record { entries = h.entries ++ f ∷ []; stopping = h.stopping }) (at old t)) k
+
+one_stays : (st : Entities) (m : Move) (s : ℕ) → is_staying m ≡ true → is_hosted st s ≡ true → is_hosted (entities_after st m) s ≡ true
+one_stays st (took (slot.Shard t) list) s h k = set_stays_there st.hosted t s (Some (record { entries = list; stopping = None })) (λ x. refl) k
+one_stays st (handed_off t stamp to) s h k = set_stays_there st.hosted t s (option_map (λ (x : Hosted). record { entries = x.entries; stopping = Some (record { stamp = stamp; to = to }) }) (at st.hosted t)) (mapped_some (λ (x : Hosted). record { entries = x.entries; stopping = Some (record { stamp = stamp; to = to }) }) (at st.hosted t)) k
+one_stays st (made (item.Fact (fact.Freed (slot.Shard t) n why))) s h k = absurd (true≢false (sym h))
+one_stays st (made (item.Fact (fact.Wrote e r))) s h k = entered_stays st.hosted (shard_of st.set e) s (fact.Wrote e r) k
+one_stays st (made (item.Fact (fact.Snapshot e n))) s h k = entered_stays st.hosted (shard_of st.set e) s (fact.Snapshot e n) k
+one_stays st (made (item.Fact (fact.Remembered e))) s h k = entered_stays st.hosted (shard_of st.set e) s (fact.Remembered e) k
+one_stays st (made (item.Fact (fact.Forgotten e))) s h k = entered_stays st.hosted (shard_of st.set e) s (fact.Forgotten e) k
+one_stays st m s h k = k
+
+pub all_stay : (st : Entities) (ms : List Move) (s : ℕ) → list_all is_staying ms ≡ true → is_hosted st s ≡ true → is_hosted (fold entities_after st ms) s ≡ true
+all_stay st [] s h k = k
+all_stay st (m ∷ ms) s h k =
+    let n : (is_staying m ≡ true) × (list_all is_staying ms ≡ true) = and_both (is_staying m) (list_all is_staying ms) h in
+    all_stay (entities_after st m) ms s n.1 (one_stays st m s n.0 k)
+
+write_stays : (m : Message) (r : Record) (pos : ℕ) (st : Entities) (o : Option Keep) → list_all is_staying (entities.write m r pos st o) ≡ true
+write_stays m r pos st (Some keep.Lost) = refl
+write_stays m r pos st (Some keep.Kept) = refl
+write_stays m r pos st None =
+    let saves : List Move = entities.snapshot_at m.entity r.number st in
+    all_join is_staying saves (post st.who m.origin (body.Ack m.producer m.entity pos) ∷ entities.ask_more m pos st)
+    (all_if is_staying (r.number % st.set.config.snapshot == 0) (told (fact.Snapshot m.entity r.number) ∷ []) [] refl refl)
+    (all_if is_staying (nat_le (slice_index_or (cell st m.entity).reach (m.producer - 1) 0) (pos + st.set.config.window / 2)) (post st.who m.origin (body.Request m.producer m.entity pos (pos + st.set.config.window)) ∷ []) [] refl refl)
+
+deliver_stays : (m : Message) (st : Entities) (p : Phase) → list_all is_staying (entities.deliver_by m st p) ≡ true
+deliver_stays m st phase.Absent = refl
+deliver_stays m st phase.Loading = all_if is_staying (nat_lt (length (cell st m.entity).stash) st.set.config.window) (told (fact.Stashed st.who m) ∷ []) (told (fact.Dropped st.who m) ∷ []) refl refl
+deliver_stays m st phase.Stopping = all_if is_staying (nat_lt (length (cell st m.entity).stash) st.set.config.window) (told (fact.Stashed st.who m) ∷ []) (told (fact.Dropped st.who m) ∷ []) refl refl
+deliver_stays m st phase.Active =
+    let records : List Record = journal m.entity (entries st m.entity) in
+    let pos : ℕ = position m.producer records in
+    all_if is_staying (nat_le m.number pos) (post st.who m.origin (body.Ack m.producer m.entity pos) ∷ []) (if nat_lt (pos + 1) m.number then post st.who m.origin (body.Resend m.producer m.entity (pos + 1)) ∷ [] else entities.write m (record_of m st records) (pos + 1) st (cell st m.entity).armed) refl
+    (all_if is_staying (nat_lt (pos + 1) m.number) (post st.who m.origin (body.Resend m.producer m.entity (pos + 1)) ∷ []) (entities.write m (record_of m st records) (pos + 1) st (cell st m.entity).armed) refl (write_stays m (record_of m st records) (pos + 1) st (cell st m.entity).armed))
+
+-- Recovery.
+
+activate_keeps : (c : Script) (st : Entities) (e : List ℕ) → EntitiesFollow → IsEntities c st → is_brought c e ≡ true → is_in_phase phase.Absent st e ≡ false → Keeps c st (entities.activate e st)
+activate_keeps c st e law is brought live =
+    let records : List Record = journal e (entries st e) in
+    let f : Fact = fact.Active st.who e (length records) (folded st.set.config.kind records) in
+    let now : Entities = entities_after st (told f) in
+    let there : is_hosted st (shard_of st.set e) ≡ true = is.at_home e brought live in
+    let follows : EntityFollows c st e = law c st e (hosted_of c st e is brought there) in
+    let first : Keeps c st (told f ∷ []) = active_keeps c st e (length records) (folded st.set.config.kind records) is brought live follows.active in
+    keeps_both c st (told f ∷ []) (entities.remember e st) first
+    (keeps_if c now (st.set.config.remember && not (is_remembered e (entries st e))) (told (fact.Remembered e) ∷ []) []
+    (λ b. entry_keeps c now (fact.Remembered e) e first.stands brought there refl refl refl
+    (follows.remembered (of_not (is_remembered e (entries st e)) (and_both st.set.config.remember (not (is_remembered e (entries st e))) b).1)) (λ o. refl) (λ v h i. refl) (λ l. refl))
+    (λ b. keeps_none c now first.stands))
+
+messages_of : (c : Script) (e : List ℕ) (m : Message) → is_brought c e ≡ true → is_for c e m ≡ true → (m.entity ≡ e) × IsMessage c m
+messages_of c e m brought h =
+    let parts : ((is_genuine c m && is_producer c m.producer) ≡ true) × (is_name m.entity e ≡ true) = and_both (is_genuine c m && is_producer c m.producer) (is_name m.entity e) h in
+    let good : (is_genuine c m ≡ true) × (is_producer c m.producer ≡ true) = and_both (is_genuine c m) (is_producer c m.producer) parts.0 in
+    let same : m.entity ≡ e = same_name m.entity e parts.1 in
+    (same, record { genuine = good.0; producer_is = good.1; brought = ap (is_brought c) same ∙ brought })
+
+pub deliver_all_keeps : (c : Script) (e : List ℕ) → NextFollows → is_brought c e ≡ true → (ms : List Message) (st : Entities) → IsEntities c st → is_hosted st (shard_of st.set e) ≡ true → list_all (is_for c e) ms ≡ true → Keeps c st (for_each entities_after entities.deliver ms st)
+deliver_all_keeps c e law brought [] st is there all = keeps_none c st is
+deliver_all_keeps c e law brought (m ∷ ms) st is there all =
+    let n : (is_for c e m ≡ true) × (list_all (is_for c e) ms ≡ true) = and_both (is_for c e m) (list_all (is_for c e) ms) all in
+    let g : (m.entity ≡ e) × IsMessage c m = messages_of c e m brought n.0 in
+    let here : is_hosted st (shard_of st.set m.entity) ≡ true = ap (λ x. is_hosted st (shard_of st.set x)) g.0 ∙ there in
+    let first : Keeps c st (entities.deliver m st) = deliver_keeps c st m law is g.1 here in
+    let later : Entities = fold entities_after st (entities.deliver m st) in
+    keeps_both c st (entities.deliver m st) (for_each entities_after entities.deliver ms later) first
+    (deliver_all_keeps c e law brought ms later first.stands
+    (ap (λ (s : Setting). is_hosted later (shard_of s e)) (set_stays st (entities.deliver m st)) ∙ all_stay st (entities.deliver m st) (shard_of st.set e) (deliver_stays m st (cell st m.entity).phase) there) n.1)
+
+pub recovered_keeps : (c : Script) (st : Entities) (e : List ℕ) → NextFollows → EntitiesFollow → IsEntities c st → is_brought c e ≡ true → Keeps c st (entities.recovered e st)
+recovered_keeps c st e next law is brought = keeps_if c st (is_in_phase phase.Loading st e) (in_turn entities_after (entities.activate e) (for_each entities_after entities.deliver (cell st e).stash) st) []
+    (λ b.
+    let live : is_in_phase phase.Absent st e ≡ false = loading (cell st e).phase b in
+    let first : Keeps c st (entities.activate e st) = activate_keeps c st e law is brought live in
+    let later : Entities = fold entities_after st (entities.activate e st) in
+    keeps_both c st (entities.activate e st) (for_each entities_after entities.deliver (cell st e).stash later) first
+    (deliver_all_keeps c e next brought (cell st e).stash later first.stands
+    (ap (λ (s : Setting). is_hosted later (shard_of s e)) (set_stays st (entities.activate e st)) ∙ all_stay st (entities.activate e st) (shard_of st.set e)
+    (all_if is_staying (st.set.config.remember && not (is_remembered e (entries st e))) (told (fact.Remembered e) ∷ []) [] refl refl) (is.at_home e brought live)) (is.stashed e brought)))
+    (λ b. keeps_none c st is)
+  where
+    loading : (p : Phase) → is_phase phase.Loading p ≡ true → is_phase phase.Absent p ≡ false
+    loading phase.Loading h = refl
+    loading p h = absurd (true≢false (sym h))
+
+-- Passivation.
+
+pub passivate_keeps : (c : Script) (st : Entities) (e : List ℕ) → IsEntities c st → is_brought c e ≡ true → Keeps c st (entities.passivate e st)
+passivate_keeps c st e is brought = keeps_if c st (is_in_phase phase.Active st e) (passivates e ∷ post st.who st.who (body.StopEntity e) ∷ []) []
+    (λ b. let first : Keeps c st (passivates e ∷ []) = passivates_keeps c st e is brought in
+    keeps_both c st (passivates e ∷ []) (post st.who st.who (body.StopEntity e) ∷ []) first (stop_post_keeps c (entities_after st (passivates e)) e first.stands brought))
+    (λ b. keeps_none c st is)

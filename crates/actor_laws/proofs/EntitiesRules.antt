@@ -37,7 +37,7 @@ use Rattle.actor_laws.proofs.EntitiesEntries.{still_keeps, own_post, recovered_p
 
 -- Choices.
 
-keeps_if : (c : Script) (st : Entities) (b : Bool) (xs ys : List Move) → (b ≡ true → Keeps c st xs) → (b ≡ false → Keeps c st ys) → Keeps c st (if b then xs else ys)
+pub keeps_if : (c : Script) (st : Entities) (b : Bool) (xs ys : List Move) → (b ≡ true → Keeps c st xs) → (b ≡ false → Keeps c st ys) → Keeps c st (if b then xs else ys)
 keeps_if c st true xs ys f g = f refl
 keeps_if c st false xs ys f g = g refl
 
@@ -88,7 +88,7 @@ ask_keeps c st now m pos who set is g =
 
 -- Shards that are hosted.
 
-hosted_of : (c : Script) (st : Entities) (e : List ℕ) → IsEntities c st → is_brought c e ≡ true → is_hosted st (shard_of st.set e) ≡ true → IsHosted c st e
+pub hosted_of : (c : Script) (st : Entities) (e : List ℕ) → IsEntities c st → is_brought c e ≡ true → is_hosted st (shard_of st.set e) ≡ true → IsHosted c st e
 hosted_of c st e is brought there =
     let x : (x : Hosted) × (hosted st (shard_of st.set e) ≡ Some x) = some_of (hosted st (shard_of st.set e)) there in
     let k : IsHeldShard c st.who (shard_of st.set e) x.0 = is.hosted_are (shard_of st.set e) x.0 x.1 in
@@ -265,7 +265,7 @@ activate_keeps c st e law is brought live =
     (follows.remembered (of_not (is_remembered e (entries st e)) (and_both st.set.config.remember (not (is_remembered e (entries st e))) b).1)) (λ o. refl) (λ v h i. refl) (λ l. refl))
     (λ b. keeps_none c now first.stands))
 
-messages_of : (c : Script) (e : List ℕ) (m : Message) → is_brought c e ≡ true → is_for c e m ≡ true → (m.entity ≡ e) × IsMessage c m
+pub messages_of : (c : Script) (e : List ℕ) (m : Message) → is_brought c e ≡ true → is_for c e m ≡ true → (m.entity ≡ e) × IsMessage c m
 messages_of c e m brought h =
     let parts : ((is_genuine c m && is_producer c m.producer) ≡ true) × (is_name m.entity e ≡ true) = and_both (is_genuine c m && is_producer c m.producer) (is_name m.entity e) h in
     let good : (is_genuine c m ≡ true) × (is_producer c m.producer ≡ true) = and_both (is_genuine c m) (is_producer c m.producer) parts.0 in

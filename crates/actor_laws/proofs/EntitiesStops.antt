@@ -17,7 +17,7 @@ use Rattle.yard_model.specs.declared.incarnation.Cause.TheVariants as cause
 use Rattle.yard_model.specs.declared.incarnation.Slot.{Slot}
 use Rattle.yard_model.specs.declared.incarnation.Slot.TheVariants as slot
 use Rattle.yard_model.specs.Entities as entities
-use Rattle.yard_model.specs.Entities.{Entities, Hosted, Stopping, is_phase, cell, cell_in, hosted, entries_in, entries, is_hosted, is_in_phase, entities_of, entities_after}
+use Rattle.yard_model.specs.Entities.{Entities, Cell, Hosted, Stopping, is_phase, cell, cell_in, hosted, entries_in, entries, is_hosted, is_in_phase, entities_of, entities_after}
 use Rattle.yard_model.specs.Equal.{is_slot}
 use Rattle.yard_model.specs.Genuine.{is_node, is_shard, is_brought}
 use Rattle.yard_model.specs.Lawful.{own, is_held, may_follow, is_leased}
@@ -36,9 +36,10 @@ use Rattle.world_laws.specs.Owes.{Hand, has_name, hand_after, follows_in_hand, l
 use Rattle.world_laws.proofs.Members.{itself_is}
 use Rattle.world_laws.proofs.Place.{some_is, inside, by_place}
 use Rattle.actor_laws.specs.EntitiesStand.{IsHeldShard, is_for, IsEntities, InHand, Keeps}
-use Rattle.actor_laws.proofs.EntitiesMoves.{name_itself, keeps_none, keeps_both, who_stays, set_stays, stop_keeps, dropped_keeps}
+use Rattle.actor_laws.proofs.EntitiesCells.{own_cell}
+use Rattle.actor_laws.proofs.EntitiesMoves.{some_of, name_itself, keeps_none, keeps_both, who_stays, set_stays, stop_keeps, dropped_keeps}
 use Rattle.actor_laws.proofs.EntitiesEntries.{still_keeps, own_post, recovered_post_keeps, stop_post_keeps, entry_keeps}
-use Rattle.actor_laws.proofs.EntitiesRules.{keeps_if, start_entity_keeps, messages_of, hosted_of}
+use Rattle.actor_laws.proofs.EntitiesRules.{IsMessage, keeps_if, start_entity_keeps, messages_of, hosted_of}
 
 -- Moves that may stand in any order.
 
@@ -229,3 +230,135 @@ free_if_left_keeps c st s is = by (hosted st s) refl
     by : (o : Option Hosted) → hosted st s ≡ o → Keeps c st (where_some frees (option_and_then (λ (h : Hosted). h.stopping) o))
     by None e = keeps_none c st is
     by (Some x) e = let k : IsHeldShard c st.who s x = is.hosted_are s x e in stopping x e x.stopping k.told_is
+
+-- Handing off.
+
+handed_keeps : (c : Script) (st : Entities) (s : ℕ) (stamp : Stamp) (to : Incarnation) (x : Hosted) → IsEntities c st → hosted st s ≡ Some x → is_node c to ≡ true → Keeps c st (handed_off s stamp to ∷ [])
+handed_keeps c st s stamp to x is at_s there = record {
+  stands = record {
+    who_is = is.who_is;
+    set_is = is.set_is;
+    shards_there = ap length now_is ∙ (length-set st.hosted s (Some now) ∙ is.shards_there);
+    cells_there = is.cells_there;
+    hosted_are = λ t k e. by_place (IsHeldShard c st.who t k) t s
+        (λ same. subst (λ n. IsHeldShard c st.who n k) (sym same) (subst (IsHeldShard c st.who s) (at_same t k same (sym (ap (λ l. at l t) now_is) ∙ e)) (record { own_is = held.own_is; held_is = held.held_is; told_is = there })))
+        (λ ne. is.hosted_are t k (sym (get_or-set_other st.hosted s t (Some now) None ne) ∙ (sym (ap (λ l. at l t) now_is) ∙ e)));
+    at_home = λ e he k. ap (λ l. not (is_none (at l (shard_of st.set e)))) now_is
+        ∙ by_place (not (is_none (at (slice_set st.hosted s (Some now)) (shard_of st.set e))) ≡ true) (shard_of st.set e) s
+        (λ same. ap (λ n. not (is_none (at (slice_set st.hosted s (Some now)) n))) same ∙ ap (λ o. not (is_none o)) (get_or-set_same st.hosted s (Some now) None inside_is))
+        (λ ne. ap (λ o. not (is_none o)) (get_or-set_other st.hosted s (shard_of st.set e) (Some now) None ne) ∙ is.at_home e he k);
+    stashed = is.stashed;
+  };
+  posts_are = refl;
+  guarded_are = λ v h i. refl;
+  goes_along = λ h i. record {
+    there = i.there;
+    lists_are = λ t k e. by_place (shard_list h.lists t ≡ k.entries) t s
+        (λ same. ap (shard_list h.lists) same ∙ (i.lists_are s x at_s ∙ ap (λ (y : Hosted). y.entries) (at_same t k same (sym (ap (λ l. at l t) now_is) ∙ e))))
+        (λ ne. i.lists_are t k (sym (get_or-set_other st.hosted s t (Some now) None ne) ∙ (sym (ap (λ l. at l t) now_is) ∙ e)));
+    live_are = i.live_are;
+  };
+}
+  where
+    now : Hosted
+    now = record { entries = x.entries; stopping = Some (record { stamp = stamp; to = to }) }
+
+    held : IsHeldShard c st.who s x
+    held = is.hosted_are s x at_s
+
+    inside_is : s < length st.hosted
+    inside_is = inside st.hosted s x at_s
+
+    now_is : entities.hosted_step st.set st.hosted (handed_off s stamp to) ≡ slice_set st.hosted s (Some now)
+    now_is = ap (λ o. slice_set st.hosted s (option_map (λ (h : Hosted). record { entries = h.entries; stopping = Some (record { stamp = stamp; to = to }) }) o)) at_s
+
+    at_same : (t : ℕ) (k : Hosted) → t ≡ s → at (slice_set st.hosted s (Some now)) t ≡ Some k → now ≡ k
+    at_same t k same e = some_is now k (sym (get_or-set_same st.hosted s (Some now) None inside_is) ∙ (ap (at (slice_set st.hosted s (Some now))) (sym same) ∙ e))
+
+stop_posts_kept : (c : Script) (who : Incarnation) (es : List (List ℕ)) → list_all (is_brought c) es ≡ true → AllKept c who (map (λ e. post who who (body.StopEntity e)) es)
+stop_posts_kept c who [] h = tt
+stop_posts_kept c who (e ∷ es) h =
+    let m : (is_brought c e ≡ true) × (list_all (is_brought c) es ≡ true) = and_both (is_brought c e) (list_all (is_brought c) es) h in
+    (stop_post_kept c who e m.0, stop_posts_kept c who es m.1)
+
+pub hand_off_keeps : (c : Script) (st : Entities) (s : ℕ) (stamp : Stamp) (from : Incarnation) → IsEntities c st → is_hosted st s ≡ true → is_node c from ≡ true → Keeps c st (entities.hand_off s stamp from st)
+hand_off_keeps c st s stamp from is there node =
+    let x : (x : Hosted) × (hosted st s ≡ Some x) = some_of (hosted st s) there in
+    let first : Keeps c st (handed_off s stamp from ∷ []) = handed_keeps c st s stamp from x.0 is x.1 node in
+    let mid : Entities = entities_after st (handed_off s stamp from) in
+    let posts : List Move = map (λ e. post st.who st.who (body.StopEntity e)) (entities_of st s) in
+    let stops : Keeps c st (handed_off s stamp from ∷ posts) = keeps_both c st (handed_off s stamp from ∷ []) posts first (all_keep c st.who posts mid (stop_posts_kept c st.who (entities_of st s) (entities_brought c st s is)) first.stands refl) in
+    keeps_both c st (handed_off s stamp from ∷ posts) (entities.free_if_left s (fold entities_after mid posts)) stops (free_if_left_keeps c (fold entities_after mid posts) s stops.stands)
+
+-- After the stop.
+
+drops_kept : (c : Script) (who : Incarnation) (e : List ℕ) → is_brought c e ≡ true → (ms : List Message) → list_all (is_for c e) ms ≡ true → AllKept c who (map (λ m. told (fact.Dropped who m)) ms)
+drops_kept c who e brought [] h = tt
+drops_kept c who e brought (m ∷ ms) h =
+    let n : (is_for c e m ≡ true) × (list_all (is_for c e) ms ≡ true) = and_both (is_for c e m) (list_all (is_for c e) ms) h in
+    let g : (m.entity ≡ e) × IsMessage c m = messages_of c e m brought n.0 in
+    (dropped_kept c who m (ap (is_brought c) g.0 ∙ brought), drops_kept c who e brought ms n.1)
+
+running_hosted : (o : Option Hosted) → entities.is_running_in o ≡ true → not (is_none o) ≡ true
+running_hosted None h = absurd (true≢false (sym h))
+running_hosted (Some x) h = refl
+
+after_stop_keeps : (c : Script) (st : Entities) (e : List ℕ) → IsEntities c st → is_brought c e ≡ true → is_in_phase phase.Absent st e ≡ true → Keeps c st (entities.after_stop e st)
+after_stop_keeps c st e is brought absent =
+    let s : ℕ = shard_of st.set e in
+    keeps_if c st (entities.is_running st s) (if is_empty (cell st e).stash then [] else entities.start_entity e st) (in_turn entities_after (entities.drop_stash e) (entities.free_if_left s) st)
+    (λ runs. keeps_if c st (is_empty (cell st e).stash) [] (entities.start_entity e st) (λ b. keeps_none c st is) (λ b. start_entity_keeps c st e is brought (running_hosted (hosted st s) runs) absent))
+    (λ stops.
+    let drops : List Move = entities.drop_stash e st in
+    let first : Keeps c st drops = all_keep c st.who drops st (drops_kept c st.who e brought (cell st e).stash (is.stashed e brought)) is refl in
+    keeps_both c st drops (entities.free_if_left s (fold entities_after st drops)) first (free_if_left_keeps c (fold entities_after st drops) s first.stands))
+
+pub stop_rule_keeps : (c : Script) (st : Entities) (e : List ℕ) → EntitiesFollow → IsEntities c st → is_brought c e ≡ true → Keeps c st (entities.stop e st)
+stop_rule_keeps c st e law is brought = keeps_if c st (is_in_phase phase.Stopping st e) (in_turn entities_after (λ st. told (fact.Stop st.who e) ∷ entities.forget_passivated e st) (entities.after_stop e) st) []
+    (λ b.
+    let live : is_in_phase phase.Absent st e ≡ false = stopping (cell st e).phase b in
+    let there : is_hosted st (shard_of st.set e) ≡ true = is.at_home e brought live in
+    let first : Keeps c st (told (fact.Stop st.who e) ∷ []) = stop_keeps c st e is brought in
+    let mid : Entities = entities_after st (told (fact.Stop st.who e)) in
+    let gone : is_in_phase phase.Absent mid e ≡ true = ap (λ (x : Cell). is_phase phase.Absent x.phase) (own_cell c st (told (fact.Stop st.who e)) e is brought refl) in
+    let follows : EntityFollows c st e = law c st e (hosted_of c st e is brought there) in
+    let forgets : List Move = entities.forget_passivated e st in
+    let second : Keeps c mid forgets = keeps_if c mid ((cell st e).passivating && is_remembered e (entries st e)) (told (fact.Forgotten e) ∷ []) []
+    (λ k. entry_keeps c mid (fact.Forgotten e) e first.stands brought there refl refl refl (follows.forgotten (and_both (cell st e).passivating (is_remembered e (entries st e)) k).1) (λ o. refl) (λ v h i. refl) (λ l. refl))
+    (λ k. keeps_none c mid first.stands) in
+    let all : List Move = told (fact.Stop st.who e) ∷ forgets in
+    let both_are : Keeps c st all = keeps_both c st (told (fact.Stop st.who e) ∷ []) forgets first second in
+    let later : Entities = fold entities_after st all in
+    let still_gone : is_in_phase phase.Absent later e ≡ true = forgotten_same mid ((cell st e).passivating && is_remembered e (entries st e)) ∙ gone in
+    keeps_both c st all (entities.after_stop e later) both_are (after_stop_keeps c later e both_are.stands brought still_gone))
+    (λ b. keeps_none c st is)
+  where
+    stopping : (p : Phase) → is_phase phase.Stopping p ≡ true → is_phase phase.Absent p ≡ false
+    stopping phase.Stopping h = refl
+    stopping p h = absurd (true≢false (sym h))
+
+    forgotten_same : (mid : Entities) (b : Bool) → is_in_phase phase.Absent (fold entities_after mid (if b then told (fact.Forgotten e) ∷ [] else [])) e ≡ is_in_phase phase.Absent mid e
+    forgotten_same mid true = refl
+    forgotten_same mid false = refl
+
+-- The tick.
+
+reminds_kept : (c : Script) (st : Entities) (es : List (List ℕ)) → list_all (is_brought c) es ≡ true → AllKept c st.who (flat_map (λ e. entities.remind_by e st (cell st e).phase) es)
+reminds_kept c st [] h = tt
+reminds_kept c st (e ∷ es) h =
+    let m : (is_brought c e ≡ true) × (list_all (is_brought c) es ≡ true) = and_both (is_brought c e) (list_all (is_brought c) es) h in
+    kept_both c st.who (entities.remind_by e st (cell st e).phase) (flat_map (λ e. entities.remind_by e st (cell st e).phase) es) (one (cell st e).phase m.0) (reminds_kept c st es m.1)
+  where
+    one : (p : Phase) → is_brought c e ≡ true → AllKept c st.who (entities.remind_by e st p)
+    one phase.Absent b = tt
+    one phase.Loading b = (recovered_post_kept c st.who e b, tt)
+    one phase.Active b = tt
+    one phase.Stopping b = (stop_post_kept c st.who e b, tt)
+
+ticks_kept : (c : Script) (st : Entities) → IsEntities c st → (ss : List ℕ) → AllKept c st.who (flat_map (λ s. flat_map (λ e. entities.remind_by e st (cell st e).phase) (entities_of st s)) ss)
+ticks_kept c st is [] = tt
+ticks_kept c st is (s ∷ ss) = kept_both c st.who (flat_map (λ e. entities.remind_by e st (cell st e).phase) (entities_of st s)) (flat_map (λ s. flat_map (λ e. entities.remind_by e st (cell st e).phase) (entities_of st s)) ss)
+    (reminds_kept c st (entities_of st s) (entities_brought c st s is)) (ticks_kept c st is ss)
+
+pub tick_keeps : (c : Script) (st : Entities) → IsEntities c st → Keeps c st (entities.tick_entities st)
+tick_keeps c st is = all_keep c st.who (entities.tick_entities st) st (ticks_kept c st is (shards st.set)) is refl

@@ -1,9 +1,9 @@
 -- The cells of a node's entities: a move changes the cell of its own entity alone.
-use Rattle.std.proofs.Common.{◌≡◌, ◌≢◌, ℕ, zero, suc, ◌+◌, ◌<◌, List, [], ◌∷◌, length, sym, ap, subst, ◌∙◌, refl, true, false, true≢false, arith}
-use Rattle.std.specs.Prelude.{Bool, ◌||◌, not, cond, Option, Some, None, slice_index_or, slice_set}
+use Rattle.std.proofs.Common.{◌≡◌, ◌≢◌, ℕ, suc, ◌+◌, ◌<◌, List, [], ◌∷◌, length, sym, ap, subst, ◌∙◌, refl, true, false, true≢false, arith}
+use Rattle.std.specs.Prelude.{Bool, ◌||◌, not, cond, Option, Some, None, slice_index_or}
 use Rattle.std.specs.List.{list_any, position_or_len, prefix_len}
 use Rattle.std.proofs.lemmas.List.{get_or-set_same, get_or-set_other, length-set}
-use Rattle.yard_model.specs.Entities.{Cell, Entities, new_cell, cell_after, cell_in, cell, cells_by, entity_of, entities_after}
+use Rattle.yard_model.specs.Entities.{Entities, new_cell, cell_after, cell_in, cell, cells_by, entity_of, entities_after}
 use Rattle.yard_model.specs.Genuine.{is_brought}
 use Rattle.yard_model.specs.Move.{Move}
 use Rattle.yard_model.specs.Script.{Script, Setting, is_name, names_in, setting}

@@ -1,26 +1,23 @@
 -- What stands of entities, at entries, posts and silent moves.
-use Rattle.std.proofs.Common.{◌≡◌, ◌≢◌, ℕ, ◌<◌, List, [], ◌∷◌, ◌++◌, length, sym, ap, subst, ◌∙◌, refl, true, false, true≢false, arith}
-use Rattle.std.specs.Prelude.{Bool, ◌&&◌, ◌==◌, not, nat_lt, nat_le, drop, filter, fold, Option, Some, None, is_none, is_some, slice_set, slice_index_or, IfSome, if◌then◌else◌}
-use Rattle.std.specs.List.{list_all, list_any, flat_map}
+use Rattle.std.proofs.Common.{◌≡◌, ℕ, ◌<◌, List, [], ◌∷◌, ◌++◌, length, sym, ap, subst, ◌∙◌, refl, true, arith}
+use Rattle.std.specs.Prelude.{Bool, ◌&&◌, not, nat_lt, fold, Option, Some, None, is_none, slice_set, slice_index_or}
+use Rattle.std.specs.List.{list_all}
 use Rattle.std.specs.Option.{option_map}
 use Rattle.std.proofs.lemmas.Bool.Decides.{nat_tests}
 use Rattle.std.proofs.lemmas.List.{get_or-set_same, get_or-set_other, length-set}
 use Rattle.std.proofs.lemmas.List.Sums.{fold-append}
 use Rattle.yard_model.specs.declared.fact.Fact.{Fact}
-use Rattle.yard_model.specs.declared.fact.Fact.TheVariants as fact
-use Rattle.yard_model.specs.declared.out.Item.TheVariants as item
 use Rattle.yard_model.specs.declared.input.Phase.{Phase}
 use Rattle.yard_model.specs.declared.input.Phase.TheVariants as phase
 use Rattle.yard_model.specs.declared.packet.Body.{Body}
 use Rattle.yard_model.specs.declared.packet.Body.TheVariants as body
-use Rattle.yard_model.specs.declared.packet.Message.{Message}
 use Rattle.yard_model.specs.declared.incarnation.Incarnation.{Incarnation}
 use Rattle.yard_model.specs.declared.incarnation.Slot.{Slot}
 use Rattle.yard_model.specs.declared.incarnation.Slot.TheVariants as slot
-use Rattle.yard_model.specs.Entities.{Cell, Entities, Hosted, is_phase, phase_step, stash_step, cell_after, cell_in, cell, entered, hosted, entries_in, entries, is_hosted, is_in_phase, entity_of, hosted_step, entities_after}
-use Rattle.yard_model.specs.Genuine.{is_node, is_shard, is_slot_of, is_brought, is_genuine_body}
+use Rattle.yard_model.specs.Entities.{Entities, Hosted, is_phase, phase_step, stash_step, cell_after, cell_in, cell, entered, hosted, entries_in, entries, is_hosted, is_in_phase, entity_of, hosted_step, entities_after}
+use Rattle.yard_model.specs.Genuine.{is_node, is_shard, is_brought, is_genuine_body}
 use Rattle.yard_model.specs.Lawful.{own, may_follow}
-use Rattle.yard_model.specs.Move.{Move, made, passivates, told, post, item_of}
+use Rattle.yard_model.specs.Move.{Move, passivates, told, post}
 use Rattle.yard_model.specs.Script.{Script, Setting, setting}
 use Rattle.yard_model.specs.Setting.{shard_of}
 use Rattle.yard_model.specs.SlotLists.{shard_list}
@@ -29,13 +26,13 @@ use Rattle.yard_model.specs.Trace.{slot_of, with_entry}
 use Rattle.yard_model.specs.Words.{at, is_same}
 use Rattle.yard_model.proofs.FollowLaws.{follows_more}
 use Rattle.yard_laws.proofs.Booleans.{and_both, both}
-use Rattle.world_laws.specs.Owes.{Hand, has_name, live_after, hand_after, follows_in_hand, lives_in_hand, guard_in_hand, guarded_in_hand}
+use Rattle.world_laws.specs.Owes.{Hand, live_after, hand_after, follows_in_hand, lives_in_hand, guard_in_hand, guarded_in_hand}
 use Rattle.world_laws.proofs.Members.{itself_is}
-use Rattle.world_laws.proofs.Place.{some_is, none_is_not_some, inside, by_place}
+use Rattle.world_laws.proofs.Place.{some_is, inside, by_place}
 use Rattle.actor_laws.specs.Moves.{is_own_move, facts_of}
 use Rattle.actor_laws.specs.EntitiesStand.{IsHeldShard, is_for, IsEntities, InHand, Keeps}
 use Rattle.actor_laws.proofs.EntitiesCells.{same_cells, cells_count}
-use Rattle.actor_laws.proofs.EntitiesMoves.{keeps_none, stands_cell, along_cell, some_of, list_in_hand}
+use Rattle.actor_laws.proofs.EntitiesMoves.{stands_cell, along_cell, some_of, list_in_hand}
 
 -- Posts and silent moves.
 

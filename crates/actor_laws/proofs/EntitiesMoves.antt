@@ -1,9 +1,8 @@
 -- What stands of entities, move by move.
-use Rattle.std.proofs.Common.{◌≡◌, ◌≢◌, ℕ, List, [], ◌∷◌, ◌++◌, length, sym, ap, subst, ◌∙◌, refl, true, false, true≢false}
-use Rattle.std.specs.Prelude.{Bool, ◌&&◌, ◌||◌, not, drop, filter, fold, Option, Some, None, is_none, if◌then◌else◌}
+use Rattle.std.proofs.Common.{◌≡◌, ℕ, List, [], ◌∷◌, ◌++◌, length, sym, ap, subst, ◌∙◌, refl, true, false, true≢false}
+use Rattle.std.specs.Prelude.{Bool, ◌&&◌, ◌||◌, not, drop, fold, Option, Some, None, is_none, if◌then◌else◌}
 use Rattle.std.specs.List.{list_all, list_any, flat_map}
 use Rattle.std.proofs.lemmas.Grind.{flat_map-append}
-use Rattle.std.proofs.lemmas.List.Folds.{list_all-append}
 use Rattle.std.proofs.lemmas.List.Sums.{fold-append}
 use Rattle.yard_model.specs.declared.fact.Fact.{Fact}
 use Rattle.yard_model.specs.declared.fact.Fact.TheVariants as fact
@@ -18,8 +17,8 @@ use Rattle.yard_model.specs.declared.state.State.{State}
 use Rattle.std.specs.Cmp.Lexicographic.{nat_list_eq_equiv}
 use Rattle.yard_model.specs.Entities.{Cell, Entities, Hosted, is_phase, stash_step, cell_after, cell, hosted, entries_in, entries, is_hosted, is_in_phase, entity_of, hosted_step, entities_after}
 use Rattle.yard_model.specs.Safe.{is_journal_state}
-use Rattle.yard_model.specs.Genuine.{is_brought, is_genuine}
-use Rattle.yard_model.specs.Move.{Move, made, told, item_of}
+use Rattle.yard_model.specs.Genuine.{is_brought}
+use Rattle.yard_model.specs.Move.{Move, told, item_of}
 use Rattle.yard_model.specs.Script.{Script, Setting, is_name, setting}
 use Rattle.yard_model.specs.Setting.{shard_of}
 use Rattle.yard_model.specs.SlotLists.{shard_list}
@@ -32,7 +31,7 @@ use Rattle.world_laws.proofs.Members.{itself_is}
 use Rattle.world_laws.proofs.Rules.{all_join}
 use Rattle.actor_laws.specs.Moves.{is_own_move, facts_of}
 use Rattle.actor_laws.specs.EntitiesStand.{IsHeldShard, is_for, IsEntities, InHand, Keeps}
-use Rattle.actor_laws.proofs.EntitiesCells.{own_cell, other_cell, same_cells, cells_count}
+use Rattle.actor_laws.proofs.EntitiesCells.{own_cell, other_cell, cells_count}
 
 -- Moves in turn.
 

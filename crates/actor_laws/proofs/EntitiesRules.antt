@@ -1,7 +1,7 @@
 -- What stands of entities, rule by rule.
-use Rattle.std.proofs.Common.{◌≡◌, ℕ, ◌+◌, ◌<◌, ◌≤◌, List, [], ◌∷◌, ◌++◌, length, sym, ap, subst, ◌∙◌, refl, true, false, true≢false, arith}
+use Rattle.std.proofs.Common.{◌≡◌, ℕ, ◌+◌, ◌<◌, List, [], ◌∷◌, ◌++◌, length, sym, ap, subst, ◌∙◌, refl, true, false, true≢false, arith}
 use Rattle.std.specs.Prelude.{Bool, ◌&&◌, ◌==◌, ◌/◌, ◌%◌, ◌-◌, not, nat_lt, nat_le, fold, Option, Some, None, is_none, is_some, slice_index_or, slice_set, if◌then◌else◌}
-use Rattle.std.specs.List.{list_all, flat_map}
+use Rattle.std.specs.List.{list_all}
 use Rattle.std.specs.Option.{option_map}
 use Rattle.std.proofs.lemmas.Bool.Decides.{nat_tests}
 use Rattle.std.proofs.lemmas.List.{get_or-set_same, get_or-set_other}
@@ -18,21 +18,21 @@ use Rattle.yard_model.specs.declared.incarnation.Slot.TheVariants as slot
 use Rattle.yard_model.specs.Behaviour.{folded}
 use Rattle.yard_model.specs.Entities as entities
 use Rattle.yard_model.specs.Entities.{Entities, Hosted, is_phase, cell, hosted, entries, entries_in, is_hosted, is_in_phase, record_of, entities_after}
-use Rattle.yard_model.specs.Genuine.{is_node, is_producer, is_brought, is_planned, is_genuine, is_genuine_body}
+use Rattle.yard_model.specs.Genuine.{is_node, is_producer, is_brought, is_planned, is_genuine}
 use Rattle.yard_model.specs.Lawful.{own, is_held}
 use Rattle.yard_model.specs.declared.out.Item.TheVariants as item
 use Rattle.yard_model.specs.Move.{Move, made, took, handed_off, passivates, told, post}
 use Rattle.yard_model.specs.Script.{Script, Setting, is_name, setting}
 use Rattle.yard_model.specs.Setting.{shard_of}
-use Rattle.yard_model.specs.SlotReads.{journal, position, is_remembered, holder}
-use Rattle.yard_model.specs.Turns.{in_turn, for_each, where_some}
+use Rattle.yard_model.specs.SlotReads.{journal, position, is_remembered}
+use Rattle.yard_model.specs.Turns.{in_turn, for_each}
 use Rattle.yard_model.specs.Words.{at}
 use Rattle.yard_laws.specs.Entries.{IsHosted, MessageFollows, NextFollows, EntityFollows, EntitiesFollow}
 use Rattle.yard_laws.proofs.Booleans.{and_both, both, number_itself, of_not, same_name}
 use Rattle.world_laws.proofs.Rules.{all_join, all_if}
 use Rattle.world_laws.proofs.Place.{inside, by_place}
-use Rattle.actor_laws.specs.EntitiesStand.{IsHeldShard, is_for, IsEntities, Keeps}
-use Rattle.actor_laws.proofs.EntitiesMoves.{name_itself, keeps_none, keeps_both, who_stays, set_stays, some_of, start_keeps, stop_keeps, failed_keeps, stashed_keeps, dropped_keeps, active_keeps}
+use Rattle.actor_laws.specs.EntitiesStand.{IsHeldShard, is_for, IsEntities, IsMessage, Keeps}
+use Rattle.actor_laws.proofs.EntitiesMoves.{name_itself, keeps_none, keeps_both, who_stays, set_stays, some_of, start_keeps, failed_keeps, stashed_keeps, dropped_keeps, active_keeps}
 use Rattle.actor_laws.proofs.EntitiesEntries.{still_keeps, own_post, recovered_post_keeps, stop_post_keeps, request_post_keeps, passivates_keeps, entry_keeps}
 
 -- Choices.
@@ -49,12 +49,6 @@ start_entity_keeps c st e is brought there absent =
     keeps_both c st (told (fact.Start st.who e) ∷ []) (post st.who st.who (body.Recovered e) ∷ []) first (recovered_post_keeps c (entities_after st (told (fact.Start st.who e))) e first.stands brought)
 
 -- Messages.
-
--- a message that may be delivered
-pub record IsMessage (c : Script) (m : Message) : Type 0 where
-  pub genuine : is_genuine c m ≡ true
-  pub producer_is : is_producer c m.producer ≡ true
-  pub brought : is_brought c m.entity ≡ true
 
 good_for : (c : Script) (m : Message) → IsMessage c m → is_name m.entity m.entity ≡ true → is_for c m.entity m ≡ true
 good_for c m g itself = both (is_genuine c m && is_producer c m.producer) (is_name m.entity m.entity) (both (is_genuine c m) (is_producer c m.producer) g.genuine g.producer_is) itself

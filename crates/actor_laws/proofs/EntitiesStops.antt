@@ -1,6 +1,6 @@
 -- What stands of entities as they stop: shards that are handed off and freed, and the tick.
-use Rattle.std.proofs.Common.{◌≡◌, ◌≢◌, ℕ, ◌<◌, List, [], ◌∷◌, ◌++◌, length, map, sym, ap, subst, ◌∙◌, refl, true, false, true≢false, arith}
-use Rattle.std.specs.Prelude.{Bool, ◌&&◌, ◌||◌, ◌==◌, not, nat_lt, filter, fold, Option, Some, None, is_none, is_some, slice_set, slice_index_or, IfSome, ◌↔◌, IsTrue, if◌then◌else◌}
+use Rattle.std.proofs.Common.{◌≡◌, ℕ, ◌<◌, List, [], ◌∷◌, ◌++◌, length, map, sym, ap, subst, ◌∙◌, refl, true, false, true≢false, arith}
+use Rattle.std.specs.Prelude.{Bool, ◌&&◌, ◌||◌, ◌==◌, not, nat_lt, filter, fold, Option, Some, None, is_none, is_some, slice_set, slice_index_or, IfSome, if◌then◌else◌}
 use Rattle.std.specs.List.{list_all, list_any, flat_map}
 use Rattle.std.specs.Option.{option_map, option_and_then}
 use Rattle.std.proofs.lemmas.Bool.Decides.{nat_tests}
@@ -14,32 +14,29 @@ use Rattle.yard_model.specs.declared.packet.Message.{Message}
 use Rattle.yard_model.specs.declared.incarnation.Incarnation.{Incarnation}
 use Rattle.yard_model.specs.declared.incarnation.Stamp.{Stamp}
 use Rattle.yard_model.specs.declared.incarnation.Cause.TheVariants as cause
-use Rattle.yard_model.specs.declared.incarnation.Slot.{Slot}
 use Rattle.yard_model.specs.declared.incarnation.Slot.TheVariants as slot
 use Rattle.yard_model.specs.Entities as entities
 use Rattle.yard_model.specs.Entities.{Entities, Cell, Hosted, Stopping, is_phase, cell, cell_in, hosted, entries_in, entries, is_hosted, is_in_phase, entities_of, entities_after}
 use Rattle.yard_model.specs.Equal.{is_slot}
 use Rattle.yard_model.specs.Genuine.{is_node, is_shard, is_brought}
-use Rattle.yard_model.specs.Lawful.{own, is_held, may_follow, is_leased}
+use Rattle.yard_model.specs.Lawful.{is_held, may_follow}
 use Rattle.yard_model.specs.Move.{Move, handed_off, told, post}
-use Rattle.yard_model.specs.Script.{Script, Setting, is_name, names_in, setting}
+use Rattle.yard_model.specs.Script.{Script, Setting, is_name, setting}
 use Rattle.yard_model.specs.Setting.{shard_of, shards, names_of}
 use Rattle.yard_model.specs.SlotLists.{shard_list}
 use Rattle.yard_model.specs.SlotReads.{holder, epoch, is_remembered}
-use Rattle.yard_model.specs.Trace.{with_entry}
 use Rattle.yard_model.specs.Turns.{in_turn, where_some}
 use Rattle.yard_model.specs.Words.{at, is_at, is_empty}
-use Rattle.yard_model.proofs.FollowLaws.{own_more}
 use Rattle.yard_laws.specs.Entries.{EntityFollows, EntitiesFollow}
-use Rattle.yard_laws.proofs.Booleans.{and_both, both, number_itself, of_not, same_name}
-use Rattle.world_laws.specs.Owes.{Hand, has_name, hand_after, follows_in_hand, lives_in_hand, guard_in_hand}
+use Rattle.yard_laws.proofs.Booleans.{and_both, both, number_itself, same_name}
+use Rattle.world_laws.specs.Owes.{has_name, guard_in_hand}
 use Rattle.world_laws.proofs.Members.{itself_is}
 use Rattle.world_laws.proofs.Place.{some_is, inside, by_place}
-use Rattle.actor_laws.specs.EntitiesStand.{IsHeldShard, is_for, IsEntities, InHand, Keeps}
+use Rattle.actor_laws.specs.EntitiesStand.{IsHeldShard, is_for, IsEntities, IsMessage, Keeps}
 use Rattle.actor_laws.proofs.EntitiesCells.{own_cell}
-use Rattle.actor_laws.proofs.EntitiesMoves.{some_of, name_itself, keeps_none, keeps_both, who_stays, set_stays, stop_keeps, dropped_keeps}
+use Rattle.actor_laws.proofs.EntitiesMoves.{some_of, name_itself, keeps_none, keeps_both, stop_keeps, dropped_keeps}
 use Rattle.actor_laws.proofs.EntitiesEntries.{still_keeps, own_post, recovered_post_keeps, stop_post_keeps, entry_keeps}
-use Rattle.actor_laws.proofs.EntitiesRules.{IsMessage, keeps_if, start_entity_keeps, messages_of, hosted_of}
+use Rattle.actor_laws.proofs.EntitiesRules.{keeps_if, start_entity_keeps, messages_of, hosted_of}
 
 -- Moves that may stand in any order.
 

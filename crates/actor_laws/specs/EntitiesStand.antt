@@ -1,15 +1,18 @@
 -- What stands of the entities of a node between their rules, and what a rule keeps and tells.
-use Rattle.std.specs.Prelude.{◌≡◌, ℕ, Bool, true, false, ◌&&◌, not, List, length, fold, Some, IfSome, IsTrue}
+use Rattle.std.specs.Prelude.{◌≡◌, ℕ, Bool, true, false, ◌&&◌, not, List, [], ◌∷◌, length, fold, Some, IfSome, IsTrue}
 use Rattle.std.specs.List.{list_all}
-use Rattle.yard_model.specs.declared.fact.Fact.{Fact}
+use Rattle.yard_model.specs.declared.fact.Fact.TheVariants as fact
 use Rattle.yard_model.specs.declared.input.Phase.TheVariants as phase
 use Rattle.yard_model.specs.declared.packet.Message.{Message}
 use Rattle.yard_model.specs.declared.incarnation.Incarnation.{Incarnation}
+use Rattle.yard_model.specs.declared.incarnation.Keep.{Keep}
+use Rattle.yard_model.specs.declared.incarnation.Stamp.{Stamp}
 use Rattle.yard_model.specs.declared.incarnation.Slot.TheVariants as slot
-use Rattle.yard_model.specs.Entities.{Entities, Hosted, cell, hosted, is_hosted, is_in_phase, entities_after}
+use Rattle.yard_model.specs.Entities as entities
+use Rattle.yard_model.specs.Entities.{Entities, Hosted, new_entities, cell, hosted, is_hosted, is_in_phase, entities_after}
 use Rattle.yard_model.specs.Genuine.{is_node, is_brought, is_producer, is_genuine}
 use Rattle.yard_model.specs.Lawful.{own}
-use Rattle.yard_model.specs.Move.{Move}
+use Rattle.yard_model.specs.Move.{Move, told}
 use Rattle.yard_model.specs.Script.{Script, is_name, names_in, setting}
 use Rattle.yard_model.specs.Setting.{shard_of}
 use Rattle.yard_model.specs.SlotLists.{shard_list}
@@ -37,6 +40,12 @@ pub record IsEntities (c : Script) (st : Entities) : Type 0 where
   pub at_home : (e : List ℕ) → is_brought c e ≡ true → is_in_phase phase.Absent st e ≡ false → is_hosted st (shard_of st.set e) ≡ true
   pub stashed : (e : List ℕ) → is_brought c e ≡ true → list_all (is_for c e) (cell st e).stash ≡ true
 
+-- a message that may be delivered: made of the script, from one of its producers, for one of its names
+pub record IsMessage (c : Script) (m : Message) : Type 0 where
+  pub genuine : is_genuine c m ≡ true
+  pub producer_is : is_producer c m.producer ≡ true
+  pub brought : is_brought c m.entity ≡ true
+
 -- what the node has in hand are the lists of the hosted shards, and the names of the entities that exist
 pub record InHand (c : Script) (h : Hand) (st : Entities) : Type 0 where
   pub there : length h.lists.shards ≡ c.config.shards
@@ -49,3 +58,21 @@ pub record Keeps (c : Script) (st : Entities) (ms : List Move) : Type 0 where
   pub posts_are : list_all (is_own_move c st.who) ms ≡ true
   pub guarded_are : (vouches : List ℕ → ℕ → ℕ → Bool) (h : Hand) → InHand c h st → guarded_in_hand c vouches st.who h (facts_of ms) ≡ true
   pub goes_along : (h : Hand) → InHand c h st → InHand c (fold (hand_after c) h (facts_of ms)) (fold entities_after st ms)
+
+-- what each rule keeps and tells, where what it is about is the script's
+pub record EntityRules (c : Script) (st : Entities) : Type 0 where
+  pub delivers : (m : Message) → IsMessage c m → is_hosted st (shard_of st.set m.entity) ≡ true → Keeps c st (entities.deliver m st)
+  pub recovers : (e : List ℕ) → is_brought c e ≡ true → Keeps c st (entities.recovered e st)
+  pub passivates : (e : List ℕ) → is_brought c e ≡ true → Keeps c st (entities.passivate e st)
+  pub arms : (e : List ℕ) (k : Keep) → is_brought c e ≡ true → Keeps c st (told (fact.Armed e k) ∷ [])
+  pub hands_off : (s : ℕ) (stamp : Stamp) (from : Incarnation) → is_hosted st s ≡ true → is_node c from ≡ true → Keeps c st (entities.hand_off s stamp from st)
+  pub stops : (e : List ℕ) → is_brought c e ≡ true → Keeps c st (entities.stop e st)
+  pub ticks : Keeps c st (entities.tick_entities st)
+
+-- of entities that stand by themselves
+abbrev pub EntitiesStandLaw : Type 0
+EntitiesStandLaw = (c : Script) (st : Entities) → IsEntities c st → EntityRules c st
+
+-- those of a node that comes up do
+abbrev pub NewEntitiesStand : Type 0
+NewEntitiesStand = (c : Script) (who : Incarnation) → is_node c who ≡ true → IsEntities c (new_entities (setting c) who)

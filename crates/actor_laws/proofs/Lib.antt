@@ -4,3 +4,4 @@ pub mod EntitiesMoves
 pub mod EntitiesNew
 pub mod EntitiesRules
 pub mod EntitiesStops
+pub mod NameLaws

@@ -1,1 +1,2 @@
 pub mod RegionMoves
+pub mod ProducerMoves

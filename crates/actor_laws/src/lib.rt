@@ -5,4 +5,5 @@
 //! law.
 #![tactic(auto)]
 
+pub mod producer;
 pub mod region;

@@ -91,9 +91,14 @@ kept_none c st r = record { stands = r; posts_are = refl }
 kept_one : (c : Script) (st : Producer) (m : Move) → IsProducer c st → own c (slot.Queue st.number) (queue_step st.entries m) ≡ true → is_own_move c st.who m ≡ true → Keeps c st (m ∷ [])
 kept_one c st m r own_is ours = record { stands = one_stands c st m r own_is; posts_are = both (is_own_move c st.who m) true ours refl }
 
-who_stays : (st : Producer) (ms : List Move) → (fold producer_after st ms).who ≡ st.who
+-- who it is and its number stay
+pub who_stays : (st : Producer) (ms : List Move) → (fold producer_after st ms).who ≡ st.who
 who_stays st [] = refl
 who_stays st (m ∷ ms) = who_stays (producer_after st m) ms
+
+pub number_stays : (st : Producer) (ms : List Move) → (fold producer_after st ms).number ≡ st.number
+number_stays st [] = refl
+number_stays st (m ∷ ms) = number_stays (producer_after st m) ms
 
 pub producer_joins : ProducerJoins
 producer_joins c st xs ys f g = record {

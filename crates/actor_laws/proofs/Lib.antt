@@ -5,3 +5,5 @@ pub mod EntitiesNew
 pub mod EntitiesRules
 pub mod EntitiesStops
 pub mod NameLaws
+pub mod ProducerMoves
+pub mod RegionMoves

@@ -6,3 +6,5 @@
 #![tactic(auto)]
 
 pub mod entities;
+pub mod producer;
+pub mod region;

@@ -1,0 +1,4 @@
+pub mod CoordinatorLaws
+pub mod CoordinatorMoves
+pub mod CoordinatorReads
+pub mod CoordinatorRules

@@ -4,3 +4,5 @@
 //! node and is made of the script. Each law is a function that does nothing, whose contract is the
 //! law.
 #![tactic(auto)]
+
+pub mod coordinator;

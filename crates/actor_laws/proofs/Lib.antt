@@ -1,3 +1,7 @@
+pub mod CoordinatorLaws
+pub mod CoordinatorMoves
+pub mod CoordinatorReads
+pub mod CoordinatorRules
 pub mod EntitiesCells
 pub mod EntitiesEntries
 pub mod EntitiesMoves

@@ -5,6 +5,7 @@
 //! law.
 #![tactic(auto)]
 
+pub mod coordinator;
 pub mod entities;
 pub mod producer;
 pub mod region;

@@ -30,7 +30,7 @@ use Rattle.world_laws.specs.Owes.{Hand, has_name, without_name, live_after, hand
 use Rattle.world_laws.proofs.Members.{itself_is}
 use Rattle.world_laws.proofs.Rules.{all_join}
 use Rattle.actor_laws.specs.Moves.{is_own_move, facts_of}
-use Rattle.actor_laws.specs.EntitiesStand.{IsHeldShard, is_for, IsEntities, InHand, Keeps}
+use Rattle.actor_laws.specs.EntitiesStand.{IsHeldShard, is_for, is_entity_fact, IsEntities, InHand, Keeps}
 use Rattle.actor_laws.proofs.EntitiesCells.{own_cell, other_cell, cells_count}
 
 -- Moves in turn.
@@ -58,7 +58,7 @@ set_stays st [] = refl
 set_stays st (m ∷ ms) = set_stays (entities_after st m) ms
 
 pub keeps_none : (c : Script) (st : Entities) → IsEntities c st → Keeps c st []
-keeps_none c st is = record { stands = is; posts_are = refl; guarded_are = λ v h i. refl; goes_along = λ h i. i }
+keeps_none c st is = record { stands = is; posts_are = refl; facts_are = refl; guarded_are = λ v h i. refl; goes_along = λ h i. i }
 
 pub keeps_both : (c : Script) (st : Entities) (xs ys : List Move) → Keeps c st xs → Keeps c (fold entities_after st xs) ys → Keeps c st (xs ++ ys)
 keeps_both c st xs ys f g =
@@ -66,6 +66,7 @@ keeps_both c st xs ys f g =
     record {
       stands = subst (IsEntities c) (sym (fold-append entities_after st xs ys)) g.stands;
       posts_are = all_join (is_own_move c st.who) xs ys f.posts_are (subst (λ w. list_all (is_own_move c w) ys ≡ true) (who_stays st xs) g.posts_are);
+      facts_are = ap (list_all is_entity_fact) (facts_both xs ys) ∙ all_join is_entity_fact (facts_of xs) (facts_of ys) f.facts_are g.facts_are;
       guarded_are = λ v h i. ap (guarded_in_hand c v st.who h) (facts_both xs ys)
           ∙ guarded_both c v st.who h (facts_of xs) (facts_of ys) (f.guarded_are v h i)
           (subst (λ w. guarded_in_hand c v w (fold (hand_after c) h (facts_of xs)) (facts_of ys) ≡ true) (who_stays st xs) (g.guarded_are v (fold (hand_after c) h (facts_of xs)) (f.goes_along h i)));
@@ -182,16 +183,17 @@ name_stays e f (x ∷ xs) other = by (is_name e x) refl (name_stays e f xs other
 -- A fact of an entity, which is no entry.
 
 keeps_told : (c : Script) (st : Entities) (f : Fact) (e : List ℕ) → IsEntities c st → is_brought c e ≡ true → entity_of (told f) ≡ Some e → hosted_step st.set st.hosted (told f) ≡ st.hosted
-    → slot_of (setting c) f ≡ None
+    → slot_of (setting c) f ≡ None → is_entity_fact f ≡ true
     → (is_phase phase.Absent (cell_after (cell st e) (told f)).phase ≡ false → is_hosted st (shard_of st.set e) ≡ true)
     → list_all (is_for c e) (cell_after (cell st e) (told f)).stash ≡ true
     → ((v : List ℕ → ℕ → ℕ → Bool) (h : Hand) → InHand c h st → lives_in_hand c v st.who h f ≡ true)
     → ((h : Hand) → InHand c h st → has_name e (live_after h.live f) ≡ not (is_phase phase.Absent (cell_after (cell st e) (told f)).phase))
     → ((h : Hand) (g : List ℕ) → is_name e g ≡ false → has_name g (live_after h.live f) ≡ has_name g h.live)
     → Keeps c st (told f ∷ [])
-keeps_told c st f e is brought of shards none home stash guard live others = record {
+keeps_told c st f e is brought of shards none ours home stash guard live others = record {
   stands = stands_cell c st (told f) e is brought of shards home stash;
   posts_are = refl;
+  facts_are = both (is_entity_fact f) true ours refl;
   guarded_are = λ v h i. both (guard_in_hand c v st.who h f) true (both (follows_in_hand c h.lists f (slot_of (setting c) f)) (lives_in_hand c v st.who h f) (ap (follows_in_hand c h.lists f) none) (guard v h i)) refl;
   goes_along = λ h i. along_cell c st (told f) e h (hand_after c h f) is brought of shards i (ap (with_entry f h.lists) none) (live h i) (others h);
 }
@@ -214,7 +216,7 @@ list_in_hand c st e h is there i =
     ap (λ (s : Setting). shard_list h.lists (shard_of s e)) (sym is.set_is) ∙ (i.lists_are (shard_of st.set e) x.0 x.1 ∙ sym (ap entries_in x.1))
 
 pub start_keeps : (c : Script) (st : Entities) (e : List ℕ) → IsEntities c st → is_brought c e ≡ true → is_hosted st (shard_of st.set e) ≡ true → is_in_phase phase.Absent st e ≡ true → Keeps c st (told (fact.Start st.who e) ∷ [])
-start_keeps c st e is brought there absent = keeps_told c st (fact.Start st.who e) e is brought refl refl refl (λ k. there) (is.stashed e brought)
+start_keeps c st e is brought there absent = keeps_told c st (fact.Start st.who e) e is brought refl refl refl refl (λ k. there) (is.stashed e brought)
     (λ v h i. both (is_brought c e && is_same st.who st.who && is_at st.who (holder (shard_list h.lists (shard_of (setting c) e)))) (not (has_name e h.live))
     (both (is_brought c e && is_same st.who st.who) (is_at st.who (holder (shard_list h.lists (shard_of (setting c) e))))
     (both (is_brought c e) (is_same st.who st.who) brought (itself_is st.who st.who refl))
@@ -223,15 +225,15 @@ start_keeps c st e is brought there absent = keeps_told c st (fact.Start st.who 
     (λ h i. name_added e h.live) (λ h g other. name_beside e g h.live other)
 
 pub stop_keeps : (c : Script) (st : Entities) (e : List ℕ) → IsEntities c st → is_brought c e ≡ true → Keeps c st (told (fact.Stop st.who e) ∷ [])
-stop_keeps c st e is brought = keeps_told c st (fact.Stop st.who e) e is brought refl refl refl (λ k. absurd (true≢false k)) (is.stashed e brought) (λ v h i. refl)
+stop_keeps c st e is brought = keeps_told c st (fact.Stop st.who e) e is brought refl refl refl refl (λ k. absurd (true≢false k)) (is.stashed e brought) (λ v h i. refl)
     (λ h i. name_gone e h.live) (λ h g other. name_stays e g h.live other)
 
 pub failed_keeps : (c : Script) (st : Entities) (e : List ℕ) → IsEntities c st → is_brought c e ≡ true → Keeps c st (told (fact.WriteFailed st.who e) ∷ [])
-failed_keeps c st e is brought = keeps_told c st (fact.WriteFailed st.who e) e is brought refl refl refl (λ k. absurd (true≢false k)) (is.stashed e brought) (λ v h i. refl)
+failed_keeps c st e is brought = keeps_told c st (fact.WriteFailed st.who e) e is brought refl refl refl refl (λ k. absurd (true≢false k)) (is.stashed e brought) (λ v h i. refl)
     (λ h i. name_gone e h.live) (λ h g other. name_stays e g h.live other)
 
 pub stashed_keeps : (c : Script) (st : Entities) (m : Message) → IsEntities c st → is_brought c m.entity ≡ true → is_for c m.entity m ≡ true → Keeps c st (told (fact.Stashed st.who m) ∷ [])
-stashed_keeps c st m is brought good = keeps_told c st (fact.Stashed st.who m) m.entity is brought refl refl refl (is.at_home m.entity brought)
+stashed_keeps c st m is brought good = keeps_told c st (fact.Stashed st.who m) m.entity is brought refl refl refl refl (is.at_home m.entity brought)
     (all_join (is_for c m.entity) (cell st m.entity).stash (m ∷ []) (is.stashed m.entity brought) (both (is_for c m.entity m) true good refl))
     (λ v h i. refl) (λ h i. i.live_are m.entity brought) (λ h g other. refl)
 
@@ -240,7 +242,7 @@ drop_all p [] h = refl
 drop_all p (x ∷ xs) h = (and_both (p x) (list_all p xs) h).1
 
 pub dropped_keeps : (c : Script) (st : Entities) (m : Message) → IsEntities c st → is_brought c m.entity ≡ true → Keeps c st (told (fact.Dropped st.who m) ∷ [])
-dropped_keeps c st m is brought = keeps_told c st (fact.Dropped st.who m) m.entity is brought refl refl refl (is.at_home m.entity brought)
+dropped_keeps c st m is brought = keeps_told c st (fact.Dropped st.who m) m.entity is brought refl refl refl refl (is.at_home m.entity brought)
     (stash (cell st m.entity).phase (cell st m.entity).stash (is.stashed m.entity brought)) (λ v h i. refl) (λ h i. i.live_are m.entity brought) (λ h g other. refl)
   where
     stash : (p : Phase) (xs : List Message) → list_all (is_for c m.entity) xs ≡ true → list_all (is_for c m.entity) (stash_step p xs (told (fact.Dropped st.who m))) ≡ true
@@ -251,9 +253,9 @@ dropped_keeps c st m is brought = keeps_told c st (fact.Dropped st.who m) m.enti
 
 pub active_keeps : (c : Script) (st : Entities) (e : List ℕ) (n : ℕ) (s : State) → IsEntities c st → is_brought c e ≡ true → is_in_phase phase.Absent st e ≡ false
     → is_journal_state c n s (journal e (entries st e)) ≡ true → Keeps c st (told (fact.Active st.who e n s) ∷ [])
-active_keeps c st e n s is brought there shows = keeps_told c st (fact.Active st.who e n s) e is brought refl refl refl (λ k. is.at_home e brought there) refl
+active_keeps c st e n s is brought there shows = keeps_told c st (fact.Active st.who e n s) e is brought refl refl refl refl (λ k. is.at_home e brought there) refl
     (λ v h i. ap (λ l. is_journal_state c n s (journal e l)) (list_in_hand c st e h is (is.at_home e brought there) i) ∙ shows)
     (λ h i. i.live_are e brought ∙ ap not there) (λ h g other. refl)
 
 pub armed_keeps : (c : Script) (st : Entities) (e : List ℕ) (k : Keep) → IsEntities c st → is_brought c e ≡ true → Keeps c st (told (fact.Armed e k) ∷ [])
-armed_keeps c st e k is brought = keeps_told c st (fact.Armed e k) e is brought refl refl refl (is.at_home e brought) (is.stashed e brought) (λ v h i. refl) (λ h i. i.live_are e brought) (λ h g other. refl)
+armed_keeps c st e k is brought = keeps_told c st (fact.Armed e k) e is brought refl refl refl refl (is.at_home e brought) (is.stashed e brought) (λ v h i. refl) (λ h i. i.live_are e brought) (λ h g other. refl)

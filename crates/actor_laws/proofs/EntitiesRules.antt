@@ -119,7 +119,7 @@ wrote_keeps c st m law is g there live next =
     let r : Record = record_of m st (journal m.entity (entries st m.entity)) in
     let planned : is_planned c m.producer m.entity m.number m.command ≡ true = (and_both (is_planned c m.producer m.entity m.number m.command) (is_node c m.origin) g.genuine).0 in
     let follows : MessageFollows c st m = law c st m (hosted_of c st m.entity is g.brought there) g.producer_is planned next in
-    entry_keeps c st (fact.Wrote m.entity r) m.entity is g.brought there refl refl refl follows.written (λ o. refl) (λ v h i. i.live_are m.entity g.brought ∙ ap not live) (λ l. refl)
+    entry_keeps c st (fact.Wrote m.entity r) m.entity is g.brought there refl refl refl follows.written (λ o. refl) (λ v h i. i.live_are m.entity g.brought ∙ ap not live) (λ l. refl) refl
 
 saved_keeps : (c : Script) (st : Entities) (m : Message) → NextFollows → IsEntities c st → IsMessage c m → is_hosted st (shard_of st.set m.entity) ≡ true → is_in_phase phase.Absent st m.entity ≡ false
     → m.number ≡ position m.producer (journal m.entity (entries st m.entity)) + 1
@@ -134,7 +134,7 @@ saved_keeps c st m law is g there live next =
     let wrote : Keeps c st (told f ∷ []) = wrote_keeps c st m law is g there live next in
     keeps_if c now (n % st.set.config.snapshot == 0) (told (fact.Snapshot m.entity n) ∷ []) []
     (λ e. entry_keeps c now (fact.Snapshot m.entity n) m.entity wrote.stands g.brought (hosted_more st f m.entity there refl) refl refl refl
-    (ap (λ l. own c (slot.Shard (shard_of (setting c) m.entity)) (l ++ fact.Snapshot m.entity n ∷ [])) (entries_more st f m.entity there refl) ∙ follows.saved) (λ o. refl) (λ v h i. refl) (λ l. refl))
+    (ap (λ l. own c (slot.Shard (shard_of (setting c) m.entity)) (l ++ fact.Snapshot m.entity n ∷ [])) (entries_more st f m.entity there refl) ∙ follows.saved) (λ o. refl) (λ v h i. refl) (λ l. refl) refl)
     (λ e. keeps_none c now wrote.stands)
 
 next_keeps : (c : Script) (st : Entities) (m : Message) (o : Option Keep) → NextFollows → IsEntities c st → IsMessage c m → is_hosted st (shard_of st.set m.entity) ≡ true → is_in_phase phase.Absent st m.entity ≡ false
@@ -256,7 +256,7 @@ activate_keeps c st e law is brought live =
     keeps_both c st (told f ∷ []) (entities.remember e st) first
     (keeps_if c now (st.set.config.remember && not (is_remembered e (entries st e))) (told (fact.Remembered e) ∷ []) []
     (λ b. entry_keeps c now (fact.Remembered e) e first.stands brought there refl refl refl
-    (follows.remembered (of_not (is_remembered e (entries st e)) (and_both st.set.config.remember (not (is_remembered e (entries st e))) b).1)) (λ o. refl) (λ v h i. refl) (λ l. refl))
+    (follows.remembered (of_not (is_remembered e (entries st e)) (and_both st.set.config.remember (not (is_remembered e (entries st e))) b).1)) (λ o. refl) (λ v h i. refl) (λ l. refl) refl)
     (λ b. keeps_none c now first.stands))
 
 pub messages_of : (c : Script) (e : List ℕ) (m : Message) → is_brought c e ≡ true → is_for c e m ≡ true → (m.entity ≡ e) × IsMessage c m

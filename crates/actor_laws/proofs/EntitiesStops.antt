@@ -163,6 +163,7 @@ free_keeps c st s x is at_s none = record {
     stashed = is.stashed;
   };
   posts_are = refl;
+  facts_are = refl;
   guarded_are = λ v h i. both (guard_in_hand c v st.who h f) true
       (both (is_shard c s && may_follow c (slot.Shard s) (shard_list h.lists s) f) (is_at st.who (holder (shard_list h.lists s)) && list_all (λ e. not (has_name e h.live)) (names_of (setting c) s))
       (both (is_shard c s) (may_follow c (slot.Shard s) (shard_list h.lists s) f) shard_is (ap (λ l. may_follow c (slot.Shard s) l f) (i.lists_are s x at_s) ∙ follows))
@@ -247,6 +248,7 @@ handed_keeps c st s stamp to x is at_s there = record {
     stashed = is.stashed;
   };
   posts_are = refl;
+  facts_are = refl;
   guarded_are = λ v h i. refl;
   goes_along = λ h i. record {
     there = i.there;
@@ -321,7 +323,7 @@ stop_rule_keeps c st e law is brought = keeps_if c st (is_in_phase phase.Stoppin
     let follows : EntityFollows c st e = law c st e (hosted_of c st e is brought there) in
     let forgets : List Move = entities.forget_passivated e st in
     let second : Keeps c mid forgets = keeps_if c mid ((cell st e).passivating && is_remembered e (entries st e)) (told (fact.Forgotten e) ∷ []) []
-    (λ k. entry_keeps c mid (fact.Forgotten e) e first.stands brought there refl refl refl (follows.forgotten (and_both (cell st e).passivating (is_remembered e (entries st e)) k).1) (λ o. refl) (λ v h i. refl) (λ l. refl))
+    (λ k. entry_keeps c mid (fact.Forgotten e) e first.stands brought there refl refl refl (follows.forgotten (and_both (cell st e).passivating (is_remembered e (entries st e)) k).1) (λ o. refl) (λ v h i. refl) (λ l. refl) refl)
     (λ k. keeps_none c mid first.stands) in
     let all : List Move = told (fact.Stop st.who e) ∷ forgets in
     let both_are : Keeps c st all = keeps_both c st (told (fact.Stop st.who e) ∷ []) forgets first second in

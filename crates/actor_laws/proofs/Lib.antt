@@ -1,4 +1,5 @@
 pub mod CoordinatorLaws
 pub mod CoordinatorMoves
+pub mod CoordinatorPicks
 pub mod CoordinatorReads
 pub mod CoordinatorRules

@@ -123,7 +123,7 @@ count_kept true gains old z h e = ap (λ n. n - 1) (h e) ∙ drop_length z.rest
 count_kept false true old z h e = absurd (true_is_not_false e)
 count_kept false false old z h e = h e
 
--- a count after a pick is no less than one that is less than that which gives, and no more than those before
+-- a number that no share is below, and the one that gives is above, is no more than any count after the pick
 at_least : (gives gains : Bool) (z : Share) (m : ℕ) → (gives ≡ true → m + 1 ≤ z.count) → m ≤ z.count → m ≤ (picked_from gives gains z).count
 at_least true gains z m h e = let g : m + 1 ≤ z.count = h refl in omega (arith, g)
 at_least false true z m h e = omega (arith, e)

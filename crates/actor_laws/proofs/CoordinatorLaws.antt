@@ -23,6 +23,7 @@ coordinator_keeps c st k = record {
   quits = λ from. goes_keeps c st (coordinator.quit from st) k (rules.quits_goes c st from k);
   acknowledges = λ from s stamp. goes_keeps c st (coordinator.acknowledge from s stamp st) k (rules.acknowledges c st from s stamp k);
   stops = λ from s stamp. goes_keeps c st (coordinator.shard_stopped from s stamp st) k (rules.stops c st from s stamp k);
+  rebalances = λ limit. goes_keeps c st (coordinator.rebalance limit st) k (rules.rebalances c st limit k);
   ticks = goes_keeps c st (coordinator.tick_coordinator st) k (rules.ticks c st k);
 }
 

@@ -154,6 +154,12 @@ owned_on r None home e h = absurd (true_is_not_false (sym h))
 owned_on r (Some x) None e h = h
 owned_on r (Some x) (Some y) e h = ap (λ (b : Bool). is_owned (Some x) (if b then None else Some y)) (sym (ap (is_same r) (same_is x y h)) ∙ e) ∙ h
 
+-- the owner of a shard that moves is its home
+pub owner_home : (owner home : Option Incarnation) → is_owned owner home ≡ true → owner ≡ home
+owner_home None home e = absurd (true_is_not_false (sym e))
+owner_home (Some x) None e = absurd (true_is_not_false (sym e))
+owner_home (Some x) (Some y) e = ap (λ z. Some z) (same_is x y e)
+
 -- an owned shard has a home
 pub owned_some : (owner home : Option Incarnation) → is_owned owner home ≡ true → is_some home ≡ true
 owned_some None home e = absurd (true_is_not_false (sym e))

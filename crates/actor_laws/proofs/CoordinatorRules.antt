@@ -24,7 +24,7 @@ use Rattle.yard_model.specs.Coordinator as coordinator
 use Rattle.yard_model.specs.Coordinator.{Coordinator, Moving, Share, coordinator_after, coordinator_step}
 use Rattle.yard_laws.specs.Homes.{IsCoordinatorHeld, KeepsHomes, KeepsList}
 use Rattle.yard_laws.proofs.Before.{own_before}
-use Rattle.yard_laws.proofs.Booleans.{true_is_not_false, and_both, both, same_number, number_itself, all_map}
+use Rattle.yard_laws.proofs.Booleans.{true_is_not_false, and_both, both, same_number, number_itself, all_map, all_of}
 use Rattle.yard_laws.proofs.HomeLaws.{same_itself, coordinator_keeps_homes}
 use Rattle.yard_laws.proofs.LostLaws.{coordinator_keeps_list}
 use Rattle.world_laws.proofs.Facts.{may_of}
@@ -32,6 +32,7 @@ use Rattle.world_laws.proofs.Members.{same_is}
 use Rattle.world_laws.proofs.Rules.{all_join, all_if, who_fold}
 use Rattle.actor_laws.specs.CoordinatorStands.{is_owned, is_sound_moving, IsSound}
 use Rattle.actor_laws.proofs.CoordinatorReads.{allocation_more, allocated_of, is_node_if, regions_are_nodes, region_is_node, homes_are_nodes}
+use Rattle.actor_laws.proofs.CoordinatorPicks.{IsShared, picks_pass}
 use Rattle.actor_laws.proofs.CoordinatorMoves.{all_of_map, all_picked, goes, goes_join, is_quiet, quiet_goes, SoundMoving, moving_of, owned_some, all_sound, entries_after}
 
 -- Moves that are put together.
@@ -246,6 +247,31 @@ quits_goes c st from k =
     let one : Goes c st (quits from ∷ []) = both (is_node c from) true node refl in
     let sound : IsSound c later = all_sound c st (quits from ∷ []) k one in
     goes_then c st (quits from ∷ []) (if b then begins else []) one (goes_if c later b begins (λ t. quiet_goes c later.who later.entries begins (begin_quiet c later (coordinator.homes_at later from) sound (homes_have c later from sound)))))
+
+-- Rebalancing.
+
+-- those among numbers that pass a test
+passes : (p : ℕ → Bool) (ps : List ℕ) → list_all p ps ≡ true → (s : ℕ) → list_any (λ t. t == s) ps ≡ true → p s ≡ true
+passes p ps all s e = of_any (p s ≡ true) (λ t. t == s) p (λ t same h. ap p (sym (same_number t s same)) ∙ h) ps e all
+
+picked_have : (c : Script) (st : Coordinator) (limit : ℕ) → IsSound c st → list_all (has_home c st.entries) (coordinator.picked limit st) ≡ true
+picked_have c st limit k =
+    let share : Incarnation → Share = λ r. record { region = r; rest = coordinator.homes_at st r; count = length (coordinator.homes_at st r) } in
+    let fresh : IsShared (has_home c st.entries) (coordinator.staying st) share (λ r. false) = record {
+      region_is = λ r. refl;
+      rest_are = λ r. homes_have c st r k;
+      count_is = λ r e. refl;
+      is_low = λ r q e f g. absurd (true_is_not_false (sym e));
+    } in
+    let ps : List ℕ = coordinator.picks limit (coordinator.shares st) in
+    let all : list_all (has_home c st.entries) ps ≡ true = picks_pass (has_home c st.entries) limit (coordinator.staying st) share (λ r. false) fresh in
+    all_picked (λ s. true) (has_home c st.entries) (λ s. list_any (λ p. p == s) ps) (λ s e f. passes (has_home c st.entries) ps all s f) (shards st.set) (all_of (λ (s : ℕ). true) (λ s. refl) (shards st.set))
+
+pub rebalances : (c : Script) (st : Coordinator) (limit : ℕ) → IsSound c st → Goes c st (coordinator.rebalance limit st)
+rebalances c st limit k =
+    let ms : List Move = if not (is_empty st.moving) || is_empty (coordinator.picked limit st) then told fact.Nothing ∷ [] else coordinator.begin (coordinator.picked limit st) st in
+    quiet_goes c st.who st.entries ms
+    (all_if (is_quiet c st.who st.entries) (not (is_empty st.moving) || is_empty (coordinator.picked limit st)) (told fact.Nothing ∷ []) (coordinator.begin (coordinator.picked limit st) st) refl (begin_quiet c st (coordinator.picked limit st) k (picked_have c st limit k)))
 
 -- Acknowledgements.
 

@@ -69,6 +69,7 @@ pub record KeepsRules (c : Script) (st : Coordinator) : Type 0 where
   pub quits : (from : Incarnation) → Keeps c st (coordinator.quit from st)
   pub acknowledges : (from : Incarnation) (s : ℕ) (stamp : Stamp) → Keeps c st (coordinator.acknowledge from s stamp st)
   pub stops : (from : Incarnation) (s : ℕ) (stamp : Stamp) → Keeps c st (coordinator.shard_stopped from s stamp st)
+  pub rebalances : (limit : ℕ) → Keeps c st (coordinator.rebalance limit st)
   pub ticks : Keeps c st (coordinator.tick_coordinator st)
 
 -- each rule keeps what stands of a coordinator

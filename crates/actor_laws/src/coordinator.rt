@@ -1,4 +1,5 @@
 //! A coordinator by itself.
+ghost use Rattle.actor_laws.specs.CoordinatorOwes.{CoordinatorIsGuarded};
 ghost use Rattle.actor_laws.specs.CoordinatorStands.{CoordinatorKeeps, CoordinatorTakes, CoordinatorBegins};
 
 /// Each rule of a coordinator keeps it sound, tells what may stand where it is told, and posts from
@@ -9,7 +10,6 @@ pub fn coordinator_keeps()
 {}
 
 /// So does each packet for it that is made of the script.
-#[tactic(auto, using(crate::proofs::CoordinatorLaws::coordinator_takes))]
 pub fn coordinator_takes()
     ensures { CoordinatorTakes }
 {}
@@ -18,4 +18,9 @@ pub fn coordinator_takes()
 #[tactic(auto, using(crate::proofs::CoordinatorLaws::coordinator_begins))]
 pub fn coordinator_begins()
     ensures { CoordinatorBegins }
+{}
+
+/// What it tells so is guarded, each fact by what its node has in hand when it is told.
+pub fn coordinator_is_guarded()
+    ensures { CoordinatorIsGuarded }
 {}

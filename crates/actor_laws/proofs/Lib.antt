@@ -12,5 +12,6 @@ pub mod EntitiesRules
 pub mod EntitiesStops
 pub mod NameLaws
 pub mod NodeParts
+pub mod NodeRoutes
 pub mod ProducerMoves
 pub mod RegionMoves

@@ -8,6 +8,7 @@ pub mod EntitiesMoves
 pub mod EntitiesNew
 pub mod EntitiesRules
 pub mod EntitiesStops
+pub mod MessageLaws
 pub mod NameLaws
 pub mod ProducerMoves
 pub mod RegionMoves

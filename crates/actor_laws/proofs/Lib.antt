@@ -10,6 +10,7 @@ pub mod EntitiesMoves
 pub mod EntitiesNew
 pub mod EntitiesRules
 pub mod EntitiesStops
+pub mod MessageLaws
 pub mod NameLaws
 pub mod NodeParts
 pub mod NodeRoutes

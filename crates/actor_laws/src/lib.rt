@@ -7,5 +7,6 @@
 
 pub mod coordinator;
 pub mod entities;
+pub mod messages;
 pub mod producer;
 pub mod region;

@@ -12,6 +12,7 @@ pub mod EntitiesRules
 pub mod EntitiesStops
 pub mod MessageLaws
 pub mod NameLaws
+pub mod NodeMessages
 pub mod NodeParts
 pub mod NodeRoutes
 pub mod ProducerMoves

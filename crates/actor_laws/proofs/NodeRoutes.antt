@@ -63,7 +63,7 @@ tick_viewless r =
     (all_each is_viewless (region.ask_again r) (shards r.set) (λ s. all_if is_viewless (is_none (region.home r s) && not (is_empty (region.kept_of r.kept s))) (region.post_oldest (body.GetShardHome s) r) [] (oldest_viewless (body.GetShardHome s) r) refl))
 
 -- such a rule of the region at its node
-region_rule : (c : Script) (v : List ℕ → ℕ → ℕ → Bool) (st : Node) (ms : List Move) → IsSoundNode c st → regions.Keeps c st.region ms → list_all is_viewless ms ≡ true → NodeKeeps c v st (map by_region ms)
+pub region_rule : (c : Script) (v : List ℕ → ℕ → ℕ → Bool) (st : Node) (ms : List Move) → IsSoundNode c st → regions.Keeps c st.region ms → list_all is_viewless ms ≡ true → NodeKeeps c v st (map by_region ms)
 region_rule c v st ms is k same = region_node c v st ms is k (ap are_of_different_nodes (region_view st.region ms same) ∙ is.different)
 
 pub acknowledged_node : (c : Script) (v : List ℕ → ℕ → ℕ → Bool) (st : Node) (from : Incarnation) → regions.RegionKeeps → IsScript c → IsSoundNode c st → is_node c from ≡ true → NodeKeeps c v st (of_region (region.registered_by from) st)

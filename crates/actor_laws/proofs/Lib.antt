@@ -12,3 +12,4 @@ pub mod MessageLaws
 pub mod NameLaws
 pub mod ProducerMoves
 pub mod RegionMoves
+pub mod ShardStartLaws

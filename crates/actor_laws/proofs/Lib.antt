@@ -17,3 +17,4 @@ pub mod NodeParts
 pub mod NodeRoutes
 pub mod ProducerMoves
 pub mod RegionMoves
+pub mod ShardStartLaws

@@ -21,6 +21,7 @@ use Rattle.yard_laws.proofs.Booleans.{and_both, left_of, right_of, same_name, sa
 use Rattle.actor_laws.specs.Messages.{GenuineIsMessage}
 use Rattle.actor_laws.proofs.EntitiesMoves.{name_itself}
 
+-- the order of names
 abbrev name_cmp : List ℕ → List ℕ → Ordering
 name_cmp = slice_cmp nat_cmp
 
@@ -52,6 +53,7 @@ insert_there k (x ∷ xs) = by (name_cmp k x) refl (insert_there k xs)
 
 -- Sends.
 
+-- a send to this name
 abbrev is_to : List ℕ → Sending → Bool
 is_to e x = is_name x.entity e
 
@@ -64,6 +66,7 @@ record IsSent (c : Script) (p : ℕ) (e : List ℕ) (names : List (List ℕ)) : 
 sent_more : (c : Script) (p : ℕ) (e k : List ℕ) (names : List (List ℕ)) → IsSent c p e names → IsSent c p e (insert_key name_cmp names k)
 sent_more c p e k names s = record { producer_is = s.producer_is; name_is = insert_stays e k names s.name_is }
 
+-- a send to this name is among those before the last, where that one is to another
 any_last : (e : List ℕ) (xs : List Sending) (x : Sending) → list_any (is_to e) (xs ++ x ∷ []) ≡ true → is_name x.entity e ≡ false → list_any (is_to e) xs ≡ true
 any_last e [] x h k = absurd (true≢false (sym h ∙ ap (λ b. b || false) k))
 any_last e (y ∷ ys) x h k = by (is_to e y) h (λ t. any_last e ys x t k)
@@ -120,6 +123,7 @@ planned_sent q e (x ∷ xs) i h = by (is_to e x) h (planned_sent q e xs i)
     by true t rest = refl
     by false t rest = rest t
 
+-- a genuine message is planned, so it is sent, so some order sends it
 pub genuine_message : GenuineIsMessage
 genuine_message c m script good =
     let planned : is_planned c m.producer m.entity m.number m.command ≡ true = (and_both (is_planned c m.producer m.entity m.number m.command) (is_node c m.origin) good).0 in

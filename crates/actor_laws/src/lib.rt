@@ -10,3 +10,4 @@ pub mod entities;
 pub mod messages;
 pub mod producer;
 pub mod region;
+pub mod start;

@@ -1,18 +1,17 @@
 -- A node whose coordinator moves: the node stands, and what it tells is guarded by what it has in hand.
 use Rattle.std.proofs.Common.{◌≡◌, ◌<◌, ℕ, sym, ap, ◌∙◌, refl, subst}
-use Rattle.std.specs.Prelude.{◌+◌, Bool, true, false, ◌==◌, ◌&&◌, ◌||◌, not, List, [], ◌∷◌, ◌++◌, length, map, filter, find, fold, Option, Some, None, is_none, IfSome, unwrap_or, if◌then◌else◌, slice_index_or}
+use Rattle.std.specs.Prelude.{◌+◌, Bool, true, false, ◌&&◌, ◌||◌, not, List, [], ◌∷◌, ◌++◌, length, map, filter, find, fold, Option, Some, None, is_none, IfSome, unwrap_or, if◌then◌else◌, slice_index_or}
 use Rattle.std.specs.List.{list_all, list_any, flat_map}
 use Rattle.std.proofs.lemmas.List.Sums.{fold-append}
 use Rattle.yard_model.specs.declared.fact.Fact.{Fact}
 use Rattle.yard_model.specs.declared.fact.Fact.TheVariants as fact
-use Rattle.yard_model.specs.declared.out.Item.{Item}
 use Rattle.yard_model.specs.declared.out.Item.TheVariants as item
 use Rattle.yard_model.specs.declared.packet.Body.{Body}
 use Rattle.yard_model.specs.declared.packet.Body.TheVariants as body
 use Rattle.yard_model.specs.declared.incarnation.Incarnation.{Incarnation}
 use Rattle.yard_model.specs.declared.incarnation.Stamp.{Stamp}
 use Rattle.yard_model.specs.declared.incarnation.Slot.TheVariants as slot
-use Rattle.yard_model.specs.Script.{Script, Setting, setting}
+use Rattle.yard_model.specs.Script.{Script, Setting}
 use Rattle.yard_model.specs.Setting.{shards}
 use Rattle.yard_model.specs.Genuine.{is_node, is_genuine_body}
 use Rattle.yard_model.specs.Lawful.{own, may_follow}
@@ -22,9 +21,9 @@ use Rattle.yard_model.specs.Turns.{for_each, where_some}
 use Rattle.yard_model.specs.Move.{Move, made, took, quits, started, acknowledged, told, post, item_of}
 use Rattle.yard_model.specs.Coordinator as coordinator
 use Rattle.yard_model.specs.Coordinator.{Coordinator, Moving, coordinator_after, coordinator_step}
-use Rattle.yard_model.specs.Node.{Node, Act, by_coordinator, after, items_of, of_coordinator, coordinator_by, coordinator_part}
+use Rattle.yard_model.specs.Node.{Node, by_coordinator, after, items_of, of_coordinator, coordinator_by, coordinator_part}
 use Rattle.yard_laws.proofs.Before.{own_before}
-use Rattle.yard_laws.proofs.Booleans.{true_is_not_false, and_both, both, left_of, right_of, of_not, all_of, all_map, all_where}
+use Rattle.yard_laws.proofs.Booleans.{true_is_not_false, and_both, both, of_not, all_of, all_map, all_where}
 use Rattle.yard_laws.proofs.HomeLaws.{each_among}
 use Rattle.yard_laws.proofs.PartsLaws.{coordinator_alone, coordinator_items}
 use Rattle.world_laws.specs.Owes.{Hand, facts_in, hand_after, guard_in_hand, guarded_in_hand, is_own_post}

@@ -12,6 +12,7 @@ pub mod EntitiesRules
 pub mod EntitiesStops
 pub mod MessageLaws
 pub mod NameLaws
+pub mod NodeCoordinator
 pub mod NodeMessages
 pub mod NodeParts
 pub mod NodeRoutes

@@ -1,0 +1,342 @@
+-- A node whose coordinator moves: the node stands, and what it tells is guarded by what it has in hand.
+use Rattle.std.proofs.Common.{◌≡◌, ◌<◌, ℕ, sym, ap, ◌∙◌, refl, subst}
+use Rattle.std.specs.Prelude.{◌+◌, Bool, true, false, ◌&&◌, ◌||◌, not, List, [], ◌∷◌, ◌++◌, length, map, filter, find, fold, Option, Some, None, is_none, IfSome, unwrap_or, if◌then◌else◌, slice_index_or}
+use Rattle.std.specs.List.{list_all, list_any, flat_map}
+use Rattle.std.proofs.lemmas.List.Sums.{fold-append}
+use Rattle.yard_model.specs.declared.fact.Fact.{Fact}
+use Rattle.yard_model.specs.declared.fact.Fact.TheVariants as fact
+use Rattle.yard_model.specs.declared.out.Item.TheVariants as item
+use Rattle.yard_model.specs.declared.packet.Body.{Body}
+use Rattle.yard_model.specs.declared.packet.Body.TheVariants as body
+use Rattle.yard_model.specs.declared.incarnation.Incarnation.{Incarnation}
+use Rattle.yard_model.specs.declared.incarnation.Stamp.{Stamp}
+use Rattle.yard_model.specs.declared.incarnation.Slot.TheVariants as slot
+use Rattle.yard_model.specs.Script.{Script, Setting}
+use Rattle.yard_model.specs.Setting.{shards}
+use Rattle.yard_model.specs.Genuine.{is_node, is_genuine_body}
+use Rattle.yard_model.specs.Lawful.{own, may_follow}
+use Rattle.yard_model.specs.SlotReads.{regions}
+use Rattle.yard_model.specs.Words.{is_same, is_at, is_among, is_empty, without}
+use Rattle.yard_model.specs.Turns.{for_each, where_some}
+use Rattle.yard_model.specs.Move.{Move, made, took, quits, started, acknowledged, told, post, item_of}
+use Rattle.yard_model.specs.Coordinator as coordinator
+use Rattle.yard_model.specs.Coordinator.{Coordinator, Moving, coordinator_after, coordinator_step}
+use Rattle.yard_model.specs.Node.{Node, by_coordinator, after, items_of, of_coordinator, coordinator_by, coordinator_part}
+use Rattle.yard_laws.proofs.Before.{own_before}
+use Rattle.yard_laws.proofs.Booleans.{true_is_not_false, and_both, both, of_not, all_of, all_map, all_where}
+use Rattle.yard_laws.proofs.HomeLaws.{each_among}
+use Rattle.yard_laws.proofs.PartsLaws.{coordinator_alone, coordinator_items}
+use Rattle.world_laws.specs.Owes.{Hand, facts_in, hand_after, guard_in_hand, guarded_in_hand, is_own_post}
+use Rattle.world_laws.proofs.Facts.{may_of}
+use Rattle.world_laws.proofs.Members.{same_is, itself_is}
+use Rattle.world_laws.proofs.Rules.{all_join, all_if, all_some, all_each, who_fold}
+use Rattle.actor_laws.specs.Moves.{is_own_move, facts_of}
+use Rattle.actor_laws.specs.CoordinatorStands.{IsSound, is_coordinator_fact, entered, Keeps, KeepsRules}
+use Rattle.actor_laws.specs.NodeStands.{IsCoordinatorAt, IsSoundNode, NodeInHand, NodeKeeps}
+use Rattle.actor_laws.proofs.CoordinatorReads.{regions_more}
+use Rattle.actor_laws.proofs.CoordinatorMoves.{all_of_map, all_picked, entries_after}
+use Rattle.actor_laws.proofs.CoordinatorRules.{all_each_of}
+use Rattle.actor_laws.proofs.CoordinatorLaws.{coordinator_keeps, coordinator_takes}
+
+-- A coordinator takes no slot.
+
+abbrev pub is_no_took : Move → Bool
+is_no_took (took s list) = false
+is_no_took m = true
+
+abbrev pub NoTook : List Move → Type 0
+NoTook ms = list_all is_no_took ms ≡ true
+
+all_turns : {X : Type 0} (p : X → Coordinator → List Move) → ((x : X) (k : Coordinator) → NoTook (p x k)) → (xs : List X) (k : Coordinator) → NoTook (for_each coordinator_after p xs k)
+all_turns p h [] k = refl
+all_turns p h (x ∷ xs) k = all_join is_no_took (p x k) (for_each coordinator_after p xs (fold coordinator_after k (p x k))) (h x k) (all_turns p h xs (fold coordinator_after k (p x k)))
+
+posts_no_took : (who : Incarnation) (b : Body) (rs : List Incarnation) → NoTook (map (λ r. post who r b) rs)
+posts_no_took who b rs = all_of_map is_no_took (λ r. post who r b) rs (all_of (λ r. is_no_took (post who r b)) (λ r. refl) rs)
+
+hand_off_no_took : (k : Coordinator) (x : Moving) → NoTook (coordinator.hand_off k x)
+hand_off_no_took k x = all_some is_no_took (λ o. post k.who o (body.HandOff x.shard (coordinator.stamp k)) ∷ []) x.owner (λ o. refl)
+
+last_no_took : (r : Incarnation) (k : Coordinator) (x : Moving) → NoTook (coordinator.hand_off_if_last r k x)
+last_no_took r k x = all_if is_no_took (is_among r x.awaited && is_empty (without r x.awaited)) (coordinator.hand_off k x) [] (hand_off_no_took k x) refl
+
+terminate_no_took : (r : Incarnation) (k : Coordinator) → NoTook (coordinator.terminate r k)
+terminate_no_took r k = all_each is_no_took (λ (x : Moving). if is_at r x.owner then [] else coordinator.hand_off_if_last r k x) k.moving (λ x. all_if is_no_took (is_at r x.owner) [] (coordinator.hand_off_if_last r k x) refl (last_no_took r k x))
+
+pub terminate_lost_no_took : (view : List Incarnation) (k : Coordinator) → NoTook (coordinator.terminate_lost view k)
+terminate_lost_no_took view k = all_turns coordinator.terminate terminate_no_took (filter (λ r. not (is_among r view)) (regions k.entries)) k
+
+pub register_no_took : (from : Incarnation) (view : List Incarnation) (k : Coordinator) → NoTook (coordinator.register_from from view k)
+register_no_took from view k =
+    let first : List Move = if is_among from (coordinator.registered k) then [] else told (fact.Registered from) ∷ [] in
+    let answer : List Move = post k.who from body.RegisterAck ∷ [] in
+    all_if is_no_took (is_among from view) (first ++ answer) [] (all_join is_no_took first answer (all_if is_no_took (is_among from (coordinator.registered k)) [] (told (fact.Registered from) ∷ []) refl refl) refl) refl
+
+allocate_no_took : (s : ℕ) (k : Coordinator) → NoTook (coordinator.allocate s k)
+allocate_no_took s k = all_some is_no_took (λ (x : coordinator.Share). told (fact.Allocated s x.region) ∷ post k.who x.region (body.HostShard s (coordinator.stamp k)) ∷ []) (coordinator.smallest (coordinator.shares k)) (λ x. refl)
+
+begin_no_took : (ss : List ℕ) (k : Coordinator) → NoTook (coordinator.begin ss k)
+begin_no_took ss k =
+    let next : Stamp = coordinator.stamp_of k.entries (k.begun + 1) in
+    all_each is_no_took (λ s. told (fact.Moving s next) ∷ map (λ r. post k.who r (body.BeginHandOff s next)) (coordinator.registered k)) ss (λ s. posts_no_took k.who (body.BeginHandOff s next) (coordinator.registered k))
+
+get_home_no_took : (from : Incarnation) (s : ℕ) (k : Coordinator) → NoTook (coordinator.get_home from s k)
+get_home_no_took from s k =
+    let first : List Move = if is_none (coordinator.home_of k s) then coordinator.allocate s k else [] in
+    let later : Coordinator = fold coordinator_after k first in
+    let tells : List Move = coordinator.tell_home from s later in
+    all_if is_no_took (is_among from (coordinator.registered k) && not (coordinator.is_moving k s)) (first ++ tells) []
+    (all_join is_no_took first tells (all_if is_no_took (is_none (coordinator.home_of k s)) (coordinator.allocate s k) [] (allocate_no_took s k) refl)
+    (all_some is_no_took (λ h. post later.who from (body.ShardHome s h (coordinator.stamp later)) ∷ []) (coordinator.home_of later s) (λ h. refl))) refl
+
+started_no_took : (from : Incarnation) (s : ℕ) (k : Coordinator) → NoTook (coordinator.shard_started from s k)
+started_no_took from s k = all_if is_no_took (is_at from (coordinator.home_of k s)) (started s ∷ []) [] refl refl
+
+quit_no_took : (from : Incarnation) (k : Coordinator) → NoTook (coordinator.quit from k)
+quit_no_took from k =
+    let later : Coordinator = coordinator_after k (quits from) in
+    let begins : List Move = coordinator.begin (coordinator.homes_at later from) later in
+    let b : Bool = is_empty later.moving && not (is_empty (coordinator.staying later)) in
+    all_if is_no_took (is_among from (coordinator.registered k)) (quits from ∷ (if b then begins else [])) [] (all_if is_no_took b begins [] (begin_no_took (coordinator.homes_at later from) later) refl) refl
+
+acknowledge_no_took : (from : Incarnation) (s : ℕ) (given : Stamp) (k : Coordinator) → NoTook (coordinator.acknowledge from s given k)
+acknowledge_no_took from s given k =
+    all_each is_no_took (λ (x : Moving). if is_among from x.awaited then acknowledged s from ∷ coordinator.hand_off_if_last from k x else []) (coordinator.moving_at s given k)
+    (λ x. all_if is_no_took (is_among from x.awaited) (acknowledged s from ∷ coordinator.hand_off_if_last from k x) [] (last_no_took from k x) refl)
+
+stopped_no_took : (from : Incarnation) (s : ℕ) (given : Stamp) (k : Coordinator) → NoTook (coordinator.shard_stopped from s given k)
+stopped_no_took from s given k =
+    let later : Coordinator = coordinator_after k (told (fact.Deallocated s)) in
+    all_if is_no_took (list_any (λ (x : Moving). is_empty x.awaited && is_at from x.owner) (coordinator.moving_at s given k)) (told (fact.Deallocated s) ∷ coordinator.allocate s later) [] (allocate_no_took s later) refl
+
+pub coordinate_no_took : (from : Incarnation) (b : Body) (view : List Incarnation) (k : Coordinator) → NoTook (coordinator.coordinate from b view k)
+coordinate_no_took from body.Register view k = register_no_took from view k
+coordinate_no_took from (body.GetShardHome s) view k = get_home_no_took from s k
+coordinate_no_took from (body.ShardStarted s) view k = started_no_took from s k
+coordinate_no_took from body.GracefulShutdownReq view k = quit_no_took from k
+coordinate_no_took from (body.BeginHandOffAck s given) view k = acknowledge_no_took from s given k
+coordinate_no_took from (body.ShardStopped s given) view k = stopped_no_took from s given k
+coordinate_no_took from b view k = refl
+
+again_no_took : (k : Coordinator) (x : Moving) → NoTook (coordinator.hand_off_again k x)
+again_no_took k x =
+    let b : Body = body.BeginHandOff x.shard (coordinator.stamp k) in
+    all_if is_no_took (is_empty x.awaited) (coordinator.hand_off k x) (map (λ r. post k.who r b) x.awaited) (hand_off_no_took k x) (posts_no_took k.who b x.awaited)
+
+begin_quitting_no_took : (k : Coordinator) → NoTook (coordinator.begin_quitting k)
+begin_quitting_no_took k =
+    let ss : List ℕ = unwrap_or (find (λ ss. not (is_empty ss)) (map (coordinator.homes_at k) (filter (λ r. is_among r k.quitting) (coordinator.registered k)))) [] in
+    all_if is_no_took (is_empty (coordinator.staying k)) [] (coordinator.begin ss k) refl (begin_no_took ss k)
+
+host_no_took : (k : Coordinator) (s : ℕ) → NoTook (coordinator.host_again k s)
+host_no_took k s =
+    let b : Bool = coordinator.is_moving k s || slice_index_or k.started s false in
+    all_some is_no_took (λ h. if b then [] else post k.who h (body.HostShard s (coordinator.stamp k)) ∷ []) (coordinator.home_of k s) (λ h. all_if is_no_took b [] (post k.who h (body.HostShard s (coordinator.stamp k)) ∷ []) refl refl)
+
+pub tick_no_took : (k : Coordinator) → NoTook (coordinator.tick_coordinator k)
+tick_no_took k =
+    let first : List Move = if is_empty k.moving then coordinator.begin_quitting k else flat_map (coordinator.hand_off_again k) k.moving in
+    let later : Coordinator = fold coordinator_after k first in
+    all_join is_no_took first (flat_map (coordinator.host_again later) (shards later.set))
+    (all_if is_no_took (is_empty k.moving) (coordinator.begin_quitting k) (flat_map (coordinator.hand_off_again k) k.moving) (begin_quitting_no_took k) (all_each is_no_took (coordinator.hand_off_again k) k.moving (again_no_took k)))
+    (all_each is_no_took (coordinator.host_again later) (shards later.set) (host_no_took later))
+
+pub rebalance_no_took : (limit : ℕ) (k : Coordinator) → NoTook (coordinator.rebalance limit k)
+rebalance_no_took limit k =
+    all_if is_no_took (not (is_empty k.moving) || is_empty (coordinator.picked limit k)) (told fact.Nothing ∷ []) (coordinator.begin (coordinator.picked limit k) k) refl (begin_no_took (coordinator.picked limit k) k)
+
+-- So it stays the same coordinator.
+
+one_stays : (set : Setting) (who : Incarnation) (k : Coordinator) (m : Move) → is_no_took m ≡ true → coordinator_by set who (Some k) m ≡ Some (coordinator_after k m)
+one_stays set who k (took s list) h = absurd (true_is_not_false (sym h))
+one_stays set who k m h = refl
+
+pub coordinator_stays : (set : Setting) (who : Incarnation) (k : Coordinator) (ms : List Move) → NoTook ms → fold (coordinator_part set who) (Some k) (map by_coordinator ms) ≡ Some (fold coordinator_after k ms)
+coordinator_stays set who k [] h = refl
+coordinator_stays set who k (m ∷ ms) h =
+    let n : (is_no_took m ≡ true) × (NoTook ms) = and_both (is_no_took m) (list_all is_no_took ms) h in
+    ap (λ o. fold (coordinator_part set who) o (map by_coordinator ms)) (one_stays set who k m n.0) ∙ coordinator_stays set who (coordinator_after k m) ms n.1
+
+-- What it tells is guarded, and changes its own list alone.
+
+one_guarded : (c : Script) (v : List ℕ → ℕ → ℕ → Bool) (who : Incarnation) (h : Hand) (f : Fact) → is_coordinator_fact f ≡ true → own c slot.Coordinator (entered h.lists.coordinator f) ≡ true → guard_in_hand c v who h f ≡ true
+one_guarded c v who h (fact.Registered r) e o = let f : Fact = fact.Registered r in both (may_follow c slot.Coordinator h.lists.coordinator f) true (may_of c h.lists.coordinator f o) refl
+one_guarded c v who h (fact.Terminated r) e o = let f : Fact = fact.Terminated r in both (may_follow c slot.Coordinator h.lists.coordinator f) true (may_of c h.lists.coordinator f o) refl
+one_guarded c v who h (fact.Allocated s r) e o = let f : Fact = fact.Allocated s r in both (may_follow c slot.Coordinator h.lists.coordinator f) true (may_of c h.lists.coordinator f o) refl
+one_guarded c v who h (fact.Deallocated s) e o = let f : Fact = fact.Deallocated s in both (may_follow c slot.Coordinator h.lists.coordinator f) true (may_of c h.lists.coordinator f o) refl
+one_guarded c v who h (fact.Moving s stamp) e o = refl
+one_guarded c v who h fact.Nothing e o = refl
+one_guarded c v who h f e o = absurd (true_is_not_false (sym e))
+
+-- what is in hand with this list of the coordinator
+abbrev pub with_coordinator : Hand → List Fact → Hand
+with_coordinator h list = record { lists = record h.lists { coordinator = list }; live = h.live }
+
+one_in_hand : (c : Script) (h : Hand) (f : Fact) → is_coordinator_fact f ≡ true → hand_after c h f ≡ with_coordinator h (entered h.lists.coordinator f)
+one_in_hand c h (fact.Registered r) e = refl
+one_in_hand c h (fact.Terminated r) e = refl
+one_in_hand c h (fact.Allocated s r) e = refl
+one_in_hand c h (fact.Deallocated s) e = refl
+one_in_hand c h (fact.Moving s stamp) e = refl
+one_in_hand c h fact.Nothing e = refl
+one_in_hand c h f e = absurd (true_is_not_false (sym e))
+
+pub coordinator_in_hand : (c : Script) (h : Hand) (fs : List Fact) → list_all is_coordinator_fact fs ≡ true → fold (hand_after c) h fs ≡ with_coordinator h (fold entered h.lists.coordinator fs)
+coordinator_in_hand c h [] e = refl
+coordinator_in_hand c h (f ∷ fs) e =
+    let m : (is_coordinator_fact f ≡ true) × (list_all is_coordinator_fact fs ≡ true) = and_both (is_coordinator_fact f) (list_all is_coordinator_fact fs) e in
+    ap (λ x. fold (hand_after c) x fs) (one_in_hand c h f m.0) ∙ coordinator_in_hand c (with_coordinator h (entered h.lists.coordinator f)) fs m.1
+
+-- a lawful list was so before
+entered_was : (c : Script) (list : List Fact) (f : Fact) → own c slot.Coordinator (entered list f) ≡ true → own c slot.Coordinator list ≡ true
+entered_was c list (fact.Registered r) o = own_before c slot.Coordinator list (fact.Registered r ∷ []) o
+entered_was c list (fact.Terminated r) o = own_before c slot.Coordinator list (fact.Terminated r ∷ []) o
+entered_was c list (fact.Allocated s r) o = own_before c slot.Coordinator list (fact.Allocated s r ∷ []) o
+entered_was c list (fact.Deallocated s) o = own_before c slot.Coordinator list (fact.Deallocated s ∷ []) o
+entered_was c list f o = o
+
+all_entered_was : (c : Script) (list fs : List Fact) → own c slot.Coordinator (fold entered list fs) ≡ true → own c slot.Coordinator list ≡ true
+all_entered_was c list [] o = o
+all_entered_was c list (f ∷ fs) o = entered_was c list f (all_entered_was c (entered list f) fs o)
+
+pub coordinator_guarded : (c : Script) (v : List ℕ → ℕ → ℕ → Bool) (who : Incarnation) (h : Hand) (fs : List Fact) → list_all is_coordinator_fact fs ≡ true → own c slot.Coordinator (fold entered h.lists.coordinator fs) ≡ true → guarded_in_hand c v who h fs ≡ true
+coordinator_guarded c v who h [] e o = refl
+coordinator_guarded c v who h (f ∷ fs) e o =
+    let m : (is_coordinator_fact f ≡ true) × (list_all is_coordinator_fact fs ≡ true) = and_both (is_coordinator_fact f) (list_all is_coordinator_fact fs) e in
+    both (guard_in_hand c v who h f) (guarded_in_hand c v who (hand_after c h f) fs)
+    (one_guarded c v who h f m.0 (all_entered_was c (entered h.lists.coordinator f) fs o))
+    (ap (λ x. guarded_in_hand c v who x fs) (one_in_hand c h f m.0) ∙ coordinator_guarded c v who (with_coordinator h (entered h.lists.coordinator f)) fs m.1 o)
+
+-- The node.
+
+coordinator_at : (c : Script) (st : Node) (k : Coordinator) → IsSoundNode c st → st.coordinator ≡ Some k → IsCoordinatorAt c st.who k
+coordinator_at c st k s e = subst (λ (o : Option Coordinator). IfSome o (IsCoordinatorAt c st.who)) e s.coordinator
+
+-- with another coordinator at its place
+with_sound : (c : Script) (st : Node) (k : Coordinator) → IsSoundNode c st → IsCoordinatorAt c st.who k → IsSoundNode c (record st { coordinator = Some k })
+with_sound c st k s at = record {
+  who_is = s.who_is;
+  set_is = s.set_is;
+  region = s.region;
+  region_who = s.region_who;
+  different = s.different;
+  entities = s.entities;
+  entities_who = s.entities_who;
+  producers_full = s.producers_full;
+  producers = s.producers;
+  coordinator = at;
+}
+
+with_in_hand : (c : Script) (h : Hand) (st : Node) (k : Coordinator) (list : List Fact) → NodeInHand c h st → list ≡ k.entries → NodeInHand c (with_coordinator h list) (record st { coordinator = Some k })
+with_in_hand c h st k list i e = record {
+  entities = record { there = i.entities.there; lists_are = i.entities.lists_are; live_are = i.entities.live_are };
+  queues_there = i.queues_there;
+  producers = i.producers;
+  coordinator = e;
+}
+
+-- moves that a coordinator keeps, a node keeps
+pub coordinator_node : (c : Script) (v : List ℕ → ℕ → ℕ → Bool) (st : Node) (k : Coordinator) (ms : List Move) → IsSoundNode c st → st.coordinator ≡ Some k → Keeps c k ms → NoTook ms → NodeKeeps c v st (map by_coordinator ms)
+coordinator_node c v st k ms s e keeps h = record {
+  stands = subst (IsSoundNode c) (sym node_is) (with_sound c st later s (record { sound = keeps.sound; who_is = who_fold k ms ∙ at.who_is }));
+  posts_are = ap (list_all (is_own_post c st.who)) (coordinator_items ms) ∙ all_each_of (is_own_post c st.who) (is_own_move c st.who) item_of ms (subst (λ who. list_all (is_own_move c who) ms ≡ true) at.who_is keeps.posts_are) (λ m f. f);
+  guarded_are = λ x i. ap (λ is. guarded_in_hand c v st.who x (facts_in is)) (coordinator_items ms) ∙ coordinator_guarded c v st.who x (facts_of ms) keeps.facts_are (ap (own c slot.Coordinator) (list_is x i) ∙ keeps.sound.own_is);
+  goes_along = λ x i. subst (λ y. NodeInHand c y (fold after st (map by_coordinator ms))) (sym (hand_is x)) (subst (NodeInHand c (with_coordinator x (fold entered x.lists.coordinator (facts_of ms)))) (sym node_is) (with_in_hand c x st later (fold entered x.lists.coordinator (facts_of ms)) i (list_is x i)));
+}
+  where
+    later : Coordinator
+    later = fold coordinator_after k ms
+
+    at : IsCoordinatorAt c st.who k
+    at = coordinator_at c st k s e
+
+    node_is : fold after st (map by_coordinator ms) ≡ record st { coordinator = Some later }
+    node_is = coordinator_alone st ms ∙ ap (λ (o : Option Coordinator). record st { coordinator = o }) (ap (λ o. fold (coordinator_part st.set st.who) o (map by_coordinator ms)) e ∙ coordinator_stays st.set st.who k ms h)
+
+    list_is : (x : Hand) → NodeInHand c x st → fold entered x.lists.coordinator (facts_of ms) ≡ later.entries
+    list_is x i = ap (λ l. fold entered l (facts_of ms)) (subst (λ (o : Option Coordinator). IfSome o (λ y. x.lists.coordinator ≡ y.entries)) e i.coordinator) ∙ sym keeps.list_is
+
+    hand_is : (x : Hand) → fold (hand_after c) x (facts_in (items_of (map by_coordinator ms))) ≡ with_coordinator x (fold entered x.lists.coordinator (facts_of ms))
+    hand_is x = ap (λ is. fold (hand_after c) x (facts_in is)) (coordinator_items ms) ∙ coordinator_in_hand c x (facts_of ms) keeps.facts_are
+
+-- where nothing is done
+pub node_none : (c : Script) (v : List ℕ → ℕ → ℕ → Bool) (st : Node) → IsSoundNode c st → NodeKeeps c v st []
+node_none c v st s = record { stands = s; posts_are = refl; guarded_are = λ x i. refl; goes_along = λ x i. i }
+
+-- a rule of the coordinator, where there is one
+pub rule_node : (c : Script) (v : List ℕ → ℕ → ℕ → Bool) (st : Node) (p : Coordinator → List Move) → IsSoundNode c st → ((k : Coordinator) → st.coordinator ≡ Some k → IsSound c k → Keeps c k (p k)) → ((k : Coordinator) → NoTook (p k)) → NodeKeeps c v st (of_coordinator p st)
+rule_node c v st p s keeps none = by_it st.coordinator refl
+  where
+    by_it : (o : Option Coordinator) → st.coordinator ≡ o → NodeKeeps c v st (where_some (λ k. map by_coordinator (p k)) o)
+    by_it None e = node_none c v st s
+    by_it (Some k) e = let at : IsCoordinatorAt c st.who k = coordinator_at c st k s e in coordinator_node c v st k (p k) s e (keeps k e at.sound) (none k)
+
+-- The rules.
+
+pub coordinate_node : (c : Script) (v : List ℕ → ℕ → ℕ → Bool) (st : Node) (from : Incarnation) (b : Body) → IsSoundNode c st → is_node c from ≡ true → is_genuine_body c b ≡ true
+    → ((k : Coordinator) → st.coordinator ≡ Some k → is_among from st.region.view ≡ true → is_among from (regions k.entries) ≡ false → length (regions k.entries) < 16)
+    → NodeKeeps c v st (of_coordinator (coordinator.coordinate from b st.region.view) st)
+coordinate_node c v st from b s node genuine room = rule_node c v st (coordinator.coordinate from b st.region.view) s (λ k e sound. coordinator_takes c k from b st.region.view sound node genuine (room k e)) (coordinate_no_took from b st.region.view)
+
+pub terminate_node : (c : Script) (v : List ℕ → ℕ → ℕ → Bool) (st : Node) → IsSoundNode c st → NodeKeeps c v st (of_coordinator (coordinator.terminate_lost st.region.view) st)
+terminate_node c v st s = rule_node c v st (coordinator.terminate_lost st.region.view) s (λ k e sound. let r : KeepsRules c k = coordinator_keeps c k sound in r.terminates st.region.view) (terminate_lost_no_took st.region.view)
+
+pub tick_node : (c : Script) (v : List ℕ → ℕ → ℕ → Bool) (st : Node) → IsSoundNode c st → NodeKeeps c v st (of_coordinator coordinator.tick_coordinator st)
+tick_node c v st s = rule_node c v st coordinator.tick_coordinator s (λ k e sound. let r : KeepsRules c k = coordinator_keeps c k sound in r.ticks) tick_no_took
+
+-- Regions that are lost.
+
+abbrev is_posted : Move → Bool
+is_posted (made (item.Post p)) = true
+is_posted m = false
+
+one_posted : (list : List Fact) (m : Move) → is_posted m ≡ true → coordinator_step list m ≡ list
+one_posted list (made (item.Post p)) h = refl
+one_posted list m h = absurd (true_is_not_false (sym h))
+
+all_posted : (list : List Fact) (ms : List Move) → list_all is_posted ms ≡ true → fold coordinator_step list ms ≡ list
+all_posted list [] h = refl
+all_posted list (m ∷ ms) h =
+    let n : (is_posted m ≡ true) × (list_all is_posted ms ≡ true) = and_both (is_posted m) (list_all is_posted ms) h in
+    ap (λ l. fold coordinator_step l ms) (one_posted list m n.0) ∙ all_posted list ms n.1
+
+-- of a region that is terminated only the word on it is entered
+terminated_is : (r : Incarnation) (k : Coordinator) → regions (fold coordinator_after k (coordinator.terminate r k)).entries ≡ without r (regions k.entries)
+terminated_is r k =
+    let posts : Moving → List Move = λ x. if is_at r x.owner then [] else coordinator.hand_off_if_last r k x in
+    let list : List Fact = k.entries ++ fact.Terminated r ∷ [] in
+    ap regions (entries_after k (coordinator.terminate r k) ∙ all_posted list (flat_map posts k.moving)
+    (all_each is_posted posts k.moving (λ x. all_if is_posted (is_at r x.owner) [] (coordinator.hand_off_if_last r k x) refl
+    (all_if is_posted (is_among r x.awaited && is_empty (without r x.awaited)) (coordinator.hand_off k x) [] (all_some is_posted (λ o. post k.who o (body.HandOff x.shard (coordinator.stamp k)) ∷ []) x.owner (λ o. refl)) refl))))
+    ∙ regions_more k.entries (fact.Terminated r)
+
+-- what holds of all but some holds of all that are left once those are terminated
+left_over : (p : Incarnation → Bool) (rs : List Incarnation) (k : Coordinator) → list_all (λ x. p x || is_among x rs) (regions k.entries) ≡ true → list_all p (regions (fold coordinator_after k (for_each coordinator_after coordinator.terminate rs k)).entries) ≡ true
+left_over p [] k e = all_map (λ x. p x || false) p (λ x f. or_none (p x) f) (regions k.entries) e
+  where
+    or_none : (b : Bool) → (b || false) ≡ true → b ≡ true
+    or_none true f = refl
+    or_none false f = f
+left_over p (r ∷ rs) k e =
+    let ms : List Move = coordinator.terminate r k in
+    let later : Coordinator = fold coordinator_after k ms in
+    let more : List Move = for_each coordinator_after coordinator.terminate rs later in
+    ap (λ (y : Coordinator). list_all p (regions y.entries)) (fold-append coordinator_after k ms more)
+    ∙ left_over p rs later (ap (list_all (λ x. p x || is_among x rs)) (terminated_is r k)
+    ∙ all_picked (λ x. p x || is_among x (r ∷ rs)) (λ x. p x || is_among x rs) (λ x. not (is_same r x)) (λ x f pick. other x (p x) (is_same x r) refl f pick) (regions k.entries) e)
+  where
+    other : (x : Incarnation) (a b : Bool) → is_same x r ≡ b → (a || (b || is_among x rs)) ≡ true → not (is_same r x) ≡ true → (a || is_among x rs) ≡ true
+    other x true b t f pick = refl
+    other x false false t f pick = f
+    other x false true t f pick = absurd (true_is_not_false (sym (itself_is r x (sym (same_is x r t))) ∙ of_not (is_same r x) pick))
+
+-- then all that are registered are in the view
+pub terminated_viewed : (view : List Incarnation) (k : Coordinator) → list_all (λ r. is_among r view) (regions (fold coordinator_after k (coordinator.terminate_lost view k)).entries) ≡ true
+terminated_viewed view k =
+    let lost : List Incarnation = filter (λ r. not (is_among r view)) (regions k.entries) in
+    left_over (λ r. is_among r view) lost k
+    (all_where (λ r. true) (λ r. is_among r view || is_among r lost) (λ r. not (is_among r view)) (λ r. is_among r lost) (λ r t h. either r (is_among r view) refl h) (regions k.entries) (all_of (λ r. true) (λ r. refl) (regions k.entries)) (each_among lost))
+  where
+    either : (r : Incarnation) (b : Bool) → is_among r view ≡ b → (not (is_among r view) ≡ true → is_among r (filter (λ r. not (is_among r view)) (regions k.entries)) ≡ true) → (b || is_among r (filter (λ r. not (is_among r view)) (regions k.entries))) ≡ true
+    either r true t h = refl
+    either r false t h = h (ap not t)

@@ -14,6 +14,7 @@ pub mod MessageLaws
 pub mod NameLaws
 pub mod NodeCoordinator
 pub mod NodeMessages
+pub mod NodePackets
 pub mod NodeParts
 pub mod NodeRoutes
 pub mod ProducerMoves

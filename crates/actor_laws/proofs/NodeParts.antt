@@ -39,13 +39,13 @@ facts_append [] ys = refl
 facts_append (item.Fact f ∷ is) ys = ap (λ fs. f ∷ fs) (facts_append is ys)
 facts_append (item.Post p ∷ is) ys = facts_append is ys
 
-items_both : (xs ys : List Act) → items_of (xs ++ ys) ≡ items_of xs ++ items_of ys
+pub items_both : (xs ys : List Act) → items_of (xs ++ ys) ≡ items_of xs ++ items_of ys
 items_both xs ys = flat_map-append (λ a. item_of (move_of a)) xs ys
 
-facts_both : (xs ys : List Act) → facts_in (items_of (xs ++ ys)) ≡ facts_in (items_of xs) ++ facts_in (items_of ys)
+pub facts_both : (xs ys : List Act) → facts_in (items_of (xs ++ ys)) ≡ facts_in (items_of xs) ++ facts_in (items_of ys)
 facts_both xs ys = ap facts_in (items_both xs ys) ∙ facts_append (items_of xs) (items_of ys)
 
-guarded_both : (c : Script) (vouches : List ℕ → ℕ → ℕ → Bool) (who : Incarnation) (h : Hand) (xs ys : List Fact) → guarded_in_hand c vouches who h xs ≡ true → guarded_in_hand c vouches who (fold (hand_after c) h xs) ys ≡ true → guarded_in_hand c vouches who h (xs ++ ys) ≡ true
+pub guarded_both : (c : Script) (vouches : List ℕ → ℕ → ℕ → Bool) (who : Incarnation) (h : Hand) (xs ys : List Fact) → guarded_in_hand c vouches who h xs ≡ true → guarded_in_hand c vouches who (fold (hand_after c) h xs) ys ≡ true → guarded_in_hand c vouches who h (xs ++ ys) ≡ true
 guarded_both c vouches who h [] ys f g = g
 guarded_both c vouches who h (x ∷ xs) ys f g =
     let m : (guard_in_hand c vouches who h x ≡ true) × (guarded_in_hand c vouches who (hand_after c h x) xs ≡ true) = and_both (guard_in_hand c vouches who h x) (guarded_in_hand c vouches who (hand_after c h x) xs) f in
@@ -129,7 +129,7 @@ free_guard c v who h (fact.Armed e k) i = refl
 free_guard c v who h (fact.Waits p e k) i = refl
 free_guard c v who h f e = absurd (true_is_not_false (sym e))
 
-free_hands : (c : Script) (h : Hand) (fs : List Fact) → list_all is_free fs ≡ true → fold (hand_after c) h fs ≡ h
+pub free_hands : (c : Script) (h : Hand) (fs : List Fact) → list_all is_free fs ≡ true → fold (hand_after c) h fs ≡ h
 free_hands c h [] e = refl
 free_hands c h (f ∷ fs) e =
     let m : (is_free f ≡ true) × (list_all is_free fs ≡ true) = and_both (is_free f) (list_all is_free fs) e in
@@ -141,7 +141,7 @@ free_guards c v who h (f ∷ fs) e =
     let m : (is_free f ≡ true) × (list_all is_free fs ≡ true) = and_both (is_free f) (list_all is_free fs) e in
     both (guard_in_hand c v who h f) (guarded_in_hand c v who (hand_after c h f) fs) (free_guard c v who h f m.0) (free_guards c v who (hand_after c h f) fs m.1)
 
-free_facts : (ms : List Move) → list_all is_free_move ms ≡ true → list_all is_free (facts_of ms) ≡ true
+pub free_facts : (ms : List Move) → list_all is_free_move ms ≡ true → list_all is_free (facts_of ms) ≡ true
 free_facts [] h = refl
 free_facts (made (item.Fact f) ∷ ms) h =
     let m : (is_free f ≡ true) × (list_all is_free_move ms ≡ true) = and_both (is_free f) (list_all is_free_move ms) h in

@@ -34,7 +34,7 @@ use Rattle.actor_laws.proofs.NodeParts.{node_none, node_if, region_node, entitie
 oldest_viewless : (b : Body) (r : Region) → list_all is_viewless (region.post_oldest b r) ≡ true
 oldest_viewless b r = all_some is_viewless (λ x. post r.who x b ∷ []) (region.oldest r) (λ x. refl)
 
-register_viewless : (r : Region) → list_all is_viewless (region.register r) ≡ true
+pub register_viewless : (r : Region) → list_all is_viewless (region.register r) ≡ true
 register_viewless r = all_some is_viewless (λ x. if is_at x r.registered then [] else post r.who x body.Register ∷ []) (region.oldest r) (λ x. all_if is_viewless (is_at x r.registered) [] (post r.who x body.Register ∷ []) refl refl)
 
 keep_viewless : (m : Message) (r : Region) → list_all is_viewless (region.keep m r) ≡ true

@@ -18,6 +18,7 @@ pub mod NodeMessages
 pub mod NodePackets
 pub mod NodeParts
 pub mod NodeRoutes
+pub mod NodeStarts
 pub mod ProducerMoves
 pub mod RegionMoves
 pub mod ShardStartLaws

@@ -51,10 +51,10 @@ use Rattle.actor_laws.proofs.NodeRoutes.{region_rule, register_viewless, registe
 
 -- In turn.
 
-plain_if : (P : Hand → Type 0) (c : Script) (v : List ℕ → ℕ → ℕ → Bool) (st : Node) (acts : List Act) → NodeKeeps c v st acts → NodeKeepsIf P c v st acts
+pub plain_if : (P : Hand → Type 0) (c : Script) (v : List ℕ → ℕ → ℕ → Bool) (st : Node) (acts : List Act) → NodeKeeps c v st acts → NodeKeepsIf P c v st acts
 plain_if P c v st acts k = record { stands = k.stands; posts_are = k.posts_are; guarded_are = λ h i p. k.guarded_are h i; goes_along = λ h i p. k.goes_along h i }
 
-both_if : (P Q : Hand → Type 0) (c : Script) (v : List ℕ → ℕ → ℕ → Bool) (st : Node) (xs ys : List Act) → NodeKeepsIf P c v st xs → NodeKeepsIf Q c v (fold after st xs) ys
+pub both_if : (P Q : Hand → Type 0) (c : Script) (v : List ℕ → ℕ → ℕ → Bool) (st : Node) (xs ys : List Act) → NodeKeepsIf P c v st xs → NodeKeepsIf Q c v (fold after st xs) ys
     → ((h : Hand) → NodeInHand c h st → P h → Q (fold (hand_after c) h (facts_in (items_of xs)))) → NodeKeepsIf P c v st (xs ++ ys)
 both_if P Q c v st xs ys f g on =
     let mid : Node = fold after st xs in
@@ -70,10 +70,10 @@ both_if P Q c v st xs ys f g on =
     }
 
 -- and then acts that ask for nothing
-then_plain : (P : Hand → Type 0) (c : Script) (v : List ℕ → ℕ → ℕ → Bool) (st : Node) (xs ys : List Act) → NodeKeepsIf P c v st xs → NodeKeeps c v (fold after st xs) ys → NodeKeepsIf P c v st (xs ++ ys)
+pub then_plain : (P : Hand → Type 0) (c : Script) (v : List ℕ → ℕ → ℕ → Bool) (st : Node) (xs ys : List Act) → NodeKeepsIf P c v st xs → NodeKeeps c v (fold after st xs) ys → NodeKeepsIf P c v st (xs ++ ys)
 then_plain P c v st xs ys f g = both_if P (λ h. Unit {0}) c v st xs ys f (plain_if (λ h. Unit {0}) c v (fold after st xs) ys g) (λ h i p. tt)
 
-if_if : (P : Hand → Type 0) (c : Script) (v : List ℕ → ℕ → ℕ → Bool) (st : Node) (b : Bool) (xs ys : List Act) → (b ≡ true → NodeKeepsIf P c v st xs) → (b ≡ false → NodeKeepsIf P c v st ys) → NodeKeepsIf P c v st (if b then xs else ys)
+pub if_if : (P : Hand → Type 0) (c : Script) (v : List ℕ → ℕ → ℕ → Bool) (st : Node) (b : Bool) (xs ys : List Act) → (b ≡ true → NodeKeepsIf P c v st xs) → (b ≡ false → NodeKeepsIf P c v st ys) → NodeKeepsIf P c v st (if b then xs else ys)
 if_if P c v st true xs ys f g = f refl
 if_if P c v st false xs ys f g = g refl
 
@@ -161,7 +161,7 @@ region_viewed st ms same h = subst IsViewed (sym (region_alone st ms)) (by st.co
     by (Some k) j = ap (λ view. list_all (λ r. is_among r view) (regions k.entries)) (region_view st.region ms same) ∙ j
 
 -- free facts leave what is in hand
-region_hand : (c : Script) (st : Node) (ms : List Move) (h : Hand) → IsTrue (list_all is_free_move ms) → fold (hand_after c) h (facts_in (items_of (map by_region ms))) ≡ h
+pub region_hand : (c : Script) (st : Node) (ms : List Move) (h : Hand) → IsTrue (list_all is_free_move ms) → fold (hand_after c) h (facts_in (items_of (map by_region ms))) ≡ h
 region_hand c st ms h free = ap (λ is. fold (hand_after c) h (facts_in is)) (region_items ms) ∙ free_hands c h (facts_of ms) (free_facts ms free)
 
 taken_view : (v : ℕ) (xs : List Incarnation) (r : Region) → (fold region_after r (region.take_view v xs r)).view ≡ xs

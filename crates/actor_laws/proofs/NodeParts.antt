@@ -27,9 +27,10 @@ use Rattle.world_laws.proofs.Rules.{all_join, region_who}
 use Rattle.actor_laws.specs.Moves.{is_own_move, facts_of}
 use Rattle.actor_laws.specs.CoordinatorStands.{IsSound}
 use Rattle.actor_laws.specs.EntitiesStand as entities
-use Rattle.actor_laws.specs.EntitiesStand.{InHand, is_entity_fact}
+use Rattle.actor_laws.specs.EntitiesStand.{IsEntities, InHand, is_entity_fact}
 use Rattle.actor_laws.specs.RegionStands as regions
 use Rattle.actor_laws.specs.NodeStands.{IsProducerAt, IsCoordinatorAt, IsSoundNode, NodeInHand, NodeKeeps}
+use Rattle.actor_laws.specs.NodeFound.{NodeKeepsIf}
 use Rattle.actor_laws.proofs.EntitiesMoves as moves
 
 -- In turn.
@@ -208,8 +209,11 @@ entities_else c h (f ∷ fs) k =
     let more : AreElse (hand_after c h f) (fold (hand_after c) (hand_after c h f) fs) = entities_else c (hand_after c h f) fs m.1 in
     record { coordinator = more.coordinator ∙ one.coordinator; queues = more.queues ∙ one.queues }
 
-pub entities_node : (c : Script) (v : List ℕ → ℕ → ℕ → Bool) (st : Node) (ms : List Move) → IsSoundNode c st → entities.Keeps c st.entities ms → NodeKeeps c v st (map by_entities ms)
-entities_node c v st ms is k =
+-- by moves whose facts are guarded with hands of one kind
+pub entities_if : (P : Hand → Type 0) (c : Script) (v : List ℕ → ℕ → ℕ → Bool) (st : Node) (ms : List Move) → IsSoundNode c st → IsEntities c (fold entities_after st.entities ms) → list_all (is_own_move c st.entities.who) ms ≡ true
+    → list_all is_entity_fact (facts_of ms) ≡ true → ((h : Hand) → InHand c h st.entities → P h → guarded_in_hand c v st.entities.who h (facts_of ms) ≡ true)
+    → ((h : Hand) → InHand c h st.entities → P h → InHand c (fold (hand_after c) h (facts_of ms)) (fold entities_after st.entities ms)) → NodeKeepsIf P c v st (map by_entities ms)
+entities_if P c v st ms is stands own_are told_are guarded goes =
     let later : Node = record st { entities = fold entities_after st.entities ms } in
     let same : fold after st (map by_entities ms) ≡ later = entities_alone st ms in
     let facts : facts_in (items_of (map by_entities ms)) ≡ facts_of ms = ap facts_in (entities_items ms) in
@@ -220,23 +224,23 @@ entities_node c v st ms is k =
         region = is.region;
         region_who = is.region_who;
         different = is.different;
-        entities = k.stands;
+        entities = stands;
         entities_who = moves.who_stays st.entities ms ∙ is.entities_who;
         producers_full = is.producers_full;
         producers = is.producers;
         coordinator = is.coordinator;
       });
-      posts_are = ap (list_all (is_own_post c st.who)) (entities_items ms) ∙ subst (λ w. list_all (is_own_post c w) (flat_map item_of ms) ≡ true) is.entities_who (own_items c st.entities.who ms k.posts_are);
-      guarded_are = λ h i. ap (guarded_in_hand c v st.who h) facts ∙ subst (λ w. guarded_in_hand c v w h (facts_of ms) ≡ true) is.entities_who (k.guarded_are v h i.entities);
-      goes_along = λ h i. subst (λ x. NodeInHand c (fold (hand_after c) h (facts_in (items_of (map by_entities ms)))) x) (sym same)
-          (subst (λ x. NodeInHand c (fold (hand_after c) h x) later) (sym facts) (along h i));
+      posts_are = ap (list_all (is_own_post c st.who)) (entities_items ms) ∙ subst (λ w. list_all (is_own_post c w) (flat_map item_of ms) ≡ true) is.entities_who (own_items c st.entities.who ms own_are);
+      guarded_are = λ h i p. ap (guarded_in_hand c v st.who h) facts ∙ subst (λ w. guarded_in_hand c v w h (facts_of ms) ≡ true) is.entities_who (guarded h i.entities p);
+      goes_along = λ h i p. subst (λ x. NodeInHand c (fold (hand_after c) h (facts_in (items_of (map by_entities ms)))) x) (sym same)
+          (subst (λ x. NodeInHand c (fold (hand_after c) h x) later) (sym facts) (along h i p));
     }
   where
-    along : (h : Hand) → NodeInHand c h st → NodeInHand c (fold (hand_after c) h (facts_of ms)) (record st { entities = fold entities_after st.entities ms })
-    along h i =
-        let e : AreElse h (fold (hand_after c) h (facts_of ms)) = entities_else c h (facts_of ms) k.facts_are in
+    along : (h : Hand) → NodeInHand c h st → P h → NodeInHand c (fold (hand_after c) h (facts_of ms)) (record st { entities = fold entities_after st.entities ms })
+    along h i p =
+        let e : AreElse h (fold (hand_after c) h (facts_of ms)) = entities_else c h (facts_of ms) told_are in
         record {
-          entities = k.goes_along h i.entities;
+          entities = goes h i.entities p;
           queues_there = ap length e.queues ∙ i.queues_there;
           producers = λ p x above at_p. ap (λ l. queue_in l p) e.queues ∙ i.producers p x above at_p;
           coordinator = coordinated (fold (hand_after c) h (facts_of ms)) e.coordinator st.coordinator i.coordinator;
@@ -248,3 +252,8 @@ entities_node c v st ms is k =
         coordinated : (g : Hand) → g.lists.coordinator ≡ h.lists.coordinator → (o : Option Coordinator) → IfSome o (λ x. h.lists.coordinator ≡ x.entries) → IfSome o (λ x. g.lists.coordinator ≡ x.entries)
         coordinated g e None j = tt
         coordinated g e (Some x) j = e ∙ j
+
+pub entities_node : (c : Script) (v : List ℕ → ℕ → ℕ → Bool) (st : Node) (ms : List Move) → IsSoundNode c st → entities.Keeps c st.entities ms → NodeKeeps c v st (map by_entities ms)
+entities_node c v st ms is k =
+    let x : NodeKeepsIf (λ h. Unit {0}) c v st (map by_entities ms) = entities_if (λ h. Unit {0}) c v st ms is k.stands k.posts_are k.facts_are (λ h i p. k.guarded_are v h i) (λ h i p. k.goes_along h i) in
+    record { stands = x.stands; posts_are = x.posts_are; guarded_are = λ h i. x.guarded_are h i tt; goes_along = λ h i. x.goes_along h i tt }

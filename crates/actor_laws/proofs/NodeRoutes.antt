@@ -54,6 +54,9 @@ begin_viewless s stamp from r =
     all_if is_viewless (is_below stamp (region.mark r s)) [] (first ++ post r.who from (body.BeginHandOffAck s stamp) ∷ []) refl
     (all_join is_viewless first (post r.who from (body.BeginHandOffAck s stamp) ∷ []) (all_if is_viewless (is_below (region.mark r s) stamp) (marked s stamp ∷ region.forget s r) [] (forget_viewless s r) refl) refl)
 
+pub learn_viewless : (s : ℕ) (h : Incarnation) (stamp : Stamp) (r : Region) → list_all is_viewless (region.learn s h stamp r) ≡ true
+learn_viewless s h stamp r = all_if is_viewless (is_at h (region.home r s)) [] (told (fact.Home r.who s h) ∷ []) refl refl
+
 tick_viewless : (r : Region) → list_all is_viewless (region.tick_region r) ≡ true
 tick_viewless r =
     let mid : List Move = if r.leaving && region.is_some_home r then region.post_oldest body.GracefulShutdownReq r else [] in

@@ -9,5 +9,6 @@ pub mod EntitiesNew
 pub mod EntitiesRules
 pub mod EntitiesStops
 pub mod NameLaws
+pub mod NodeProducers
 pub mod ProducerMoves
 pub mod RegionMoves

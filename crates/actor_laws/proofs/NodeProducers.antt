@@ -1,0 +1,192 @@
+-- The producers of a node: what each of their moves keeps and tells.
+use Rattle.std.proofs.Common.{◌≡◌, ℕ, ◌<◌, ◌≤◌, ◌-◌, ◌+◌, List, [], ◌∷◌, ◌++◌, length, sym, ap, subst, ◌∙◌, refl, true, false, true≢false, arith}
+use Rattle.std.specs.Prelude.{Bool, ◌&&◌, nat_lt, nat_le, map, max, fold, Option, Some, None, IfSome, slice_set, slice_index_or, if◌then◌else◌, IsTrue}
+use Rattle.std.specs.List.{list_all}
+use Rattle.std.proofs.lemmas.Bool.Decides.{nat_tests}
+use Rattle.std.proofs.lemmas.List.{get_or-set_same, get_or-set_other, length-set}
+use Rattle.yard_model.specs.declared.charter.Sending.{Sending}
+use Rattle.yard_model.specs.declared.fact.Fact.{Fact}
+use Rattle.yard_model.specs.declared.fact.Fact.TheVariants as fact
+use Rattle.yard_model.specs.declared.out.Item.TheVariants as item
+use Rattle.yard_model.specs.declared.incarnation.Cause.TheVariants as cause
+use Rattle.yard_model.specs.declared.incarnation.Incarnation.{Incarnation}
+use Rattle.yard_model.specs.declared.incarnation.Slot.{Slot}
+use Rattle.yard_model.specs.declared.incarnation.Slot.TheVariants as slot
+use Rattle.yard_model.specs.Genuine.{is_slot_of, is_producer}
+use Rattle.yard_model.specs.Lawful.{own, may_follow}
+use Rattle.yard_model.specs.Move.{Move, made, took, demanded, pushed, told, item_of}
+use Rattle.yard_model.specs.Node.{Node, Act, by_producer, producer_by, move_of, after, items_of, acquire_by, acquire}
+use Rattle.yard_model.specs.Producer as producer
+use Rattle.yard_model.specs.Producer.{Producer, producer_after, new_producer}
+use Rattle.yard_model.specs.Script.{Script, Setting, setting, sends}
+use Rattle.yard_model.specs.Setting.{place}
+use Rattle.yard_model.specs.SlotLists.{SlotLists, shard_list, queue_list}
+use Rattle.yard_model.specs.SlotReads.{holder, epoch, queued, confirmed}
+use Rattle.yard_model.specs.Trace.{slot_of, list_at, with_entry}
+use Rattle.yard_model.specs.Words.{at}
+use Rattle.yard_laws.proofs.Booleans.{and_both, both}
+use Rattle.world_laws.specs.Owes.{Hand, has_name, live_after, hand_after, follows_in_hand, lives_in_hand, guard_in_hand, guarded_in_hand, facts_in, is_own_post}
+use Rattle.world_laws.proofs.Place.{none_is_not_some, some_is, inside, by_place, placed_at, placed_beside}
+use Rattle.actor_laws.specs.EntitiesStand.{InHand}
+use Rattle.actor_laws.specs.NodeStands.{IsProducerAt, IsSoundNode, NodeInHand, NodeKeeps}
+use Rattle.actor_laws.specs.ProducerStands.{IsProducer, Keeps, Rules, IsGranted, ProducerKeeps, ProducerIsGranted}
+use Rattle.actor_laws.specs.QueueFound.{QueueFound}
+
+-- A producer at its place.
+
+-- the node with this at the place of producer p
+abbrev pub put : Node → ℕ → Option Producer → Node
+put st p o = record st { producers = slice_set st.producers (p - 1) o }
+
+-- a move after which the producer is there, where it was
+abbrev pub is_producing : Move → Bool
+is_producing (took s list) = false
+is_producing (made (item.Fact (fact.Freed s n why))) = false
+is_producing m = true
+
+by_is : (set : Setting) (who : Incarnation) (p : ℕ) (o : Option Producer) (k : Producer) (m : Move) → is_producing m ≡ true → o ≡ Some k → producer_by set who p o m ≡ Some (producer_after k m)
+by_is set who p o k (took s list) produces found = absurd (true≢false (sym produces))
+by_is set who p o k (made (item.Fact (fact.Freed s n why))) produces found = absurd (true≢false (sym produces))
+by_is set who p o k m produces found = ap (λ x. producer_by set who p x m) found
+
+-- one move of a producer
+pub producer_move : (st : Node) (p : ℕ) (k : Producer) (m : Move) → at st.producers (p - 1) ≡ Some k → is_producing m ≡ true → fold after st (by_producer p m ∷ []) ≡ put st p (Some (producer_after k m))
+producer_move st p k m found produces = ap (put st p) (by_is st.set st.who p (at st.producers (p - 1)) k m produces found)
+
+same_place : (p q : ℕ) → 0 < p → 0 < q → q - 1 ≡ p - 1 → q ≡ p
+same_place p q hp hq e = omega (arith, e)
+
+-- a producer that stands at its place, or none
+stands_put : (c : Script) (st : Node) (p : ℕ) (o : Option Producer) → IsSoundNode c st → 0 < p → p - 1 < length st.producers → ((j : Producer) → o ≡ Some j → IsProducerAt c st.who p j) → IsSoundNode c (put st p o)
+stands_put c st p o is above less here = record {
+  who_is = is.who_is;
+  set_is = is.set_is;
+  region = is.region;
+  region_who = is.region_who;
+  different = is.different;
+  entities = is.entities;
+  entities_who = is.entities_who;
+  producers_full = length-set st.producers (p - 1) o ∙ is.producers_full;
+  producers = λ q j up e. by_place (IsProducerAt c st.who q j) (q - 1) (p - 1)
+      (λ same. subst (λ n. IsProducerAt c st.who n j) (sym (same_place p q above up same))
+      (here j (sym (placed_at st.producers (p - 1) o less) ∙ (ap (at (slice_set st.producers (p - 1) o)) (sym same) ∙ e))))
+      (λ other. is.producers q j up (sym (placed_beside st.producers (p - 1) (q - 1) o other) ∙ e));
+  coordinator = is.coordinator;
+}
+
+-- what is in hand: the same beside queue p, and of queue p the list of what is put there
+along_put : (c : Script) (h g : Hand) (st : Node) (p : ℕ) (o : Option Producer) → NodeInHand c h st → p - 1 < length st.producers
+    → g.live ≡ h.live → g.lists.shards ≡ h.lists.shards → g.lists.coordinator ≡ h.lists.coordinator → length g.lists.queues ≡ length h.lists.queues
+    → ((q : ℕ) → (q - 1 ≡ p - 1 → ⊥) → queue_list g.lists q ≡ queue_list h.lists q)
+    → ((j : Producer) → o ≡ Some j → queue_list g.lists p ≡ j.entries)
+    → NodeInHand c g (put st p o)
+along_put c h g st p o i less live shards leads there beside here = record {
+  entities = record {
+    there = ap length shards ∙ i.entities.there;
+    lists_are = λ s x e. ap (λ l. slice_index_or l s []) shards ∙ i.entities.lists_are s x e;
+    live_are = λ e he. ap (λ l. has_name e l) live ∙ i.entities.live_are e he;
+  };
+  queues_there = there ∙ i.queues_there;
+  producers = λ q j up e. by_place (queue_list g.lists q ≡ j.entries) (q - 1) (p - 1)
+      (λ same. ap (λ n. slice_index_or g.lists.queues n []) same
+      ∙ here j (sym (placed_at st.producers (p - 1) o less) ∙ (ap (at (slice_set st.producers (p - 1) o)) (sym same) ∙ e)))
+      (λ other. beside q other ∙ i.producers q j up (sym (placed_beside st.producers (p - 1) (q - 1) o other) ∙ e));
+  coordinator = subst (λ l. IfSome st.coordinator (λ k. l ≡ k.entries)) (sym leads) i.coordinator;
+}
+
+pub node_none : (c : Script) (v : List ℕ → ℕ → ℕ → Bool) (st : Node) → IsSoundNode c st → NodeKeeps c v st []
+node_none c v st is = record { stands = is; posts_are = refl; guarded_are = λ h i. refl; goes_along = λ h i. i }
+
+-- Silent moves.
+
+abbrev pub is_silent : Move → Bool
+is_silent (demanded e u) = true
+is_silent (pushed e n) = true
+is_silent m = false
+
+silent_at : (c : Script) (who : Incarnation) (p : ℕ) (k : Producer) (m : Move) → is_silent m ≡ true → IsProducerAt c who p k → IsProducerAt c who p (producer_after k m)
+silent_at c who p k (demanded e u) s a = record {
+  stands = record {
+    who_is = a.stands.who_is;
+    set_is = a.stands.set_is;
+    number_is = a.stands.number_is;
+    own_is = a.stands.own_is;
+    held_is = a.stands.held_is;
+    pairs_full = length-set k.pairs (place k.set e) (record { demand = max (producer.progress k e).demand u; sent = (producer.progress k e).sent }) ∙ a.stands.pairs_full;
+  };
+  who_is = a.who_is;
+  number_is = a.number_is;
+}
+silent_at c who p k (pushed e n) s a = record {
+  stands = record {
+    who_is = a.stands.who_is;
+    set_is = a.stands.set_is;
+    number_is = a.stands.number_is;
+    own_is = a.stands.own_is;
+    held_is = a.stands.held_is;
+    pairs_full = length-set k.pairs (place k.set e) (record { demand = (producer.progress k e).demand; sent = max (producer.progress k e).sent n }) ∙ a.stands.pairs_full;
+  };
+  who_is = a.who_is;
+  number_is = a.number_is;
+}
+silent_at c who p k m s a = absurd (true≢false (sym s))
+
+silent_entries : (k : Producer) (m : Move) → is_silent m ≡ true → (producer_after k m).entries ≡ k.entries
+silent_entries k (demanded e u) s = refl
+silent_entries k (pushed e n) s = refl
+silent_entries k m s = absurd (true≢false (sym s))
+
+silent_items : (m : Move) → is_silent m ≡ true → item_of m ≡ []
+silent_items (demanded e u) s = refl
+silent_items (pushed e n) s = refl
+silent_items m s = absurd (true≢false (sym s))
+
+silent_produces : (m : Move) → is_silent m ≡ true → is_producing m ≡ true
+silent_produces (demanded e u) s = refl
+silent_produces (pushed e n) s = refl
+silent_produces m s = absurd (true≢false (sym s))
+
+-- an act that tells and posts nothing, before others
+still_then : (c : Script) (v : List ℕ → ℕ → ℕ → Bool) (st : Node) (a : Act) (acts : List Act) → item_of (move_of a) ≡ [] → ((h : Hand) → NodeInHand c h st → NodeInHand c h (after st a)) → NodeKeeps c v (after st a) acts → NodeKeeps c v st (a ∷ acts)
+still_then c v st a acts none along rest = record {
+  stands = rest.stands;
+  posts_are = ap (list_all (is_own_post c st.who)) items ∙ rest.posts_are;
+  guarded_are = λ h i. ap (λ is. guarded_in_hand c v st.who h (facts_in is)) items ∙ rest.guarded_are h (along h i);
+  goes_along = λ h i. subst (λ is. NodeInHand c (fold (hand_after c) h (facts_in is)) (fold after st (a ∷ acts))) (sym items) (rest.goes_along h (along h i));
+}
+  where
+    items : items_of (a ∷ acts) ≡ items_of acts
+    items = ap (λ is. is ++ items_of acts) none
+
+-- the list of a producer that the node has stays in hand where its list is the same
+along_still : (c : Script) (h : Hand) (st : Node) (p : ℕ) (k j : Producer) → NodeInHand c h st → 0 < p → at st.producers (p - 1) ≡ Some k → j.entries ≡ k.entries → NodeInHand c h (put st p (Some j))
+along_still c h st p k j i above found same = along_put c h h st p (Some j) i (inside st.producers (p - 1) k found) refl refl refl refl (λ q other. refl)
+    (λ l e. i.producers p k above found ∙ (sym same ∙ ap (λ (x : Producer). x.entries) (some_is j l e)))
+
+pub producer_silent : (c : Script) (v : List ℕ → ℕ → ℕ → Bool) (st : Node) (p : ℕ) (k : Producer) (ms : List Move) → IsSoundNode c st → 0 < p → at st.producers (p - 1) ≡ Some k → list_all is_silent ms ≡ true → NodeKeeps c v st (map (by_producer p) ms)
+producer_silent c v st p k [] is above found s = node_none c v st is
+producer_silent c v st p k (m ∷ ms) is above found s =
+    let t : (is_silent m ≡ true) × (list_all is_silent ms ≡ true) = and_both (is_silent m) (list_all is_silent ms) s in
+    let new : Producer = producer_after k m in
+    let less : p - 1 < length st.producers = inside st.producers (p - 1) k found in
+    let moved : after st (by_producer p m) ≡ put st p (Some new) = producer_move st p k m found (silent_produces m t.0) in
+    let next : IsSoundNode c (put st p (Some new)) = stands_put c st p (Some new) is above less
+    (λ j e. subst (IsProducerAt c st.who p) (some_is new j e) (silent_at c st.who p k m t.0 (is.producers p k above found))) in
+    let rest : NodeKeeps c v (put st p (Some new)) (map (by_producer p) ms) = producer_silent c v (put st p (Some new)) p new ms next above (placed_at st.producers (p - 1) (Some new) less) t.1 in
+    still_then c v st (by_producer p m) (map (by_producer p) ms) (silent_items m t.0)
+    (λ h i. subst (NodeInHand c h) (sym moved) (along_still c h st p k new i above found (silent_entries k m t.0)))
+    (subst (λ x. NodeKeeps c v x (map (by_producer p) ms)) (sym moved) rest)
+
+-- the silent rules
+pub push_node : (c : Script) (v : List ℕ → ℕ → ℕ → Bool) (st : Node) (p : ℕ) (k : Producer) (e : List ℕ) → IsSoundNode c st → 0 < p → at st.producers (p - 1) ≡ Some k → NodeKeeps c v st (map (by_producer p) (producer.push_marks e k))
+push_node c v st p k e is above found = producer_silent c v st p k (producer.push_marks e k) is above found refl
+
+pub demand_node : (c : Script) (v : List ℕ → ℕ → ℕ → Bool) (st : Node) (p : ℕ) (k : Producer) (e : List ℕ) (u : ℕ) → IsSoundNode c st → 0 < p → at st.producers (p - 1) ≡ Some k → NodeKeeps c v st (map (by_producer p) (demanded e u ∷ []))
+demand_node c v st p k e u is above found = producer_silent c v st p k (demanded e u ∷ []) is above found refl
+
+pushes_silent : (e ns : List ℕ) → list_all is_silent (map (pushed e) ns) ≡ true
+pushes_silent e [] = refl
+pushes_silent e (n ∷ ns) = pushes_silent e ns
+
+pub repeat_node : (c : Script) (v : List ℕ → ℕ → ℕ → Bool) (st : Node) (p : ℕ) (k : Producer) (e : List ℕ) → IsSoundNode c st → 0 < p → at st.producers (p - 1) ≡ Some k → NodeKeeps c v st (map (by_producer p) (map (pushed e) (producer.to_repeat e k)))
+repeat_node c v st p k e is above found = producer_silent c v st p k (map (pushed e) (producer.to_repeat e k)) is above found (pushes_silent e (producer.to_repeat e k))

@@ -190,3 +190,135 @@ pushes_silent e (n ∷ ns) = pushes_silent e ns
 
 pub repeat_node : (c : Script) (v : List ℕ → ℕ → ℕ → Bool) (st : Node) (p : ℕ) (k : Producer) (e : List ℕ) → IsSoundNode c st → 0 < p → at st.producers (p - 1) ≡ Some k → NodeKeeps c v st (map (by_producer p) (map (pushed e) (producer.to_repeat e k)))
 repeat_node c v st p k e is above found = producer_silent c v st p k (map (pushed e) (producer.to_repeat e k)) is above found (pushes_silent e (producer.to_repeat e k))
+
+-- Entries of a queue.
+
+entry_guarded : (c : Script) (v : List ℕ → ℕ → ℕ → Bool) (who : Incarnation) (p : ℕ) (list : List Fact) (f : Fact) (h : Hand) → is_producer c p ≡ true → slot_of (setting c) f ≡ Some (slot.Queue p) → may_follow c (slot.Queue p) list f ≡ true
+    → queue_list h.lists p ≡ list → lives_in_hand c v who h f ≡ true → guard_in_hand c v who h f ≡ true
+entry_guarded c v who p list f h number of follows found lives = both (follows_in_hand c h.lists f (slot_of (setting c) f)) (lives_in_hand c v who h f)
+    (ap (follows_in_hand c h.lists f) of ∙ both (is_producer c p) (may_follow c (slot.Queue p) (queue_list h.lists p) f) number (ap (λ l. may_follow c (slot.Queue p) l f) found ∙ follows)) lives
+
+-- an entry of queue p goes to the end of its list in hand
+along_entry : (c : Script) (h : Hand) (st : Node) (p : ℕ) (list : List Fact) (f : Fact) (o : Option Producer) → IsSoundNode c st → NodeInHand c h st → p - 1 < length st.producers
+    → slot_of (setting c) f ≡ Some (slot.Queue p) → ((live : List (List ℕ)) → live_after live f ≡ live) → queue_list h.lists p ≡ list
+    → ((j : Producer) → o ≡ Some j → j.entries ≡ list ++ f ∷ [])
+    → NodeInHand c (hand_after c h f) (put st p o)
+along_entry c h st p list f o is i less of live found here =
+    subst (λ l. NodeInHand c (record { lists = l; live = live_after h.live f }) (put st p o)) (sym (ap (with_entry f h.lists) of))
+    (subst (λ l. NodeInHand c (record { lists = with_entry f h.lists (Some (slot.Queue p)); live = l }) (put st p o)) (sym (live h.live))
+    (along_put c h (record { lists = with_entry f h.lists (Some (slot.Queue p)); live = h.live }) st p o i less refl refl refl
+    (length-set h.lists.queues (p - 1) now)
+    (λ q other. get_or-set_other h.lists.queues (p - 1) (q - 1) now [] other)
+    (λ j e. get_or-set_same h.lists.queues (p - 1) now [] below ∙ (ap (λ l. l ++ f ∷ []) found ∙ sym (here j e)))))
+  where
+    now : List Fact
+    now = queue_list h.lists p ++ f ∷ []
+
+    below : p - 1 < length h.lists.queues
+    below = subst (λ n. p - 1 < n) (is.producers_full ∙ sym i.queues_there) less
+
+-- the list of queue p after an entry, of the producer that is there after it
+record IsEntered (c : Script) (who : Incarnation) (p : ℕ) (list : List Fact) (j : Producer) : Type 0 where
+  at_is : IsProducerAt c who p j
+  entries_are : j.entries ≡ list
+
+-- an entry of the queue of a producer that is there
+entry_node : (c : Script) (v : List ℕ → ℕ → ℕ → Bool) (st : Node) (p : ℕ) (k : Producer) (f : Fact) (o : Option Producer) → IsSoundNode c st → 0 < p → at st.producers (p - 1) ≡ Some k
+    → slot_of (setting c) f ≡ Some (slot.Queue p) → ((live : List (List ℕ)) → live_after live f ≡ live)
+    → may_follow c (slot.Queue p) k.entries f ≡ true
+    → ((h : Hand) → lives_in_hand c v st.who h f ≡ true)
+    → producer_by st.set st.who p (Some k) (told f) ≡ o
+    → ((j : Producer) → o ≡ Some j → IsEntered c st.who p (k.entries ++ f ∷ []) j)
+    → NodeKeeps c v st (by_producer p (told f) ∷ [])
+entry_node c v st p k f o is above found of live follows lives by here = record {
+  stands = subst (IsSoundNode c) (sym moved) (stands_put c st p o is above less (λ j e. (here j e).at_is));
+  posts_are = refl;
+  guarded_are = λ h i. both (guard_in_hand c v st.who h f) true (entry_guarded c v st.who p k.entries f h number of follows (i.producers p k above found) (lives h)) refl;
+  goes_along = λ h i. subst (NodeInHand c (hand_after c h f)) (sym moved) (along_entry c h st p k.entries f o is i less of live (i.producers p k above found) (λ j e. (here j e).entries_are));
+}
+  where
+    less : p - 1 < length st.producers
+    less = inside st.producers (p - 1) k found
+
+    moved : after st (by_producer p (told f)) ≡ put st p o
+    moved = ap (λ x. put st p (producer_by st.set st.who p x (told f))) found ∙ ap (put st p) by
+
+    a : IsProducerAt c st.who p k
+    a = is.producers p k above found
+
+    number : is_producer c p ≡ true
+    number = subst (λ n. is_producer c n ≡ true) a.number_is a.stands.number_is
+
+pub queue_node : ProducerKeeps → (c : Script) (v : List ℕ → ℕ → ℕ → Bool) (st : Node) (p : ℕ) (k : Producer) (x : Sending) → IsSoundNode c st → 0 < p → at st.producers (p - 1) ≡ Some k
+    → producer.next_sending (sends c p) k ≡ Some x → NodeKeeps c v st (map (by_producer p) (producer.queue x k))
+queue_node keeps c v st p k x is above found next =
+    entry_node c v st p k f (Some new) is above found (ap (λ n. Some (slot.Queue n)) a.number_is) (λ live. refl)
+    (subst (λ n. may_follow c (slot.Queue n) k.entries f ≡ true) a.number_is (r.queued_follows x own_next)) (λ h. refl) refl
+    (λ j e. subst (IsEntered c st.who p (k.entries ++ f ∷ [])) (some_is new j e)
+    (record { at_is = record { stands = (r.queues x own_next).stands; who_is = a.who_is; number_is = a.number_is }; entries_are = refl }))
+  where
+    f : Fact
+    f = fact.Queued k.number x.entity x.number x.command
+
+    new : Producer
+    new = producer_after k (told f)
+
+    a : IsProducerAt c st.who p k
+    a = is.producers p k above found
+
+    r : Rules c k
+    r = keeps c k a.stands
+
+    own_next : producer.next_sending (sends c k.number) k ≡ Some x
+    own_next = subst (λ n. producer.next_sending (sends c n) k ≡ Some x) (sym a.number_is) next
+
+pub confirm_node : ProducerKeeps → (c : Script) (v : List ℕ → ℕ → ℕ → Bool) (st : Node) (p : ℕ) (k : Producer) (e : List ℕ) (n : ℕ) → IsSoundNode c st → 0 < p → at st.producers (p - 1) ≡ Some k
+    → n ≤ queued e k.entries → v e p n ≡ true → NodeKeeps c v st (map (by_producer p) (producer.confirm e n k))
+confirm_node keeps c v st p k e n is above found there vouched = by (nat_lt (confirmed e k.entries) n) refl
+  where
+    f : Fact
+    f = fact.Confirmed k.number e n
+
+    new : Producer
+    new = producer_after k (told f)
+
+    a : IsProducerAt c st.who p k
+    a = is.producers p k above found
+
+    r : Rules c k
+    r = keeps c k a.stands
+
+    rises : nat_lt (confirmed e k.entries) n ≡ true → confirmed e k.entries < n
+    rises h = grind (arith, nat_tests)
+
+    by : (b : Bool) → nat_lt (confirmed e k.entries) n ≡ b → NodeKeeps c v st (map (by_producer p) (if b then told f ∷ [] else []))
+    by false above_it = node_none c v st is
+    by true above_it =
+        entry_node c v st p k f (Some new) is above found (ap (λ m. Some (slot.Queue m)) a.number_is) (λ live. refl)
+        (subst (λ m. may_follow c (slot.Queue m) k.entries f ≡ true) a.number_is (r.confirmed_follows e n (rises above_it) there))
+        (λ h. ap (λ m. v e m n) a.number_is ∙ vouched) refl
+        (λ j g. subst (IsEntered c st.who p (k.entries ++ f ∷ [])) (some_is new j g)
+        (record {
+          at_is = record {
+            stands = subst (λ b. IsProducer c (fold producer_after k (if b then told f ∷ [] else []))) above_it (r.confirms e n there).stands;
+            who_is = a.who_is;
+            number_is = a.number_is;
+          };
+          entries_are = refl;
+        }))
+
+pub give_back_node : ProducerKeeps → (c : Script) (v : List ℕ → ℕ → ℕ → Bool) (st : Node) (p : ℕ) (k : Producer) → IsSoundNode c st → 0 < p → at st.producers (p - 1) ≡ Some k
+    → NodeKeeps c v st (map (by_producer p) (producer.give_back k))
+give_back_node keeps c v st p k is above found =
+    entry_node c v st p k f None is above found (ap (λ n. Some (slot.Queue n)) a.number_is) (λ live. refl)
+    (subst (λ n. may_follow c (slot.Queue n) k.entries f ≡ true) a.number_is (r.freed_follows cause.Released)) (λ h. refl) refl
+    (λ j e. absurd (none_is_not_some j e))
+  where
+    a : IsProducerAt c st.who p k
+    a = is.producers p k above found
+
+    f : Fact
+    f = fact.Freed (slot.Queue k.number) (epoch k.entries) cause.Released
+
+    r : Rules c k
+    r = keeps c k a.stands

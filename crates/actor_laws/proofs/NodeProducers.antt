@@ -24,7 +24,7 @@ use Rattle.yard_model.specs.SlotLists.{SlotLists, shard_list, queue_list}
 use Rattle.yard_model.specs.SlotReads.{holder, epoch, queued, confirmed}
 use Rattle.yard_model.specs.Trace.{slot_of, list_at, with_entry}
 use Rattle.yard_model.specs.Words.{at}
-use Rattle.yard_laws.proofs.Booleans.{and_both, both}
+use Rattle.yard_laws.proofs.Booleans.{and_both, both, at_most}
 use Rattle.world_laws.specs.Owes.{Hand, has_name, live_after, hand_after, follows_in_hand, lives_in_hand, guard_in_hand, guarded_in_hand, facts_in, is_own_post}
 use Rattle.world_laws.proofs.Place.{none_is_not_some, some_is, inside, by_place, placed_at, placed_beside}
 use Rattle.actor_laws.specs.EntitiesStand.{InHand}
@@ -322,3 +322,76 @@ give_back_node keeps c v st p k is above found =
 
     r : Rules c k
     r = keeps c k a.stands
+
+-- Taking a queue.
+
+held_node : (c : Script) (v : List ℕ → ℕ → ℕ → Bool) (st : Node) (p : ℕ) (list : List Fact) (x : Incarnation) → IsSoundNode c st → 0 < p → p - 1 < length st.producers → at st.producers (p - 1) ≡ None
+    → QueueFound c v st p list (map (by_producer p) (acquire_by (slot.Queue p) st.who list (Some x)))
+held_node c v st p list x is above less free = record {
+  stands = subst (IsSoundNode c) (sym moved) (stands_put c st p None is above less (λ j e. absurd (none_is_not_some j e)));
+  posts_are = refl;
+  guarded_are = λ h i found. refl;
+  goes_along = λ h i found. subst (NodeInHand c h) (sym moved) (along_put c h h st p None i less refl refl refl refl (λ q other. refl) (λ j e. absurd (none_is_not_some j e)));
+}
+  where
+    moved : after st (by_producer p (told (fact.Held (slot.Queue p) st.who x.node))) ≡ put st p None
+    moved = ap (λ o. put st p (producer_by st.set st.who p o (told (fact.Held (slot.Queue p) st.who x.node)))) free
+
+granted_node : (c : Script) (v : List ℕ → ℕ → ℕ → Bool) (st : Node) (p : ℕ) (list : List Fact) → IsSoundNode c st → 0 < p → p - 1 < length st.producers → at st.producers (p - 1) ≡ None → is_producer c p ≡ true → IsGranted c st.who p list
+    → QueueFound c v st p list (map (by_producer p) (acquire_by (slot.Queue p) st.who list None))
+granted_node c v st p list is above less free number g = record {
+  stands = subst (IsSoundNode c) (sym taken) (stands_put c mid p (Some new) mid_stands above mid_less
+      (λ j e. subst (IsProducerAt c st.who p) (some_is new j e) (record { stands = g.stands; who_is = refl; number_is = refl })));
+  posts_are = refl;
+  guarded_are = λ h i found. both (guard_in_hand c v st.who h f) true (entry_guarded c v st.who p list f h number refl g.follows found refl) refl;
+  goes_along = λ h i found. subst (NodeInHand c (hand_after c h f)) (sym taken)
+      (along_put c (hand_after c h f) (hand_after c h f) mid p (Some new)
+      (along_entry c h st p list f None is i less refl (λ live. refl) found (λ j e. absurd (none_is_not_some j e)))
+      mid_less refl refl refl refl (λ q other. refl)
+      (λ j e. get_or-set_same h.lists.queues (p - 1) (queue_list h.lists p ++ f ∷ []) [] (below h i) ∙ (ap (λ l. l ++ f ∷ []) found ∙ ap (λ (k : Producer). k.entries) (some_is new j e))));
+}
+  where
+    f : Fact
+    f = fact.Granted (slot.Queue p) (epoch list + 1) st.who
+
+    new : Producer
+    new = new_producer (setting c) st.who p (list ++ f ∷ [])
+
+    mid : Node
+    mid = put st p None
+
+    mid_stands : IsSoundNode c mid
+    mid_stands = stands_put c st p None is above less (λ j e. absurd (none_is_not_some j e))
+
+    mid_less : p - 1 < length mid.producers
+    mid_less = subst (λ n. p - 1 < n) (sym (length-set st.producers (p - 1) None)) less
+
+    taken : after (after st (by_producer p (told f))) (by_producer p (took (slot.Queue p) (list ++ f ∷ []))) ≡ put mid p (Some new)
+    taken = ap (λ o. put (put st p (producer_by st.set st.who p o (told f))) p (Some (new_producer st.set st.who p (list ++ f ∷ [])))) free
+        ∙ ap (λ set. put mid p (Some (new_producer set st.who p (list ++ f ∷ [])))) is.set_is
+
+    below : (h : Hand) → NodeInHand c h st → p - 1 < length h.lists.queues
+    below h i = subst (λ n. p - 1 < n) (is.producers_full ∙ sym i.queues_there) less
+
+-- a producer's number is above zero, and has its place
+above_zero : (p n : ℕ) → (nat_le 1 p && nat_le p n) ≡ true → (0 < p) × (p - 1 < n)
+above_zero p n e =
+    let m : (nat_le 1 p ≡ true) × (nat_le p n ≡ true) = and_both (nat_le 1 p) (nat_le p n) e in
+    let low : 1 ≤ p = at_most 1 p m.0 in
+    let high : p ≤ n = at_most p n m.1 in
+    (omega (arith, low), omega (arith, low, high))
+
+-- the acts that take a queue, where the node doesn't have its producer
+pub produce_node : ProducerIsGranted → (c : Script) (v : List ℕ → ℕ → ℕ → Bool) (st : Node) (p : ℕ) (list : List Fact) → IsSoundNode c st → is_producer c p ≡ true → at st.producers (p - 1) ≡ None → own c (slot.Queue p) list ≡ true
+    → QueueFound c v st p list (map (by_producer p) (acquire (slot.Queue p) st.who list))
+produce_node granted c v st p list is number free lawful = by (holder list) refl
+  where
+    bounds : (0 < p) × (p - 1 < c.config.producers)
+    bounds = above_zero p c.config.producers number
+
+    less : p - 1 < length st.producers
+    less = subst (λ n. p - 1 < n) (sym is.producers_full) bounds.1
+
+    by : (o : Option Incarnation) → holder list ≡ o → QueueFound c v st p list (map (by_producer p) (acquire_by (slot.Queue p) st.who list o))
+    by None none = granted_node c v st p list is bounds.0 less free number (granted c st.who p list is.who_is number lawful none)
+    by (Some x) some = held_node c v st p list x is bounds.0 less free

@@ -1,6 +1,6 @@
 -- The producers of a node: what each of their moves keeps and tells.
 use Rattle.std.proofs.Common.{◌≡◌, ℕ, ◌<◌, ◌≤◌, ◌-◌, ◌+◌, List, [], ◌∷◌, ◌++◌, length, sym, ap, subst, ◌∙◌, refl, true, false, true≢false, arith}
-use Rattle.std.specs.Prelude.{Bool, ◌&&◌, nat_lt, nat_le, map, max, fold, Option, Some, None, IfSome, slice_set, slice_index_or, if◌then◌else◌, IsTrue}
+use Rattle.std.specs.Prelude.{Bool, ◌&&◌, nat_lt, nat_le, map, max, fold, Option, Some, None, IfSome, slice_set, slice_index_or, if◌then◌else◌}
 use Rattle.std.specs.List.{list_all}
 use Rattle.std.proofs.lemmas.Bool.Decides.{nat_tests}
 use Rattle.std.proofs.lemmas.List.{get_or-set_same, get_or-set_other, length-set}
@@ -10,9 +10,8 @@ use Rattle.yard_model.specs.declared.fact.Fact.TheVariants as fact
 use Rattle.yard_model.specs.declared.out.Item.TheVariants as item
 use Rattle.yard_model.specs.declared.incarnation.Cause.TheVariants as cause
 use Rattle.yard_model.specs.declared.incarnation.Incarnation.{Incarnation}
-use Rattle.yard_model.specs.declared.incarnation.Slot.{Slot}
 use Rattle.yard_model.specs.declared.incarnation.Slot.TheVariants as slot
-use Rattle.yard_model.specs.Genuine.{is_slot_of, is_producer}
+use Rattle.yard_model.specs.Genuine.{is_producer}
 use Rattle.yard_model.specs.Lawful.{own, may_follow}
 use Rattle.yard_model.specs.Move.{Move, made, took, demanded, pushed, told, item_of}
 use Rattle.yard_model.specs.Node.{Node, Act, by_producer, producer_by, move_of, after, items_of, acquire_by, acquire}
@@ -20,16 +19,15 @@ use Rattle.yard_model.specs.Producer as producer
 use Rattle.yard_model.specs.Producer.{Producer, producer_after, new_producer}
 use Rattle.yard_model.specs.Script.{Script, Setting, setting, sends}
 use Rattle.yard_model.specs.Setting.{place}
-use Rattle.yard_model.specs.SlotLists.{SlotLists, shard_list, queue_list}
+use Rattle.yard_model.specs.SlotLists.{queue_list}
 use Rattle.yard_model.specs.SlotReads.{holder, epoch, queued, confirmed}
-use Rattle.yard_model.specs.Trace.{slot_of, list_at, with_entry}
+use Rattle.yard_model.specs.Trace.{slot_of, with_entry}
 use Rattle.yard_model.specs.Words.{at}
 use Rattle.yard_laws.proofs.Booleans.{and_both, both, at_most}
 use Rattle.world_laws.specs.Owes.{Hand, has_name, live_after, hand_after, follows_in_hand, lives_in_hand, guard_in_hand, guarded_in_hand, facts_in, is_own_post}
 use Rattle.world_laws.proofs.Place.{none_is_not_some, some_is, inside, by_place, placed_at, placed_beside}
-use Rattle.actor_laws.specs.EntitiesStand.{InHand}
 use Rattle.actor_laws.specs.NodeStands.{IsProducerAt, IsSoundNode, NodeInHand, NodeKeeps}
-use Rattle.actor_laws.specs.ProducerStands.{IsProducer, Keeps, Rules, IsGranted, ProducerKeeps, ProducerIsGranted}
+use Rattle.actor_laws.specs.ProducerStands.{IsProducer, Rules, IsGranted, ProducerKeeps, ProducerIsGranted}
 use Rattle.actor_laws.specs.QueueFound.{QueueFound}
 
 -- A producer at its place.

@@ -17,6 +17,7 @@ pub mod NodeLeases
 pub mod NodeMessages
 pub mod NodePackets
 pub mod NodeParts
+pub mod NodeProducers
 pub mod NodeRoutes
 pub mod NodeStarts
 pub mod ProducerMoves

@@ -28,7 +28,8 @@ use Rattle.world_laws.specs.Owes.{Hand, has_name, live_after, hand_after, follow
 use Rattle.world_laws.proofs.Place.{none_is_not_some, some_is, inside, by_place, placed_at, placed_beside}
 use Rattle.actor_laws.specs.NodeStands.{IsProducerAt, IsSoundNode, NodeInHand, NodeKeeps}
 use Rattle.actor_laws.specs.ProducerStands.{IsProducer, Rules, IsGranted, ProducerKeeps, ProducerIsGranted}
-use Rattle.actor_laws.specs.QueueFound.{QueueFound}
+use Rattle.actor_laws.specs.NodeFound.{NodeKeepsIf}
+use Rattle.actor_laws.proofs.NodeParts.{node_none}
 
 -- A producer at its place.
 
@@ -91,9 +92,6 @@ along_put c h g st p o i less live shards leads there beside here = record {
       (λ other. beside q other ∙ i.producers q j up (sym (placed_beside st.producers (p - 1) (q - 1) o other) ∙ e));
   coordinator = subst (λ l. IfSome st.coordinator (λ k. l ≡ k.entries)) (sym leads) i.coordinator;
 }
-
-pub node_none : (c : Script) (v : List ℕ → ℕ → ℕ → Bool) (st : Node) → IsSoundNode c st → NodeKeeps c v st []
-node_none c v st is = record { stands = is; posts_are = refl; guarded_are = λ h i. refl; goes_along = λ h i. i }
 
 -- Silent moves.
 
@@ -324,7 +322,7 @@ give_back_node keeps c v st p k is above found =
 -- Taking a queue.
 
 held_node : (c : Script) (v : List ℕ → ℕ → ℕ → Bool) (st : Node) (p : ℕ) (list : List Fact) (x : Incarnation) → IsSoundNode c st → 0 < p → p - 1 < length st.producers → at st.producers (p - 1) ≡ None
-    → QueueFound c v st p list (map (by_producer p) (acquire_by (slot.Queue p) st.who list (Some x)))
+    → NodeKeepsIf (λ h. queue_list h.lists p ≡ list) c v st (map (by_producer p) (acquire_by (slot.Queue p) st.who list (Some x)))
 held_node c v st p list x is above less free = record {
   stands = subst (IsSoundNode c) (sym moved) (stands_put c st p None is above less (λ j e. absurd (none_is_not_some j e)));
   posts_are = refl;
@@ -336,7 +334,7 @@ held_node c v st p list x is above less free = record {
     moved = ap (λ o. put st p (producer_by st.set st.who p o (told (fact.Held (slot.Queue p) st.who x.node)))) free
 
 granted_node : (c : Script) (v : List ℕ → ℕ → ℕ → Bool) (st : Node) (p : ℕ) (list : List Fact) → IsSoundNode c st → 0 < p → p - 1 < length st.producers → at st.producers (p - 1) ≡ None → is_producer c p ≡ true → IsGranted c st.who p list
-    → QueueFound c v st p list (map (by_producer p) (acquire_by (slot.Queue p) st.who list None))
+    → NodeKeepsIf (λ h. queue_list h.lists p ≡ list) c v st (map (by_producer p) (acquire_by (slot.Queue p) st.who list None))
 granted_node c v st p list is above less free number g = record {
   stands = subst (IsSoundNode c) (sym taken) (stands_put c mid p (Some new) mid_stands above mid_less
       (λ j e. subst (IsProducerAt c st.who p) (some_is new j e) (record { stands = g.stands; who_is = refl; number_is = refl })));
@@ -381,7 +379,7 @@ above_zero p n e =
 
 -- the acts that take a queue, where the node doesn't have its producer
 pub produce_node : ProducerIsGranted → (c : Script) (v : List ℕ → ℕ → ℕ → Bool) (st : Node) (p : ℕ) (list : List Fact) → IsSoundNode c st → is_producer c p ≡ true → at st.producers (p - 1) ≡ None → own c (slot.Queue p) list ≡ true
-    → QueueFound c v st p list (map (by_producer p) (acquire (slot.Queue p) st.who list))
+    → NodeKeepsIf (λ h. queue_list h.lists p ≡ list) c v st (map (by_producer p) (acquire (slot.Queue p) st.who list))
 produce_node granted c v st p list is number free lawful = by (holder list) refl
   where
     bounds : (0 < p) × (p - 1 < c.config.producers)
@@ -390,6 +388,6 @@ produce_node granted c v st p list is number free lawful = by (holder list) refl
     less : p - 1 < length st.producers
     less = subst (λ n. p - 1 < n) (sym is.producers_full) bounds.1
 
-    by : (o : Option Incarnation) → holder list ≡ o → QueueFound c v st p list (map (by_producer p) (acquire_by (slot.Queue p) st.who list o))
+    by : (o : Option Incarnation) → holder list ≡ o → NodeKeepsIf (λ h. queue_list h.lists p ≡ list) c v st (map (by_producer p) (acquire_by (slot.Queue p) st.who list o))
     by None none = granted_node c v st p list is bounds.0 less free number (granted c st.who p list is.who_is number lawful none)
     by (Some x) some = held_node c v st p list x is bounds.0 less free

@@ -12,6 +12,7 @@ pub mod EntitiesRules
 pub mod EntitiesStops
 pub mod MessageLaws
 pub mod NameLaws
+pub mod NodeBeginning
 pub mod NodeCoordinator
 pub mod NodeLeases
 pub mod NodeMessages

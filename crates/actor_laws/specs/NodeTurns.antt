@@ -1,5 +1,5 @@
 -- A node by itself keeps what stands of it in each packet, and in each input but the tick, whatever the other nodes do.
-use Rattle.std.specs.Prelude.{◌≡◌, ℕ, ◌-◌, ◌≤◌, Bool, true, false, List, fold, Some}
+use Rattle.std.specs.Prelude.{◌≡◌, ℕ, ◌-◌, ◌≤◌, Bool, true, false, List, [], length, fold, Some}
 use Rattle.yard_model.specs.declared.input.Input.{Input}
 use Rattle.yard_model.specs.declared.input.Input.TheVariants as input
 use Rattle.yard_model.specs.declared.incarnation.Incarnation.{Incarnation}
@@ -7,14 +7,15 @@ use Rattle.yard_model.specs.declared.packet.Body.{Body}
 use Rattle.yard_model.specs.declared.packet.Body.TheVariants as body
 use Rattle.yard_model.specs.Genuine.{is_node, is_brought, is_producer, is_genuine_body}
 use Rattle.yard_model.specs.Members.{are_of_different_nodes}
-use Rattle.yard_model.specs.Node.{Node, after, turn}
+use Rattle.yard_model.specs.Node.{Node, new_node, after, turn}
 use Rattle.yard_model.specs.Producer.{Producer}
 use Rattle.yard_model.specs.Script.{Script, IsScript, setting}
 use Rattle.yard_model.specs.SlotLists.{SlotLists}
 use Rattle.yard_model.specs.SlotReads.{queued}
 use Rattle.yard_model.specs.Words.{at}
 use Rattle.yard_model.specs.World.{all_sends}
-use Rattle.actor_laws.specs.NodeStands.{IsSoundNode, IsViewed}
+use Rattle.world_laws.specs.Owes.{Hand}
+use Rattle.actor_laws.specs.NodeStands.{IsSoundNode, IsViewed, NodeInHand}
 use Rattle.actor_laws.specs.NodeFound.{NodeKeepsIf, Finds, AreLawful}
 
 -- where the node has the queue of this producer, so many numbers to the entity are queued, and the last of them is vouched for
@@ -50,3 +51,12 @@ is_tick i = false
 abbrev pub TurnStands : Type 0
 TurnStands = (c : Script) (vouches : List ℕ → ℕ → ℕ → Bool) (lists : SlotLists) (st : Node) (i : Input) → IsScript c → IsSoundNode c st → IsViewed st → AreLawful c lists
     → is_tick i ≡ false → MayTake c vouches st i → NodeKeepsIf (Finds lists st) c vouches st (turn (all_sends c) lists i st)
+
+-- a node that comes up: it stands, and holds nothing
+pub record IsNew (c : Script) (who : Incarnation) : Type 0 where
+  pub stands : IsSoundNode c (new_node (setting c) who)
+  pub viewed : IsViewed (new_node (setting c) who)
+  pub in_hand : (h : Hand) → length h.lists.shards ≡ c.config.shards → length h.lists.queues ≡ c.config.producers → h.live ≡ [] → NodeInHand c h (new_node (setting c) who)
+
+abbrev pub NodeBegins : Type 0
+NodeBegins = (c : Script) (who : Incarnation) → is_node c who ≡ true → IsNew c who

@@ -8,6 +8,7 @@
 pub mod coordinator;
 pub mod entities;
 pub mod messages;
+pub mod node;
 pub mod producer;
 pub mod region;
 pub mod start;

@@ -1,0 +1,35 @@
+//! What stands of a node by itself.
+use crate::coordinator::coordinator_begins;
+use crate::entities::{entities_stand, new_entities_stand};
+use crate::messages::genuine_is_message;
+use crate::producer::{producer_is_granted, producer_keeps, producer_routes};
+use crate::region::{region_begins, region_keeps};
+use crate::start::shard_starts;
+ghost use Rattle.actor_laws.specs.NodeTurns.{TurnStands, NodeBegins};
+
+/// Each input but the tick leads from a node that stands to one that stands, whatever the other nodes
+/// do and whatever lawful lists it finds of the slots that it doesn't hold. What it posts comes from it
+/// and is made of the script; and each fact that it tells may stand where it is told, by what the node
+/// has in hand: the lists of the slots that it holds or is granted, and the names that are live at it.
+/// What it promises of the input: packets are genuine, a view is of different nodes, and a number is
+/// confirmed only where it is queued and vouched for.
+pub fn turn_stands()
+    ensures { TurnStands }
+{
+    region_keeps();
+    entities_stand();
+    genuine_is_message();
+    shard_starts();
+    coordinator_begins();
+    producer_keeps();
+    producer_routes();
+    producer_is_granted();
+}
+
+/// A node that comes up stands, and has nothing in hand.
+pub fn new_node_stands()
+    ensures { NodeBegins }
+{
+    region_begins();
+    new_entities_stand();
+}

@@ -13,6 +13,7 @@ pub mod EntitiesStops
 pub mod MessageLaws
 pub mod NameLaws
 pub mod NodeBeginning
+pub mod NodeBeside
 pub mod NodeCoordinator
 pub mod NodeLeases
 pub mod NodeMessages

@@ -22,6 +22,7 @@ pub mod NodeParts
 pub mod NodeProducers
 pub mod NodeRoutes
 pub mod NodeStarts
+pub mod NodeTicks
 pub mod ProducerMoves
 pub mod RegionMoves
 pub mod ShardStartLaws

@@ -124,7 +124,7 @@ office_node c v lists st begins is own_is none None free =
 
 -- Lead.
 
-lead_node : (c : Script) (v : List ℕ → ℕ → ℕ → Bool) (lists : SlotLists) (st : Node) → CoordinatorBegins → IsSoundNode c st → own c slot.Coordinator lists.coordinator ≡ true → NodeKeepsIf (FindsOffice lists st) c v st (lead lists st)
+pub lead_node : (c : Script) (v : List ℕ → ℕ → ℕ → Bool) (lists : SlotLists) (st : Node) → CoordinatorBegins → IsSoundNode c st → own c slot.Coordinator lists.coordinator ≡ true → NodeKeepsIf (FindsOffice lists st) c v st (lead lists st)
 lead_node c v lists st begins is own_is =
     let b : Bool = is_at st.who (region.oldest st.region) && is_none st.coordinator in
     let asks : List Act = if b then map by_coordinator (acquire slot.Coordinator st.who lists.coordinator) else [] in

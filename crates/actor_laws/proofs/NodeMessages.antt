@@ -50,6 +50,10 @@ route_numbers_node c v p e f st laws script is good = by (at st.producers (p - 1
     by None h = node_none c v st is
     by (Some k) h = route_each_node c v e k (f k) st laws script is (good k h)
 
+-- the oldest kept message of a shard is taken out
+pub released_node : (c : Script) (v : List ℕ → ℕ → ℕ → Bool) (s : ℕ) (st : Node) → RouteLaws → IsScript c → IsSoundNode c st → NodeKeeps c v st (by_region (released s) ∷ [])
+released_node c v s st laws script is = let r : regions.Rules c st.region = laws.region c st.region script is.region in region_rule c v st (released s ∷ []) is (r.releases s) refl
+
 -- the kept messages of a shard
 pub release_each_node : (c : Script) (v : List ℕ → ℕ → ℕ → Bool) (s : ℕ) (set : Setting) (ms : List Message) (st : Node) → RouteLaws → IsScript c → IsSoundNode c st → list_all (is_kept_well c set s) ms ≡ true
     → NodeKeeps c v st (for_each after (λ m. in_turn after (λ st. by_region (released s) ∷ []) (route m)) ms st)
@@ -57,8 +61,7 @@ release_each_node c v s set [] st laws script is good = node_none c v st is
 release_each_node c v s set (m ∷ ms) st laws script is good =
     let n : (is_kept_well c set s m ≡ true) × (list_all (is_kept_well c set s) ms ≡ true) = and_both (is_kept_well c set s m) (list_all (is_kept_well c set s) ms) good in
     let genuine : is_genuine c m ≡ true = (and_both (is_genuine c m) (shard_of set m.entity == s) n.0).0 in
-    let r : regions.Rules c st.region = laws.region c st.region script is.region in
-    let first : NodeKeeps c v st (by_region (released s) ∷ []) = region_rule c v st (released s ∷ []) is (r.releases s) refl in
+    let first : NodeKeeps c v st (by_region (released s) ∷ []) = released_node c v s st laws script is in
     let mid : Node = after st (by_region (released s)) in
     let acts : List Act = by_region (released s) ∷ route m mid in
     let one : NodeKeeps c v st acts = node_both c v st (by_region (released s) ∷ []) (route m mid) first (routed_node c v mid m laws script first.stands genuine) in

@@ -57,7 +57,7 @@ pub record TurnLaws : Type 0 where
   pub granted : ProducerIsGranted
 
 -- with hands of a kind that is another kind
-weaker : (P Q : Hand → Type 0) (c : Script) (v : List ℕ → ℕ → ℕ → Bool) (st : Node) (acts : List Act) → ((h : Hand) → P h → Q h) → NodeKeepsIf Q c v st acts → NodeKeepsIf P c v st acts
+pub weaker : (P Q : Hand → Type 0) (c : Script) (v : List ℕ → ℕ → ℕ → Bool) (st : Node) (acts : List Act) → ((h : Hand) → P h → Q h) → NodeKeepsIf Q c v st acts → NodeKeepsIf P c v st acts
 weaker P Q c v st acts f k = record { stands = k.stands; posts_are = k.posts_are; guarded_are = λ h i p. k.guarded_are h i (f h p); goes_along = λ h i p. k.goes_along h i (f h p) }
 
 -- The coordinator.
@@ -82,7 +82,7 @@ above_zero c p e =
     omega (arith, low)
 
 -- a rule of a producer, where the node has it
-producer_node : (c : Script) (v : List ℕ → ℕ → ℕ → Bool) (st : Node) (p : ℕ) (f : Producer → List Move) → IsSoundNode c st → ((k : Producer) → at st.producers (p - 1) ≡ Some k → NodeKeeps c v st (map (by_producer p) (f k))) → NodeKeeps c v st (of_producer p f st)
+pub producer_node : (c : Script) (v : List ℕ → ℕ → ℕ → Bool) (st : Node) (p : ℕ) (f : Producer → List Move) → IsSoundNode c st → ((k : Producer) → at st.producers (p - 1) ≡ Some k → NodeKeeps c v st (map (by_producer p) (f k))) → NodeKeeps c v st (of_producer p f st)
 producer_node c v st p f is keeps = by (at st.producers (p - 1)) refl
   where
     by : (o : Option Producer) → at st.producers (p - 1) ≡ o → NodeKeeps c v st (where_some (λ k. map (by_producer p) (f k)) o)

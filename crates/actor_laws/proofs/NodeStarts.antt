@@ -44,7 +44,7 @@ acts_joined st ms f = ap (λ (x : Node). map by_entities ms ++ map by_entities (
     joined (x ∷ xs) = ap (λ l. by_entities x ∷ l) (joined xs)
 
 -- a shard that isn't hosted is acquired, by the list that was found
-starts_node : (c : Script) (v : List ℕ → ℕ → ℕ → Bool) (lists : SlotLists) (s : ℕ) (st : Node) → ShardStarts → IsSoundNode c st → own c (slot.Shard s) (shard_list lists s) ≡ true → is_shard c s ≡ true → NodeKeepsIf (FindsShard lists s st) c v st (start lists s st)
+pub starts_node : (c : Script) (v : List ℕ → ℕ → ℕ → Bool) (lists : SlotLists) (s : ℕ) (st : Node) → ShardStarts → IsSoundNode c st → own c (slot.Shard s) (shard_list lists s) ≡ true → is_shard c s ≡ true → NodeKeepsIf (FindsShard lists s st) c v st (start lists s st)
 starts_node c v lists s st law is own_is shard =
     let list : List Fact = shard_list lists s in
     let asks : List Move = acquire (slot.Shard s) st.who list in

@@ -124,14 +124,18 @@ office_node c v lists st begins is own_is none None free =
 
 -- Lead.
 
+-- the slot is asked for, where the node is the oldest of its view and doesn't hold it
+pub asks_node : (c : Script) (v : List ℕ → ℕ → ℕ → Bool) (lists : SlotLists) (st : Node) → CoordinatorBegins → IsSoundNode c st → own c slot.Coordinator lists.coordinator ≡ true
+    → NodeKeepsIf (FindsOffice lists st) c v st (if is_at st.who (region.oldest st.region) && is_none st.coordinator then map by_coordinator (acquire slot.Coordinator st.who lists.coordinator) else [])
+asks_node c v lists st begins is own_is = if_if (FindsOffice lists st) c v st (is_at st.who (region.oldest st.region) && is_none st.coordinator) (map by_coordinator (acquire slot.Coordinator st.who lists.coordinator)) []
+    (λ e. office_node c v lists st begins is own_is (no_office st.coordinator (and_both (is_at st.who (region.oldest st.region)) (is_none st.coordinator) e).1) (holder lists.coordinator) refl)
+    (λ e. plain_if (FindsOffice lists st) c v st [] (node_none c v st is))
+
 pub lead_node : (c : Script) (v : List ℕ → ℕ → ℕ → Bool) (lists : SlotLists) (st : Node) → CoordinatorBegins → IsSoundNode c st → own c slot.Coordinator lists.coordinator ≡ true → NodeKeepsIf (FindsOffice lists st) c v st (lead lists st)
 lead_node c v lists st begins is own_is =
-    let b : Bool = is_at st.who (region.oldest st.region) && is_none st.coordinator in
-    let asks : List Act = if b then map by_coordinator (acquire slot.Coordinator st.who lists.coordinator) else [] in
+    let asks : List Act = if is_at st.who (region.oldest st.region) && is_none st.coordinator then map by_coordinator (acquire slot.Coordinator st.who lists.coordinator) else [] in
     let next : Node = fold after st asks in
-    let first : NodeKeepsIf (FindsOffice lists st) c v st asks = if_if (FindsOffice lists st) c v st b (map by_coordinator (acquire slot.Coordinator st.who lists.coordinator)) []
-    (λ e. office_node c v lists st begins is own_is (no_office st.coordinator (and_both (is_at st.who (region.oldest st.region)) (is_none st.coordinator) e).1) (holder lists.coordinator) refl)
-    (λ e. plain_if (FindsOffice lists st) c v st [] (node_none c v st is)) in
+    let first : NodeKeepsIf (FindsOffice lists st) c v st asks = asks_node c v lists st begins is own_is in
     then_plain (FindsOffice lists st) c v st asks (of_coordinator (coordinator.terminate_lost next.region.view) next) first (terminate_node c v next first.stands)
 
 -- after it each registered region is in the view

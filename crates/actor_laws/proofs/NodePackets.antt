@@ -1,4 +1,4 @@
--- Each input of a node but the tick keeps what stands of it.
+-- Each packet of a node keeps what stands of it, and each input but the tick.
 use Rattle.std.proofs.Common.{◌≡◌, ℕ, ◌-◌, ◌+◌, ◌<◌, ◌≤◌, List, [], ◌∷◌, ◌++◌, length, map, sym, ap, subst, ◌∙◌, refl, true, false, true≢false, arith}
 use Rattle.std.specs.Prelude.{Bool, ◌&&◌, ◌==◌, fold, max, nat_le, slice_index_or, Option, Some, None, is_none, IfSome, if◌then◌else◌}
 use Rattle.std.specs.List.{list_all}
@@ -37,7 +37,7 @@ use Rattle.actor_laws.specs.RegionStands.{IsRegion}
 use Rattle.actor_laws.specs.ShardStart.{ShardStarts}
 use Rattle.actor_laws.specs.NodeStands.{IsCoordinatorAt, IsSoundNode, IsViewed, NodeKeeps}
 use Rattle.actor_laws.specs.NodeFound.{NodeKeepsIf, FindsOffice, FindsShard, Finds, AreLawful}
-use Rattle.actor_laws.specs.NodeTurns.{MayConfirm, Promised, IsPromised, MayTake, is_tick, TurnStands}
+use Rattle.actor_laws.specs.NodeTurns.{MayConfirm, Promised, IsPromised, MayTake}
 use Rattle.actor_laws.proofs.CoordinatorLaws.{coordinator_keeps}
 use Rattle.actor_laws.proofs.NodeCoordinator.{rule_node, coordinate_node, rebalance_no_took}
 use Rattle.actor_laws.proofs.NodeLeases.{plain_if, if_if, view_keeps}
@@ -70,13 +70,13 @@ has_room c st from script is viewed k e seen fresh =
     let r : IsRegion c st.region = is.region in
     room c k.entries st.region.view from script s.own_is r.view_is is.different (subst (λ o. IfSome o (λ (k : Coordinator). list_all (λ r. is_among r st.region.view) (regions k.entries) ≡ true)) e viewed) seen fresh
 
-rebalance_node : (c : Script) (v : List ℕ → ℕ → ℕ → Bool) (st : Node) (limit : ℕ) → IsSoundNode c st → NodeKeeps c v st (of_coordinator (coordinator.rebalance limit) st)
+pub rebalance_node : (c : Script) (v : List ℕ → ℕ → ℕ → Bool) (st : Node) (limit : ℕ) → IsSoundNode c st → NodeKeeps c v st (of_coordinator (coordinator.rebalance limit) st)
 rebalance_node c v st limit is = rule_node c v st (coordinator.rebalance limit) is (λ k e sound. let r : coordinators.KeepsRules c k = coordinator_keeps c k sound in r.rebalances limit) (rebalance_no_took limit)
 
 -- Producers.
 
 -- a producer's number is above zero
-above_zero : (c : Script) (p : ℕ) → is_producer c p ≡ true → 0 < p
+pub above_zero : (c : Script) (p : ℕ) → is_producer c p ≡ true → 0 < p
 above_zero c p e =
     let low : 1 ≤ p = at_most 1 p (and_both (nat_le 1 p) (nat_le p c.config.producers) e).0 in
     omega (arith, low)
@@ -142,7 +142,7 @@ sends_are c p e =
     let high : p ≤ c.config.producers = at_most p c.config.producers b.1 in
     get_or-map-range_with_len (sends c) 1 c.config.producers (p - 1) p [] (omega (arith, low, high)) (omega (arith, low))
 
-send_node : (c : Script) (v : List ℕ → ℕ → ℕ → Bool) (p : ℕ) (st : Node) → TurnLaws → IsScript c → IsSoundNode c st → is_producer c p ≡ true → NodeKeeps c v st (send (all_sends c) p st)
+pub send_node : (c : Script) (v : List ℕ → ℕ → ℕ → Bool) (p : ℕ) (st : Node) → TurnLaws → IsScript c → IsSoundNode c st → is_producer c p ≡ true → NodeKeeps c v st (send (all_sends c) p st)
 send_node c v p st laws script is number = by (at st.producers (p - 1)) refl
   where
     above : 0 < p
@@ -163,7 +163,7 @@ no_producer : (o : Option Producer) → is_none o ≡ true → o ≡ None
 no_producer None h = refl
 no_producer (Some k) h = absurd (true≢false (sym h))
 
-produces_node : (c : Script) (v : List ℕ → ℕ → ℕ → Bool) (lists : SlotLists) (p : ℕ) (st : Node) → TurnLaws → IsSoundNode c st → AreLawful c lists → is_producer c p ≡ true → NodeKeepsIf (Finds lists st) c v st (produce lists p st)
+pub produces_node : (c : Script) (v : List ℕ → ℕ → ℕ → Bool) (lists : SlotLists) (p : ℕ) (st : Node) → TurnLaws → IsSoundNode c st → AreLawful c lists → is_producer c p ≡ true → NodeKeepsIf (Finds lists st) c v st (produce lists p st)
 produces_node c v lists p st laws is lawful number = if_if (Finds lists st) c v st (is_none (at st.producers (p - 1))) (map (by_producer p) (acquire (slot.Queue p) st.who (queue_list lists p))) []
     (λ e.
     let none : at st.producers (p - 1) ≡ None = no_producer (at st.producers (p - 1)) e in
@@ -174,7 +174,7 @@ produces_node c v lists p st laws is lawful number = if_if (Finds lists st) c v 
 -- Entities.
 
 -- a node passivates an entity of its own by a packet to itself
-note_node : (c : Script) (v : List ℕ → ℕ → ℕ → Bool) (st : Node) (e : List ℕ) → IsSoundNode c st → is_brought c e ≡ true → NodeKeeps c v st (by_entities (post st.who st.who (body.Passivate e)) ∷ [])
+pub note_node : (c : Script) (v : List ℕ → ℕ → ℕ → Bool) (st : Node) (e : List ℕ) → IsSoundNode c st → is_brought c e ≡ true → NodeKeeps c v st (by_entities (post st.who st.who (body.Passivate e)) ∷ [])
 note_node c v st e is brought = record {
   stands = is;
   posts_are = both (is_same st.who st.who && (is_node c st.who && is_node c st.who && is_brought c e)) true
@@ -186,7 +186,7 @@ note_node c v st e is brought = record {
 
 -- Each packet.
 
-packet_node : (c : Script) (v : List ℕ → ℕ → ℕ → Bool) (lists : SlotLists) (st : Node) (from : Incarnation) (b : Body) → TurnLaws → IsScript c → IsSoundNode c st → IsViewed st → AreLawful c lists → IsPromised c v st from b
+pub packet_node : (c : Script) (v : List ℕ → ℕ → ℕ → Bool) (lists : SlotLists) (st : Node) (from : Incarnation) (b : Body) → TurnLaws → IsScript c → IsSoundNode c st → IsViewed st → AreLawful c lists → IsPromised c v st from b
     → NodeKeepsIf (Finds lists st) c v st (packet lists from b st)
 packet_node c v lists st from (body.View n xs) laws script is viewed lawful may =
     weaker (Finds lists st) (FindsOffice lists st) c v st (packet lists from (body.View n xs) st) (λ h f. f.office)
@@ -214,19 +214,3 @@ packet_node c v lists st from (body.Ack p e n) laws script is viewed lawful may 
 packet_node c v lists st from (body.Resend p e f) laws script is viewed lawful may =
     plain_if (Finds lists st) c v st (packet lists from (body.Resend p e f) st) (resend_node c v p e f st laws script is (above_zero c p (and_both (is_producer c p) (is_brought c e) may.genuine).0))
 packet_node c v lists st from b laws script is viewed lawful may = plain_if (Finds lists st) c v st (packet lists from b st) (coordinate_node c v st from b is may.from_is may.genuine (has_room c st from script is viewed))
-
--- Each input.
-
-pub turn_stands : TurnLaws → TurnStands
-turn_stands laws c v lists st (input.Packet p) script is viewed lawful single may = packet_node c v lists st p.from p.body laws script is viewed lawful may
-turn_stands laws c v lists st input.Tick script is viewed lawful single may = absurd (true≢false single)
-turn_stands laws c v lists st input.Leave script is viewed lawful single may = plain_if (Finds lists st) c v st (turn (all_sends c) lists input.Leave st) (leave_node c v st laws.routes.region script is)
-turn_stands laws c v lists st (input.Rebalance n) script is viewed lawful single may = plain_if (Finds lists st) c v st (turn (all_sends c) lists (input.Rebalance n) st) (rebalance_node c v st n is)
-turn_stands laws c v lists st (input.Produce p) script is viewed lawful single may = produces_node c v lists p st laws is lawful may
-turn_stands laws c v lists st (input.Rest p) script is viewed lawful single may =
-    plain_if (Finds lists st) c v st (turn (all_sends c) lists (input.Rest p) st) (producer_node c v st p producer.give_back is (λ k g. give_back_node laws.produces c v st p k is (above_zero c p may) g))
-turn_stands laws c v lists st (input.Send p) script is viewed lawful single may = plain_if (Finds lists st) c v st (turn (all_sends c) lists (input.Send p) st) (send_node c v p st laws script is may)
-turn_stands laws c v lists st (input.Passivate e) script is viewed lawful single may = plain_if (Finds lists st) c v st (turn (all_sends c) lists (input.Passivate e) st) (note_node c v st e is may)
-turn_stands laws c v lists st (input.FailWrite e k) script is viewed lawful single may =
-    let r : EntityRules c st.entities = laws.routes.entities c st.entities is.entities in
-    plain_if (Finds lists st) c v st (turn (all_sends c) lists (input.FailWrite e k) st) (entities_node c v st (told (fact.Armed e k) ∷ []) is (r.arms e k may))

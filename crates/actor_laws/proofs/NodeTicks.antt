@@ -38,7 +38,7 @@ use Rattle.actor_laws.specs.NodeTurns.{TurnStands}
 use Rattle.actor_laws.proofs.CoordinatorLaws.{coordinator_keeps}
 use Rattle.actor_laws.proofs.NodeBeside.{Beside, beside_none, beside_both, beside_if, region_beside, coordinator_beside, office_beside, is_beside, entities_beside, acquire_beside, remembered_beside, deliver_beside}
 use Rattle.actor_laws.proofs.NodeCoordinator.{tick_node}
-use Rattle.actor_laws.proofs.NodeLeases.{plain_if, both_if, then_plain, if_if, lead_node}
+use Rattle.actor_laws.proofs.NodeLeases.{plain_if, both_if, then_plain, if_if, asks_node, lead_node}
 use Rattle.actor_laws.proofs.NodeMessages.{RouteLaws, routed_node, released_node, release_node, route_numbers_node}
 use Rattle.actor_laws.proofs.NodePackets.{TurnLaws, weaker, producer_node}
 use Rattle.actor_laws.proofs.EntitiesMoves.{set_stays}
@@ -157,3 +157,76 @@ agains_node c v lists a (suc n) st laws script is lawful below =
     both_if (FindsFrom lists a st) (FindsFrom lists (a + 1) mid) c v st acts (for_each after (start_again lists) (numbers (a + 1) n) mid)
     (weaker (FindsFrom lists a st) (FindsShard lists a st) c v st acts (λ h f. f a (omega (arith))) first) rest
     (λ h i f. λ s above. found_beside c lists s st acts h (again_beside c v s a lists st laws script is lawful shard (not_same a s above)) (f s (omega (arith, above))))
+
+-- acts that go on beside every shard, and then others
+then_found : (c : Script) (v : List ℕ → ℕ → ℕ → Bool) (lists : SlotLists) (st : Node) (acts rest : List Act) → NodeKeeps c v st acts → ((s : ℕ) → Beside c s st acts)
+    → NodeKeepsIf (FindsFrom lists 0 (fold after st acts)) c v (fold after st acts) rest → NodeKeepsIf (FindsFrom lists 0 st) c v st (acts ++ rest)
+then_found c v lists st acts rest first b k = both_if (FindsFrom lists 0 st) (FindsFrom lists 0 (fold after st acts)) c v st acts rest (plain_if (FindsFrom lists 0 st) c v st acts first) k (λ h i f. λ s above. found_beside c lists s st acts h (b s) (f s above))
+
+-- The queues, one pair after another.
+
+sends_again : (c : Script) (v : List ℕ → ℕ → ℕ → Bool) (p : ℕ) (e : List ℕ) (st : Node) → TurnLaws → IsScript c → IsSoundNode c st → 0 < p → NodeKeeps c v st (send_again p e st)
+sends_again c v p e st laws script is above =
+    let marks : List Act = of_producer p (λ k. map (pushed e) (producer.to_repeat e k)) st in
+    let first : NodeKeeps c v st marks = producer_node c v st p (λ k. map (pushed e) (producer.to_repeat e k)) is (λ k g. repeat_node c v st p k e is above g) in
+    let mid : Node = fold after st marks in
+    let routes : List Act = route_numbers p e (producer.to_repeat e) mid in
+    let second : NodeKeeps c v mid routes = route_numbers_node c v p e (producer.to_repeat e) mid laws.routes script first.stands (λ k g. repeated c mid p e k laws first.stands above g) in
+    node_both c v st marks (routes ++ []) first (node_both c v mid routes [] second (node_none c v (fold after mid routes) second.stands))
+  where
+    repeated : (c : Script) (st : Node) (p : ℕ) (e : List ℕ) (k : Producer) → TurnLaws → IsSoundNode c st → 0 < p → at st.producers (p - 1) ≡ Some k → list_all (producing.is_sent_well c e k) (producer.to_repeat e k) ≡ true
+    repeated c st p e k laws is above g = (laws.sends c k (is.producers p k above g).stands).repeated_well e
+
+names_again : (c : Script) (v : List ℕ → ℕ → ℕ → Bool) (p : ℕ) (es : List (List ℕ)) (st : Node) → TurnLaws → IsScript c → IsSoundNode c st → 0 < p → NodeKeeps c v st (for_each after (send_again p) es st)
+names_again c v p [] st laws script is above = node_none c v st is
+names_again c v p (e ∷ es) st laws script is above =
+    let first : NodeKeeps c v st (send_again p e st) = sends_again c v p e st laws script is above in
+    let mid : Node = fold after st (send_again p e st) in
+    node_both c v st (send_again p e st) (for_each after (send_again p) es mid) first (names_again c v p es mid laws script first.stands above)
+
+queues_again : (c : Script) (v : List ℕ → ℕ → ℕ → Bool) (es : List (List ℕ)) (a n : ℕ) (st : Node) → TurnLaws → IsScript c → IsSoundNode c st → 0 < a → NodeKeeps c v st (for_each after (λ p. for_each after (send_again p) es) (numbers a n) st)
+queues_again c v es a zero st laws script is above = node_none c v st is
+queues_again c v es a (suc n) st laws script is above =
+    let acts : List Act = for_each after (send_again a) es st in
+    let first : NodeKeeps c v st acts = names_again c v a es st laws script is above in
+    let mid : Node = fold after st acts in
+    node_both c v st acts (for_each after (λ p. for_each after (send_again p) es) (numbers (a + 1) n) mid) first (queues_again c v es (a + 1) n mid laws script first.stands (omega (arith, above)))
+
+-- The tick.
+
+pub ticks_node : (c : Script) (v : List ℕ → ℕ → ℕ → Bool) (lists : SlotLists) (st : Node) → TurnLaws → IsScript c → IsSoundNode c st → AreLawful c lists → NodeKeepsIf (Finds lists st) c v st (tick lists st)
+ticks_node c v lists st laws script is lawful =
+    let leads : List Act = lead lists st in
+    let one : Node = fold after st leads in
+    let led : NodeKeepsIf (FindsOffice lists st) c v st leads = lead_node c v lists st laws.begins is lawful.coordinator in
+    let asked : NodeKeepsIf (FindsOffice lists st) c v st (if is_at st.who (region.oldest st.region) && is_none st.coordinator then map by_coordinator (acquire slot.Coordinator st.who lists.coordinator) else []) = asks_node c v lists st laws.begins is lawful.coordinator in
+    let coordinates : List Act = of_coordinator coordinator.tick_coordinator one in
+    let two : Node = fold after one coordinates in
+    let coordinated : NodeKeeps c v one coordinates = tick_node c v one led.stands in
+    let reminds : List Act = of_region region.tick_region two in
+    let three : Node = fold after two reminds in
+    let reminded : NodeKeeps c v two reminds = tick_region_node c v two laws.routes.region script coordinated.stands in
+    let starts : List Act = for_each after (start_again lists) (shards st.set) three in
+    let started : NodeKeepsIf (FindsFrom lists 0 three) c v three starts = subst (λ set. NodeKeepsIf (FindsFrom lists 0 three) c v three (for_each after (start_again lists) (shards set) three)) (sym is.set_is) (agains_node c v lists 0 c.config.shards three laws script reminded.stands lawful (omega (arith))) in
+    let four : Node = fold after three starts in
+    let entity_acts : List Act = of_entities entities.tick_entities four in
+    let five : Node = fold after four entity_acts in
+    let entity_kept : NodeKeeps c v four entity_acts = tick_entities_node c v four (rules_at c four laws started.stands) started.stands in
+    let repeats : List Act = for_each after (λ p. for_each after (send_again p) st.set.names) (producers st.set) five in
+    let repeated : NodeKeeps c v five repeats = queues_again c v st.set.names 1 st.set.config.producers five laws script entity_kept.stands (omega (arith)) in
+    let last : NodeKeeps c v four (entity_acts ++ (repeats ++ [])) = node_both c v four entity_acts (repeats ++ []) entity_kept (node_both c v five repeats [] repeated (node_none c v (fold after five repeats) repeated.stands)) in
+    let from_three : NodeKeepsIf (FindsFrom lists 0 three) c v three (starts ++ (entity_acts ++ (repeats ++ []))) = then_plain (FindsFrom lists 0 three) c v three starts (entity_acts ++ (repeats ++ [])) started last in
+    let from_two : NodeKeepsIf (FindsFrom lists 0 two) c v two (reminds ++ (starts ++ (entity_acts ++ (repeats ++ [])))) = then_found c v lists two reminds (starts ++ (entity_acts ++ (repeats ++ []))) reminded (λ s. reminds_beside c s two laws script coordinated.stands) from_three in
+    let from_one : NodeKeepsIf (FindsFrom lists 0 one) c v one (coordinates ++ (reminds ++ (starts ++ (entity_acts ++ (repeats ++ []))))) = then_found c v lists one coordinates (reminds ++ (starts ++ (entity_acts ++ (repeats ++ [])))) coordinated
+    (λ s. coordinated_beside c s one coordinator.tick_coordinator led.stands (λ k sound. let r : coordinators.KeepsRules c k = coordinator_keeps c k sound in r.ticks)) from_two in
+    both_if (Finds lists st) (FindsFrom lists 0 one) c v st leads (coordinates ++ (reminds ++ (starts ++ (entity_acts ++ (repeats ++ []))))) (weaker (Finds lists st) (FindsOffice lists st) c v st leads (λ h f. f.office) led) from_one
+    (λ h i f. λ s above. found_beside c lists s st leads h (lead_beside c s lists st asked.stands) (f.shards s))
+  where
+    rules_at : (c : Script) (x : Node) → TurnLaws → IsSoundNode c x → EntityRules c x.entities
+    rules_at c x laws k = laws.routes.entities c x.entities k.entities
+
+    reminds_beside : (c : Script) (s : ℕ) (x : Node) → TurnLaws → IsScript c → IsSoundNode c x → Beside c s x (of_region region.tick_region x)
+    reminds_beside c s x laws script k =
+        let r : regions.Rules c x.region = laws.routes.region c x.region script k.region in
+        let kept : regions.Keeps c x.region (region.tick_region x.region) = r.ticks in
+        region_beside c s x (region.tick_region x.region) kept.free_are

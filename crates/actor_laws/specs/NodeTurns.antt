@@ -1,4 +1,4 @@
--- A node by itself keeps what stands of it in each packet, and in each input but the tick, whatever the other nodes do.
+-- A node by itself keeps what stands of it in each input, whatever the other nodes do.
 use Rattle.std.specs.Prelude.{◌≡◌, ℕ, ◌-◌, ◌≤◌, Bool, true, false, List, [], length, fold, Some}
 use Rattle.yard_model.specs.declared.input.Input.{Input}
 use Rattle.yard_model.specs.declared.input.Input.TheVariants as input
@@ -44,13 +44,9 @@ MayTake c vouches st (input.Passivate e) = is_brought c e ≡ true
 MayTake c vouches st (input.FailWrite e k) = is_brought c e ≡ true
 MayTake c vouches st i = Unit {0}
 
-abbrev pub is_tick : Input → Bool
-is_tick input.Tick = true
-is_tick i = false
-
 abbrev pub TurnStands : Type 0
 TurnStands = (c : Script) (vouches : List ℕ → ℕ → ℕ → Bool) (lists : SlotLists) (st : Node) (i : Input) → IsScript c → IsSoundNode c st → IsViewed st → AreLawful c lists
-    → is_tick i ≡ false → MayTake c vouches st i → NodeKeepsIf (Finds lists st) c vouches st (turn (all_sends c) lists i st)
+    → MayTake c vouches st i → NodeKeepsIf (Finds lists st) c vouches st (turn (all_sends c) lists i st)
 
 -- a node that comes up: it stands, and holds nothing
 pub record IsNew (c : Script) (who : Incarnation) : Type 0 where

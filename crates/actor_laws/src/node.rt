@@ -7,7 +7,7 @@ use crate::region::{region_begins, region_keeps};
 use crate::start::shard_starts;
 ghost use Rattle.actor_laws.specs.NodeTurns.{TurnStands, NodeBegins};
 
-/// Each input but the tick leads from a node that stands to one that stands, whatever the other nodes
+/// Each input leads from a node that stands to one that stands, whatever the other nodes
 /// do and whatever lawful lists it finds of the slots that it doesn't hold. What it posts comes from it
 /// and is made of the script; and each fact that it tells may stand where it is told, by what the node
 /// has in hand: the lists of the slots that it holds or is granted, and the names that are live at it.

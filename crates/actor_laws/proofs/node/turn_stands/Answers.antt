@@ -1,8 +1,8 @@
-use Rattle.actor_laws.proofs.NodePackets as packets
+use Rattle.actor_laws.proofs.NodeInputs as inputs
 use Rattle.actor_laws.proofs.node.turn_stands.Goals as goal
 
 pub returns : goal.returns
-returns c = packets.turn_stands (record {
+returns c = inputs.turn_stands (record {
   routes = record { region = c.region_keeps.ensures; entities = c.entities_stand.ensures; message = c.genuine_is_message.ensures };
   starts = c.shard_starts.ensures;
   begins = c.coordinator_begins.ensures;

@@ -15,6 +15,7 @@ pub mod NameLaws
 pub mod NodeBeginning
 pub mod NodeBeside
 pub mod NodeCoordinator
+pub mod NodeCrash
 pub mod NodeInputs
 pub mod NodeLeases
 pub mod NodeMessages

@@ -7,14 +7,14 @@ use Rattle.yard_model.specs.declared.packet.Body.{Body}
 use Rattle.yard_model.specs.declared.packet.Body.TheVariants as body
 use Rattle.yard_model.specs.Genuine.{is_node, is_brought, is_producer, is_genuine_body}
 use Rattle.yard_model.specs.Members.{are_of_different_nodes}
-use Rattle.yard_model.specs.Node.{Node, new_node, after, turn}
+use Rattle.yard_model.specs.Node.{Node, new_node, after, turn, crash}
 use Rattle.yard_model.specs.Producer.{Producer}
 use Rattle.yard_model.specs.Script.{Script, IsScript, setting}
 use Rattle.yard_model.specs.SlotLists.{SlotLists}
 use Rattle.yard_model.specs.SlotReads.{queued}
 use Rattle.yard_model.specs.Words.{at}
 use Rattle.yard_model.specs.World.{all_sends}
-use Rattle.world_laws.specs.Owes.{Hand}
+use Rattle.world_laws.specs.Owes.{Hand, guarded_in_hand}
 use Rattle.actor_laws.specs.NodeStands.{IsSoundNode, IsViewed, NodeInHand}
 use Rattle.actor_laws.specs.NodeFound.{NodeKeepsIf, Finds, AreLawful}
 
@@ -47,6 +47,11 @@ MayTake c vouches st i = Unit {0}
 abbrev pub TurnStands : Type 0
 TurnStands = (c : Script) (vouches : List ℕ → ℕ → ℕ → Bool) (lists : SlotLists) (st : Node) (i : Input) → IsScript c → IsSoundNode c st → IsViewed st → AreLawful c lists
     → MayTake c vouches st i → NodeKeepsIf (Finds lists st) c vouches st (turn (all_sends c) lists i st)
+
+-- each slot that it holds is freed, once it is told that it is gone
+abbrev pub CrashStands : Type 0
+CrashStands = (c : Script) (vouches : List ℕ → ℕ → ℕ → Bool) (st : Node) (h : Hand) → IsSoundNode c st → NodeInHand c h st
+    → guarded_in_hand c vouches st.who (record { lists = h.lists; live = [] }) (crash st) ≡ true
 
 -- a node that comes up: it stands, and holds nothing
 pub record IsNew (c : Script) (who : Incarnation) : Type 0 where

@@ -5,7 +5,7 @@ use crate::messages::genuine_is_message;
 use crate::producer::{producer_is_granted, producer_keeps, producer_routes};
 use crate::region::{region_begins, region_keeps};
 use crate::start::shard_starts;
-ghost use Rattle.actor_laws.specs.NodeTurns.{TurnStands, NodeBegins};
+ghost use Rattle.actor_laws.specs.NodeTurns.{TurnStands, CrashStands, NodeBegins};
 
 /// Each input leads from a node that stands to one that stands, whatever the other nodes
 /// do and whatever lawful lists it finds of the slots that it doesn't hold. What it posts comes from it
@@ -24,6 +24,14 @@ pub fn turn_stands()
     producer_keeps();
     producer_routes();
     producer_is_granted();
+}
+
+/// The crash of a node that stands, whatever it holds: each slot that it frees may be freed, by what it
+/// has in hand, once no name is live at it.
+pub fn crash_stands()
+    ensures { CrashStands }
+{
+    producer_keeps();
 }
 
 /// A node that comes up stands, and has nothing in hand.

@@ -1,6 +1,6 @@
 -- A node that comes up.
-use Rattle.std.proofs.Common.{◌≡◌, ℕ, ◌-◌, length, sym, ap, ◌∙◌, refl, true≢false}
-use Rattle.std.specs.Prelude.{replicate, not, None, is_none}
+use Rattle.std.proofs.Common.{◌-◌, length, sym, ap, ◌∙◌, refl, true≢false}
+use Rattle.std.specs.Prelude.{not, None, is_none}
 use Rattle.std.proofs.lemmas.List.{length-replicate}
 use Rattle.yard_model.specs.declared.input.Phase.TheVariants as phase
 use Rattle.yard_model.specs.Entities.{Cell, new_cell, is_phase}

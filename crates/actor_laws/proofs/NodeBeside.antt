@@ -1,6 +1,6 @@
 -- What a node does at one shard leaves every other shard as it is, in the node and in its hand.
 use Rattle.std.proofs.Common.{◌≡◌, ℕ, List, [], ◌∷◌, ◌++◌, length, map, sym, ap, subst, ◌∙◌, refl, true, false, true≢false}
-use Rattle.std.specs.Prelude.{Bool, ◌&&◌, ◌==◌, not, nat_le, nat_lt, ◌%◌, ◌/◌, ◌+◌, ◌-◌, filter, fold, Option, Some, None, is_none, slice_index_or, slice_set, if◌then◌else◌}
+use Rattle.std.specs.Prelude.{Bool, ◌&&◌, ◌==◌, not, nat_le, nat_lt, ◌%◌, ◌/◌, ◌+◌, ◌-◌, filter, fold, Option, Some, None, slice_index_or, slice_set, if◌then◌else◌}
 use Rattle.std.specs.Option.{option_map}
 use Rattle.std.specs.List.{list_all, flat_map}
 use Rattle.std.proofs.lemmas.List.{get_or-set_other}
@@ -12,7 +12,6 @@ use Rattle.yard_model.specs.declared.fact.Fact.TheVariants as fact
 use Rattle.yard_model.specs.declared.packet.Record.{Record}
 use Rattle.yard_model.specs.declared.input.Phase.{Phase}
 use Rattle.yard_model.specs.declared.input.Phase.TheVariants as phase
-use Rattle.yard_model.specs.declared.out.Item.{Item}
 use Rattle.yard_model.specs.declared.out.Item.TheVariants as item
 use Rattle.yard_model.specs.declared.packet.Body.TheVariants as body
 use Rattle.yard_model.specs.declared.packet.Message.{Message}
@@ -21,8 +20,8 @@ use Rattle.yard_model.specs.declared.incarnation.Slot.{Slot}
 use Rattle.yard_model.specs.declared.incarnation.Slot.TheVariants as slot
 use Rattle.yard_model.specs.Entities as entities
 use Rattle.yard_model.specs.Entities.{Entities, Hosted, hosted, hosted_step, hosted_by_fact, entered, entities_after}
-use Rattle.yard_model.specs.Move.{Move, made, took, told, post, handed_off, item_of}
-use Rattle.yard_model.specs.Node.{Node, Act, by_region, by_entities, by_coordinator, move_of, after, items_of, acquire_by}
+use Rattle.yard_model.specs.Move.{Move, made, took, told, post, handed_off}
+use Rattle.yard_model.specs.Node.{Node, Act, by_region, by_entities, by_coordinator, after, items_of, acquire_by}
 use Rattle.yard_model.specs.Script.{Script, Setting, setting}
 use Rattle.yard_model.specs.Setting.{shard_of, names_of}
 use Rattle.yard_model.specs.SlotLists.{SlotLists, shard_list}
@@ -31,12 +30,11 @@ use Rattle.yard_model.specs.Trace.{slot_of, with_entry}
 use Rattle.yard_model.specs.Words.{at}
 use Rattle.yard_laws.specs.Free.{is_free_move}
 use Rattle.yard_laws.proofs.Booleans.{and_both, both, of_not, number_itself}
-use Rattle.yard_laws.proofs.PartsLaws.{region_alone, entities_alone, coordinator_alone, region_items, entities_items, coordinator_items}
+use Rattle.yard_laws.proofs.PartsLaws.{region_alone, entities_alone, coordinator_alone, entities_items, coordinator_items}
 use Rattle.world_laws.specs.Owes.{Hand, facts_in, hand_after}
 use Rattle.world_laws.proofs.Rules.{all_join, all_if, all_each}
 use Rattle.actor_laws.specs.Moves.{facts_of}
 use Rattle.actor_laws.specs.CoordinatorStands.{is_coordinator_fact}
-use Rattle.actor_laws.specs.CoordinatorStands as coordinators
 use Rattle.actor_laws.proofs.NodeCoordinator.{coordinator_in_hand}
 use Rattle.actor_laws.proofs.NodeLeases.{region_hand}
 use Rattle.actor_laws.proofs.NodeParts.{facts_both}

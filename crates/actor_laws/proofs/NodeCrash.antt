@@ -1,6 +1,6 @@
 -- The crash of a node.
-use Rattle.std.proofs.Common.{◌≡◌, ℕ, zero, suc, ◌+◌, ◌-◌, ◌<◌, ◌≤◌, List, [], ◌∷◌, ◌++◌, sym, ap, subst, ◌∙◌, refl, true, false, true≢false, arith}
-use Rattle.std.specs.Prelude.{Bool, ◌&&◌, ◌==◌, not, nat_lt, fold, slice_set, slice_index_or, Option, Some, None, is_some, IfSome}
+use Rattle.std.proofs.Common.{◌≡◌, ℕ, zero, suc, ◌+◌, ◌-◌, ◌<◌, ◌≤◌, List, [], ◌∷◌, ◌++◌, sym, ap, subst, ◌∙◌, refl, true, arith}
+use Rattle.std.specs.Prelude.{Bool, ◌&&◌, ◌==◌, not, nat_lt, fold, slice_index_or, Option, Some, None, is_some, IfSome}
 use Rattle.std.specs.List.{list_all, flat_map}
 use Rattle.std.proofs.lemmas.List.{get_or-set_other}
 use Rattle.std.proofs.lemmas.List.Sums.{fold-append}
@@ -12,10 +12,9 @@ use Rattle.yard_model.specs.declared.incarnation.Incarnation.{Incarnation}
 use Rattle.yard_model.specs.declared.incarnation.Slot.TheVariants as slot
 use Rattle.yard_model.specs.Coordinator.{Coordinator}
 use Rattle.yard_model.specs.Entities.{Hosted, hosted}
-use Rattle.yard_model.specs.Equal.{is_slot}
 use Rattle.yard_model.specs.Genuine.{is_shard, is_producer}
 use Rattle.yard_model.specs.Lawful.{is_held, is_leased, is_entry, may_follow}
-use Rattle.yard_model.specs.Node.{Node, freed_stopped, crash}
+use Rattle.yard_model.specs.Node.{Node, freed_stopped}
 use Rattle.yard_model.specs.Producer.{Producer}
 use Rattle.yard_model.specs.Script.{Script, Setting, setting}
 use Rattle.yard_model.specs.Setting.{shards, producers, names_of}
@@ -24,12 +23,12 @@ use Rattle.yard_model.specs.SlotReads.{holder, epoch}
 use Rattle.yard_model.specs.Turns.{where_some}
 use Rattle.yard_model.specs.Words.{is_at, at, numbers}
 use Rattle.yard_laws.proofs.Booleans.{both, number_itself}
-use Rattle.world_laws.specs.Owes.{Hand, has_name, hand_after, lives_in_hand, follows_in_hand, guard_in_hand, guarded_in_hand}
+use Rattle.world_laws.specs.Owes.{Hand, has_name, hand_after, lives_in_hand, guard_in_hand, guarded_in_hand}
 use Rattle.world_laws.proofs.Members.{itself_is}
 use Rattle.actor_laws.specs.CoordinatorStands.{IsSound}
 use Rattle.actor_laws.specs.EntitiesStand.{IsEntities, IsHeldShard, InHand}
 use Rattle.actor_laws.specs.ProducerStands.{ProducerKeeps, Rules}
-use Rattle.actor_laws.specs.NodeStands.{IsProducerAt, IsCoordinatorAt, IsSoundNode, NodeInHand}
+use Rattle.actor_laws.specs.NodeStands.{IsProducerAt, IsCoordinatorAt, IsSoundNode}
 use Rattle.actor_laws.specs.NodeTurns.{CrashStands}
 use Rattle.actor_laws.proofs.NodeParts.{guarded_both}
 

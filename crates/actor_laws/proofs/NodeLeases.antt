@@ -1,40 +1,33 @@
 -- The rules of a node that ask for leases: View, ShardHome and HostShard.
-use Rattle.std.proofs.Common.{◌≡◌, ℕ, ◌+◌, ◌-◌, List, [], ◌∷◌, ◌++◌, length, map, sym, ap, subst, ◌∙◌, refl, true, false, true≢false}
+use Rattle.std.proofs.Common.{◌≡◌, ℕ, ◌+◌, List, [], ◌∷◌, ◌++◌, map, sym, ap, subst, ◌∙◌, refl, true, false, true≢false}
 use Rattle.std.specs.Prelude.{Bool, ◌&&◌, ◌==◌, not, nat_le, fold, Option, Some, None, is_none, is_some, IfSome, IsTrue, if◌then◌else◌}
 use Rattle.std.specs.Option.{option_map}
 use Rattle.std.specs.List.{list_all, flat_map}
-use Rattle.std.proofs.lemmas.Grind.{flat_map-append}
 use Rattle.std.proofs.lemmas.List.Sums.{fold-append}
 use Rattle.yard_model.specs.declared.fact.Fact.{Fact}
 use Rattle.yard_model.specs.declared.fact.Fact.TheVariants as fact
-use Rattle.yard_model.specs.declared.out.Item.{Item}
-use Rattle.yard_model.specs.declared.out.Item.TheVariants as item
-use Rattle.yard_model.specs.declared.packet.Body.TheVariants as body
 use Rattle.yard_model.specs.declared.incarnation.Incarnation.{Incarnation}
 use Rattle.yard_model.specs.declared.incarnation.Slot.TheVariants as slot
-use Rattle.yard_model.specs.declared.incarnation.Stamp.{Stamp}
 use Rattle.yard_model.specs.Coordinator as coordinator
 use Rattle.yard_model.specs.Coordinator.{Coordinator, coordinator_after, new_coordinator}
-use Rattle.yard_model.specs.Entities as entities
-use Rattle.yard_model.specs.Entities.{Entities, entities_after}
-use Rattle.yard_model.specs.Genuine.{is_node, is_shard}
+use Rattle.yard_model.specs.Genuine.{is_node}
 use Rattle.yard_model.specs.Lawful.{own, is_held, may_follow}
 use Rattle.yard_model.specs.Members.{are_of_different_nodes}
-use Rattle.yard_model.specs.Move.{Move, viewed, told, item_of}
+use Rattle.yard_model.specs.Move.{Move, viewed, told}
 use Rattle.yard_model.specs.Setting.{shards}
-use Rattle.yard_model.specs.Node.{Node, Act, Rule, by_region, by_entities, by_coordinator, move_of, after, items_of, of_region, of_entities, of_coordinator, all_in_turn, acquire_by, acquire, coordinator_part, start, lead, release, view_packet, shard_home, host_shard}
+use Rattle.yard_model.specs.Node.{Node, Act, by_region, by_coordinator, after, items_of, of_region, of_coordinator, all_in_turn, acquire_by, acquire, coordinator_part, lead, view_packet}
 use Rattle.yard_model.specs.Region as region
 use Rattle.yard_model.specs.Region.{Region, region_after}
-use Rattle.yard_model.specs.Script.{Script, IsScript, setting}
-use Rattle.yard_model.specs.SlotLists.{SlotLists, shard_list}
+use Rattle.yard_model.specs.Script.{Script, IsScript}
+use Rattle.yard_model.specs.SlotLists.{SlotLists}
 use Rattle.yard_model.specs.SlotReads.{holder, holder_step, epoch, regions}
-use Rattle.yard_model.specs.Turns.{in_turn, for_each, where_some}
+use Rattle.yard_model.specs.Turns.{where_some}
 use Rattle.yard_model.specs.Words.{is_at, is_among}
 use Rattle.yard_model.proofs.FollowLaws.{own_more}
 use Rattle.yard_laws.proofs.Booleans.{and_both, both, number_itself}
-use Rattle.yard_laws.proofs.PartsLaws.{region_alone, entities_alone, coordinator_alone, region_items, entities_items}
-use Rattle.world_laws.specs.Owes.{Hand, facts_in, hand_after, follows_in_hand, lives_in_hand, guard_in_hand, guarded_in_hand, is_own_post}
-use Rattle.world_laws.proofs.Rules.{all_join, all_if, region_who, is_viewless, region_view}
+use Rattle.yard_laws.proofs.PartsLaws.{region_alone, coordinator_alone, region_items}
+use Rattle.world_laws.specs.Owes.{Hand, facts_in, hand_after, guard_in_hand, guarded_in_hand, is_own_post}
+use Rattle.world_laws.proofs.Rules.{all_join, is_viewless, region_view}
 use Rattle.actor_laws.specs.CoordinatorStands.{IsSound, CoordinatorBegins}
 use Rattle.actor_laws.specs.RegionStands as regions_law
 use Rattle.actor_laws.specs.RegionStands.{IsRegion}
@@ -42,12 +35,11 @@ use Rattle.actor_laws.specs.Moves.{facts_of}
 use Rattle.actor_laws.specs.EntitiesStand.{InHand}
 use Rattle.yard_laws.specs.Free.{is_free_move}
 use Rattle.world_laws.proofs.Packets.{lost_all}
-use Rattle.actor_laws.specs.NodeStands.{IsCoordinatorAt, IsSoundNode, IsViewed, NodeInHand, NodeKeeps}
-use Rattle.actor_laws.specs.NodeFound.{NodeKeepsIf, FindsOffice, FindsShard}
+use Rattle.actor_laws.specs.NodeStands.{IsSoundNode, IsViewed, NodeInHand, NodeKeeps}
+use Rattle.actor_laws.specs.NodeFound.{NodeKeepsIf, FindsOffice}
 use Rattle.actor_laws.proofs.NodeCoordinator.{terminate_node, terminate_lost_no_took, coordinator_stays, terminated_viewed}
-use Rattle.actor_laws.proofs.NodeMessages.{RouteLaws, release_node}
-use Rattle.actor_laws.proofs.NodeParts.{node_none, node_both, free_hands, free_facts, region_node, facts_both, items_both, guarded_both, who_stays, set_stays}
-use Rattle.actor_laws.proofs.NodeRoutes.{region_rule, register_viewless, register_node, answer_node}
+use Rattle.actor_laws.proofs.NodeParts.{node_none, node_both, free_hands, free_facts, region_node, facts_both, items_both, guarded_both, who_stays}
+use Rattle.actor_laws.proofs.NodeRoutes.{register_viewless, register_node}
 
 -- In turn.
 

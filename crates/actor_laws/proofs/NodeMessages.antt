@@ -1,6 +1,6 @@
 -- A node's rules that route several messages.
-use Rattle.std.proofs.Common.{◌≡◌, ℕ, ◌-◌, List, [], ◌∷◌, ◌++◌, map, sym, ap, subst, ◌∙◌, refl, true, false}
-use Rattle.std.specs.Prelude.{Bool, ◌==◌, fold, Option, Some, None, if◌then◌else◌}
+use Rattle.std.proofs.Common.{◌≡◌, ℕ, ◌-◌, List, [], ◌∷◌, refl, true}
+use Rattle.std.specs.Prelude.{Bool, ◌==◌, fold, Option, Some, None}
 use Rattle.std.specs.List.{list_all}
 use Rattle.yard_model.specs.declared.packet.Message.{Message}
 use Rattle.yard_model.specs.Genuine.{is_genuine}
@@ -14,7 +14,7 @@ use Rattle.yard_model.specs.Setting.{shard_of}
 use Rattle.yard_model.specs.Turns.{in_turn, for_each, where_some}
 use Rattle.yard_model.specs.Words.{at}
 use Rattle.yard_laws.proofs.Booleans.{and_both}
-use Rattle.actor_laws.specs.EntitiesStand.{IsMessage, EntitiesStandLaw}
+use Rattle.actor_laws.specs.EntitiesStand.{EntitiesStandLaw}
 use Rattle.actor_laws.specs.Messages.{GenuineIsMessage}
 use Rattle.actor_laws.specs.ProducerStands.{is_sent_well}
 use Rattle.actor_laws.specs.RegionStands as regions

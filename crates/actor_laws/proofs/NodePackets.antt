@@ -1,26 +1,23 @@
 -- Each packet of a node keeps what stands of it, and each input but the tick.
 use Rattle.std.proofs.Common.{◌≡◌, ℕ, ◌-◌, ◌+◌, ◌<◌, ◌≤◌, List, [], ◌∷◌, ◌++◌, length, map, sym, ap, subst, ◌∙◌, refl, true, false, true≢false, arith}
-use Rattle.std.specs.Prelude.{Bool, ◌&&◌, ◌==◌, fold, max, nat_le, slice_index_or, Option, Some, None, is_none, IfSome, if◌then◌else◌}
+use Rattle.std.specs.Prelude.{Bool, ◌&&◌, ◌==◌, fold, nat_le, slice_index_or, Option, Some, None, is_none, IfSome}
 use Rattle.std.specs.List.{list_all}
 use Rattle.std.proofs.lemmas.List.FromFn.{get_or-map-range_with_len}
 use Rattle.yard_model.specs.declared.charter.Sending.{Sending}
-use Rattle.yard_model.specs.declared.fact.Fact.TheVariants as fact
-use Rattle.yard_model.specs.declared.input.Input.{Input}
-use Rattle.yard_model.specs.declared.input.Input.TheVariants as input
 use Rattle.yard_model.specs.declared.packet.Body.{Body}
 use Rattle.yard_model.specs.declared.packet.Body.TheVariants as body
 use Rattle.yard_model.specs.declared.incarnation.Incarnation.{Incarnation}
 use Rattle.yard_model.specs.declared.incarnation.Slot.TheVariants as slot
 use Rattle.yard_model.specs.Coordinator as coordinator
 use Rattle.yard_model.specs.Coordinator.{Coordinator}
-use Rattle.yard_model.specs.Genuine.{is_node, is_shard, is_producer, is_brought, is_genuine, is_genuine_body}
-use Rattle.yard_model.specs.Move.{Move, told, post, demanded}
-use Rattle.yard_model.specs.Node.{Node, Act, Rule, by_entities, by_producer, after, of_producer, of_coordinator, route_numbers, all_in_turn, acquire, push, request, ack, send, send_by, produce, packet, turn}
+use Rattle.yard_model.specs.Genuine.{is_node, is_shard, is_producer, is_brought}
+use Rattle.yard_model.specs.Move.{Move, post, demanded}
+use Rattle.yard_model.specs.Node.{Node, Act, by_entities, by_producer, after, of_producer, of_coordinator, route_numbers, all_in_turn, acquire, push, request, ack, send, send_by, produce, packet}
 use Rattle.yard_model.specs.Producer as producer
 use Rattle.yard_model.specs.Producer.{Producer, producer_after}
 use Rattle.yard_model.specs.Script.{Script, IsScript, sends}
 use Rattle.yard_model.specs.SlotLists.{SlotLists, queue_list}
-use Rattle.yard_model.specs.SlotReads.{regions, confirmed}
+use Rattle.yard_model.specs.SlotReads.{regions}
 use Rattle.yard_model.specs.Turns.{where_some}
 use Rattle.yard_model.specs.Words.{at, is_same, is_among}
 use Rattle.yard_model.specs.World.{all_sends}
@@ -31,20 +28,20 @@ use Rattle.world_laws.proofs.Place.{inside, some_is, placed_at}
 use Rattle.world_laws.proofs.Room.{room}
 use Rattle.actor_laws.specs.CoordinatorStands as coordinators
 use Rattle.actor_laws.specs.CoordinatorStands.{IsSound, CoordinatorBegins}
-use Rattle.actor_laws.specs.EntitiesStand.{InHand, EntityRules}
+use Rattle.actor_laws.specs.EntitiesStand.{InHand}
 use Rattle.actor_laws.specs.ProducerStands.{ProducerKeeps, ProducerRoutes, ProducerIsGranted, is_sent_well}
 use Rattle.actor_laws.specs.RegionStands.{IsRegion}
 use Rattle.actor_laws.specs.ShardStart.{ShardStarts}
 use Rattle.actor_laws.specs.NodeStands.{IsCoordinatorAt, IsSoundNode, IsViewed, NodeKeeps}
 use Rattle.actor_laws.specs.NodeFound.{NodeKeepsIf, FindsOffice, FindsShard, Finds, AreLawful}
-use Rattle.actor_laws.specs.NodeTurns.{MayConfirm, Promised, IsPromised, MayTake}
+use Rattle.actor_laws.specs.NodeTurns.{MayConfirm, IsPromised}
 use Rattle.actor_laws.proofs.CoordinatorLaws.{coordinator_keeps}
 use Rattle.actor_laws.proofs.NodeCoordinator.{rule_node, coordinate_node, rebalance_no_took}
 use Rattle.actor_laws.proofs.NodeLeases.{plain_if, if_if, view_keeps}
 use Rattle.actor_laws.proofs.NodeMessages.{RouteLaws, routed_node, route_numbers_node}
-use Rattle.actor_laws.proofs.NodeParts.{node_none, node_both, entities_node}
-use Rattle.actor_laws.proofs.NodeProducers.{put, producer_move, push_node, demand_node, queue_node, confirm_node, give_back_node, produce_node}
-use Rattle.actor_laws.proofs.NodeRoutes.{acknowledged_node, begin_hand_off_node, leave_node, hand_off_node, recovered_node, passivate_node, stop_node}
+use Rattle.actor_laws.proofs.NodeParts.{node_none, node_both}
+use Rattle.actor_laws.proofs.NodeProducers.{producer_move, push_node, demand_node, queue_node, confirm_node, produce_node}
+use Rattle.actor_laws.proofs.NodeRoutes.{acknowledged_node, begin_hand_off_node, hand_off_node, recovered_node, passivate_node, stop_node}
 use Rattle.actor_laws.proofs.NodeStarts.{home_node, host_node}
 
 -- the laws of the actors that a turn rests on

@@ -1,6 +1,6 @@
 -- A node's rules: one after another, and those of its region and of its entities.
-use Rattle.std.proofs.Common.{◌≡◌, ℕ, ◌-◌, List, [], ◌∷◌, ◌++◌, length, map, sym, ap, subst, ◌∙◌, refl, true, false, true≢false}
-use Rattle.std.specs.Prelude.{Bool, ◌&&◌, fold, slice_index_or, Option, Some, None, IfSome, if◌then◌else◌}
+use Rattle.std.proofs.Common.{◌≡◌, ℕ, ◌-◌, List, [], ◌∷◌, ◌++◌, length, map, sym, ap, subst, ◌∙◌, refl, true, false}
+use Rattle.std.specs.Prelude.{Bool, fold, slice_index_or, Option, Some, None, IfSome, if◌then◌else◌}
 use Rattle.std.specs.List.{list_all, flat_map}
 use Rattle.std.proofs.lemmas.Grind.{flat_map-append}
 use Rattle.std.proofs.lemmas.List.Sums.{fold-append}
@@ -14,22 +14,19 @@ use Rattle.yard_model.specs.Coordinator.{Coordinator}
 use Rattle.yard_model.specs.Entities.{entities_after}
 use Rattle.yard_model.specs.Members.{are_of_different_nodes}
 use Rattle.yard_model.specs.Move.{Move, made, item_of}
-use Rattle.yard_model.specs.Node.{Node, Act, Rule, by_region, by_entities, move_of, after, items_of, of_region, of_entities}
+use Rattle.yard_model.specs.Node.{Node, Act, by_region, by_entities, move_of, after, items_of}
 use Rattle.yard_model.specs.Region.{region_after}
-use Rattle.yard_model.specs.Script.{Script, setting}
-use Rattle.yard_model.specs.SlotLists.{SlotLists}
-use Rattle.yard_model.specs.Trace.{lists_step}
-use Rattle.yard_laws.specs.Free.{is_free, is_free_item, is_free_move}
+use Rattle.yard_model.specs.Script.{Script}
+use Rattle.yard_laws.specs.Free.{is_free, is_free_move}
 use Rattle.yard_laws.proofs.Booleans.{true_is_not_false, and_both, both}
 use Rattle.yard_laws.proofs.PartsLaws.{region_alone, entities_alone, region_items, entities_items}
 use Rattle.world_laws.specs.Owes.{Hand, facts_in, hand_after, guard_in_hand, guarded_in_hand, is_own_post}
 use Rattle.world_laws.proofs.Rules.{all_join, region_who}
 use Rattle.actor_laws.specs.Moves.{is_own_move, facts_of}
-use Rattle.actor_laws.specs.CoordinatorStands.{IsSound}
 use Rattle.actor_laws.specs.EntitiesStand as entities
 use Rattle.actor_laws.specs.EntitiesStand.{IsEntities, InHand, is_entity_fact}
 use Rattle.actor_laws.specs.RegionStands as regions
-use Rattle.actor_laws.specs.NodeStands.{IsProducerAt, IsCoordinatorAt, IsSoundNode, NodeInHand, NodeKeeps}
+use Rattle.actor_laws.specs.NodeStands.{IsSoundNode, NodeInHand, NodeKeeps}
 use Rattle.actor_laws.specs.NodeFound.{NodeKeepsIf}
 use Rattle.actor_laws.proofs.EntitiesMoves as moves
 

@@ -1,6 +1,6 @@
 -- A node's rules of one actor, and routing.
-use Rattle.std.proofs.Common.{◌≡◌, ℕ, ◌-◌, List, [], ◌∷◌, ◌++◌, length, map, sym, ap, subst, ◌∙◌, refl, true, false, true≢false}
-use Rattle.std.specs.Prelude.{Bool, ◌&&◌, not, nat_lt, fold, sum_by, slice_index_or, Option, Some, None, is_none, IfSome, if◌then◌else◌}
+use Rattle.std.proofs.Common.{◌≡◌, ℕ, List, [], ◌∷◌, ◌++◌, length, map, sym, ap, subst, ◌∙◌, refl, true, false, true≢false}
+use Rattle.std.specs.Prelude.{Bool, ◌&&◌, not, nat_lt, sum_by, slice_index_or, Option, Some, None, is_none, if◌then◌else◌}
 use Rattle.std.specs.List.{list_all, flat_map}
 use Rattle.yard_model.specs.declared.fact.Fact.TheVariants as fact
 use Rattle.yard_model.specs.declared.packet.Body.{Body}
@@ -12,15 +12,13 @@ use Rattle.yard_model.specs.Entities as entities
 use Rattle.yard_model.specs.Entities.{Hosted, Entities}
 use Rattle.yard_model.specs.Genuine.{is_node, is_shard, is_brought, is_genuine_body}
 use Rattle.yard_model.specs.Members.{are_of_different_nodes}
-use Rattle.yard_model.specs.Move.{Move, told, post, marked, released}
-use Rattle.yard_model.specs.Node.{Node, Act, Rule, by_region, by_entities, after, of_region, of_entities, is_running, route, hand_off}
+use Rattle.yard_model.specs.Move.{Move, told, post, marked}
+use Rattle.yard_model.specs.Node.{Node, by_region, of_region, of_entities, is_running, route, hand_off}
 use Rattle.yard_model.specs.Region as region
 use Rattle.yard_model.specs.Region.{Region, region_after}
-use Rattle.yard_model.specs.Script.{Script, Setting, IsScript, setting}
+use Rattle.yard_model.specs.Script.{Script, Setting, IsScript}
 use Rattle.yard_model.specs.Setting.{shard_of, shards}
-use Rattle.yard_model.specs.Turns.{in_turn, for_each, where_some}
 use Rattle.yard_model.specs.Words.{is_at, is_same, is_below, is_empty}
-use Rattle.yard_laws.specs.Entries.{NextFollows, EntitiesFollow}
 use Rattle.yard_laws.proofs.Booleans.{and_both}
 use Rattle.world_laws.proofs.Rules.{all_join, all_if, all_some, all_each, is_viewless, region_view}
 use Rattle.actor_laws.specs.EntitiesStand.{IsEntities, IsMessage, EntityRules}

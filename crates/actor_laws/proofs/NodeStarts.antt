@@ -1,7 +1,6 @@
 -- The rules of a node that start a shard: ShardHome and HostShard.
 use Rattle.std.proofs.Common.{◌≡◌, ℕ, List, [], ◌∷◌, ◌++◌, map, sym, ap, subst, ◌∙◌, refl, true, false, true≢false}
 use Rattle.std.specs.Prelude.{Bool, not, fold, Option, Some, None, is_none, if◌then◌else◌}
-use Rattle.std.proofs.lemmas.List.Sums.{fold-append}
 use Rattle.yard_model.specs.declared.fact.Fact.{Fact}
 use Rattle.yard_model.specs.declared.packet.Body.TheVariants as body
 use Rattle.yard_model.specs.declared.incarnation.Incarnation.{Incarnation}
@@ -12,17 +11,16 @@ use Rattle.yard_model.specs.Entities.{Entities, Hosted, hosted, entities_after}
 use Rattle.yard_model.specs.Genuine.{is_node, is_shard}
 use Rattle.yard_model.specs.Lawful.{own}
 use Rattle.yard_model.specs.Move.{Move, post}
-use Rattle.yard_model.specs.Node.{Node, Act, by_region, by_entities, after, items_of, of_region, of_entities, all_in_turn, acquire, start, release, shard_home, host_shard}
+use Rattle.yard_model.specs.Node.{Node, Act, by_region, by_entities, after, of_region, of_entities, all_in_turn, acquire, start, release, shard_home, host_shard}
 use Rattle.yard_model.specs.Region as region
 use Rattle.yard_model.specs.Script.{Script, IsScript}
 use Rattle.yard_model.specs.SlotLists.{SlotLists, shard_list}
 use Rattle.yard_model.specs.Turns.{in_turn}
 use Rattle.yard_laws.proofs.PartsLaws.{region_alone, entities_alone}
-use Rattle.world_laws.specs.Owes.{Hand, facts_in, hand_after}
-use Rattle.actor_laws.specs.EntitiesStand.{IsEntities}
+use Rattle.world_laws.specs.Owes.{Hand}
 use Rattle.actor_laws.specs.RegionStands as regions
 use Rattle.actor_laws.specs.ShardStart.{KeepsFound, ShardStarts}
-use Rattle.actor_laws.specs.NodeStands.{IsSoundNode, NodeInHand, NodeKeeps}
+use Rattle.actor_laws.specs.NodeStands.{IsSoundNode, NodeKeeps}
 use Rattle.actor_laws.specs.NodeFound.{NodeKeepsIf, FindsShard}
 use Rattle.actor_laws.proofs.NodeLeases.{plain_if, both_if, then_plain, if_if, region_hand}
 use Rattle.actor_laws.proofs.NodeMessages.{RouteLaws, release_node}

@@ -1,30 +1,28 @@
 -- The tick of a node.
-use Rattle.std.proofs.Common.{◌≡◌, ℕ, zero, suc, ◌+◌, ◌-◌, ◌<◌, ◌≤◌, List, [], ◌∷◌, ◌++◌, map, sym, ap, subst, ◌∙◌, refl, true, false, true≢false, arith}
+use Rattle.std.proofs.Common.{◌≡◌, ℕ, zero, suc, ◌+◌, ◌-◌, ◌<◌, ◌≤◌, List, [], ◌∷◌, ◌++◌, map, sym, ap, subst, ◌∙◌, refl, true, arith}
 use Rattle.std.specs.Prelude.{Bool, ◌&&◌, ◌==◌, not, nat_lt, fold, Option, Some, None, is_none, IfSome, if◌then◌else◌}
 use Rattle.std.specs.List.{list_all}
-use Rattle.std.proofs.lemmas.List.Sums.{fold-append}
 use Rattle.std.proofs.lemmas.Bool.Decides.{nat_tests}
 use Rattle.yard_model.specs.declared.fact.Fact.{Fact}
 use Rattle.yard_model.specs.declared.packet.Message.{Message}
-use Rattle.yard_model.specs.declared.incarnation.Incarnation.{Incarnation}
 use Rattle.yard_model.specs.declared.incarnation.Slot.TheVariants as slot
 use Rattle.yard_model.specs.Coordinator as coordinator
 use Rattle.yard_model.specs.Coordinator.{Coordinator}
 use Rattle.yard_model.specs.Entities as entities
 use Rattle.yard_model.specs.Entities.{Entities, hosted}
-use Rattle.yard_model.specs.Genuine.{is_shard, is_producer, is_genuine}
+use Rattle.yard_model.specs.Genuine.{is_shard, is_genuine}
 use Rattle.yard_model.specs.Move.{Move, released, pushed}
-use Rattle.yard_model.specs.Node.{Node, Act, Rule, by_region, by_entities, by_producer, by_coordinator, after, items_of, of_region, of_entities, of_producer, of_coordinator, all_in_turn, is_running, route, release, route_numbers, acquire, start, lead, start_again, send_again, tick}
+use Rattle.yard_model.specs.Node.{Node, Act, by_region, by_entities, by_coordinator, after, items_of, of_region, of_entities, of_producer, of_coordinator, all_in_turn, is_running, route, release, route_numbers, acquire, start, lead, start_again, send_again, tick}
 use Rattle.yard_model.specs.Producer as producer
 use Rattle.yard_model.specs.Producer.{Producer}
 use Rattle.yard_model.specs.Region as region
-use Rattle.yard_model.specs.Script.{Script, Setting, IsScript, setting}
+use Rattle.yard_model.specs.Script.{Script, IsScript, setting}
 use Rattle.yard_model.specs.Setting.{shard_of, shards, producers}
 use Rattle.yard_model.specs.SlotLists.{SlotLists, shard_list}
 use Rattle.yard_model.specs.SlotReads.{holder}
 use Rattle.yard_model.specs.Turns.{in_turn, for_each, where_some}
 use Rattle.yard_model.specs.Words.{is_at, at, numbers}
-use Rattle.yard_laws.proofs.Booleans.{and_both, both, number_itself, same_number}
+use Rattle.yard_laws.proofs.Booleans.{and_both, same_number}
 use Rattle.yard_laws.proofs.PartsLaws.{entities_alone}
 use Rattle.world_laws.specs.Owes.{Hand, facts_in, hand_after}
 use Rattle.actor_laws.specs.CoordinatorStands as coordinators
@@ -32,11 +30,10 @@ use Rattle.actor_laws.specs.EntitiesStand.{IsEntities, EntityRules}
 use Rattle.actor_laws.specs.ProducerStands as producing
 use Rattle.actor_laws.specs.RegionStands as regions
 use Rattle.actor_laws.specs.RegionStands.{is_kept_well}
-use Rattle.actor_laws.specs.NodeStands.{IsCoordinatorAt, IsSoundNode, NodeInHand, NodeKeeps}
+use Rattle.actor_laws.specs.NodeStands.{IsCoordinatorAt, IsSoundNode, NodeKeeps}
 use Rattle.actor_laws.specs.NodeFound.{NodeKeepsIf, FindsOffice, FindsShard, Finds, AreLawful}
-use Rattle.actor_laws.specs.NodeTurns.{TurnStands}
 use Rattle.actor_laws.proofs.CoordinatorLaws.{coordinator_keeps}
-use Rattle.actor_laws.proofs.NodeBeside.{Beside, beside_none, beside_both, beside_if, region_beside, coordinator_beside, office_beside, is_beside, entities_beside, acquire_beside, remembered_beside, deliver_beside}
+use Rattle.actor_laws.proofs.NodeBeside.{Beside, beside_none, beside_both, beside_if, region_beside, coordinator_beside, office_beside, entities_beside, acquire_beside, remembered_beside, deliver_beside}
 use Rattle.actor_laws.proofs.NodeCoordinator.{tick_node}
 use Rattle.actor_laws.proofs.NodeLeases.{plain_if, both_if, then_plain, if_if, asks_node, lead_node}
 use Rattle.actor_laws.proofs.NodeMessages.{RouteLaws, routed_node, released_node, release_node, route_numbers_node}
@@ -44,7 +41,7 @@ use Rattle.actor_laws.proofs.NodePackets.{TurnLaws, weaker, producer_node}
 use Rattle.actor_laws.proofs.EntitiesMoves.{set_stays}
 use Rattle.actor_laws.proofs.NodeParts.{node_none, node_both}
 use Rattle.actor_laws.proofs.NodeProducers.{repeat_node}
-use Rattle.actor_laws.proofs.NodeRoutes.{tick_region_node, tick_entities_node, same_set}
+use Rattle.actor_laws.proofs.NodeRoutes.{tick_region_node, tick_entities_node}
 use Rattle.actor_laws.proofs.NodeStarts.{starts_node}
 
 -- What goes on beside a shard.

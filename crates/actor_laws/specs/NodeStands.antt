@@ -1,5 +1,5 @@
 -- What stands of a node by itself between its rules: its actors stand, and are of one incarnation. What a rule keeps and tells.
-use Rattle.std.specs.Prelude.{◌≡◌, ℕ, ◌-◌, ◌<◌, Bool, true, List, length, fold, Some, IfSome, IsTrue}
+use Rattle.std.specs.Prelude.{◌≡◌, ℕ, ◌-◌, ◌<◌, Bool, true, List, length, fold, Some, IfSome}
 use Rattle.std.specs.List.{list_all}
 use Rattle.yard_model.specs.declared.incarnation.Incarnation.{Incarnation}
 use Rattle.yard_model.specs.Coordinator.{Coordinator}

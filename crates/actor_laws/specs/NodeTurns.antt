@@ -1,5 +1,5 @@
 -- A node by itself keeps what stands of it in each input, whatever the other nodes do.
-use Rattle.std.specs.Prelude.{◌≡◌, ℕ, ◌-◌, ◌≤◌, Bool, true, false, List, [], length, fold, Some}
+use Rattle.std.specs.Prelude.{◌≡◌, ℕ, ◌-◌, ◌≤◌, Bool, true, List, [], length, Some}
 use Rattle.yard_model.specs.declared.input.Input.{Input}
 use Rattle.yard_model.specs.declared.input.Input.TheVariants as input
 use Rattle.yard_model.specs.declared.incarnation.Incarnation.{Incarnation}
@@ -7,7 +7,7 @@ use Rattle.yard_model.specs.declared.packet.Body.{Body}
 use Rattle.yard_model.specs.declared.packet.Body.TheVariants as body
 use Rattle.yard_model.specs.Genuine.{is_node, is_brought, is_producer, is_genuine_body}
 use Rattle.yard_model.specs.Members.{are_of_different_nodes}
-use Rattle.yard_model.specs.Node.{Node, new_node, after, turn, crash}
+use Rattle.yard_model.specs.Node.{Node, new_node, turn, crash}
 use Rattle.yard_model.specs.Producer.{Producer}
 use Rattle.yard_model.specs.Script.{Script, IsScript, setting}
 use Rattle.yard_model.specs.SlotLists.{SlotLists}

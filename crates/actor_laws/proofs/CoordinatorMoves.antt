@@ -25,6 +25,7 @@ use Rattle.world_laws.proofs.Members.{same_is, itself_is}
 use Rattle.world_laws.proofs.Rules.{all_join}
 use Rattle.actor_laws.specs.Moves.{is_own_move, facts_of}
 use Rattle.actor_laws.specs.CoordinatorStands.{is_owned, is_sound_moving, IsSound, is_coordinator_fact, entered, Keeps}
+use Rattle.actor_laws.proofs.EntitiesMoves.{facts_append}
 use Rattle.actor_laws.proofs.CoordinatorReads.{allocation_more, allocated_of, regions_are_nodes}
 
 -- Lists that are picked from and mapped.
@@ -247,11 +248,6 @@ all_own c who list (m ∷ ms) h =
     let n : (is_allowed c who list m ≡ true) × (goes c who (coordinator_step list m) ms ≡ true) = and_both (is_allowed c who list m) (goes c who (coordinator_step list m) ms) h in
     both (is_own_move c who m) (list_all (is_own_move c who) ms) (one_own c who list m n.0) (all_own c who (coordinator_step list m) ms n.1)
 
-facts_both : (xs ys : List Item) → facts_in (xs ++ ys) ≡ facts_in xs ++ facts_in ys
-facts_both [] ys = refl
-facts_both (item.Fact f ∷ xs) ys = ap (λ fs. f ∷ fs) (facts_both xs ys)
-facts_both (item.Post p ∷ xs) ys = facts_both xs ys
-
 one_fact : (c : Script) (who : Incarnation) (list : List Fact) (m : Move) → is_allowed c who list m ≡ true → list_all is_coordinator_fact (facts_in (item_of m)) ≡ true
 one_fact c who list (made (item.Fact (fact.Registered r))) h = refl
 one_fact c who list (made (item.Fact (fact.Terminated r))) h = refl
@@ -267,7 +263,7 @@ all_facts : (c : Script) (who : Incarnation) (list : List Fact) (ms : List Move)
 all_facts c who list [] h = refl
 all_facts c who list (m ∷ ms) h =
     let n : (is_allowed c who list m ≡ true) × (goes c who (coordinator_step list m) ms ≡ true) = and_both (is_allowed c who list m) (goes c who (coordinator_step list m) ms) h in
-    ap (list_all is_coordinator_fact) (facts_both (item_of m) (flat_map item_of ms))
+    ap (list_all is_coordinator_fact) (facts_append (item_of m) (flat_map item_of ms))
     ∙ all_join is_coordinator_fact (facts_in (item_of m)) (facts_of ms) (one_fact c who list m n.0) (all_facts c who (coordinator_step list m) ms n.1)
 
 one_entered : (list : List Fact) (m : Move) → coordinator_step list m ≡ fold entered list (facts_in (item_of m))
@@ -281,7 +277,7 @@ all_entered : (list : List Fact) (ms : List Move) → fold coordinator_step list
 all_entered list [] = refl
 all_entered list (m ∷ ms) =
     all_entered (coordinator_step list m) ms
-    ∙ (ap (λ l. fold entered l (facts_of ms)) (one_entered list m) ∙ (sym (fold-append entered list (facts_in (item_of m)) (facts_of ms)) ∙ ap (fold entered list) (sym (facts_both (item_of m) (flat_map item_of ms)))))
+    ∙ (ap (λ l. fold entered l (facts_of ms)) (one_entered list m) ∙ (sym (fold-append entered list (facts_in (item_of m)) (facts_of ms)) ∙ ap (fold entered list) (sym (facts_append (item_of m) (flat_map item_of ms)))))
 
 pub entries_after : (st : Coordinator) (ms : List Move) → (fold coordinator_after st ms).entries ≡ fold coordinator_step st.entries ms
 entries_after st [] = refl

@@ -35,15 +35,15 @@ use Rattle.actor_laws.proofs.EntitiesCells.{own_cell, other_cell, cells_count}
 
 -- Moves in turn.
 
-facts_append : (xs ys : List Item) → facts_in (xs ++ ys) ≡ facts_in xs ++ facts_in ys
+pub facts_append : (xs ys : List Item) → facts_in (xs ++ ys) ≡ facts_in xs ++ facts_in ys
 facts_append [] ys = refl
 facts_append (item.Fact f ∷ is) ys = ap (λ fs. f ∷ fs) (facts_append is ys)
 facts_append (item.Post p ∷ is) ys = facts_append is ys
 
-facts_both : (xs ys : List Move) → facts_of (xs ++ ys) ≡ facts_of xs ++ facts_of ys
+pub facts_both : (xs ys : List Move) → facts_of (xs ++ ys) ≡ facts_of xs ++ facts_of ys
 facts_both xs ys = ap facts_in (flat_map-append item_of xs ys) ∙ facts_append (flat_map item_of xs) (flat_map item_of ys)
 
-guarded_both : (c : Script) (vouches : List ℕ → ℕ → ℕ → Bool) (who : Incarnation) (h : Hand) (xs ys : List Fact) → guarded_in_hand c vouches who h xs ≡ true → guarded_in_hand c vouches who (fold (hand_after c) h xs) ys ≡ true → guarded_in_hand c vouches who h (xs ++ ys) ≡ true
+pub guarded_both : (c : Script) (vouches : List ℕ → ℕ → ℕ → Bool) (who : Incarnation) (h : Hand) (xs ys : List Fact) → guarded_in_hand c vouches who h xs ≡ true → guarded_in_hand c vouches who (fold (hand_after c) h xs) ys ≡ true → guarded_in_hand c vouches who h (xs ++ ys) ≡ true
 guarded_both c vouches who h [] ys f g = g
 guarded_both c vouches who h (x ∷ xs) ys f g =
     let m : (guard_in_hand c vouches who h x ≡ true) × (guarded_in_hand c vouches who (hand_after c h x) xs ≡ true) = and_both (guard_in_hand c vouches who h x) (guarded_in_hand c vouches who (hand_after c h x) xs) f in

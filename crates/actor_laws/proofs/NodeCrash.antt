@@ -30,7 +30,8 @@ use Rattle.actor_laws.specs.EntitiesStand.{IsEntities, IsHeldShard, InHand}
 use Rattle.actor_laws.specs.ProducerStands.{ProducerKeeps, Rules}
 use Rattle.actor_laws.specs.NodeStands.{IsProducerAt, IsCoordinatorAt, IsSoundNode}
 use Rattle.actor_laws.specs.NodeTurns.{CrashStands}
-use Rattle.actor_laws.proofs.NodeParts.{guarded_both}
+use Rattle.actor_laws.proofs.NodeParts.{is_below}
+use Rattle.actor_laws.proofs.EntitiesMoves.{guarded_both}
 
 -- a slot that is held may be freed
 freed_follows : (list : List Fact) (who : Incarnation) → holder list ≡ Some who → (is_held list && (epoch list == epoch list)) ≡ true
@@ -89,9 +90,6 @@ record AllFreed (c : Script) (v : List ℕ → ℕ → ℕ → Bool) (st : Node)
   guarded_are : guarded_in_hand c v st.who h fs ≡ true
   coordinator_is : (fold (hand_after c) h fs).lists.coordinator ≡ was.lists.coordinator
   queues_are : (fold (hand_after c) h fs).lists.queues ≡ was.lists.queues
-
-is_below : (x y : ℕ) → x < y → nat_lt x y ≡ true
-is_below x y less = grind (arith, nat_tests)
 
 all_shards : (c : Script) (v : List ℕ → ℕ → ℕ → Bool) (st : Node) (a n : ℕ) (was h : Hand) → IsSoundNode c st → a + n ≤ c.config.shards → Freeing st a was h → AllFreed c v st was h (flat_map (shard_freed st) (numbers a n))
 all_shards c v st a zero was h is below f = record { guarded_are = refl; coordinator_is = f.coordinator_is; queues_are = f.queues_are }

@@ -10,9 +10,9 @@ use Rattle.actor_laws.specs.EntitiesStand.{EntityRules}
 use Rattle.actor_laws.specs.NodeFound.{Finds}
 use Rattle.actor_laws.specs.NodeTurns.{TurnStands}
 use Rattle.actor_laws.proofs.NodeLeases.{plain_if}
-use Rattle.actor_laws.proofs.NodePackets.{TurnLaws, rebalance_node, above_zero, producer_node, send_node, produces_node, note_node, packet_node}
+use Rattle.actor_laws.proofs.NodePackets.{TurnLaws, rebalance_node, producer_node, send_node, produces_node, note_node, packet_node}
 use Rattle.actor_laws.proofs.NodeParts.{entities_node}
-use Rattle.actor_laws.proofs.NodeProducers.{give_back_node}
+use Rattle.actor_laws.proofs.NodeProducers.{above_zero, give_back_node}
 use Rattle.actor_laws.proofs.NodeRoutes.{leave_node}
 use Rattle.actor_laws.proofs.NodeTicks.{ticks_node}
 
@@ -23,7 +23,7 @@ turn_stands laws c v lists st input.Leave script is viewed lawful may = plain_if
 turn_stands laws c v lists st (input.Rebalance n) script is viewed lawful may = plain_if (Finds lists st) c v st (turn (all_sends c) lists (input.Rebalance n) st) (rebalance_node c v st n is)
 turn_stands laws c v lists st (input.Produce p) script is viewed lawful may = produces_node c v lists p st laws is lawful may
 turn_stands laws c v lists st (input.Rest p) script is viewed lawful may =
-    plain_if (Finds lists st) c v st (turn (all_sends c) lists (input.Rest p) st) (producer_node c v st p producer.give_back is (λ k g. give_back_node laws.produces c v st p k is (above_zero c p may) g))
+    plain_if (Finds lists st) c v st (turn (all_sends c) lists (input.Rest p) st) (producer_node c v st p producer.give_back is (λ k g. give_back_node laws.produces c v st p k is (above_zero p c.config.producers may).0 g))
 turn_stands laws c v lists st (input.Send p) script is viewed lawful may = plain_if (Finds lists st) c v st (turn (all_sends c) lists (input.Send p) st) (send_node c v p st laws script is may)
 turn_stands laws c v lists st (input.Passivate e) script is viewed lawful may = plain_if (Finds lists st) c v st (turn (all_sends c) lists (input.Passivate e) st) (note_node c v st e is may)
 turn_stands laws c v lists st (input.FailWrite e k) script is viewed lawful may =

@@ -38,7 +38,8 @@ use Rattle.world_laws.proofs.Packets.{lost_all}
 use Rattle.actor_laws.specs.NodeStands.{IsSoundNode, IsViewed, NodeInHand, NodeKeeps}
 use Rattle.actor_laws.specs.NodeFound.{NodeKeepsIf, FindsOffice}
 use Rattle.actor_laws.proofs.NodeCoordinator.{terminate_node, terminate_lost_no_took, coordinator_stays, terminated_viewed}
-use Rattle.actor_laws.proofs.NodeParts.{node_none, node_both, free_hands, free_facts, region_node, facts_both, items_both, guarded_both, who_stays}
+use Rattle.actor_laws.proofs.EntitiesMoves.{guarded_both}
+use Rattle.actor_laws.proofs.NodeParts.{node_none, node_both, free_hands, free_facts, region_node, facts_both, items_both, who_stays}
 use Rattle.actor_laws.proofs.NodeRoutes.{register_viewless, register_node}
 
 -- In turn.

@@ -40,7 +40,7 @@ use Rattle.actor_laws.proofs.NodeCoordinator.{rule_node, coordinate_node, rebala
 use Rattle.actor_laws.proofs.NodeLeases.{plain_if, if_if, view_keeps}
 use Rattle.actor_laws.proofs.NodeMessages.{RouteLaws, routed_node, route_numbers_node}
 use Rattle.actor_laws.proofs.NodeParts.{node_none, node_both}
-use Rattle.actor_laws.proofs.NodeProducers.{producer_move, push_node, demand_node, queue_node, confirm_node, produce_node}
+use Rattle.actor_laws.proofs.NodeProducers.{above_zero, producer_move, push_node, demand_node, queue_node, confirm_node, produce_node}
 use Rattle.actor_laws.proofs.NodeRoutes.{acknowledged_node, begin_hand_off_node, hand_off_node, recovered_node, passivate_node, stop_node}
 use Rattle.actor_laws.proofs.NodeStarts.{home_node, host_node}
 
@@ -71,12 +71,6 @@ pub rebalance_node : (c : Script) (v : List ℕ → ℕ → ℕ → Bool) (st : 
 rebalance_node c v st limit is = rule_node c v st (coordinator.rebalance limit) is (λ k e sound. let r : coordinators.KeepsRules c k = coordinator_keeps c k sound in r.rebalances limit) (rebalance_no_took limit)
 
 -- Producers.
-
--- a producer's number is above zero
-pub above_zero : (c : Script) (p : ℕ) → is_producer c p ≡ true → 0 < p
-above_zero c p e =
-    let low : 1 ≤ p = at_most 1 p (and_both (nat_le 1 p) (nat_le p c.config.producers) e).0 in
-    omega (arith, low)
 
 -- a rule of a producer, where the node has it
 pub producer_node : (c : Script) (v : List ℕ → ℕ → ℕ → Bool) (st : Node) (p : ℕ) (f : Producer → List Move) → IsSoundNode c st → ((k : Producer) → at st.producers (p - 1) ≡ Some k → NodeKeeps c v st (map (by_producer p) (f k))) → NodeKeeps c v st (of_producer p f st)
@@ -143,7 +137,7 @@ pub send_node : (c : Script) (v : List ℕ → ℕ → ℕ → Bool) (p : ℕ) (
 send_node c v p st laws script is number = by (at st.producers (p - 1)) refl
   where
     above : 0 < p
-    above = above_zero c p number
+    above = (above_zero p c.config.producers number).0
 
     by_next : (k : Producer) → at st.producers (p - 1) ≡ Some k → (o : Option Sending) → producer.next_sending (slice_index_or (all_sends c) (p - 1) []) k ≡ o → NodeKeeps c v st (send_by p o st)
     by_next k found None next = node_none c v st is
@@ -205,9 +199,9 @@ packet_node c v lists st from (body.StopEntity e) laws script is viewed lawful m
 packet_node c v lists st from (body.Sequenced m) laws script is viewed lawful may = plain_if (Finds lists st) c v st (packet lists from (body.Sequenced m) st) (routed_node c v st m laws.routes script is may.genuine)
 packet_node c v lists st from (body.Request p e n u) laws script is viewed lawful may =
     plain_if (Finds lists st) c v st (packet lists from (body.Request p e n u) st)
-    (request_node c v p e n u st laws script is (above_zero c p (and_both (is_producer c p) (is_brought c e) (and_both (is_producer c p && is_brought c e) (u == n + c.config.window) may.genuine).0).0) may.promised)
+    (request_node c v p e n u st laws script is (above_zero p c.config.producers (and_both (is_producer c p) (is_brought c e) (and_both (is_producer c p && is_brought c e) (u == n + c.config.window) may.genuine).0).0).0 may.promised)
 packet_node c v lists st from (body.Ack p e n) laws script is viewed lawful may =
-    plain_if (Finds lists st) c v st (packet lists from (body.Ack p e n) st) (ack_node c v p e n st laws script is (above_zero c p (and_both (is_producer c p) (is_brought c e) may.genuine).0) may.promised)
+    plain_if (Finds lists st) c v st (packet lists from (body.Ack p e n) st) (ack_node c v p e n st laws script is (above_zero p c.config.producers (and_both (is_producer c p) (is_brought c e) may.genuine).0).0 may.promised)
 packet_node c v lists st from (body.Resend p e f) laws script is viewed lawful may =
-    plain_if (Finds lists st) c v st (packet lists from (body.Resend p e f) st) (resend_node c v p e f st laws script is (above_zero c p (and_both (is_producer c p) (is_brought c e) may.genuine).0))
+    plain_if (Finds lists st) c v st (packet lists from (body.Resend p e f) st) (resend_node c v p e f st laws script is (above_zero p c.config.producers (and_both (is_producer c p) (is_brought c e) may.genuine).0).0)
 packet_node c v lists st from b laws script is viewed lawful may = plain_if (Finds lists st) c v st (packet lists from b st) (coordinate_node c v st from b is may.from_is may.genuine (has_room c st from script is viewed))

@@ -1,7 +1,8 @@
 -- A node's rules: one after another, and those of its region and of its entities.
-use Rattle.std.proofs.Common.{◌≡◌, ℕ, ◌-◌, List, [], ◌∷◌, ◌++◌, length, map, sym, ap, subst, ◌∙◌, refl, true, false}
-use Rattle.std.specs.Prelude.{Bool, fold, slice_index_or, Option, Some, None, IfSome, if◌then◌else◌}
+use Rattle.std.proofs.Common.{◌≡◌, ℕ, ◌-◌, ◌<◌, arith, List, [], ◌∷◌, ◌++◌, length, map, sym, ap, subst, ◌∙◌, refl, true, false}
+use Rattle.std.specs.Prelude.{Bool, nat_lt, fold, slice_index_or, Option, Some, None, IfSome, if◌then◌else◌}
 use Rattle.std.specs.List.{list_all, flat_map}
+use Rattle.std.proofs.lemmas.Bool.Decides.{nat_tests}
 use Rattle.std.proofs.lemmas.Grind.{flat_map-append}
 use Rattle.std.proofs.lemmas.List.Sums.{fold-append}
 use Rattle.yard_model.specs.declared.fact.Fact.{Fact}
@@ -29,25 +30,19 @@ use Rattle.actor_laws.specs.RegionStands as regions
 use Rattle.actor_laws.specs.NodeStands.{IsSoundNode, NodeInHand, NodeKeeps}
 use Rattle.actor_laws.specs.NodeFound.{NodeKeepsIf}
 use Rattle.actor_laws.proofs.EntitiesMoves as moves
+use Rattle.actor_laws.proofs.EntitiesMoves.{facts_append, guarded_both}
+
+-- a number below another
+pub is_below : (x y : ℕ) → x < y → nat_lt x y ≡ true
+is_below x y less = grind (arith, nat_tests)
 
 -- In turn.
-
-facts_append : (xs ys : List Item) → facts_in (xs ++ ys) ≡ facts_in xs ++ facts_in ys
-facts_append [] ys = refl
-facts_append (item.Fact f ∷ is) ys = ap (λ fs. f ∷ fs) (facts_append is ys)
-facts_append (item.Post p ∷ is) ys = facts_append is ys
 
 pub items_both : (xs ys : List Act) → items_of (xs ++ ys) ≡ items_of xs ++ items_of ys
 items_both xs ys = flat_map-append (λ a. item_of (move_of a)) xs ys
 
 pub facts_both : (xs ys : List Act) → facts_in (items_of (xs ++ ys)) ≡ facts_in (items_of xs) ++ facts_in (items_of ys)
 facts_both xs ys = ap facts_in (items_both xs ys) ∙ facts_append (items_of xs) (items_of ys)
-
-pub guarded_both : (c : Script) (vouches : List ℕ → ℕ → ℕ → Bool) (who : Incarnation) (h : Hand) (xs ys : List Fact) → guarded_in_hand c vouches who h xs ≡ true → guarded_in_hand c vouches who (fold (hand_after c) h xs) ys ≡ true → guarded_in_hand c vouches who h (xs ++ ys) ≡ true
-guarded_both c vouches who h [] ys f g = g
-guarded_both c vouches who h (x ∷ xs) ys f g =
-    let m : (guard_in_hand c vouches who h x ≡ true) × (guarded_in_hand c vouches who (hand_after c h x) xs ≡ true) = and_both (guard_in_hand c vouches who h x) (guarded_in_hand c vouches who (hand_after c h x) xs) f in
-    both (guard_in_hand c vouches who h x) (guarded_in_hand c vouches who (hand_after c h x) (xs ++ ys)) m.0 (guarded_both c vouches who (hand_after c h x) xs ys m.1 g)
 
 pub who_stays : (st : Node) (acts : List Act) → (fold after st acts).who ≡ st.who
 who_stays st [] = refl

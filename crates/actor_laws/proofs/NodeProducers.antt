@@ -370,7 +370,7 @@ granted_node c v st p list is above less free number g = record {
     below h i = subst (λ n. p - 1 < n) (is.producers_full ∙ sym i.queues_there) less
 
 -- a producer's number is above zero, and has its place
-above_zero : (p n : ℕ) → (nat_le 1 p && nat_le p n) ≡ true → (0 < p) × (p - 1 < n)
+pub above_zero : (p n : ℕ) → (nat_le 1 p && nat_le p n) ≡ true → (0 < p) × (p - 1 < n)
 above_zero p n e =
     let m : (nat_le 1 p ≡ true) × (nat_le p n ≡ true) = and_both (nat_le 1 p) (nat_le p n) e in
     let low : 1 ≤ p = at_most 1 p m.0 in

@@ -39,7 +39,7 @@ use Rattle.actor_laws.proofs.NodeLeases.{plain_if, both_if, then_plain, if_if, a
 use Rattle.actor_laws.proofs.NodeMessages.{RouteLaws, routed_node, released_node, release_node, route_numbers_node}
 use Rattle.actor_laws.proofs.NodePackets.{TurnLaws, weaker, producer_node}
 use Rattle.actor_laws.proofs.EntitiesMoves.{set_stays}
-use Rattle.actor_laws.proofs.NodeParts.{node_none, node_both}
+use Rattle.actor_laws.proofs.NodeParts.{is_below, node_none, node_both}
 use Rattle.actor_laws.proofs.NodeProducers.{repeat_node}
 use Rattle.actor_laws.proofs.NodeRoutes.{tick_region_node, tick_entities_node}
 use Rattle.actor_laws.proofs.NodeStarts.{starts_node}
@@ -128,9 +128,6 @@ again_beside c v s t lists st laws script is lawful shard other =
     (λ e. beside_both c s st (start lists t st) (release t mid ++ []) (start_beside c s t lists st is other)
     (beside_both c s mid (release t mid) [] (release_beside c v s t mid laws.routes script begins.stands other) (beside_none c s (fold after mid (release t mid)))))
     (λ e. beside_none c s st)
-
-is_below : (x y : ℕ) → x < y → nat_lt x y ≡ true
-is_below x y less = grind (arith, nat_tests)
 
 not_same : (x y : ℕ) → x + 1 ≤ y → not (x == y) ≡ true
 not_same x y less = grind (arith, nat_tests)

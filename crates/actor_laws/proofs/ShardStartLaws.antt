@@ -36,28 +36,11 @@ use Rattle.actor_laws.specs.Moves.{is_own_move, facts_of}
 use Rattle.actor_laws.specs.EntitiesStand.{IsHeldShard, IsEntities, InHand, is_entity_fact, Keeps}
 use Rattle.actor_laws.specs.ShardStart.{KeepsFound, ShardStarts}
 use Rattle.actor_laws.proofs.EntitiesCells.{other_cell}
-use Rattle.actor_laws.proofs.EntitiesMoves.{name_itself, keeps_none, keeps_both, who_stays}
+use Rattle.actor_laws.proofs.EntitiesMoves.{facts_both, guarded_both, name_itself, keeps_none, keeps_both, who_stays}
 use Rattle.actor_laws.proofs.EntitiesRules.{keeps_if, start_entity_keeps}
 use Rattle.actor_laws.proofs.NameLaws.{AllDiffer, names_differ, left_differ}
 
 -- Moves in turn, the first by the list that was found.
-
--- the facts of items and then others
-facts_append : (xs ys : List Item) → facts_in (xs ++ ys) ≡ facts_in xs ++ facts_in ys
-facts_append [] ys = refl
-facts_append (item.Fact f ∷ is) ys = ap (λ fs. f ∷ fs) (facts_append is ys)
-facts_append (item.Post p ∷ is) ys = facts_append is ys
-
--- the facts of moves and then others
-facts_both : (xs ys : List Move) → facts_of (xs ++ ys) ≡ facts_of xs ++ facts_of ys
-facts_both xs ys = ap facts_in (flat_map-append item_of xs ys) ∙ facts_append (flat_map item_of xs) (flat_map item_of ys)
-
--- facts that are guarded, and then others by what is in hand after them
-guarded_both : (c : Script) (vouches : List ℕ → ℕ → ℕ → Bool) (who : Incarnation) (h : Hand) (xs ys : List Fact) → guarded_in_hand c vouches who h xs ≡ true → guarded_in_hand c vouches who (fold (hand_after c) h xs) ys ≡ true → guarded_in_hand c vouches who h (xs ++ ys) ≡ true
-guarded_both c vouches who h [] ys f g = g
-guarded_both c vouches who h (x ∷ xs) ys f g =
-    let m : (guard_in_hand c vouches who h x ≡ true) × (guarded_in_hand c vouches who (hand_after c h x) xs ≡ true) = and_both (guard_in_hand c vouches who h x) (guarded_in_hand c vouches who (hand_after c h x) xs) f in
-    both (guard_in_hand c vouches who h x) (guarded_in_hand c vouches who (hand_after c h x) (xs ++ ys)) m.0 (guarded_both c vouches who (hand_after c h x) xs ys m.1 g)
 
 -- and then moves that need no list
 found_then : (c : Script) (s : ℕ) (list : List Fact) (st : Entities) (xs ys : List Move) → KeepsFound c s list st xs → Keeps c (fold entities_after st xs) ys → KeepsFound c s list st (xs ++ ys)

@@ -17,6 +17,7 @@ pub mod NodeBeside
 pub mod NodeCoordinator
 pub mod NodeCrash
 pub mod NodeInputs
+pub mod NodeKeeps
 pub mod NodeLeases
 pub mod NodeMessages
 pub mod NodePackets

@@ -32,7 +32,8 @@ use Rattle.world_laws.proofs.Members.{same_is, itself_is}
 use Rattle.world_laws.proofs.Rules.{all_join, all_if, all_some, all_each, who_fold}
 use Rattle.actor_laws.specs.Moves.{is_own_move, facts_of}
 use Rattle.actor_laws.specs.CoordinatorStands.{IsSound, is_coordinator_fact, entered, Keeps, KeepsRules}
-use Rattle.actor_laws.specs.NodeStands.{IsCoordinatorAt, IsSoundNode, NodeInHand, NodeKeeps}
+use Rattle.actor_laws.specs.NodeStands.{IsCoordinatorAt, IsSoundNode, NodeInHand}
+use Rattle.actor_laws.proofs.NodeKeeps.{NodeKeeps}
 use Rattle.actor_laws.proofs.CoordinatorReads.{regions_more}
 use Rattle.actor_laws.proofs.CoordinatorMoves.{all_of_map, all_picked, entries_after}
 use Rattle.actor_laws.proofs.CoordinatorRules.{all_each_of}

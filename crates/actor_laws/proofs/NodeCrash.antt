@@ -1,10 +1,9 @@
 -- The crash of a node.
 use Rattle.std.proofs.Common.{◌≡◌, ℕ, zero, suc, ◌+◌, ◌-◌, ◌<◌, ◌≤◌, List, [], ◌∷◌, ◌++◌, sym, ap, subst, ◌∙◌, refl, true, arith}
-use Rattle.std.specs.Prelude.{Bool, ◌&&◌, ◌==◌, not, nat_lt, fold, slice_index_or, Option, Some, None, is_some, IfSome}
+use Rattle.std.specs.Prelude.{Bool, ◌&&◌, ◌==◌, not, fold, slice_index_or, Option, Some, None, is_some, IfSome}
 use Rattle.std.specs.List.{list_all, flat_map}
 use Rattle.std.proofs.lemmas.List.{get_or-set_other}
 use Rattle.std.proofs.lemmas.List.Sums.{fold-append}
-use Rattle.std.proofs.lemmas.Bool.Decides.{nat_tests}
 use Rattle.yard_model.specs.declared.fact.Fact.{Fact}
 use Rattle.yard_model.specs.declared.fact.Fact.TheVariants as fact
 use Rattle.yard_model.specs.declared.incarnation.Cause.TheVariants as cause

@@ -35,7 +35,8 @@ use Rattle.actor_laws.specs.Moves.{facts_of}
 use Rattle.actor_laws.specs.EntitiesStand.{InHand}
 use Rattle.yard_laws.specs.Free.{is_free_move}
 use Rattle.world_laws.proofs.Packets.{lost_all}
-use Rattle.actor_laws.specs.NodeStands.{IsSoundNode, IsViewed, NodeInHand, NodeKeeps}
+use Rattle.actor_laws.specs.NodeStands.{IsSoundNode, IsViewed, NodeInHand}
+use Rattle.actor_laws.proofs.NodeKeeps.{NodeKeeps}
 use Rattle.actor_laws.specs.NodeFound.{NodeKeepsIf, FindsOffice}
 use Rattle.actor_laws.proofs.NodeCoordinator.{terminate_node, terminate_lost_no_took, coordinator_stays, terminated_viewed}
 use Rattle.actor_laws.proofs.EntitiesMoves.{guarded_both}

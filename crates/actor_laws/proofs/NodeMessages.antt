@@ -19,7 +19,8 @@ use Rattle.actor_laws.specs.Messages.{GenuineIsMessage}
 use Rattle.actor_laws.specs.ProducerStands.{is_sent_well}
 use Rattle.actor_laws.specs.RegionStands as regions
 use Rattle.actor_laws.specs.RegionStands.{is_kept_well}
-use Rattle.actor_laws.specs.NodeStands.{IsSoundNode, NodeKeeps}
+use Rattle.actor_laws.specs.NodeStands.{IsSoundNode}
+use Rattle.actor_laws.proofs.NodeKeeps.{NodeKeeps}
 use Rattle.actor_laws.proofs.NodeParts.{node_none, node_both, node_if}
 use Rattle.actor_laws.proofs.NodeRoutes.{route_node, region_rule}
 

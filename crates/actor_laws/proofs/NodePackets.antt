@@ -32,7 +32,8 @@ use Rattle.actor_laws.specs.EntitiesStand.{InHand}
 use Rattle.actor_laws.specs.ProducerStands.{ProducerKeeps, ProducerRoutes, ProducerIsGranted, is_sent_well}
 use Rattle.actor_laws.specs.RegionStands.{IsRegion}
 use Rattle.actor_laws.specs.ShardStart.{ShardStarts}
-use Rattle.actor_laws.specs.NodeStands.{IsCoordinatorAt, IsSoundNode, IsViewed, NodeKeeps}
+use Rattle.actor_laws.specs.NodeStands.{IsCoordinatorAt, IsSoundNode, IsViewed}
+use Rattle.actor_laws.proofs.NodeKeeps.{NodeKeeps}
 use Rattle.actor_laws.specs.NodeFound.{NodeKeepsIf, FindsOffice, FindsShard, Finds, AreLawful}
 use Rattle.actor_laws.specs.NodeTurns.{MayConfirm, IsPromised}
 use Rattle.actor_laws.proofs.CoordinatorLaws.{coordinator_keeps}

@@ -7,7 +7,6 @@ use Rattle.std.proofs.lemmas.Grind.{flat_map-append}
 use Rattle.std.proofs.lemmas.List.Sums.{fold-append}
 use Rattle.yard_model.specs.declared.fact.Fact.{Fact}
 use Rattle.yard_model.specs.declared.fact.Fact.TheVariants as fact
-use Rattle.yard_model.specs.declared.out.Item.{Item}
 use Rattle.yard_model.specs.declared.out.Item.TheVariants as item
 use Rattle.yard_model.specs.declared.incarnation.Incarnation.{Incarnation}
 use Rattle.yard_model.specs.declared.incarnation.Slot.TheVariants as slot
@@ -27,7 +26,8 @@ use Rattle.actor_laws.specs.Moves.{is_own_move, facts_of}
 use Rattle.actor_laws.specs.EntitiesStand as entities
 use Rattle.actor_laws.specs.EntitiesStand.{IsEntities, InHand, is_entity_fact}
 use Rattle.actor_laws.specs.RegionStands as regions
-use Rattle.actor_laws.specs.NodeStands.{IsSoundNode, NodeInHand, NodeKeeps}
+use Rattle.actor_laws.specs.NodeStands.{IsSoundNode, NodeInHand}
+use Rattle.actor_laws.proofs.NodeKeeps.{NodeKeeps}
 use Rattle.actor_laws.specs.NodeFound.{NodeKeepsIf}
 use Rattle.actor_laws.proofs.EntitiesMoves as moves
 use Rattle.actor_laws.proofs.EntitiesMoves.{facts_append, guarded_both}

@@ -26,7 +26,8 @@ use Rattle.yard_model.specs.Words.{at}
 use Rattle.yard_laws.proofs.Booleans.{and_both, both, at_most}
 use Rattle.world_laws.specs.Owes.{Hand, has_name, live_after, hand_after, follows_in_hand, lives_in_hand, guard_in_hand, guarded_in_hand, facts_in, is_own_post}
 use Rattle.world_laws.proofs.Place.{none_is_not_some, some_is, inside, by_place, placed_at, placed_beside}
-use Rattle.actor_laws.specs.NodeStands.{IsProducerAt, IsSoundNode, NodeInHand, NodeKeeps}
+use Rattle.actor_laws.specs.NodeStands.{IsProducerAt, IsSoundNode, NodeInHand}
+use Rattle.actor_laws.proofs.NodeKeeps.{NodeKeeps}
 use Rattle.actor_laws.specs.ProducerStands.{IsProducer, Rules, IsGranted, ProducerKeeps, ProducerIsGranted}
 use Rattle.actor_laws.specs.NodeFound.{NodeKeepsIf}
 use Rattle.actor_laws.proofs.NodeParts.{node_none}

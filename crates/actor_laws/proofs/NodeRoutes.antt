@@ -24,7 +24,8 @@ use Rattle.world_laws.proofs.Rules.{all_join, all_if, all_some, all_each, is_vie
 use Rattle.actor_laws.specs.EntitiesStand.{IsEntities, IsMessage, EntityRules}
 use Rattle.actor_laws.specs.RegionStands as regions
 use Rattle.actor_laws.specs.RegionStands.{IsRegion}
-use Rattle.actor_laws.specs.NodeStands.{IsSoundNode, NodeKeeps}
+use Rattle.actor_laws.specs.NodeStands.{IsSoundNode}
+use Rattle.actor_laws.proofs.NodeKeeps.{NodeKeeps}
 use Rattle.actor_laws.proofs.NodeParts.{node_none, node_if, region_node, entities_node}
 
 -- The region's rules but View leave its view.

@@ -20,7 +20,8 @@ use Rattle.yard_laws.proofs.PartsLaws.{region_alone, entities_alone}
 use Rattle.world_laws.specs.Owes.{Hand}
 use Rattle.actor_laws.specs.RegionStands as regions
 use Rattle.actor_laws.specs.ShardStart.{KeepsFound, ShardStarts}
-use Rattle.actor_laws.specs.NodeStands.{IsSoundNode, NodeKeeps}
+use Rattle.actor_laws.specs.NodeStands.{IsSoundNode}
+use Rattle.actor_laws.proofs.NodeKeeps.{NodeKeeps}
 use Rattle.actor_laws.specs.NodeFound.{NodeKeepsIf, FindsShard}
 use Rattle.actor_laws.proofs.NodeLeases.{plain_if, both_if, then_plain, if_if, region_hand}
 use Rattle.actor_laws.proofs.NodeMessages.{RouteLaws, release_node}

@@ -1,6 +1,6 @@
 -- The tick of a node.
 use Rattle.std.proofs.Common.{◌≡◌, ℕ, zero, suc, ◌+◌, ◌-◌, ◌<◌, ◌≤◌, List, [], ◌∷◌, ◌++◌, map, sym, ap, subst, ◌∙◌, refl, true, arith}
-use Rattle.std.specs.Prelude.{Bool, ◌&&◌, ◌==◌, not, nat_lt, fold, Option, Some, None, is_none, IfSome, if◌then◌else◌}
+use Rattle.std.specs.Prelude.{Bool, ◌&&◌, ◌==◌, not, fold, Option, Some, None, is_none, IfSome, if◌then◌else◌}
 use Rattle.std.specs.List.{list_all}
 use Rattle.std.proofs.lemmas.Bool.Decides.{nat_tests}
 use Rattle.yard_model.specs.declared.fact.Fact.{Fact}
@@ -30,7 +30,8 @@ use Rattle.actor_laws.specs.EntitiesStand.{IsEntities, EntityRules}
 use Rattle.actor_laws.specs.ProducerStands as producing
 use Rattle.actor_laws.specs.RegionStands as regions
 use Rattle.actor_laws.specs.RegionStands.{is_kept_well}
-use Rattle.actor_laws.specs.NodeStands.{IsCoordinatorAt, IsSoundNode, NodeKeeps}
+use Rattle.actor_laws.specs.NodeStands.{IsCoordinatorAt, IsSoundNode}
+use Rattle.actor_laws.proofs.NodeKeeps.{NodeKeeps}
 use Rattle.actor_laws.specs.NodeFound.{NodeKeepsIf, FindsOffice, FindsShard, Finds, AreLawful}
 use Rattle.actor_laws.proofs.CoordinatorLaws.{coordinator_keeps}
 use Rattle.actor_laws.proofs.NodeBeside.{Beside, beside_none, beside_both, beside_if, region_beside, coordinator_beside, office_beside, entities_beside, acquire_beside, remembered_beside, deliver_beside}

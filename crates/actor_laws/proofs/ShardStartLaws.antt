@@ -2,13 +2,10 @@
 use Rattle.std.proofs.Common.{◌≡◌, ℕ, ◌+◌, ◌<◌, List, [], ◌∷◌, ◌++◌, length, sym, ap, subst, ◌∙◌, refl, true, false, true≢false}
 use Rattle.std.specs.Prelude.{Bool, ◌&&◌, ◌||◌, ◌==◌, not, filter, fold, Option, Some, None, is_none, is_some, slice_set, slice_index_or, if◌then◌else◌}
 use Rattle.std.specs.List.{list_all, list_any, flat_map}
-use Rattle.std.proofs.lemmas.Grind.{flat_map-append}
 use Rattle.std.proofs.lemmas.List.{get_or-set_same, get_or-set_other, length-set}
 use Rattle.std.proofs.lemmas.List.Sums.{fold-append}
 use Rattle.yard_model.specs.declared.fact.Fact.{Fact}
 use Rattle.yard_model.specs.declared.fact.Fact.TheVariants as fact
-use Rattle.yard_model.specs.declared.out.Item.{Item}
-use Rattle.yard_model.specs.declared.out.Item.TheVariants as item
 use Rattle.yard_model.specs.declared.input.Phase.TheVariants as phase
 use Rattle.yard_model.specs.declared.packet.Body.TheVariants as body
 use Rattle.yard_model.specs.declared.incarnation.Incarnation.{Incarnation}
@@ -18,7 +15,7 @@ use Rattle.yard_model.specs.Entities.{Entities, Cell, Hosted, is_phase, hosted, 
 use Rattle.yard_model.specs.Equal.{is_slot}
 use Rattle.yard_model.specs.Genuine.{is_node, is_shard, is_brought}
 use Rattle.yard_model.specs.Lawful.{own, is_held, is_leased, is_entry, may_follow}
-use Rattle.yard_model.specs.Move.{Move, took, told, post, item_of}
+use Rattle.yard_model.specs.Move.{Move, took, told, post}
 use Rattle.yard_model.specs.Node.{acquire_by}
 use Rattle.yard_model.specs.Script.{Script, Setting, is_name, names_in, setting}
 use Rattle.yard_model.specs.Setting.{shard_of, names_of}
@@ -29,7 +26,7 @@ use Rattle.yard_model.specs.Turns.{in_turn}
 use Rattle.yard_model.specs.Words.{at}
 use Rattle.yard_model.proofs.FollowLaws.{own_more}
 use Rattle.yard_laws.proofs.Booleans.{and_both, both, below, number_itself, of_not, same_number}
-use Rattle.world_laws.specs.Owes.{Hand, hand_after, follows_in_hand, lives_in_hand, guard_in_hand, guarded_in_hand, facts_in}
+use Rattle.world_laws.specs.Owes.{hand_after, follows_in_hand, lives_in_hand, guard_in_hand, guarded_in_hand}
 use Rattle.world_laws.proofs.Place.{some_is, by_place}
 use Rattle.world_laws.proofs.Rules.{all_join}
 use Rattle.actor_laws.specs.Moves.{is_own_move, facts_of}

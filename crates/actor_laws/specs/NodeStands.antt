@@ -1,17 +1,17 @@
 -- What stands of a node by itself between its rules: its actors stand, and are of one incarnation. What a rule keeps and tells.
-use Rattle.std.specs.Prelude.{◌≡◌, ℕ, ◌-◌, ◌<◌, Bool, true, List, length, fold, Some, IfSome}
+use Rattle.std.specs.Prelude.{◌≡◌, ℕ, ◌-◌, ◌<◌, true, length, Some, IfSome}
 use Rattle.std.specs.List.{list_all}
 use Rattle.yard_model.specs.declared.incarnation.Incarnation.{Incarnation}
 use Rattle.yard_model.specs.Coordinator.{Coordinator}
 use Rattle.yard_model.specs.Genuine.{is_node}
 use Rattle.yard_model.specs.Members.{are_of_different_nodes}
-use Rattle.yard_model.specs.Node.{Node, Act, after, items_of}
+use Rattle.yard_model.specs.Node.{Node}
 use Rattle.yard_model.specs.Producer.{Producer}
 use Rattle.yard_model.specs.Script.{Script, setting}
 use Rattle.yard_model.specs.SlotLists.{queue_list}
 use Rattle.yard_model.specs.SlotReads.{regions}
 use Rattle.yard_model.specs.Words.{at, is_among}
-use Rattle.world_laws.specs.Owes.{Hand, facts_in, hand_after, guarded_in_hand, is_own_post}
+use Rattle.world_laws.specs.Owes.{Hand}
 use Rattle.actor_laws.specs.CoordinatorStands.{IsSound}
 use Rattle.actor_laws.specs.EntitiesStand.{IsEntities, InHand}
 use Rattle.actor_laws.specs.ProducerStands.{IsProducer}
@@ -49,10 +49,3 @@ pub record NodeInHand (c : Script) (h : Hand) (st : Node) : Type 0 where
   pub queues_there : length h.lists.queues ≡ c.config.producers
   pub producers : (p : ℕ) (k : Producer) → 0 < p → at st.producers (p - 1) ≡ Some k → queue_list h.lists p ≡ k.entries
   pub coordinator : IfSome st.coordinator (λ k. h.lists.coordinator ≡ k.entries)
-
--- after these acts it stands; what they post is its own; and each fact is guarded by what it has in hand, which goes along
-pub record NodeKeeps (c : Script) (vouches : List ℕ → ℕ → ℕ → Bool) (st : Node) (acts : List Act) : Type 0 where
-  pub stands : IsSoundNode c (fold after st acts)
-  pub posts_are : list_all (is_own_post c st.who) (items_of acts) ≡ true
-  pub guarded_are : (h : Hand) → NodeInHand c h st → guarded_in_hand c vouches st.who h (facts_in (items_of acts)) ≡ true
-  pub goes_along : (h : Hand) → NodeInHand c h st → NodeInHand c (fold (hand_after c) h (facts_in (items_of acts))) (fold after st acts)

@@ -41,7 +41,7 @@ pub still_keeps : (c : Script) (st : Entities) (m : Move) → IsEntities c st �
 still_keeps c st m is same own none = record {
   stands = subst (IsEntities c) (sym same) is;
   posts_are = both (is_own_move c st.who m) true own refl;
-  facts_are = ap (list_all is_entity_fact) none;
+  facts_are = ap (list_all (is_entity_fact st.who)) none;
   guarded_are = λ v h i. ap (λ fs. guarded_by v h fs) none;
   goes_along = λ h i. subst (λ x. InHand c (fold (hand_after c) h (facts_of (m ∷ []))) x) (sym same) (subst (λ fs. InHand c (fold (hand_after c) h fs) st) (sym none) i);
 }
@@ -56,7 +56,7 @@ pub cell_keeps : (c : Script) (st : Entities) (m : Move) (e : List ℕ) → IsEn
 cell_keeps c st m e is brought of shards own none there stash = record {
   stands = stands_cell c st m e is brought of shards (λ k. is.at_home e brought (sym there ∙ k)) (ap (list_all (is_for c e)) stash ∙ is.stashed e brought);
   posts_are = both (is_own_move c st.who m) true own refl;
-  facts_are = ap (list_all is_entity_fact) none;
+  facts_are = ap (list_all (is_entity_fact st.who)) none;
   guarded_are = λ v h i. ap (guarded_by v h) none;
   goes_along = λ h i. subst (λ fs. InHand c (fold (hand_after c) h fs) (entities_after st m)) (sym none)
       (along_cell c st m e h h is brought of shards i refl (i.live_are e brought ∙ ap not (sym there)) (λ f other. refl));
@@ -126,7 +126,7 @@ pub entry_keeps : (c : Script) (st : Entities) (f : Fact) (e : List ℕ) → IsE
     → own c (slot.Shard (shard_of (setting c) e)) (entries st e ++ f ∷ []) ≡ true
     → ((o : Option Incarnation) → holder_step o f ≡ o)
     → ((v : List ℕ → ℕ → ℕ → Bool) (h : Hand) → InHand c h st → lives_in_hand c v st.who h f ≡ true)
-    → ((live : List (List ℕ)) → live_after live f ≡ live) → is_entity_fact f ≡ true
+    → ((live : List (List ℕ)) → live_after live f ≡ live) → is_entity_fact st.who f ≡ true
     → Keeps c st (told f ∷ [])
 entry_keeps c st f e is brought there shards none of own_is still guard live ours = record {
   stands = record {
@@ -139,7 +139,7 @@ entry_keeps c st f e is brought there shards none of own_is still guard live our
     stashed = λ g hg. ap (λ l. list_all (is_for c g) (cell_in st.set l g).stash) (same_cells st (told f) none) ∙ is.stashed g hg;
   };
   posts_are = refl;
-  facts_are = both (is_entity_fact f) true ours refl;
+  facts_are = both (is_entity_fact st.who f) true ours refl;
   guarded_are = λ v h i. both (guard_in_hand c v st.who h f) true (both (follows_in_hand c h.lists f (slot_of (setting c) f)) (lives_in_hand c v st.who h f)
       (ap (follows_in_hand c h.lists f) of ∙ both (is_shard c (shard_of (setting c) e)) (may_follow c (slot.Shard (shard_of (setting c) e)) (shard_list h.lists (shard_of (setting c) e)) f) shard_is
       (ap (λ l. may_follow c (slot.Shard (shard_of (setting c) e)) l f) (list_in_hand c st e h is there i) ∙ may_of c (slot.Shard (shard_of (setting c) e)) (entries st e) f own_is)) (guard v h i)) refl;

@@ -66,7 +66,7 @@ keeps_both c st xs ys f g =
     record {
       stands = subst (IsEntities c) (sym (fold-append entities_after st xs ys)) g.stands;
       posts_are = all_join (is_own_move c st.who) xs ys f.posts_are (subst (λ w. list_all (is_own_move c w) ys ≡ true) (who_stays st xs) g.posts_are);
-      facts_are = ap (list_all is_entity_fact) (facts_both xs ys) ∙ all_join is_entity_fact (facts_of xs) (facts_of ys) f.facts_are g.facts_are;
+      facts_are = ap (list_all (is_entity_fact st.who)) (facts_both xs ys) ∙ all_join (is_entity_fact st.who) (facts_of xs) (facts_of ys) f.facts_are (subst (λ w. list_all (is_entity_fact w) (facts_of ys) ≡ true) (who_stays st xs) g.facts_are);
       guarded_are = λ v h i. ap (guarded_in_hand c v st.who h) (facts_both xs ys)
           ∙ guarded_both c v st.who h (facts_of xs) (facts_of ys) (f.guarded_are v h i)
           (subst (λ w. guarded_in_hand c v w (fold (hand_after c) h (facts_of xs)) (facts_of ys) ≡ true) (who_stays st xs) (g.guarded_are v (fold (hand_after c) h (facts_of xs)) (f.goes_along h i)));
@@ -183,7 +183,7 @@ name_stays e f (x ∷ xs) other = by (is_name e x) refl (name_stays e f xs other
 -- A fact of an entity, which is no entry.
 
 keeps_told : (c : Script) (st : Entities) (f : Fact) (e : List ℕ) → IsEntities c st → is_brought c e ≡ true → entity_of (told f) ≡ Some e → hosted_step st.set st.hosted (told f) ≡ st.hosted
-    → slot_of (setting c) f ≡ None → is_entity_fact f ≡ true
+    → slot_of (setting c) f ≡ None → is_entity_fact st.who f ≡ true
     → (is_phase phase.Absent (cell_after (cell st e) (told f)).phase ≡ false → is_hosted st (shard_of st.set e) ≡ true)
     → list_all (is_for c e) (cell_after (cell st e) (told f)).stash ≡ true
     → ((v : List ℕ → ℕ → ℕ → Bool) (h : Hand) → InHand c h st → lives_in_hand c v st.who h f ≡ true)
@@ -193,7 +193,7 @@ keeps_told : (c : Script) (st : Entities) (f : Fact) (e : List ℕ) → IsEntiti
 keeps_told c st f e is brought of shards none ours home stash guard live others = record {
   stands = stands_cell c st (told f) e is brought of shards home stash;
   posts_are = refl;
-  facts_are = both (is_entity_fact f) true ours refl;
+  facts_are = both (is_entity_fact st.who f) true ours refl;
   guarded_are = λ v h i. both (guard_in_hand c v st.who h f) true (both (follows_in_hand c h.lists f (slot_of (setting c) f)) (lives_in_hand c v st.who h f) (ap (follows_in_hand c h.lists f) none) (guard v h i)) refl;
   goes_along = λ h i. along_cell c st (told f) e h (hand_after c h f) is brought of shards i (ap (with_entry f h.lists) none) (live h i) (others h);
 }
@@ -216,7 +216,7 @@ list_in_hand c st e h is there i =
     ap (λ (s : Setting). shard_list h.lists (shard_of s e)) (sym is.set_is) ∙ (i.lists_are (shard_of st.set e) x.0 x.1 ∙ sym (ap entries_in x.1))
 
 pub start_keeps : (c : Script) (st : Entities) (e : List ℕ) → IsEntities c st → is_brought c e ≡ true → is_hosted st (shard_of st.set e) ≡ true → is_in_phase phase.Absent st e ≡ true → Keeps c st (told (fact.Start st.who e) ∷ [])
-start_keeps c st e is brought there absent = keeps_told c st (fact.Start st.who e) e is brought refl refl refl refl (λ k. there) (is.stashed e brought)
+start_keeps c st e is brought there absent = keeps_told c st (fact.Start st.who e) e is brought refl refl refl (itself_is st.who st.who refl) (λ k. there) (is.stashed e brought)
     (λ v h i. both (is_brought c e && is_same st.who st.who && is_at st.who (holder (shard_list h.lists (shard_of (setting c) e)))) (not (has_name e h.live))
     (both (is_brought c e && is_same st.who st.who) (is_at st.who (holder (shard_list h.lists (shard_of (setting c) e))))
     (both (is_brought c e) (is_same st.who st.who) brought (itself_is st.who st.who refl))
@@ -225,11 +225,11 @@ start_keeps c st e is brought there absent = keeps_told c st (fact.Start st.who 
     (λ h i. name_added e h.live) (λ h g other. name_beside e g h.live other)
 
 pub stop_keeps : (c : Script) (st : Entities) (e : List ℕ) → IsEntities c st → is_brought c e ≡ true → Keeps c st (told (fact.Stop st.who e) ∷ [])
-stop_keeps c st e is brought = keeps_told c st (fact.Stop st.who e) e is brought refl refl refl refl (λ k. absurd (true≢false k)) (is.stashed e brought) (λ v h i. refl)
+stop_keeps c st e is brought = keeps_told c st (fact.Stop st.who e) e is brought refl refl refl (itself_is st.who st.who refl) (λ k. absurd (true≢false k)) (is.stashed e brought) (λ v h i. refl)
     (λ h i. name_gone e h.live) (λ h g other. name_stays e g h.live other)
 
 pub failed_keeps : (c : Script) (st : Entities) (e : List ℕ) → IsEntities c st → is_brought c e ≡ true → Keeps c st (told (fact.WriteFailed st.who e) ∷ [])
-failed_keeps c st e is brought = keeps_told c st (fact.WriteFailed st.who e) e is brought refl refl refl refl (λ k. absurd (true≢false k)) (is.stashed e brought) (λ v h i. refl)
+failed_keeps c st e is brought = keeps_told c st (fact.WriteFailed st.who e) e is brought refl refl refl (itself_is st.who st.who refl) (λ k. absurd (true≢false k)) (is.stashed e brought) (λ v h i. refl)
     (λ h i. name_gone e h.live) (λ h g other. name_stays e g h.live other)
 
 pub stashed_keeps : (c : Script) (st : Entities) (m : Message) → IsEntities c st → is_brought c m.entity ≡ true → is_for c m.entity m ≡ true → Keeps c st (told (fact.Stashed st.who m) ∷ [])
@@ -253,7 +253,7 @@ dropped_keeps c st m is brought = keeps_told c st (fact.Dropped st.who m) m.enti
 
 pub active_keeps : (c : Script) (st : Entities) (e : List ℕ) (n : ℕ) (s : State) → IsEntities c st → is_brought c e ≡ true → is_in_phase phase.Absent st e ≡ false
     → is_journal_state c n s (journal e (entries st e)) ≡ true → Keeps c st (told (fact.Active st.who e n s) ∷ [])
-active_keeps c st e n s is brought there shows = keeps_told c st (fact.Active st.who e n s) e is brought refl refl refl refl (λ k. is.at_home e brought there) refl
+active_keeps c st e n s is brought there shows = keeps_told c st (fact.Active st.who e n s) e is brought refl refl refl (itself_is st.who st.who refl) (λ k. is.at_home e brought there) refl
     (λ v h i. ap (λ l. is_journal_state c n s (journal e l)) (list_in_hand c st e h is (is.at_home e brought there) i) ∙ shows)
     (λ h i. i.live_are e brought ∙ ap not there) (λ h g other. refl)
 

@@ -176,34 +176,34 @@ pub record AreElse (h g : Hand) : Type 0 where
   pub coordinator : g.lists.coordinator ≡ h.lists.coordinator
   pub queues : g.lists.queues ≡ h.lists.queues
 
-entity_else : (c : Script) (h : Hand) (f : Fact) → is_entity_fact f ≡ true → AreElse h (hand_after c h f)
-entity_else c h (fact.Start x e) k = record { coordinator = refl; queues = refl }
-entity_else c h (fact.Active x e n s) k = record { coordinator = refl; queues = refl }
-entity_else c h (fact.Stop x e) k = record { coordinator = refl; queues = refl }
-entity_else c h (fact.WriteFailed x e) k = record { coordinator = refl; queues = refl }
-entity_else c h (fact.Armed e a) k = record { coordinator = refl; queues = refl }
-entity_else c h (fact.Stashed x m) k = record { coordinator = refl; queues = refl }
-entity_else c h (fact.Dropped x m) k = record { coordinator = refl; queues = refl }
-entity_else c h (fact.Held s x n) k = record { coordinator = refl; queues = refl }
-entity_else c h (fact.Granted (slot.Shard s) n x) k = record { coordinator = refl; queues = refl }
-entity_else c h (fact.Freed (slot.Shard s) n why) k = record { coordinator = refl; queues = refl }
-entity_else c h (fact.Wrote e r) k = record { coordinator = refl; queues = refl }
-entity_else c h (fact.Snapshot e n) k = record { coordinator = refl; queues = refl }
-entity_else c h (fact.Remembered e) k = record { coordinator = refl; queues = refl }
-entity_else c h (fact.Forgotten e) k = record { coordinator = refl; queues = refl }
-entity_else c h f k = absurd (true_is_not_false (sym k))
+entity_else : (c : Script) (who : Incarnation) (h : Hand) (f : Fact) → is_entity_fact who f ≡ true → AreElse h (hand_after c h f)
+entity_else c who h (fact.Start x e) k = record { coordinator = refl; queues = refl }
+entity_else c who h (fact.Active x e n s) k = record { coordinator = refl; queues = refl }
+entity_else c who h (fact.Stop x e) k = record { coordinator = refl; queues = refl }
+entity_else c who h (fact.WriteFailed x e) k = record { coordinator = refl; queues = refl }
+entity_else c who h (fact.Armed e a) k = record { coordinator = refl; queues = refl }
+entity_else c who h (fact.Stashed x m) k = record { coordinator = refl; queues = refl }
+entity_else c who h (fact.Dropped x m) k = record { coordinator = refl; queues = refl }
+entity_else c who h (fact.Held s x n) k = record { coordinator = refl; queues = refl }
+entity_else c who h (fact.Granted (slot.Shard s) n x) k = record { coordinator = refl; queues = refl }
+entity_else c who h (fact.Freed (slot.Shard s) n why) k = record { coordinator = refl; queues = refl }
+entity_else c who h (fact.Wrote e r) k = record { coordinator = refl; queues = refl }
+entity_else c who h (fact.Snapshot e n) k = record { coordinator = refl; queues = refl }
+entity_else c who h (fact.Remembered e) k = record { coordinator = refl; queues = refl }
+entity_else c who h (fact.Forgotten e) k = record { coordinator = refl; queues = refl }
+entity_else c who h f k = absurd (true_is_not_false (sym k))
 
-pub entities_else : (c : Script) (h : Hand) (fs : List Fact) → list_all is_entity_fact fs ≡ true → AreElse h (fold (hand_after c) h fs)
-entities_else c h [] k = record { coordinator = refl; queues = refl }
-entities_else c h (f ∷ fs) k =
-    let m : (is_entity_fact f ≡ true) × (list_all is_entity_fact fs ≡ true) = and_both (is_entity_fact f) (list_all is_entity_fact fs) k in
-    let one : AreElse h (hand_after c h f) = entity_else c h f m.0 in
-    let more : AreElse (hand_after c h f) (fold (hand_after c) (hand_after c h f) fs) = entities_else c (hand_after c h f) fs m.1 in
+pub entities_else : (c : Script) (who : Incarnation) (h : Hand) (fs : List Fact) → list_all (is_entity_fact who) fs ≡ true → AreElse h (fold (hand_after c) h fs)
+entities_else c who h [] k = record { coordinator = refl; queues = refl }
+entities_else c who h (f ∷ fs) k =
+    let m : (is_entity_fact who f ≡ true) × (list_all (is_entity_fact who) fs ≡ true) = and_both (is_entity_fact who f) (list_all (is_entity_fact who) fs) k in
+    let one : AreElse h (hand_after c h f) = entity_else c who h f m.0 in
+    let more : AreElse (hand_after c h f) (fold (hand_after c) (hand_after c h f) fs) = entities_else c who (hand_after c h f) fs m.1 in
     record { coordinator = more.coordinator ∙ one.coordinator; queues = more.queues ∙ one.queues }
 
 -- by moves whose facts are guarded with hands of one kind
 pub entities_if : (P : Hand → Type 0) (c : Script) (v : List ℕ → ℕ → ℕ → Bool) (st : Node) (ms : List Move) → IsSoundNode c st → IsEntities c (fold entities_after st.entities ms) → list_all (is_own_move c st.entities.who) ms ≡ true
-    → list_all is_entity_fact (facts_of ms) ≡ true → ((h : Hand) → InHand c h st.entities → P h → guarded_in_hand c v st.entities.who h (facts_of ms) ≡ true)
+    → list_all (is_entity_fact st.entities.who) (facts_of ms) ≡ true → ((h : Hand) → InHand c h st.entities → P h → guarded_in_hand c v st.entities.who h (facts_of ms) ≡ true)
     → ((h : Hand) → InHand c h st.entities → P h → InHand c (fold (hand_after c) h (facts_of ms)) (fold entities_after st.entities ms)) → NodeKeepsIf P c v st (map by_entities ms)
 entities_if P c v st ms is stands own_are told_are guarded goes =
     let later : Node = record st { entities = fold entities_after st.entities ms } in
@@ -230,7 +230,7 @@ entities_if P c v st ms is stands own_are told_are guarded goes =
   where
     along : (h : Hand) → NodeInHand c h st → P h → NodeInHand c (fold (hand_after c) h (facts_of ms)) (record st { entities = fold entities_after st.entities ms })
     along h i p =
-        let e : AreElse h (fold (hand_after c) h (facts_of ms)) = entities_else c h (facts_of ms) told_are in
+        let e : AreElse h (fold (hand_after c) h (facts_of ms)) = entities_else c st.entities.who h (facts_of ms) told_are in
         record {
           entities = goes h i.entities p;
           queues_there = ap length e.queues ∙ i.queues_there;

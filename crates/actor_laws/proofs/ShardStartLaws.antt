@@ -23,10 +23,11 @@ use Rattle.yard_model.specs.SlotLists.{shard_list}
 use Rattle.yard_model.specs.SlotReads.{holder, holder_step, epoch, is_remembered}
 use Rattle.yard_model.specs.Trace.{slot_of}
 use Rattle.yard_model.specs.Turns.{in_turn}
-use Rattle.yard_model.specs.Words.{at}
+use Rattle.yard_model.specs.Words.{at, is_same}
 use Rattle.yard_model.proofs.FollowLaws.{own_more}
 use Rattle.yard_laws.proofs.Booleans.{and_both, both, below, number_itself, of_not, same_number}
 use Rattle.world_laws.specs.Owes.{hand_after, follows_in_hand, lives_in_hand, guard_in_hand, guarded_in_hand}
+use Rattle.world_laws.proofs.Members.{itself_is}
 use Rattle.world_laws.proofs.Place.{some_is, by_place}
 use Rattle.world_laws.proofs.Rules.{all_join}
 use Rattle.actor_laws.specs.Moves.{is_own_move, facts_of}
@@ -46,7 +47,7 @@ found_then c s list st xs ys f g =
     record {
       stands = subst (IsEntities c) (sym (fold-append entities_after st xs ys)) g.stands;
       posts_are = all_join (is_own_move c st.who) xs ys f.posts_are (subst (λ w. list_all (is_own_move c w) ys ≡ true) (who_stays st xs) g.posts_are);
-      facts_are = ap (list_all is_entity_fact) (facts_both xs ys) ∙ all_join is_entity_fact (facts_of xs) (facts_of ys) f.facts_are g.facts_are;
+      facts_are = ap (list_all (is_entity_fact st.who)) (facts_both xs ys) ∙ all_join (is_entity_fact st.who) (facts_of xs) (facts_of ys) f.facts_are (subst (λ w. list_all (is_entity_fact w) (facts_of ys) ≡ true) (who_stays st xs) g.facts_are);
       guarded_are = λ v h i found. ap (guarded_in_hand c v st.who h) (facts_both xs ys)
           ∙ guarded_both c v st.who h (facts_of xs) (facts_of ys) (f.guarded_are v h i found)
           (subst (λ w. guarded_in_hand c v w (fold (hand_after c) h (facts_of xs)) (facts_of ys) ≡ true) (who_stays st xs) (g.guarded_are v (fold (hand_after c) h (facts_of xs)) (f.goes_along h i found)));
@@ -79,7 +80,7 @@ granted_keeps c st s list is shard own_is free = record {
     stashed = is.stashed;
   };
   posts_are = refl;
-  facts_are = refl;
+  facts_are = both (is_same st.who st.who) true (itself_is st.who st.who refl) refl;
   guarded_are = λ v h i found. both (guard_in_hand c v st.who h f) true (both (follows_in_hand c h.lists f (slot_of (setting c) f)) (lives_in_hand c v st.who h f)
       (both (is_shard c s) (may_follow c (slot.Shard s) (shard_list h.lists s) f) shard (ap (λ l. may_follow c (slot.Shard s) l f) found ∙ follows)) refl) refl;
   goes_along = λ h i found. record {

@@ -18,6 +18,7 @@ use Rattle.yard_model.specs.Script.{Script, is_name, names_in, setting}
 use Rattle.yard_model.specs.Setting.{shard_of}
 use Rattle.yard_model.specs.SlotLists.{shard_list}
 use Rattle.yard_model.specs.SlotReads.{holder}
+use Rattle.yard_model.specs.Words.{is_same}
 use Rattle.world_laws.specs.Owes.{Hand, has_name, hand_after, guarded_in_hand}
 use Rattle.actor_laws.specs.Moves.{is_own_move, facts_of}
 
@@ -53,29 +54,29 @@ pub record InHand (c : Script) (h : Hand) (st : Entities) : Type 0 where
   pub lists_are : (s : ℕ) (x : Hosted) → hosted st s ≡ Some x → shard_list h.lists s ≡ x.entries
   pub live_are : (e : List ℕ) → is_brought c e ≡ true → has_name e h.live ≡ not (is_in_phase phase.Absent st e)
 
--- the facts that entities tell: of entities, and entries of shards
-abbrev pub is_entity_fact : Fact → Bool
-is_entity_fact (fact.Start x e) = true
-is_entity_fact (fact.Active x e n st) = true
-is_entity_fact (fact.Stop x e) = true
-is_entity_fact (fact.WriteFailed x e) = true
-is_entity_fact (fact.Armed e k) = true
-is_entity_fact (fact.Stashed x m) = true
-is_entity_fact (fact.Dropped x m) = true
-is_entity_fact (fact.Held s x n) = true
-is_entity_fact (fact.Granted (slot.Shard s) n x) = true
-is_entity_fact (fact.Freed (slot.Shard s) n why) = true
-is_entity_fact (fact.Wrote e r) = true
-is_entity_fact (fact.Snapshot e n) = true
-is_entity_fact (fact.Remembered e) = true
-is_entity_fact (fact.Forgotten e) = true
-is_entity_fact f = false
+-- the facts that entities tell: of entities, whose incarnation is this node, and entries of shards
+abbrev pub is_entity_fact : Incarnation → Fact → Bool
+is_entity_fact who (fact.Start x e) = is_same x who
+is_entity_fact who (fact.Active x e n st) = is_same x who
+is_entity_fact who (fact.Stop x e) = is_same x who
+is_entity_fact who (fact.WriteFailed x e) = is_same x who
+is_entity_fact who (fact.Armed e k) = true
+is_entity_fact who (fact.Stashed x m) = true
+is_entity_fact who (fact.Dropped x m) = true
+is_entity_fact who (fact.Held s x n) = true
+is_entity_fact who (fact.Granted (slot.Shard s) n x) = is_same x who
+is_entity_fact who (fact.Freed (slot.Shard s) n why) = true
+is_entity_fact who (fact.Wrote e r) = true
+is_entity_fact who (fact.Snapshot e n) = true
+is_entity_fact who (fact.Remembered e) = true
+is_entity_fact who (fact.Forgotten e) = true
+is_entity_fact who f = false
 
 -- after these moves the same stands; what they post is the node's own; they tell of entities and shards alone; and each fact is guarded by what the node has in hand, which goes along
 pub record Keeps (c : Script) (st : Entities) (ms : List Move) : Type 0 where
   pub stands : IsEntities c (fold entities_after st ms)
   pub posts_are : list_all (is_own_move c st.who) ms ≡ true
-  pub facts_are : list_all is_entity_fact (facts_of ms) ≡ true
+  pub facts_are : list_all (is_entity_fact st.who) (facts_of ms) ≡ true
   pub guarded_are : (vouches : List ℕ → ℕ → ℕ → Bool) (h : Hand) → InHand c h st → guarded_in_hand c vouches st.who h (facts_of ms) ≡ true
   pub goes_along : (h : Hand) → InHand c h st → InHand c (fold (hand_after c) h (facts_of ms)) (fold entities_after st ms)
 

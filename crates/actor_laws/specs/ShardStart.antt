@@ -20,7 +20,7 @@ use Rattle.actor_laws.specs.EntitiesStand.{IsEntities, InHand, is_entity_fact}
 pub record KeepsFound (c : Script) (s : ℕ) (list : List Fact) (st : Entities) (ms : List Move) : Type 0 where
   pub stands : IsEntities c (fold entities_after st ms)
   pub posts_are : list_all (is_own_move c st.who) ms ≡ true
-  pub facts_are : list_all is_entity_fact (facts_of ms) ≡ true
+  pub facts_are : list_all (is_entity_fact st.who) (facts_of ms) ≡ true
   pub guarded_are : (vouches : List ℕ → ℕ → ℕ → Bool) (h : Hand) → InHand c h st → shard_list h.lists s ≡ list → guarded_in_hand c vouches st.who h (facts_of ms) ≡ true
   pub goes_along : (h : Hand) → InHand c h st → shard_list h.lists s ≡ list → InHand c (fold (hand_after c) h (facts_of ms)) (fold entities_after st ms)
 

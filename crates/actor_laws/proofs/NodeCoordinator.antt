@@ -32,7 +32,7 @@ use Rattle.world_laws.proofs.Members.{same_is, itself_is}
 use Rattle.world_laws.proofs.Rules.{all_join, all_if, all_some, all_each, who_fold}
 use Rattle.actor_laws.specs.Moves.{is_own_move, facts_of}
 use Rattle.actor_laws.specs.CoordinatorStands.{IsSound, is_coordinator_fact, entered, Keeps, KeepsRules}
-use Rattle.actor_laws.specs.NodeStands.{IsCoordinatorAt, IsSoundNode, NodeInHand}
+use Rattle.actor_laws.specs.NodeStands.{is_own_fact, IsCoordinatorAt, IsSoundNode, NodeInHand}
 use Rattle.actor_laws.proofs.NodeKeeps.{NodeKeeps}
 use Rattle.actor_laws.proofs.CoordinatorReads.{regions_more}
 use Rattle.actor_laws.proofs.CoordinatorMoves.{all_of_map, all_picked, entries_after}
@@ -237,10 +237,21 @@ with_in_hand c h st k list i e = record {
 }
 
 -- moves that a coordinator keeps, a node keeps
+-- what a coordinator tells is of no incarnation where entities are live
+coordinator_own : (who : Incarnation) (f : Fact) → is_coordinator_fact f ≡ true → is_own_fact who f ≡ true
+coordinator_own who (fact.Start x e) h = absurd (true_is_not_false (sym h))
+coordinator_own who (fact.Active x e n s) h = absurd (true_is_not_false (sym h))
+coordinator_own who (fact.Stop x e) h = absurd (true_is_not_false (sym h))
+coordinator_own who (fact.WriteFailed x e) h = absurd (true_is_not_false (sym h))
+coordinator_own who (fact.Granted s n x) h = absurd (true_is_not_false (sym h))
+coordinator_own who (fact.Gone x) h = absurd (true_is_not_false (sym h))
+coordinator_own who f h = refl
+
 pub coordinator_node : (c : Script) (v : List ℕ → ℕ → ℕ → Bool) (st : Node) (k : Coordinator) (ms : List Move) → IsSoundNode c st → st.coordinator ≡ Some k → Keeps c k ms → NoTook ms → NodeKeeps c v st (map by_coordinator ms)
 coordinator_node c v st k ms s e keeps h = record {
   stands = subst (IsSoundNode c) (sym node_is) (with_sound c st later s (record { sound = keeps.sound; who_is = who_fold k ms ∙ at.who_is }));
   posts_are = ap (list_all (is_own_post c st.who)) (coordinator_items ms) ∙ all_each_of (is_own_post c st.who) (is_own_move c st.who) item_of ms (subst (λ who. list_all (is_own_move c who) ms ≡ true) at.who_is keeps.posts_are) (λ m f. f);
+  own_are = ap (λ is. list_all (is_own_fact st.who) (facts_in is)) (coordinator_items ms) ∙ all_map is_coordinator_fact (is_own_fact st.who) (coordinator_own st.who) (facts_of ms) keeps.facts_are;
   guarded_are = λ x i. ap (λ is. guarded_in_hand c v st.who x (facts_in is)) (coordinator_items ms) ∙ coordinator_guarded c v st.who x (facts_of ms) keeps.facts_are (ap (own c slot.Coordinator) (list_is x i) ∙ keeps.sound.own_is);
   goes_along = λ x i. subst (λ y. NodeInHand c y (fold after st (map by_coordinator ms))) (sym (hand_is x)) (subst (NodeInHand c (with_coordinator x (fold entered x.lists.coordinator (facts_of ms)))) (sym node_is) (with_in_hand c x st later (fold entered x.lists.coordinator (facts_of ms)) i (list_is x i)));
 }
@@ -262,7 +273,7 @@ coordinator_node c v st k ms s e keeps h = record {
 
 -- where nothing is done
 pub node_none : (c : Script) (v : List ℕ → ℕ → ℕ → Bool) (st : Node) → IsSoundNode c st → NodeKeeps c v st []
-node_none c v st s = record { stands = s; posts_are = refl; guarded_are = λ x i. refl; goes_along = λ x i. i }
+node_none c v st s = record { stands = s; posts_are = refl; own_are = refl; guarded_are = λ x i. refl; goes_along = λ x i. i }
 
 -- a rule of the coordinator, where there is one
 pub rule_node : (c : Script) (v : List ℕ → ℕ → ℕ → Bool) (st : Node) (p : Coordinator → List Move) → IsSoundNode c st → ((k : Coordinator) → st.coordinator ≡ Some k → IsSound c k → Keeps c k (p k)) → ((k : Coordinator) → NoTook (p k)) → NodeKeeps c v st (of_coordinator p st)

@@ -18,7 +18,7 @@ use Rattle.yard_model.specs.Node.{Node, Act, by_region, by_entities, move_of, af
 use Rattle.yard_model.specs.Region.{region_after}
 use Rattle.yard_model.specs.Script.{Script}
 use Rattle.yard_laws.specs.Free.{is_free, is_free_move}
-use Rattle.yard_laws.proofs.Booleans.{true_is_not_false, and_both, both}
+use Rattle.yard_laws.proofs.Booleans.{true_is_not_false, and_both, both, all_map}
 use Rattle.yard_laws.proofs.PartsLaws.{region_alone, entities_alone, region_items, entities_items}
 use Rattle.world_laws.specs.Owes.{Hand, facts_in, hand_after, guard_in_hand, guarded_in_hand, is_own_post}
 use Rattle.world_laws.proofs.Rules.{all_join, region_who}
@@ -26,7 +26,7 @@ use Rattle.actor_laws.specs.Moves.{is_own_move, facts_of}
 use Rattle.actor_laws.specs.EntitiesStand as entities
 use Rattle.actor_laws.specs.EntitiesStand.{IsEntities, InHand, is_entity_fact}
 use Rattle.actor_laws.specs.RegionStands as regions
-use Rattle.actor_laws.specs.NodeStands.{IsSoundNode, NodeInHand}
+use Rattle.actor_laws.specs.NodeStands.{is_own_fact, IsSoundNode, NodeInHand}
 use Rattle.actor_laws.proofs.NodeKeeps.{NodeKeeps}
 use Rattle.actor_laws.specs.NodeFound.{NodeKeepsIf}
 use Rattle.actor_laws.proofs.EntitiesMoves as moves
@@ -52,8 +52,12 @@ pub set_stays : (st : Node) (acts : List Act) → (fold after st acts).set ≡ s
 set_stays st [] = refl
 set_stays st (a ∷ acts) = set_stays (after st a) acts
 
+pub own_both : (c : Script) (st : Node) (xs ys : List Act) → list_all (is_own_fact st.who) (facts_in (items_of xs)) ≡ true → list_all (is_own_fact (fold after st xs).who) (facts_in (items_of ys)) ≡ true → list_all (is_own_fact st.who) (facts_in (items_of (xs ++ ys))) ≡ true
+own_both c st xs ys f g = ap (list_all (is_own_fact st.who)) (facts_both xs ys)
+    ∙ all_join (is_own_fact st.who) (facts_in (items_of xs)) (facts_in (items_of ys)) f (subst (λ w. list_all (is_own_fact w) (facts_in (items_of ys)) ≡ true) (who_stays st xs) g)
+
 pub node_none : (c : Script) (v : List ℕ → ℕ → ℕ → Bool) (st : Node) → IsSoundNode c st → NodeKeeps c v st []
-node_none c v st is = record { stands = is; posts_are = refl; guarded_are = λ h i. refl; goes_along = λ h i. i }
+node_none c v st is = record { stands = is; posts_are = refl; own_are = refl; guarded_are = λ h i. refl; goes_along = λ h i. i }
 
 pub node_both : (c : Script) (v : List ℕ → ℕ → ℕ → Bool) (st : Node) (xs ys : List Act) → NodeKeeps c v st xs → NodeKeeps c v (fold after st xs) ys → NodeKeeps c v st (xs ++ ys)
 node_both c v st xs ys f g =
@@ -61,6 +65,7 @@ node_both c v st xs ys f g =
     record {
       stands = subst (IsSoundNode c) (sym (fold-append after st xs ys)) g.stands;
       posts_are = ap (list_all (is_own_post c st.who)) (items_both xs ys) ∙ all_join (is_own_post c st.who) (items_of xs) (items_of ys) f.posts_are (subst (λ w. list_all (is_own_post c w) (items_of ys) ≡ true) (who_stays st xs) g.posts_are);
+      own_are = own_both c st xs ys f.own_are g.own_are;
       guarded_are = λ h i. ap (guarded_in_hand c v st.who h) (facts_both xs ys)
           ∙ guarded_both c v st.who h (facts_in (items_of xs)) (facts_in (items_of ys)) (f.guarded_are h i)
           (subst (λ w. guarded_in_hand c v w (fold (hand_after c) h (facts_in (items_of xs))) (facts_in (items_of ys)) ≡ true) (who_stays st xs) (g.guarded_are (fold (hand_after c) h (facts_in (items_of xs))) (f.goes_along h i)));
@@ -142,6 +147,16 @@ free_facts (made (item.Fact f) ∷ ms) h =
 free_facts (made (item.Post p) ∷ ms) h = free_facts ms h
 free_facts (m ∷ ms) h = free_facts ms h
 
+-- free facts tell of no incarnation
+free_own : (who : Incarnation) (f : Fact) → is_free f ≡ true → is_own_fact who f ≡ true
+free_own who (fact.Start x e) h = absurd (true_is_not_false (sym h))
+free_own who (fact.Active x e n s) h = absurd (true_is_not_false (sym h))
+free_own who (fact.Stop x e) h = absurd (true_is_not_false (sym h))
+free_own who (fact.WriteFailed x e) h = absurd (true_is_not_false (sym h))
+free_own who (fact.Granted s n x) h = absurd (true_is_not_false (sym h))
+free_own who (fact.Gone x) h = absurd (true_is_not_false (sym h))
+free_own who f h = refl
+
 -- The region's moves.
 
 pub region_node : (c : Script) (v : List ℕ → ℕ → ℕ → Bool) (st : Node) (ms : List Move) → IsSoundNode c st → regions.Keeps c st.region ms → are_of_different_nodes (fold region_after st.region ms).view ≡ true → NodeKeeps c v st (map by_region ms)
@@ -164,6 +179,7 @@ region_node c v st ms is k different =
         coordinator = is.coordinator;
       });
       posts_are = ap (list_all (is_own_post c st.who)) (region_items ms) ∙ subst (λ w. list_all (is_own_post c w) (flat_map item_of ms) ≡ true) is.region_who (own_items c st.region.who ms k.posts_are);
+      own_are = ap (list_all (is_own_fact st.who)) facts ∙ all_map is_free (is_own_fact st.who) (free_own st.who) (facts_of ms) free;
       guarded_are = λ h i. ap (guarded_in_hand c v st.who h) facts ∙ free_guards c v st.who h (facts_of ms) free;
       goes_along = λ h i. subst (λ x. NodeInHand c (fold (hand_after c) h (facts_in (items_of (map by_region ms)))) x) (sym same)
           (subst (λ x. NodeInHand c x later) (sym (ap (fold (hand_after c) h) facts ∙ free_hands c h (facts_of ms) free))
@@ -201,6 +217,18 @@ entities_else c who h (f ∷ fs) k =
     let more : AreElse (hand_after c h f) (fold (hand_after c) (hand_after c h f) fs) = entities_else c who (hand_after c h f) fs m.1 in
     record { coordinator = more.coordinator ∙ one.coordinator; queues = more.queues ∙ one.queues }
 
+-- what entities tell is their own
+entity_own : (who : Incarnation) (f : Fact) → is_entity_fact who f ≡ true → is_own_fact who f ≡ true
+entity_own who (fact.Start x e) h = h
+entity_own who (fact.Active x e n s) h = h
+entity_own who (fact.Stop x e) h = h
+entity_own who (fact.WriteFailed x e) h = h
+entity_own who (fact.Granted (slot.Shard s) n x) h = h
+entity_own who (fact.Granted slot.Coordinator n x) h = absurd (true_is_not_false (sym h))
+entity_own who (fact.Granted (slot.Queue p) n x) h = absurd (true_is_not_false (sym h))
+entity_own who (fact.Gone x) h = absurd (true_is_not_false (sym h))
+entity_own who f h = refl
+
 -- by moves whose facts are guarded with hands of one kind
 pub entities_if : (P : Hand → Type 0) (c : Script) (v : List ℕ → ℕ → ℕ → Bool) (st : Node) (ms : List Move) → IsSoundNode c st → IsEntities c (fold entities_after st.entities ms) → list_all (is_own_move c st.entities.who) ms ≡ true
     → list_all (is_entity_fact st.entities.who) (facts_of ms) ≡ true → ((h : Hand) → InHand c h st.entities → P h → guarded_in_hand c v st.entities.who h (facts_of ms) ≡ true)
@@ -223,6 +251,7 @@ entities_if P c v st ms is stands own_are told_are guarded goes =
         coordinator = is.coordinator;
       });
       posts_are = ap (list_all (is_own_post c st.who)) (entities_items ms) ∙ subst (λ w. list_all (is_own_post c w) (flat_map item_of ms) ≡ true) is.entities_who (own_items c st.entities.who ms own_are);
+      own_are = ap (list_all (is_own_fact st.who)) facts ∙ all_map (is_entity_fact st.who) (is_own_fact st.who) (entity_own st.who) (facts_of ms) (subst (λ w. list_all (is_entity_fact w) (facts_of ms) ≡ true) is.entities_who told_are);
       guarded_are = λ h i p. ap (guarded_in_hand c v st.who h) facts ∙ subst (λ w. guarded_in_hand c v w h (facts_of ms) ≡ true) is.entities_who (guarded h i.entities p);
       goes_along = λ h i p. subst (λ x. NodeInHand c (fold (hand_after c) h (facts_in (items_of (map by_entities ms)))) x) (sym same)
           (subst (λ x. NodeInHand c (fold (hand_after c) h x) later) (sym facts) (along h i p));
@@ -248,4 +277,4 @@ entities_if P c v st ms is stands own_are told_are guarded goes =
 pub entities_node : (c : Script) (v : List ℕ → ℕ → ℕ → Bool) (st : Node) (ms : List Move) → IsSoundNode c st → entities.Keeps c st.entities ms → NodeKeeps c v st (map by_entities ms)
 entities_node c v st ms is k =
     let x : NodeKeepsIf (λ h. Unit {0}) c v st (map by_entities ms) = entities_if (λ h. Unit {0}) c v st ms is k.stands k.posts_are k.facts_are (λ h i p. k.guarded_are v h i) (λ h i p. k.goes_along h i) in
-    record { stands = x.stands; posts_are = x.posts_are; guarded_are = λ h i. x.guarded_are h i tt; goes_along = λ h i. x.goes_along h i tt }
+    record { stands = x.stands; posts_are = x.posts_are; own_are = x.own_are; guarded_are = λ h i. x.guarded_are h i tt; goes_along = λ h i. x.goes_along h i tt }

@@ -22,11 +22,12 @@ use Rattle.yard_model.specs.Setting.{place}
 use Rattle.yard_model.specs.SlotLists.{queue_list}
 use Rattle.yard_model.specs.SlotReads.{holder, epoch, queued, confirmed}
 use Rattle.yard_model.specs.Trace.{slot_of, with_entry}
-use Rattle.yard_model.specs.Words.{at}
+use Rattle.yard_model.specs.Words.{at, is_same}
 use Rattle.yard_laws.proofs.Booleans.{and_both, both, at_most}
 use Rattle.world_laws.specs.Owes.{Hand, has_name, live_after, hand_after, follows_in_hand, lives_in_hand, guard_in_hand, guarded_in_hand, facts_in, is_own_post}
+use Rattle.world_laws.proofs.Members.{itself_is}
 use Rattle.world_laws.proofs.Place.{none_is_not_some, some_is, inside, by_place, placed_at, placed_beside}
-use Rattle.actor_laws.specs.NodeStands.{IsProducerAt, IsSoundNode, NodeInHand}
+use Rattle.actor_laws.specs.NodeStands.{is_own_fact, IsProducerAt, IsSoundNode, NodeInHand}
 use Rattle.actor_laws.proofs.NodeKeeps.{NodeKeeps}
 use Rattle.actor_laws.specs.ProducerStands.{IsProducer, Rules, IsGranted, ProducerKeeps, ProducerIsGranted}
 use Rattle.actor_laws.specs.NodeFound.{NodeKeepsIf}
@@ -148,6 +149,7 @@ still_then : (c : Script) (v : List ℕ → ℕ → ℕ → Bool) (st : Node) (a
 still_then c v st a acts none along rest = record {
   stands = rest.stands;
   posts_are = ap (list_all (is_own_post c st.who)) items ∙ rest.posts_are;
+  own_are = ap (λ is. list_all (is_own_fact st.who) (facts_in is)) items ∙ rest.own_are;
   guarded_are = λ h i. ap (λ is. guarded_in_hand c v st.who h (facts_in is)) items ∙ rest.guarded_are h (along h i);
   goes_along = λ h i. subst (λ is. NodeInHand c (fold (hand_after c) h (facts_in is)) (fold after st (a ∷ acts))) (sym items) (rest.goes_along h (along h i));
 }
@@ -223,13 +225,14 @@ record IsEntered (c : Script) (who : Incarnation) (p : ℕ) (list : List Fact) (
 entry_node : (c : Script) (v : List ℕ → ℕ → ℕ → Bool) (st : Node) (p : ℕ) (k : Producer) (f : Fact) (o : Option Producer) → IsSoundNode c st → 0 < p → at st.producers (p - 1) ≡ Some k
     → slot_of (setting c) f ≡ Some (slot.Queue p) → ((live : List (List ℕ)) → live_after live f ≡ live)
     → may_follow c (slot.Queue p) k.entries f ≡ true
-    → ((h : Hand) → lives_in_hand c v st.who h f ≡ true)
+    → ((h : Hand) → lives_in_hand c v st.who h f ≡ true) → is_own_fact st.who f ≡ true
     → producer_by st.set st.who p (Some k) (told f) ≡ o
     → ((j : Producer) → o ≡ Some j → IsEntered c st.who p (k.entries ++ f ∷ []) j)
     → NodeKeeps c v st (by_producer p (told f) ∷ [])
-entry_node c v st p k f o is above found of live follows lives by here = record {
+entry_node c v st p k f o is above found of live follows lives its by here = record {
   stands = subst (IsSoundNode c) (sym moved) (stands_put c st p o is above less (λ j e. (here j e).at_is));
   posts_are = refl;
+  own_are = both (is_own_fact st.who f) true its refl;
   guarded_are = λ h i. both (guard_in_hand c v st.who h f) true (entry_guarded c v st.who p k.entries f h number of follows (i.producers p k above found) (lives h)) refl;
   goes_along = λ h i. subst (NodeInHand c (hand_after c h f)) (sym moved) (along_entry c h st p k.entries f o is i less of live (i.producers p k above found) (λ j e. (here j e).entries_are));
 }
@@ -250,7 +253,7 @@ pub queue_node : ProducerKeeps → (c : Script) (v : List ℕ → ℕ → ℕ �
     → producer.next_sending (sends c p) k ≡ Some x → NodeKeeps c v st (map (by_producer p) (producer.queue x k))
 queue_node keeps c v st p k x is above found next =
     entry_node c v st p k f (Some new) is above found (ap (λ n. Some (slot.Queue n)) a.number_is) (λ live. refl)
-    (subst (λ n. may_follow c (slot.Queue n) k.entries f ≡ true) a.number_is (r.queued_follows x own_next)) (λ h. refl) refl
+    (subst (λ n. may_follow c (slot.Queue n) k.entries f ≡ true) a.number_is (r.queued_follows x own_next)) (λ h. refl) refl refl
     (λ j e. subst (IsEntered c st.who p (k.entries ++ f ∷ [])) (some_is new j e)
     (record { at_is = record { stands = (r.queues x own_next).stands; who_is = a.who_is; number_is = a.number_is }; entries_are = refl }))
   where
@@ -293,7 +296,7 @@ confirm_node keeps c v st p k e n is above found there vouched = by (nat_lt (con
     by true above_it =
         entry_node c v st p k f (Some new) is above found (ap (λ m. Some (slot.Queue m)) a.number_is) (λ live. refl)
         (subst (λ m. may_follow c (slot.Queue m) k.entries f ≡ true) a.number_is (r.confirmed_follows e n (rises above_it) there))
-        (λ h. ap (λ m. v e m n) a.number_is ∙ vouched) refl
+        (λ h. ap (λ m. v e m n) a.number_is ∙ vouched) refl refl
         (λ j g. subst (IsEntered c st.who p (k.entries ++ f ∷ [])) (some_is new j g)
         (record {
           at_is = record {
@@ -308,7 +311,7 @@ pub give_back_node : ProducerKeeps → (c : Script) (v : List ℕ → ℕ → �
     → NodeKeeps c v st (map (by_producer p) (producer.give_back k))
 give_back_node keeps c v st p k is above found =
     entry_node c v st p k f None is above found (ap (λ n. Some (slot.Queue n)) a.number_is) (λ live. refl)
-    (subst (λ n. may_follow c (slot.Queue n) k.entries f ≡ true) a.number_is (r.freed_follows cause.Released)) (λ h. refl) refl
+    (subst (λ n. may_follow c (slot.Queue n) k.entries f ≡ true) a.number_is (r.freed_follows cause.Released)) (λ h. refl) refl refl
     (λ j e. absurd (none_is_not_some j e))
   where
     a : IsProducerAt c st.who p k
@@ -327,6 +330,7 @@ held_node : (c : Script) (v : List ℕ → ℕ → ℕ → Bool) (st : Node) (p 
 held_node c v st p list x is above less free = record {
   stands = subst (IsSoundNode c) (sym moved) (stands_put c st p None is above less (λ j e. absurd (none_is_not_some j e)));
   posts_are = refl;
+  own_are = refl;
   guarded_are = λ h i found. refl;
   goes_along = λ h i found. subst (NodeInHand c h) (sym moved) (along_put c h h st p None i less refl refl refl refl (λ q other. refl) (λ j e. absurd (none_is_not_some j e)));
 }
@@ -340,6 +344,7 @@ granted_node c v st p list is above less free number g = record {
   stands = subst (IsSoundNode c) (sym taken) (stands_put c mid p (Some new) mid_stands above mid_less
       (λ j e. subst (IsProducerAt c st.who p) (some_is new j e) (record { stands = g.stands; who_is = refl; number_is = refl })));
   posts_are = refl;
+  own_are = both (is_same st.who st.who) true (itself_is st.who st.who refl) refl;
   guarded_are = λ h i found. both (guard_in_hand c v st.who h f) true (entry_guarded c v st.who p list f h number refl g.follows found refl) refl;
   goes_along = λ h i found. subst (NodeInHand c (hand_after c h f)) (sym taken)
       (along_put c (hand_after c h f) (hand_after c h f) mid p (Some new)

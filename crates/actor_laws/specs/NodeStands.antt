@@ -1,6 +1,8 @@
 -- What stands of a node by itself between its rules: its actors stand, and are of one incarnation. What a rule keeps and tells.
-use Rattle.std.specs.Prelude.{◌≡◌, ℕ, ◌-◌, ◌<◌, true, length, Some, IfSome}
+use Rattle.std.specs.Prelude.{Bool, false, ◌≡◌, ℕ, ◌-◌, ◌<◌, true, length, Some, IfSome}
 use Rattle.std.specs.List.{list_all}
+use Rattle.yard_model.specs.declared.fact.Fact.{Fact}
+use Rattle.yard_model.specs.declared.fact.Fact.TheVariants as fact
 use Rattle.yard_model.specs.declared.incarnation.Incarnation.{Incarnation}
 use Rattle.yard_model.specs.Coordinator.{Coordinator}
 use Rattle.yard_model.specs.Genuine.{is_node}
@@ -10,7 +12,7 @@ use Rattle.yard_model.specs.Producer.{Producer}
 use Rattle.yard_model.specs.Script.{Script, setting}
 use Rattle.yard_model.specs.SlotLists.{queue_list}
 use Rattle.yard_model.specs.SlotReads.{regions}
-use Rattle.yard_model.specs.Words.{at, is_among}
+use Rattle.yard_model.specs.Words.{at, is_among, is_same}
 use Rattle.world_laws.specs.Owes.{Hand}
 use Rattle.actor_laws.specs.CoordinatorStands.{IsSound}
 use Rattle.actor_laws.specs.EntitiesStand.{IsEntities, InHand}
@@ -49,3 +51,13 @@ pub record NodeInHand (c : Script) (h : Hand) (st : Node) : Type 0 where
   pub queues_there : length h.lists.queues ≡ c.config.producers
   pub producers : (p : ℕ) (k : Producer) → 0 < p → at st.producers (p - 1) ≡ Some k → queue_list h.lists p ≡ k.entries
   pub coordinator : IfSome st.coordinator (λ k. h.lists.coordinator ≡ k.entries)
+
+-- what a fact tells of the incarnation at which entities are live, or which is granted a slot, it tells of this one
+abbrev pub is_own_fact : Incarnation → Fact → Bool
+is_own_fact who (fact.Start x e) = is_same x who
+is_own_fact who (fact.Active x e n s) = is_same x who
+is_own_fact who (fact.Stop x e) = is_same x who
+is_own_fact who (fact.WriteFailed x e) = is_same x who
+is_own_fact who (fact.Granted s n x) = is_same x who
+is_own_fact who (fact.Gone x) = false
+is_own_fact who f = true

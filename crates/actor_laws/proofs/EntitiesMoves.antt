@@ -138,7 +138,7 @@ turned e f other = by (is_name f e) refl
     by false k = k
     by true k = absurd (true≢false (sym (name_itself e) ∙ (ap (is_name e) (sym (same_name f e k)) ∙ other)))
 
-any_more : {A : Type 0} (p : A → Bool) (xs : List A) (x : A) → list_any p (xs ++ x ∷ []) ≡ (list_any p xs || p x)
+pub any_more : {A : Type 0} (p : A → Bool) (xs : List A) (x : A) → list_any p (xs ++ x ∷ []) ≡ (list_any p xs || p x)
 any_more p [] x = by (p x)
   where
     by : (b : Bool) → (b || false) ≡ b
@@ -150,7 +150,7 @@ any_more p (y ∷ ys) x = ap (λ b. p y || b) (any_more p ys x) ∙ assoc (p y) 
     assoc true b d = refl
     assoc false b d = refl
 
-or_true : (a : Bool) → (a || true) ≡ true
+pub or_true : (a : Bool) → (a || true) ≡ true
 or_true true = refl
 or_true false = refl
 
@@ -158,13 +158,13 @@ or_false : (a : Bool) → (a || false) ≡ a
 or_false true = refl
 or_false false = refl
 
-name_added : (e : List ℕ) (live : List (List ℕ)) → has_name e (live ++ e ∷ []) ≡ true
+pub name_added : (e : List ℕ) (live : List (List ℕ)) → has_name e (live ++ e ∷ []) ≡ true
 name_added e live = any_more (is_name e) live e ∙ (ap (λ b. list_any (is_name e) live || b) (name_itself e) ∙ or_true (list_any (is_name e) live))
 
-name_beside : (e f : List ℕ) (live : List (List ℕ)) → is_name e f ≡ false → has_name f (live ++ e ∷ []) ≡ has_name f live
+pub name_beside : (e f : List ℕ) (live : List (List ℕ)) → is_name e f ≡ false → has_name f (live ++ e ∷ []) ≡ has_name f live
 name_beside e f live other = any_more (is_name f) live e ∙ (ap (λ b. list_any (is_name f) live || b) (turned e f other) ∙ or_false (list_any (is_name f) live))
 
-name_gone : (e : List ℕ) (live : List (List ℕ)) → has_name e (without_name e live) ≡ false
+pub name_gone : (e : List ℕ) (live : List (List ℕ)) → has_name e (without_name e live) ≡ false
 name_gone e [] = refl
 name_gone e (x ∷ xs) = by (is_name e x) refl (name_gone e xs)
   where
@@ -172,7 +172,7 @@ name_gone e (x ∷ xs) = by (is_name e x) refl (name_gone e xs)
     by true k rest = rest
     by false k rest = ap (λ b. b || has_name e (without_name e xs)) k ∙ rest
 
-name_stays : (e f : List ℕ) (live : List (List ℕ)) → is_name e f ≡ false → has_name f (without_name e live) ≡ has_name f live
+pub name_stays : (e f : List ℕ) (live : List (List ℕ)) → is_name e f ≡ false → has_name f (without_name e live) ≡ has_name f live
 name_stays e f [] other = refl
 name_stays e f (x ∷ xs) other = by (is_name e x) refl (name_stays e f xs other)
   where

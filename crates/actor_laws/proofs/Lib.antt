@@ -29,3 +29,4 @@ pub mod NodeTicks
 pub mod ProducerMoves
 pub mod RegionMoves
 pub mod ShardStartLaws
+pub mod TraceLaws

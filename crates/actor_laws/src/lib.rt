@@ -7,6 +7,7 @@
 
 pub mod coordinator;
 pub mod entities;
+pub mod hand;
 pub mod messages;
 pub mod node;
 pub mod producer;

@@ -1,0 +1,30 @@
+-- What a node has in hand, of a trace: so facts that are guarded by what it has in hand are guarded after that trace.
+use Rattle.std.specs.Prelude.{◌≡◌, ℕ, Bool, true, nat_le, List, ◌++◌, fold, IsTrue}
+use Rattle.std.specs.List.{list_all}
+use Rattle.yard_model.specs.declared.fact.Fact.{Fact}
+use Rattle.yard_model.specs.declared.incarnation.Incarnation.{Incarnation}
+use Rattle.yard_model.specs.Safe.{live_at, shard_list_of, guarded}
+use Rattle.yard_model.specs.Script.{Script, setting}
+use Rattle.yard_model.specs.SlotReads.{journal, position}
+use Rattle.yard_model.specs.Trace.{lists_of}
+use Rattle.yard_model.specs.Words.{is_among}
+use Rattle.world_laws.specs.Owes.{Hand, has_name, hand_after, guarded_in_hand}
+use Rattle.actor_laws.specs.NodeStands.{is_own_fact}
+
+-- its lists are the trace's, and its live names are those that the trace says are live at this incarnation
+pub record IsHandOf (c : Script) (trace : List Fact) (who : Incarnation) (h : Hand) : Type 0 where
+  pub lists_are : h.lists ≡ lists_of (setting c) trace
+  pub live_are : (e : List ℕ) → has_name e h.live ≡ is_among who (live_at e trace)
+
+-- a number that is vouched for is recorded, and stays so
+abbrev pub AreVouched : Script → List Fact → (List ℕ → ℕ → ℕ → Bool) → Type 0
+AreVouched c trace vouches = (more : List Fact) → guarded c (trace ++ more) ≡ true → (e : List ℕ) (p n : ℕ) → vouches e p n ≡ true → nat_le n (position p (journal e (shard_list_of c e (trace ++ more)))) ≡ true
+
+pub record GoesOn (c : Script) (trace : List Fact) (who : Incarnation) (h : Hand) (fs : List Fact) : Type 0 where
+  pub guarded_are : guarded c (trace ++ fs) ≡ true
+  pub in_hand : IsHandOf c (trace ++ fs) who (fold (hand_after c) h fs)
+
+-- facts of a node
+abbrev pub HandIsGuarded : Type 0
+HandIsGuarded = (c : Script) (trace : List Fact) (who : Incarnation) (vouches : List ℕ → ℕ → ℕ → Bool) (h : Hand) (fs : List Fact) → guarded c trace ≡ true → AreVouched c trace vouches → IsHandOf c trace who h
+    → guarded_in_hand c vouches who h fs ≡ true → list_all (is_own_fact who) fs ≡ true → GoesOn c trace who h fs

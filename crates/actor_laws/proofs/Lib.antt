@@ -30,3 +30,4 @@ pub mod ProducerMoves
 pub mod RegionMoves
 pub mod ShardStartLaws
 pub mod TraceLaws
+pub mod TraceTurns

@@ -1,5 +1,5 @@
 -- Facts that are guarded by what a node has in hand are guarded in the trace.
-use Rattle.std.proofs.Common.{◌≡◌, ℕ, List, [], ◌∷◌, ◌++◌, sym, ap, subst, ◌∙◌, refl, true, false, true≢false}
+use Rattle.std.proofs.Common.{◌≡◌, ℕ, List, [], ◌∷◌, ◌++◌, sym, ap, subst, ◌∙◌, refl, true, false}
 use Rattle.std.specs.Prelude.{Bool, ◌&&◌, ◌||◌, not, nat_le, fold, if◌then◌else◌}
 use Rattle.std.specs.List.{list_all, list_any}
 use Rattle.std.proofs.lemmas.List.{append-nil, append_assoc}
@@ -10,7 +10,7 @@ use Rattle.yard_model.specs.declared.incarnation.Incarnation.{Incarnation}
 use Rattle.yard_model.specs.declared.incarnation.Slot.TheVariants as slot
 use Rattle.yard_model.specs.Genuine.{is_brought}
 use Rattle.yard_model.specs.Lawful.{lawful}
-use Rattle.yard_model.specs.Safe.{is_journal_state, live_step, live_at, shard_list_of, one_live, is_safe_now, own_guard, guard, guarded}
+use Rattle.yard_model.specs.Safe.{is_journal_state, live_step, live_at, shard_list_of, one_live, guard, guarded}
 use Rattle.yard_model.specs.Script.{Script, is_name, setting}
 use Rattle.yard_model.specs.Setting.{shard_of, names_of}
 use Rattle.yard_model.specs.SlotLists.{SlotLists, shard_list}
@@ -26,7 +26,7 @@ use Rattle.yard_laws.proofs.SafetyLaws.{guarded_is_safe}
 use Rattle.world_laws.specs.Owes.{Hand, has_name, without_name, live_after, hand_after, follows_in_hand, lives_in_hand, guard_in_hand, guarded_in_hand}
 use Rattle.world_laws.proofs.Members.{same_is, itself_is}
 use Rattle.actor_laws.specs.NodeStands.{is_own_fact}
-use Rattle.actor_laws.specs.Traces.{IsHandOf, AreVouched, GoesOn, HandIsGuarded}
+use Rattle.actor_laws.specs.Traces.{IsHandOf, GoesOn, HandIsGuarded}
 use Rattle.actor_laws.proofs.EntitiesMoves.{any_more, or_true, name_added, name_beside, name_gone, name_stays}
 
 -- The guard of one fact.

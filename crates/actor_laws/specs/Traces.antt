@@ -1,15 +1,19 @@
 -- What a node has in hand, of a trace: so facts that are guarded by what it has in hand are guarded after that trace.
-use Rattle.std.specs.Prelude.{◌≡◌, ℕ, Bool, true, nat_le, List, ◌++◌, fold, IsTrue}
+use Rattle.std.specs.Prelude.{◌≡◌, ℕ, Bool, true, nat_le, List, ◌++◌, fold}
 use Rattle.std.specs.List.{list_all}
 use Rattle.yard_model.specs.declared.fact.Fact.{Fact}
 use Rattle.yard_model.specs.declared.incarnation.Incarnation.{Incarnation}
+use Rattle.yard_model.specs.declared.input.Input.{Input}
+use Rattle.yard_model.specs.Node.{Node, Act, after, items_of, turn}
 use Rattle.yard_model.specs.Safe.{live_at, shard_list_of, guarded}
-use Rattle.yard_model.specs.Script.{Script, setting}
+use Rattle.yard_model.specs.Script.{Script, IsScript, setting}
 use Rattle.yard_model.specs.SlotReads.{journal, position}
 use Rattle.yard_model.specs.Trace.{lists_of}
 use Rattle.yard_model.specs.Words.{is_among}
-use Rattle.world_laws.specs.Owes.{Hand, has_name, hand_after, guarded_in_hand}
-use Rattle.actor_laws.specs.NodeStands.{is_own_fact}
+use Rattle.yard_model.specs.World.{all_sends}
+use Rattle.world_laws.specs.Owes.{Hand, has_name, facts_in, hand_after, guarded_in_hand, is_own_post}
+use Rattle.actor_laws.specs.NodeStands.{is_own_fact, IsSoundNode, IsViewed, NodeInHand}
+use Rattle.actor_laws.specs.NodeTurns.{MayTake}
 
 -- its lists are the trace's, and its live names are those that the trace says are live at this incarnation
 pub record IsHandOf (c : Script) (trace : List Fact) (who : Incarnation) (h : Hand) : Type 0 where
@@ -28,3 +32,15 @@ pub record GoesOn (c : Script) (trace : List Fact) (who : Incarnation) (h : Hand
 abbrev pub HandIsGuarded : Type 0
 HandIsGuarded = (c : Script) (trace : List Fact) (who : Incarnation) (vouches : List ℕ → ℕ → ℕ → Bool) (h : Hand) (fs : List Fact) → guarded c trace ≡ true → AreVouched c trace vouches → IsHandOf c trace who h
     → guarded_in_hand c vouches who h fs ≡ true → list_all (is_own_fact who) fs ≡ true → GoesOn c trace who h fs
+
+-- a turn of a node with the leases of the trace
+pub record TurnGoesOn (c : Script) (trace : List Fact) (h : Hand) (st : Node) (acts : List Act) : Type 0 where
+  pub stands : IsSoundNode c (fold after st acts)
+  pub goes_on : GoesOn c trace st.who h (facts_in (items_of acts))
+  pub holds : NodeInHand c (fold (hand_after c) h (facts_in (items_of acts))) (fold after st acts)
+  pub posts_are : list_all (is_own_post c st.who) (items_of acts) ≡ true
+
+abbrev pub TurnIsGuarded : Type 0
+TurnIsGuarded = (c : Script) (trace : List Fact) (vouches : List ℕ → ℕ → ℕ → Bool) (h : Hand) (st : Node) (i : Input) → IsScript c → IsSoundNode c st → IsViewed st → MayTake c vouches st i
+    → guarded c trace ≡ true → AreVouched c trace vouches → IsHandOf c trace st.who h → NodeInHand c h st
+    → TurnGoesOn c trace h st (turn (all_sends c) (lists_of (setting c) trace) i st)

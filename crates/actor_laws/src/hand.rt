@@ -1,5 +1,7 @@
 //! What a node has in hand, of a trace.
-ghost use Rattle.actor_laws.specs.Traces.{HandIsGuarded};
+use crate::node::turn_stands;
+ghost use Rattle.actor_laws.specs.Traces.{HandIsGuarded, TurnIsGuarded};
+use yard_laws::safety::guarded_is_own;
 
 /// After a guarded trace of which a node has in hand the lists and the names that are live at it, facts
 /// of its own that are guarded by what it has in hand are guarded, and what it has in hand then is that
@@ -7,3 +9,13 @@ ghost use Rattle.actor_laws.specs.Traces.{HandIsGuarded};
 pub fn hand_is_guarded()
     ensures { HandIsGuarded }
 {}
+
+/// So a turn of a node that stands, with the leases of a guarded trace of which it has its part in hand,
+/// keeps the trace guarded: whatever the input is, and whatever the other nodes are.
+pub fn turn_is_guarded()
+    ensures { TurnIsGuarded }
+{
+    guarded_is_own();
+    turn_stands();
+    hand_is_guarded();
+}

@@ -1,6 +1,6 @@
 -- What stands of entities, at entries, posts and silent moves.
 use Rattle.std.proofs.Common.{◌≡◌, ℕ, ◌<◌, List, [], ◌∷◌, ◌++◌, length, sym, ap, subst, ◌∙◌, refl, true, arith}
-use Rattle.std.specs.Prelude.{Bool, ◌&&◌, not, nat_lt, fold, Option, Some, None, is_none, slice_set, slice_index_or}
+use Rattle.std.specs.Prelude.{Bool, ◌||◌, ◌&&◌, not, nat_lt, fold, Option, Some, None, is_none, slice_set, slice_index_or}
 use Rattle.std.specs.List.{list_all}
 use Rattle.std.specs.Option.{option_map}
 use Rattle.std.proofs.lemmas.Bool.Decides.{nat_tests}
@@ -23,12 +23,14 @@ use Rattle.yard_model.specs.Setting.{shard_of}
 use Rattle.yard_model.specs.SlotLists.{shard_list}
 use Rattle.yard_model.specs.SlotReads.{holder, holder_step}
 use Rattle.yard_model.specs.Trace.{slot_of, with_entry}
-use Rattle.yard_model.specs.Words.{at, is_same}
+use Rattle.yard_model.specs.Words.{is_at, at, is_same}
 use Rattle.yard_model.proofs.FollowLaws.{follows_more}
 use Rattle.yard_laws.proofs.Booleans.{and_both, both}
 use Rattle.world_laws.specs.Owes.{Hand, live_after, hand_after, follows_in_hand, lives_in_hand, guard_in_hand, guarded_in_hand}
 use Rattle.world_laws.proofs.Members.{itself_is}
 use Rattle.world_laws.proofs.Place.{some_is, inside, by_place}
+use Rattle.actor_laws.proofs.EntitiesMoves.{or_this, holder_in_hand}
+use Rattle.actor_laws.specs.Held.{is_grant, is_slot_held, held_in_hand}
 use Rattle.actor_laws.specs.Moves.{is_own_move, facts_of}
 use Rattle.actor_laws.specs.EntitiesStand.{IsHeldShard, is_for, is_entity_fact, IsEntities, InHand, Keeps}
 use Rattle.actor_laws.proofs.EntitiesCells.{same_cells, cells_count}
@@ -42,6 +44,7 @@ still_keeps c st m is same own none = record {
   stands = subst (IsEntities c) (sym same) is;
   posts_are = both (is_own_move c st.who m) true own refl;
   facts_are = ap (list_all (is_entity_fact st.who)) none;
+  held_are = λ h i. ap (held_in_hand c st.who h) none;
   guarded_are = λ v h i. ap (λ fs. guarded_by v h fs) none;
   goes_along = λ h i. subst (λ x. InHand c (fold (hand_after c) h (facts_of (m ∷ []))) x) (sym same) (subst (λ fs. InHand c (fold (hand_after c) h fs) st) (sym none) i);
 }
@@ -57,6 +60,7 @@ cell_keeps c st m e is brought of shards own none there stash = record {
   stands = stands_cell c st m e is brought of shards (λ k. is.at_home e brought (sym there ∙ k)) (ap (list_all (is_for c e)) stash ∙ is.stashed e brought);
   posts_are = both (is_own_move c st.who m) true own refl;
   facts_are = ap (list_all (is_entity_fact st.who)) none;
+  held_are = λ h i. ap (held_in_hand c st.who h) none;
   guarded_are = λ v h i. ap (guarded_by v h) none;
   goes_along = λ h i. subst (λ fs. InHand c (fold (hand_after c) h fs) (entities_after st m)) (sym none)
       (along_cell c st m e h h is brought of shards i refl (i.live_are e brought ∙ ap not (sym there)) (λ f other. refl));
@@ -140,6 +144,8 @@ entry_keeps c st f e is brought there shards none of own_is still guard live our
   };
   posts_are = refl;
   facts_are = both (is_entity_fact st.who f) true ours refl;
+  held_are = λ h i. both (is_grant f || is_slot_held st.who h (slot_of (setting c) f)) true (or_this (is_grant f) (is_slot_held st.who h (slot_of (setting c) f))
+      (ap (is_slot_held st.who h) of ∙ (ap (is_at st.who) (holder_in_hand c st e h is there i) ∙ itself_is st.who st.who refl))) refl;
   guarded_are = λ v h i. both (guard_in_hand c v st.who h f) true (both (follows_in_hand c h.lists f (slot_of (setting c) f)) (lives_in_hand c v st.who h f)
       (ap (follows_in_hand c h.lists f) of ∙ both (is_shard c (shard_of (setting c) e)) (may_follow c (slot.Shard (shard_of (setting c) e)) (shard_list h.lists (shard_of (setting c) e)) f) shard_is
       (ap (λ l. may_follow c (slot.Shard (shard_of (setting c) e)) l f) (list_in_hand c st e h is there i) ∙ may_of c (slot.Shard (shard_of (setting c) e)) (entries st e) f own_is)) (guard v h i)) refl;

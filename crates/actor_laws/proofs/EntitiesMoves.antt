@@ -29,6 +29,7 @@ use Rattle.yard_laws.proofs.Booleans.{and_both, both, same_name}
 use Rattle.world_laws.specs.Owes.{Hand, has_name, without_name, live_after, hand_after, follows_in_hand, lives_in_hand, guard_in_hand, guarded_in_hand, facts_in}
 use Rattle.world_laws.proofs.Members.{itself_is}
 use Rattle.world_laws.proofs.Rules.{all_join}
+use Rattle.actor_laws.specs.Held.{is_grant, is_slot_held, held_in_hand}
 use Rattle.actor_laws.specs.Moves.{is_own_move, facts_of}
 use Rattle.actor_laws.specs.EntitiesStand.{IsHeldShard, is_for, is_entity_fact, IsEntities, InHand, Keeps}
 use Rattle.actor_laws.proofs.EntitiesCells.{own_cell, other_cell, cells_count}
@@ -49,6 +50,17 @@ guarded_both c vouches who h (x ∷ xs) ys f g =
     let m : (guard_in_hand c vouches who h x ≡ true) × (guarded_in_hand c vouches who (hand_after c h x) xs ≡ true) = and_both (guard_in_hand c vouches who h x) (guarded_in_hand c vouches who (hand_after c h x) xs) f in
     both (guard_in_hand c vouches who h x) (guarded_in_hand c vouches who (hand_after c h x) (xs ++ ys)) m.0 (guarded_both c vouches who (hand_after c h x) xs ys m.1 g)
 
+pub held_both : (c : Script) (who : Incarnation) (h : Hand) (xs ys : List Fact) → held_in_hand c who h xs ≡ true → held_in_hand c who (fold (hand_after c) h xs) ys ≡ true → held_in_hand c who h (xs ++ ys) ≡ true
+held_both c who h [] ys f g = g
+held_both c who h (x ∷ xs) ys f g =
+    let m : ((is_grant x || is_slot_held who h (slot_of (setting c) x)) ≡ true) × (held_in_hand c who (hand_after c h x) xs ≡ true) = and_both (is_grant x || is_slot_held who h (slot_of (setting c) x)) (held_in_hand c who (hand_after c h x) xs) f in
+    both (is_grant x || is_slot_held who h (slot_of (setting c) x)) (held_in_hand c who (hand_after c h x) (xs ++ ys)) m.0 (held_both c who (hand_after c h x) xs ys m.1 g)
+
+-- one of two
+pub or_this : (a b : Bool) → b ≡ true → (a || b) ≡ true
+or_this true b h = refl
+or_this false b h = h
+
 pub who_stays : (st : Entities) (ms : List Move) → (fold entities_after st ms).who ≡ st.who
 who_stays st [] = refl
 who_stays st (m ∷ ms) = who_stays (entities_after st m) ms
@@ -58,7 +70,7 @@ set_stays st [] = refl
 set_stays st (m ∷ ms) = set_stays (entities_after st m) ms
 
 pub keeps_none : (c : Script) (st : Entities) → IsEntities c st → Keeps c st []
-keeps_none c st is = record { stands = is; posts_are = refl; facts_are = refl; guarded_are = λ v h i. refl; goes_along = λ h i. i }
+keeps_none c st is = record { stands = is; posts_are = refl; facts_are = refl; held_are = λ h i. refl; guarded_are = λ v h i. refl; goes_along = λ h i. i }
 
 pub keeps_both : (c : Script) (st : Entities) (xs ys : List Move) → Keeps c st xs → Keeps c (fold entities_after st xs) ys → Keeps c st (xs ++ ys)
 keeps_both c st xs ys f g =
@@ -67,6 +79,9 @@ keeps_both c st xs ys f g =
       stands = subst (IsEntities c) (sym (fold-append entities_after st xs ys)) g.stands;
       posts_are = all_join (is_own_move c st.who) xs ys f.posts_are (subst (λ w. list_all (is_own_move c w) ys ≡ true) (who_stays st xs) g.posts_are);
       facts_are = ap (list_all (is_entity_fact st.who)) (facts_both xs ys) ∙ all_join (is_entity_fact st.who) (facts_of xs) (facts_of ys) f.facts_are (subst (λ w. list_all (is_entity_fact w) (facts_of ys) ≡ true) (who_stays st xs) g.facts_are);
+      held_are = λ h i. ap (held_in_hand c st.who h) (facts_both xs ys)
+          ∙ held_both c st.who h (facts_of xs) (facts_of ys) (f.held_are h i)
+          (subst (λ w. held_in_hand c w (fold (hand_after c) h (facts_of xs)) (facts_of ys) ≡ true) (who_stays st xs) (g.held_are (fold (hand_after c) h (facts_of xs)) (f.goes_along h i)));
       guarded_are = λ v h i. ap (guarded_in_hand c v st.who h) (facts_both xs ys)
           ∙ guarded_both c v st.who h (facts_of xs) (facts_of ys) (f.guarded_are v h i)
           (subst (λ w. guarded_in_hand c v w (fold (hand_after c) h (facts_of xs)) (facts_of ys) ≡ true) (who_stays st xs) (g.guarded_are v (fold (hand_after c) h (facts_of xs)) (f.goes_along h i)));
@@ -194,6 +209,7 @@ keeps_told c st f e is brought of shards none ours home stash guard live others 
   stands = stands_cell c st (told f) e is brought of shards home stash;
   posts_are = refl;
   facts_are = both (is_entity_fact st.who f) true ours refl;
+  held_are = λ h i. both (is_grant f || is_slot_held st.who h (slot_of (setting c) f)) true (or_this (is_grant f) (is_slot_held st.who h (slot_of (setting c) f)) (ap (is_slot_held st.who h) none)) refl;
   guarded_are = λ v h i. both (guard_in_hand c v st.who h f) true (both (follows_in_hand c h.lists f (slot_of (setting c) f)) (lives_in_hand c v st.who h f) (ap (follows_in_hand c h.lists f) none) (guard v h i)) refl;
   goes_along = λ h i. along_cell c st (told f) e h (hand_after c h f) is brought of shards i (ap (with_entry f h.lists) none) (live h i) (others h);
 }

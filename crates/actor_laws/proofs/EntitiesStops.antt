@@ -164,6 +164,7 @@ free_keeps c st s x is at_s none = record {
   };
   posts_are = refl;
   facts_are = refl;
+  held_are = λ h i. both (is_at st.who (holder (shard_list h.lists s))) true (ap (λ l. is_at st.who (holder l)) (i.lists_are s x at_s) ∙ (ap (is_at st.who) held.held_is ∙ itself_is st.who st.who refl)) refl;
   guarded_are = λ v h i. both (guard_in_hand c v st.who h f) true
       (both (is_shard c s && may_follow c (slot.Shard s) (shard_list h.lists s) f) (is_at st.who (holder (shard_list h.lists s)) && list_all (λ e. not (has_name e h.live)) (names_of (setting c) s))
       (both (is_shard c s) (may_follow c (slot.Shard s) (shard_list h.lists s) f) shard_is (ap (λ l. may_follow c (slot.Shard s) l f) (i.lists_are s x at_s) ∙ follows))
@@ -249,6 +250,7 @@ handed_keeps c st s stamp to x is at_s there = record {
   };
   posts_are = refl;
   facts_are = refl;
+  held_are = λ h i. refl;
   guarded_are = λ v h i. refl;
   goes_along = λ h i. record {
     there = i.there;

@@ -11,11 +11,11 @@ use Rattle.yard_model.specs.declared.packet.Body.TheVariants as body
 use Rattle.yard_model.specs.declared.incarnation.Incarnation.{Incarnation}
 use Rattle.yard_model.specs.declared.incarnation.Stamp.{Stamp}
 use Rattle.yard_model.specs.declared.incarnation.Slot.TheVariants as slot
-use Rattle.yard_model.specs.Script.{Script, Setting}
+use Rattle.yard_model.specs.Script.{setting, Script, Setting}
 use Rattle.yard_model.specs.Setting.{shards}
 use Rattle.yard_model.specs.Genuine.{is_node, is_genuine_body}
 use Rattle.yard_model.specs.Lawful.{own, may_follow}
-use Rattle.yard_model.specs.SlotReads.{regions}
+use Rattle.yard_model.specs.SlotReads.{holder, holder_step, regions}
 use Rattle.yard_model.specs.Words.{is_same, is_at, is_among, is_empty, without}
 use Rattle.yard_model.specs.Turns.{for_each, where_some}
 use Rattle.yard_model.specs.Move.{Move, made, took, quits, started, acknowledged, told, post, item_of}
@@ -30,6 +30,8 @@ use Rattle.world_laws.specs.Owes.{Hand, facts_in, hand_after, guard_in_hand, gua
 use Rattle.world_laws.proofs.Facts.{may_of}
 use Rattle.world_laws.proofs.Members.{same_is, itself_is}
 use Rattle.world_laws.proofs.Rules.{all_join, all_if, all_some, all_each, who_fold}
+use Rattle.yard_model.specs.Trace.{slot_of}
+use Rattle.actor_laws.specs.Held.{is_grant, is_slot_held, held_in_hand}
 use Rattle.actor_laws.specs.Moves.{is_own_move, facts_of}
 use Rattle.actor_laws.specs.CoordinatorStands.{IsSound, is_coordinator_fact, entered, Keeps, KeepsRules}
 use Rattle.actor_laws.specs.NodeStands.{is_own_fact, IsCoordinatorAt, IsSoundNode, NodeInHand}
@@ -237,6 +239,23 @@ with_in_hand c h st k list i e = record {
 }
 
 -- moves that a coordinator keeps, a node keeps
+-- its entries are of its slot, which stays held
+held_on : (c : Script) (who : Incarnation) (h : Hand) (f : Fact) → is_coordinator_fact f ≡ true → holder h.lists.coordinator ≡ Some who → ((is_grant f || is_slot_held who h (slot_of (setting c) f)) ≡ true) × (holder (hand_after c h f).lists.coordinator ≡ Some who)
+held_on c who h (fact.Registered r) e k = (ap (is_at who) k ∙ itself_is who who refl, fold-append holder_step None h.lists.coordinator (fact.Registered r ∷ []) ∙ k)
+held_on c who h (fact.Terminated r) e k = (ap (is_at who) k ∙ itself_is who who refl, fold-append holder_step None h.lists.coordinator (fact.Terminated r ∷ []) ∙ k)
+held_on c who h (fact.Allocated s r) e k = (ap (is_at who) k ∙ itself_is who who refl, fold-append holder_step None h.lists.coordinator (fact.Allocated s r ∷ []) ∙ k)
+held_on c who h (fact.Deallocated s) e k = (ap (is_at who) k ∙ itself_is who who refl, fold-append holder_step None h.lists.coordinator (fact.Deallocated s ∷ []) ∙ k)
+held_on c who h (fact.Moving s stamp) e k = (refl, k)
+held_on c who h fact.Nothing e k = (refl, k)
+held_on c who h f e k = absurd (true_is_not_false (sym e))
+
+coordinator_held : (c : Script) (who : Incarnation) (h : Hand) (fs : List Fact) → list_all is_coordinator_fact fs ≡ true → holder h.lists.coordinator ≡ Some who → held_in_hand c who h fs ≡ true
+coordinator_held c who h [] e k = refl
+coordinator_held c who h (f ∷ fs) e k =
+    let m : (is_coordinator_fact f ≡ true) × (list_all is_coordinator_fact fs ≡ true) = and_both (is_coordinator_fact f) (list_all is_coordinator_fact fs) e in
+    let one : ((is_grant f || is_slot_held who h (slot_of (setting c) f)) ≡ true) × (holder (hand_after c h f).lists.coordinator ≡ Some who) = held_on c who h f m.0 k in
+    both (is_grant f || is_slot_held who h (slot_of (setting c) f)) (held_in_hand c who (hand_after c h f) fs) one.0 (coordinator_held c who (hand_after c h f) fs m.1 one.1)
+
 -- what a coordinator tells is of no incarnation where entities are live
 coordinator_own : (who : Incarnation) (f : Fact) → is_coordinator_fact f ≡ true → is_own_fact who f ≡ true
 coordinator_own who (fact.Start x e) h = absurd (true_is_not_false (sym h))
@@ -252,6 +271,7 @@ coordinator_node c v st k ms s e keeps h = record {
   stands = subst (IsSoundNode c) (sym node_is) (with_sound c st later s (record { sound = keeps.sound; who_is = who_fold k ms ∙ at.who_is }));
   posts_are = ap (list_all (is_own_post c st.who)) (coordinator_items ms) ∙ all_each_of (is_own_post c st.who) (is_own_move c st.who) item_of ms (subst (λ who. list_all (is_own_move c who) ms ≡ true) at.who_is keeps.posts_are) (λ m f. f);
   own_are = ap (λ is. list_all (is_own_fact st.who) (facts_in is)) (coordinator_items ms) ∙ all_map is_coordinator_fact (is_own_fact st.who) (coordinator_own st.who) (facts_of ms) keeps.facts_are;
+  held_are = λ x i. ap (λ is. held_in_hand c st.who x (facts_in is)) (coordinator_items ms) ∙ coordinator_held c st.who x (facts_of ms) keeps.facts_are (office_held x i);
   guarded_are = λ x i. ap (λ is. guarded_in_hand c v st.who x (facts_in is)) (coordinator_items ms) ∙ coordinator_guarded c v st.who x (facts_of ms) keeps.facts_are (ap (own c slot.Coordinator) (list_is x i) ∙ keeps.sound.own_is);
   goes_along = λ x i. subst (λ y. NodeInHand c y (fold after st (map by_coordinator ms))) (sym (hand_is x)) (subst (NodeInHand c (with_coordinator x (fold entered x.lists.coordinator (facts_of ms)))) (sym node_is) (with_in_hand c x st later (fold entered x.lists.coordinator (facts_of ms)) i (list_is x i)));
 }
@@ -261,6 +281,9 @@ coordinator_node c v st k ms s e keeps h = record {
 
     at : IsCoordinatorAt c st.who k
     at = coordinator_at c st k s e
+
+    office_held : (x : Hand) → NodeInHand c x st → holder x.lists.coordinator ≡ Some st.who
+    office_held x i = ap holder (subst (λ (o : Option Coordinator). IfSome o (λ y. x.lists.coordinator ≡ y.entries)) e i.coordinator) ∙ (at.sound.held_is ∙ ap Some at.who_is)
 
     node_is : fold after st (map by_coordinator ms) ≡ record st { coordinator = Some later }
     node_is = coordinator_alone st ms ∙ ap (λ (o : Option Coordinator). record st { coordinator = o }) (ap (λ o. fold (coordinator_part st.set st.who) o (map by_coordinator ms)) e ∙ coordinator_stays st.set st.who k ms h)
@@ -273,7 +296,7 @@ coordinator_node c v st k ms s e keeps h = record {
 
 -- where nothing is done
 pub node_none : (c : Script) (v : List ℕ → ℕ → ℕ → Bool) (st : Node) → IsSoundNode c st → NodeKeeps c v st []
-node_none c v st s = record { stands = s; posts_are = refl; own_are = refl; guarded_are = λ x i. refl; goes_along = λ x i. i }
+node_none c v st s = record { stands = s; posts_are = refl; own_are = refl; held_are = λ x i. refl; guarded_are = λ x i. refl; goes_along = λ x i. i }
 
 -- a rule of the coordinator, where there is one
 pub rule_node : (c : Script) (v : List ℕ → ℕ → ℕ → Bool) (st : Node) (p : Coordinator → List Move) → IsSoundNode c st → ((k : Coordinator) → st.coordinator ≡ Some k → IsSound c k → Keeps c k (p k)) → ((k : Coordinator) → NoTook (p k)) → NodeKeeps c v st (of_coordinator p st)

@@ -28,6 +28,7 @@ use Rattle.yard_laws.proofs.Booleans.{and_both, both, number_itself}
 use Rattle.yard_laws.proofs.PartsLaws.{region_alone, coordinator_alone, region_items}
 use Rattle.world_laws.specs.Owes.{Hand, facts_in, hand_after, guard_in_hand, guarded_in_hand, is_own_post}
 use Rattle.world_laws.proofs.Rules.{all_join, is_viewless, region_view}
+use Rattle.actor_laws.specs.Held.{held_in_hand}
 use Rattle.actor_laws.specs.CoordinatorStands.{IsSound, CoordinatorBegins}
 use Rattle.actor_laws.specs.RegionStands as regions_law
 use Rattle.actor_laws.specs.RegionStands.{IsRegion}
@@ -39,7 +40,7 @@ use Rattle.actor_laws.specs.NodeStands.{IsSoundNode, IsViewed, NodeInHand}
 use Rattle.actor_laws.proofs.NodeKeeps.{NodeKeeps}
 use Rattle.actor_laws.specs.NodeFound.{NodeKeepsIf, FindsOffice}
 use Rattle.actor_laws.proofs.NodeCoordinator.{terminate_node, terminate_lost_no_took, coordinator_stays, terminated_viewed}
-use Rattle.actor_laws.proofs.EntitiesMoves.{guarded_both}
+use Rattle.actor_laws.proofs.EntitiesMoves.{guarded_both, held_both}
 use Rattle.world_laws.proofs.Members.{itself_is}
 use Rattle.actor_laws.proofs.NodeParts.{own_both, node_none, node_both, free_hands, free_facts, region_node, facts_both, items_both, who_stays}
 use Rattle.actor_laws.proofs.NodeRoutes.{register_viewless, register_node}
@@ -47,7 +48,7 @@ use Rattle.actor_laws.proofs.NodeRoutes.{register_viewless, register_node}
 -- In turn.
 
 pub plain_if : (P : Hand → Type 0) (c : Script) (v : List ℕ → ℕ → ℕ → Bool) (st : Node) (acts : List Act) → NodeKeeps c v st acts → NodeKeepsIf P c v st acts
-plain_if P c v st acts k = record { stands = k.stands; posts_are = k.posts_are; own_are = k.own_are; guarded_are = λ h i p. k.guarded_are h i; goes_along = λ h i p. k.goes_along h i }
+plain_if P c v st acts k = record { stands = k.stands; posts_are = k.posts_are; own_are = k.own_are; held_are = λ h i p. k.held_are h i; guarded_are = λ h i p. k.guarded_are h i; goes_along = λ h i p. k.goes_along h i }
 
 pub both_if : (P Q : Hand → Type 0) (c : Script) (v : List ℕ → ℕ → ℕ → Bool) (st : Node) (xs ys : List Act) → NodeKeepsIf P c v st xs → NodeKeepsIf Q c v (fold after st xs) ys
     → ((h : Hand) → NodeInHand c h st → P h → Q (fold (hand_after c) h (facts_in (items_of xs)))) → NodeKeepsIf P c v st (xs ++ ys)
@@ -57,6 +58,9 @@ both_if P Q c v st xs ys f g on =
       stands = subst (IsSoundNode c) (sym (fold-append after st xs ys)) g.stands;
       posts_are = ap (list_all (is_own_post c st.who)) (items_both xs ys) ∙ all_join (is_own_post c st.who) (items_of xs) (items_of ys) f.posts_are (subst (λ w. list_all (is_own_post c w) (items_of ys) ≡ true) (who_stays st xs) g.posts_are);
       own_are = own_both c st xs ys f.own_are g.own_are;
+      held_are = λ h i p. ap (held_in_hand c st.who h) (facts_both xs ys)
+          ∙ held_both c st.who h (facts_in (items_of xs)) (facts_in (items_of ys)) (f.held_are h i p)
+          (subst (λ w. held_in_hand c w (fold (hand_after c) h (facts_in (items_of xs))) (facts_in (items_of ys)) ≡ true) (who_stays st xs) (g.held_are (fold (hand_after c) h (facts_in (items_of xs))) (f.goes_along h i p) (on h i p)));
       guarded_are = λ h i p. ap (guarded_in_hand c v st.who h) (facts_both xs ys)
           ∙ guarded_both c v st.who h (facts_in (items_of xs)) (facts_in (items_of ys)) (f.guarded_are h i p)
           (subst (λ w. guarded_in_hand c v w (fold (hand_after c) h (facts_in (items_of xs))) (facts_in (items_of ys)) ≡ true) (who_stays st xs) (g.guarded_are (fold (hand_after c) h (facts_in (items_of xs))) (f.goes_along h i p) (on h i p)));
@@ -87,6 +91,7 @@ office_node c v lists st begins is own_is none (Some x) held = record {
   });
   posts_are = refl;
   own_are = refl;
+  held_are = λ h i p. refl;
   guarded_are = λ h i p. refl;
   goes_along = λ h i p. subst (λ o. NodeInHand c h (record st { coordinator = option_map (λ k. coordinator_after k (told (fact.Held slot.Coordinator st.who x.node))) o })) (sym none) (record {
     entities = i.entities; queues_there = i.queues_there; producers = i.producers; coordinator = tt;
@@ -113,6 +118,7 @@ office_node c v lists st begins is own_is none None free =
       };
       posts_are = refl;
       own_are = both (is_same st.who st.who) true (itself_is st.who st.who refl) refl;
+      held_are = λ h i p. refl;
       guarded_are = λ h i p. both (guard_in_hand c v st.who h f) true (both (may_follow c slot.Coordinator h.lists.coordinator f) true (ap (λ l. may_follow c slot.Coordinator l f) (p none) ∙ follows) refl) refl;
       goes_along = λ h i p. record { entities = in_hand_still h i; queues_there = i.queues_there; producers = i.producers; coordinator = ap (λ l. l ++ f ∷ []) (p none) };
     }

@@ -56,7 +56,7 @@ pub record TurnLaws : Type 0 where
 
 -- with hands of a kind that is another kind
 pub weaker : (P Q : Hand → Type 0) (c : Script) (v : List ℕ → ℕ → ℕ → Bool) (st : Node) (acts : List Act) → ((h : Hand) → P h → Q h) → NodeKeepsIf Q c v st acts → NodeKeepsIf P c v st acts
-weaker P Q c v st acts f k = record { stands = k.stands; posts_are = k.posts_are; own_are = k.own_are; guarded_are = λ h i p. k.guarded_are h i (f h p); goes_along = λ h i p. k.goes_along h i (f h p) }
+weaker P Q c v st acts f k = record { stands = k.stands; posts_are = k.posts_are; own_are = k.own_are; held_are = λ h i p. k.held_are h i (f h p); guarded_are = λ h i p. k.guarded_are h i (f h p); goes_along = λ h i p. k.goes_along h i (f h p) }
 
 -- The coordinator.
 
@@ -173,6 +173,7 @@ note_node c v st e is brought = record {
       (both (is_same st.who st.who) (is_node c st.who && is_node c st.who && is_brought c e) (itself_is st.who st.who refl)
       (both (is_node c st.who && is_node c st.who) (is_brought c e) (both (is_node c st.who) (is_node c st.who) is.who_is is.who_is) brought)) refl;
   own_are = refl;
+  held_are = λ h i. refl;
   guarded_are = λ h i. refl;
   goes_along = λ h i. record { entities = (let x : InHand c h st.entities = i.entities in record { there = x.there; lists_are = x.lists_are; live_are = x.live_are }); queues_there = i.queues_there; producers = i.producers; coordinator = i.coordinator };
 }

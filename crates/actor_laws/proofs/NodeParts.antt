@@ -1,6 +1,6 @@
 -- A node's rules: one after another, and those of its region and of its entities.
 use Rattle.std.proofs.Common.{◌≡◌, ℕ, ◌-◌, ◌<◌, arith, List, [], ◌∷◌, ◌++◌, length, map, sym, ap, subst, ◌∙◌, refl, true, false}
-use Rattle.std.specs.Prelude.{Bool, nat_lt, fold, slice_index_or, Option, Some, None, IfSome, if◌then◌else◌}
+use Rattle.std.specs.Prelude.{Bool, ◌||◌, nat_lt, fold, slice_index_or, Option, Some, None, IfSome, if◌then◌else◌}
 use Rattle.std.specs.List.{list_all, flat_map}
 use Rattle.std.proofs.lemmas.Bool.Decides.{nat_tests}
 use Rattle.std.proofs.lemmas.Grind.{flat_map-append}
@@ -16,12 +16,14 @@ use Rattle.yard_model.specs.Members.{are_of_different_nodes}
 use Rattle.yard_model.specs.Move.{Move, made, item_of}
 use Rattle.yard_model.specs.Node.{Node, Act, by_region, by_entities, move_of, after, items_of}
 use Rattle.yard_model.specs.Region.{region_after}
-use Rattle.yard_model.specs.Script.{Script}
+use Rattle.yard_model.specs.Script.{Script, Setting, setting}
 use Rattle.yard_laws.specs.Free.{is_free, is_free_move}
 use Rattle.yard_laws.proofs.Booleans.{true_is_not_false, and_both, both, all_map}
 use Rattle.yard_laws.proofs.PartsLaws.{region_alone, entities_alone, region_items, entities_items}
 use Rattle.world_laws.specs.Owes.{Hand, facts_in, hand_after, guard_in_hand, guarded_in_hand, is_own_post}
 use Rattle.world_laws.proofs.Rules.{all_join, region_who}
+use Rattle.yard_model.specs.Trace.{slot_of}
+use Rattle.actor_laws.specs.Held.{is_grant, is_slot_held, held_in_hand}
 use Rattle.actor_laws.specs.Moves.{is_own_move, facts_of}
 use Rattle.actor_laws.specs.EntitiesStand as entities
 use Rattle.actor_laws.specs.EntitiesStand.{IsEntities, InHand, is_entity_fact}
@@ -30,7 +32,7 @@ use Rattle.actor_laws.specs.NodeStands.{is_own_fact, IsSoundNode, NodeInHand}
 use Rattle.actor_laws.proofs.NodeKeeps.{NodeKeeps}
 use Rattle.actor_laws.specs.NodeFound.{NodeKeepsIf}
 use Rattle.actor_laws.proofs.EntitiesMoves as moves
-use Rattle.actor_laws.proofs.EntitiesMoves.{facts_append, guarded_both}
+use Rattle.actor_laws.proofs.EntitiesMoves.{facts_append, guarded_both, held_both, or_this}
 
 -- a number below another
 pub is_below : (x y : ℕ) → x < y → nat_lt x y ≡ true
@@ -57,7 +59,7 @@ own_both c st xs ys f g = ap (list_all (is_own_fact st.who)) (facts_both xs ys)
     ∙ all_join (is_own_fact st.who) (facts_in (items_of xs)) (facts_in (items_of ys)) f (subst (λ w. list_all (is_own_fact w) (facts_in (items_of ys)) ≡ true) (who_stays st xs) g)
 
 pub node_none : (c : Script) (v : List ℕ → ℕ → ℕ → Bool) (st : Node) → IsSoundNode c st → NodeKeeps c v st []
-node_none c v st is = record { stands = is; posts_are = refl; own_are = refl; guarded_are = λ h i. refl; goes_along = λ h i. i }
+node_none c v st is = record { stands = is; posts_are = refl; own_are = refl; held_are = λ h i. refl; guarded_are = λ h i. refl; goes_along = λ h i. i }
 
 pub node_both : (c : Script) (v : List ℕ → ℕ → ℕ → Bool) (st : Node) (xs ys : List Act) → NodeKeeps c v st xs → NodeKeeps c v (fold after st xs) ys → NodeKeeps c v st (xs ++ ys)
 node_both c v st xs ys f g =
@@ -66,6 +68,9 @@ node_both c v st xs ys f g =
       stands = subst (IsSoundNode c) (sym (fold-append after st xs ys)) g.stands;
       posts_are = ap (list_all (is_own_post c st.who)) (items_both xs ys) ∙ all_join (is_own_post c st.who) (items_of xs) (items_of ys) f.posts_are (subst (λ w. list_all (is_own_post c w) (items_of ys) ≡ true) (who_stays st xs) g.posts_are);
       own_are = own_both c st xs ys f.own_are g.own_are;
+      held_are = λ h i. ap (held_in_hand c st.who h) (facts_both xs ys)
+          ∙ held_both c st.who h (facts_in (items_of xs)) (facts_in (items_of ys)) (f.held_are h i)
+          (subst (λ w. held_in_hand c w (fold (hand_after c) h (facts_in (items_of xs))) (facts_in (items_of ys)) ≡ true) (who_stays st xs) (g.held_are (fold (hand_after c) h (facts_in (items_of xs))) (f.goes_along h i)));
       guarded_are = λ h i. ap (guarded_in_hand c v st.who h) (facts_both xs ys)
           ∙ guarded_both c v st.who h (facts_in (items_of xs)) (facts_in (items_of ys)) (f.guarded_are h i)
           (subst (λ w. guarded_in_hand c v w (fold (hand_after c) h (facts_in (items_of xs))) (facts_in (items_of ys)) ≡ true) (who_stays st xs) (g.guarded_are (fold (hand_after c) h (facts_in (items_of xs))) (f.goes_along h i)));
@@ -157,6 +162,29 @@ free_own who (fact.Granted s n x) h = absurd (true_is_not_false (sym h))
 free_own who (fact.Gone x) h = absurd (true_is_not_false (sym h))
 free_own who f h = refl
 
+-- free facts are of no slot
+free_slot : (set : Setting) (f : Fact) → is_free f ≡ true → slot_of set f ≡ None
+free_slot set (fact.Granted s n x) h = absurd (true_is_not_false (sym h))
+free_slot set (fact.Freed s n why) h = absurd (true_is_not_false (sym h))
+free_slot set (fact.Registered r) h = absurd (true_is_not_false (sym h))
+free_slot set (fact.Terminated r) h = absurd (true_is_not_false (sym h))
+free_slot set (fact.Allocated s r) h = absurd (true_is_not_false (sym h))
+free_slot set (fact.Deallocated s) h = absurd (true_is_not_false (sym h))
+free_slot set (fact.Wrote e r) h = absurd (true_is_not_false (sym h))
+free_slot set (fact.Snapshot e n) h = absurd (true_is_not_false (sym h))
+free_slot set (fact.Remembered e) h = absurd (true_is_not_false (sym h))
+free_slot set (fact.Forgotten e) h = absurd (true_is_not_false (sym h))
+free_slot set (fact.Queued p e n k) h = absurd (true_is_not_false (sym h))
+free_slot set (fact.Confirmed p e n) h = absurd (true_is_not_false (sym h))
+free_slot set f h = refl
+
+free_held : (c : Script) (who : Incarnation) (h : Hand) (fs : List Fact) → list_all is_free fs ≡ true → held_in_hand c who h fs ≡ true
+free_held c who h [] e = refl
+free_held c who h (f ∷ fs) e =
+    let m : (is_free f ≡ true) × (list_all is_free fs ≡ true) = and_both (is_free f) (list_all is_free fs) e in
+    both (is_grant f || is_slot_held who h (slot_of (setting c) f)) (held_in_hand c who (hand_after c h f) fs)
+    (or_this (is_grant f) (is_slot_held who h (slot_of (setting c) f)) (ap (is_slot_held who h) (free_slot (setting c) f m.0))) (free_held c who (hand_after c h f) fs m.1)
+
 -- The region's moves.
 
 pub region_node : (c : Script) (v : List ℕ → ℕ → ℕ → Bool) (st : Node) (ms : List Move) → IsSoundNode c st → regions.Keeps c st.region ms → are_of_different_nodes (fold region_after st.region ms).view ≡ true → NodeKeeps c v st (map by_region ms)
@@ -180,6 +208,7 @@ region_node c v st ms is k different =
       });
       posts_are = ap (list_all (is_own_post c st.who)) (region_items ms) ∙ subst (λ w. list_all (is_own_post c w) (flat_map item_of ms) ≡ true) is.region_who (own_items c st.region.who ms k.posts_are);
       own_are = ap (list_all (is_own_fact st.who)) facts ∙ all_map is_free (is_own_fact st.who) (free_own st.who) (facts_of ms) free;
+      held_are = λ h i. ap (held_in_hand c st.who h) facts ∙ free_held c st.who h (facts_of ms) free;
       guarded_are = λ h i. ap (guarded_in_hand c v st.who h) facts ∙ free_guards c v st.who h (facts_of ms) free;
       goes_along = λ h i. subst (λ x. NodeInHand c (fold (hand_after c) h (facts_in (items_of (map by_region ms)))) x) (sym same)
           (subst (λ x. NodeInHand c x later) (sym (ap (fold (hand_after c) h) facts ∙ free_hands c h (facts_of ms) free))
@@ -231,9 +260,9 @@ entity_own who f h = refl
 
 -- by moves whose facts are guarded with hands of one kind
 pub entities_if : (P : Hand → Type 0) (c : Script) (v : List ℕ → ℕ → ℕ → Bool) (st : Node) (ms : List Move) → IsSoundNode c st → IsEntities c (fold entities_after st.entities ms) → list_all (is_own_move c st.entities.who) ms ≡ true
-    → list_all (is_entity_fact st.entities.who) (facts_of ms) ≡ true → ((h : Hand) → InHand c h st.entities → P h → guarded_in_hand c v st.entities.who h (facts_of ms) ≡ true)
+    → list_all (is_entity_fact st.entities.who) (facts_of ms) ≡ true → ((h : Hand) → InHand c h st.entities → P h → held_in_hand c st.entities.who h (facts_of ms) ≡ true) → ((h : Hand) → InHand c h st.entities → P h → guarded_in_hand c v st.entities.who h (facts_of ms) ≡ true)
     → ((h : Hand) → InHand c h st.entities → P h → InHand c (fold (hand_after c) h (facts_of ms)) (fold entities_after st.entities ms)) → NodeKeepsIf P c v st (map by_entities ms)
-entities_if P c v st ms is stands own_are told_are guarded goes =
+entities_if P c v st ms is stands own_are told_are holding guarded goes =
     let later : Node = record st { entities = fold entities_after st.entities ms } in
     let same : fold after st (map by_entities ms) ≡ later = entities_alone st ms in
     let facts : facts_in (items_of (map by_entities ms)) ≡ facts_of ms = ap facts_in (entities_items ms) in
@@ -252,6 +281,7 @@ entities_if P c v st ms is stands own_are told_are guarded goes =
       });
       posts_are = ap (list_all (is_own_post c st.who)) (entities_items ms) ∙ subst (λ w. list_all (is_own_post c w) (flat_map item_of ms) ≡ true) is.entities_who (own_items c st.entities.who ms own_are);
       own_are = ap (list_all (is_own_fact st.who)) facts ∙ all_map (is_entity_fact st.who) (is_own_fact st.who) (entity_own st.who) (facts_of ms) (subst (λ w. list_all (is_entity_fact w) (facts_of ms) ≡ true) is.entities_who told_are);
+      held_are = λ h i p. ap (held_in_hand c st.who h) facts ∙ subst (λ w. held_in_hand c w h (facts_of ms) ≡ true) is.entities_who (holding h i.entities p);
       guarded_are = λ h i p. ap (guarded_in_hand c v st.who h) facts ∙ subst (λ w. guarded_in_hand c v w h (facts_of ms) ≡ true) is.entities_who (guarded h i.entities p);
       goes_along = λ h i p. subst (λ x. NodeInHand c (fold (hand_after c) h (facts_in (items_of (map by_entities ms)))) x) (sym same)
           (subst (λ x. NodeInHand c (fold (hand_after c) h x) later) (sym facts) (along h i p));
@@ -276,5 +306,5 @@ entities_if P c v st ms is stands own_are told_are guarded goes =
 
 pub entities_node : (c : Script) (v : List ℕ → ℕ → ℕ → Bool) (st : Node) (ms : List Move) → IsSoundNode c st → entities.Keeps c st.entities ms → NodeKeeps c v st (map by_entities ms)
 entities_node c v st ms is k =
-    let x : NodeKeepsIf (λ h. Unit {0}) c v st (map by_entities ms) = entities_if (λ h. Unit {0}) c v st ms is k.stands k.posts_are k.facts_are (λ h i p. k.guarded_are v h i) (λ h i p. k.goes_along h i) in
-    record { stands = x.stands; posts_are = x.posts_are; own_are = x.own_are; guarded_are = λ h i. x.guarded_are h i tt; goes_along = λ h i. x.goes_along h i tt }
+    let x : NodeKeepsIf (λ h. Unit {0}) c v st (map by_entities ms) = entities_if (λ h. Unit {0}) c v st ms is k.stands k.posts_are k.facts_are (λ h i p. k.held_are h i) (λ h i p. k.guarded_are v h i) (λ h i p. k.goes_along h i) in
+    record { stands = x.stands; posts_are = x.posts_are; own_are = x.own_are; held_are = λ h i. x.held_are h i tt; guarded_are = λ h i. x.guarded_are h i tt; goes_along = λ h i. x.goes_along h i tt }

@@ -1,6 +1,6 @@
 -- The producers of a node: what each of their moves keeps and tells.
 use Rattle.std.proofs.Common.{◌≡◌, ℕ, ◌<◌, ◌≤◌, ◌-◌, ◌+◌, List, [], ◌∷◌, ◌++◌, length, sym, ap, subst, ◌∙◌, refl, true, false, true≢false, arith}
-use Rattle.std.specs.Prelude.{Bool, ◌&&◌, nat_lt, nat_le, map, max, fold, Option, Some, None, IfSome, slice_set, slice_index_or, if◌then◌else◌}
+use Rattle.std.specs.Prelude.{Bool, ◌||◌, ◌&&◌, nat_lt, nat_le, map, max, fold, Option, Some, None, IfSome, slice_set, slice_index_or, if◌then◌else◌}
 use Rattle.std.specs.List.{list_all}
 use Rattle.std.proofs.lemmas.Bool.Decides.{nat_tests}
 use Rattle.std.proofs.lemmas.List.{get_or-set_same, get_or-set_other, length-set}
@@ -22,11 +22,13 @@ use Rattle.yard_model.specs.Setting.{place}
 use Rattle.yard_model.specs.SlotLists.{queue_list}
 use Rattle.yard_model.specs.SlotReads.{holder, epoch, queued, confirmed}
 use Rattle.yard_model.specs.Trace.{slot_of, with_entry}
-use Rattle.yard_model.specs.Words.{at, is_same}
+use Rattle.yard_model.specs.Words.{at, is_at, is_same}
 use Rattle.yard_laws.proofs.Booleans.{and_both, both, at_most}
 use Rattle.world_laws.specs.Owes.{Hand, has_name, live_after, hand_after, follows_in_hand, lives_in_hand, guard_in_hand, guarded_in_hand, facts_in, is_own_post}
 use Rattle.world_laws.proofs.Members.{itself_is}
 use Rattle.world_laws.proofs.Place.{none_is_not_some, some_is, inside, by_place, placed_at, placed_beside}
+use Rattle.actor_laws.specs.Held.{is_grant, is_slot_held, held_in_hand}
+use Rattle.actor_laws.proofs.EntitiesMoves.{or_this}
 use Rattle.actor_laws.specs.NodeStands.{is_own_fact, IsProducerAt, IsSoundNode, NodeInHand}
 use Rattle.actor_laws.proofs.NodeKeeps.{NodeKeeps}
 use Rattle.actor_laws.specs.ProducerStands.{IsProducer, Rules, IsGranted, ProducerKeeps, ProducerIsGranted}
@@ -150,6 +152,7 @@ still_then c v st a acts none along rest = record {
   stands = rest.stands;
   posts_are = ap (list_all (is_own_post c st.who)) items ∙ rest.posts_are;
   own_are = ap (λ is. list_all (is_own_fact st.who) (facts_in is)) items ∙ rest.own_are;
+  held_are = λ h i. ap (λ is. held_in_hand c st.who h (facts_in is)) items ∙ rest.held_are h (along h i);
   guarded_are = λ h i. ap (λ is. guarded_in_hand c v st.who h (facts_in is)) items ∙ rest.guarded_are h (along h i);
   goes_along = λ h i. subst (λ is. NodeInHand c (fold (hand_after c) h (facts_in is)) (fold after st (a ∷ acts))) (sym items) (rest.goes_along h (along h i));
 }
@@ -233,6 +236,8 @@ entry_node c v st p k f o is above found of live follows lives its by here = rec
   stands = subst (IsSoundNode c) (sym moved) (stands_put c st p o is above less (λ j e. (here j e).at_is));
   posts_are = refl;
   own_are = both (is_own_fact st.who f) true its refl;
+  held_are = λ h i. both (is_grant f || is_slot_held st.who h (slot_of (setting c) f)) true (or_this (is_grant f) (is_slot_held st.who h (slot_of (setting c) f))
+      (ap (is_slot_held st.who h) of ∙ (ap (λ l. is_at st.who (holder l)) (i.producers p k above found) ∙ (ap (is_at st.who) (a.stands.held_is ∙ ap Some a.who_is) ∙ itself_is st.who st.who refl)))) refl;
   guarded_are = λ h i. both (guard_in_hand c v st.who h f) true (entry_guarded c v st.who p k.entries f h number of follows (i.producers p k above found) (lives h)) refl;
   goes_along = λ h i. subst (NodeInHand c (hand_after c h f)) (sym moved) (along_entry c h st p k.entries f o is i less of live (i.producers p k above found) (λ j e. (here j e).entries_are));
 }
@@ -331,6 +336,7 @@ held_node c v st p list x is above less free = record {
   stands = subst (IsSoundNode c) (sym moved) (stands_put c st p None is above less (λ j e. absurd (none_is_not_some j e)));
   posts_are = refl;
   own_are = refl;
+  held_are = λ h i found. refl;
   guarded_are = λ h i found. refl;
   goes_along = λ h i found. subst (NodeInHand c h) (sym moved) (along_put c h h st p None i less refl refl refl refl (λ q other. refl) (λ j e. absurd (none_is_not_some j e)));
 }
@@ -345,6 +351,7 @@ granted_node c v st p list is above less free number g = record {
       (λ j e. subst (IsProducerAt c st.who p) (some_is new j e) (record { stands = g.stands; who_is = refl; number_is = refl })));
   posts_are = refl;
   own_are = both (is_same st.who st.who) true (itself_is st.who st.who refl) refl;
+  held_are = λ h i found. refl;
   guarded_are = λ h i found. both (guard_in_hand c v st.who h f) true (entry_guarded c v st.who p list f h number refl g.follows found refl) refl;
   goes_along = λ h i found. subst (NodeInHand c (hand_after c h f)) (sym taken)
       (along_put c (hand_after c h f) (hand_after c h f) mid p (Some new)

@@ -54,7 +54,7 @@ starts_node c v lists s st law is own_is shard =
     let away : hosted st.entities s ≡ None = not_hosted (hosted st.entities s) e in
     let k : KeepsFound c s list st.entities turn = subst (λ w. let ms : List Move = acquire (slot.Shard s) w list in KeepsFound c s list st.entities (ms ++ entities.start_remembered s (fold entities_after st.entities ms))) is.entities_who (law c st.entities s list is.entities away shard own_is) in
     subst (NodeKeepsIf (FindsShard lists s st) c v st) (sym (acts_joined st asks (entities.start_remembered s)))
-    (entities_if (FindsShard lists s st) c v st turn is k.stands k.posts_are k.facts_are (λ h i p. k.guarded_are v h i (p away)) (λ h i p. k.goes_along h i (p away))))
+    (entities_if (FindsShard lists s st) c v st turn is k.stands k.posts_are k.facts_are (λ h i p. k.held_are h i (p away)) (λ h i p. k.guarded_are v h i (p away)) (λ h i p. k.goes_along h i (p away))))
 
 -- ShardHome and HostShard.
 

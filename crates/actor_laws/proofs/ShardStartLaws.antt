@@ -30,11 +30,12 @@ use Rattle.world_laws.specs.Owes.{hand_after, follows_in_hand, lives_in_hand, gu
 use Rattle.world_laws.proofs.Members.{itself_is}
 use Rattle.world_laws.proofs.Place.{some_is, by_place}
 use Rattle.world_laws.proofs.Rules.{all_join}
+use Rattle.actor_laws.specs.Held.{held_in_hand}
 use Rattle.actor_laws.specs.Moves.{is_own_move, facts_of}
 use Rattle.actor_laws.specs.EntitiesStand.{IsHeldShard, IsEntities, InHand, is_entity_fact, Keeps}
 use Rattle.actor_laws.specs.ShardStart.{KeepsFound, ShardStarts}
 use Rattle.actor_laws.proofs.EntitiesCells.{other_cell}
-use Rattle.actor_laws.proofs.EntitiesMoves.{facts_both, guarded_both, name_itself, keeps_none, keeps_both, who_stays}
+use Rattle.actor_laws.proofs.EntitiesMoves.{held_both, facts_both, guarded_both, name_itself, keeps_none, keeps_both, who_stays}
 use Rattle.actor_laws.proofs.EntitiesRules.{keeps_if, start_entity_keeps}
 use Rattle.actor_laws.proofs.NameLaws.{AllDiffer, names_differ, left_differ}
 
@@ -48,6 +49,9 @@ found_then c s list st xs ys f g =
       stands = subst (IsEntities c) (sym (fold-append entities_after st xs ys)) g.stands;
       posts_are = all_join (is_own_move c st.who) xs ys f.posts_are (subst (λ w. list_all (is_own_move c w) ys ≡ true) (who_stays st xs) g.posts_are);
       facts_are = ap (list_all (is_entity_fact st.who)) (facts_both xs ys) ∙ all_join (is_entity_fact st.who) (facts_of xs) (facts_of ys) f.facts_are (subst (λ w. list_all (is_entity_fact w) (facts_of ys) ≡ true) (who_stays st xs) g.facts_are);
+      held_are = λ h i found. ap (held_in_hand c st.who h) (facts_both xs ys)
+          ∙ held_both c st.who h (facts_of xs) (facts_of ys) (f.held_are h i found)
+          (subst (λ w. held_in_hand c w (fold (hand_after c) h (facts_of xs)) (facts_of ys) ≡ true) (who_stays st xs) (g.held_are (fold (hand_after c) h (facts_of xs)) (f.goes_along h i found)));
       guarded_are = λ v h i found. ap (guarded_in_hand c v st.who h) (facts_both xs ys)
           ∙ guarded_both c v st.who h (facts_of xs) (facts_of ys) (f.guarded_are v h i found)
           (subst (λ w. guarded_in_hand c v w (fold (hand_after c) h (facts_of xs)) (facts_of ys) ≡ true) (who_stays st xs) (g.guarded_are v (fold (hand_after c) h (facts_of xs)) (f.goes_along h i found)));
@@ -60,7 +64,7 @@ found_then c s list st xs ys f g =
 
 -- another node holds it
 held_keeps : (c : Script) (st : Entities) (s : ℕ) (list : List Fact) (n : ℕ) → IsEntities c st → KeepsFound c s list st (told (fact.Held (slot.Shard s) st.who n) ∷ [])
-held_keeps c st s list n is = record { stands = is; posts_are = refl; facts_are = refl; guarded_are = λ v h i found. refl; goes_along = λ h i found. i }
+held_keeps c st s list n is = record { stands = is; posts_are = refl; facts_are = refl; held_are = λ h i found. refl; guarded_are = λ v h i found. refl; goes_along = λ h i found. i }
 
 -- it is granted, and its store is taken
 granted_keeps : (c : Script) (st : Entities) (s : ℕ) (list : List Fact) → IsEntities c st → is_shard c s ≡ true → own c (slot.Shard s) list ≡ true → holder list ≡ None
@@ -81,6 +85,7 @@ granted_keeps c st s list is shard own_is free = record {
   };
   posts_are = refl;
   facts_are = both (is_same st.who st.who) true (itself_is st.who st.who refl) refl;
+  held_are = λ h i found. refl;
   guarded_are = λ v h i found. both (guard_in_hand c v st.who h f) true (both (follows_in_hand c h.lists f (slot_of (setting c) f)) (lives_in_hand c v st.who h f)
       (both (is_shard c s) (may_follow c (slot.Shard s) (shard_list h.lists s) f) shard (ap (λ l. may_follow c (slot.Shard s) l f) found ∙ follows)) refl) refl;
   goes_along = λ h i found. record {

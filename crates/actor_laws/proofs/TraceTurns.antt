@@ -34,5 +34,6 @@ turn_is_guarded owns stands guards c trace vouches h st i script is viewed may g
       stands = k.stands;
       goes_on = guards c trace st.who vouches h (facts_in (items_of acts)) g v of (k.guarded_are h holds finds) k.own_are;
       holds = k.goes_along h holds finds;
+      held_are = k.held_are h holds finds;
       posts_are = k.posts_are;
     }

@@ -20,6 +20,7 @@ use Rattle.yard_model.specs.SlotLists.{shard_list}
 use Rattle.yard_model.specs.SlotReads.{holder}
 use Rattle.yard_model.specs.Words.{is_same}
 use Rattle.world_laws.specs.Owes.{Hand, has_name, hand_after, guarded_in_hand}
+use Rattle.actor_laws.specs.Held.{held_in_hand}
 use Rattle.actor_laws.specs.Moves.{is_own_move, facts_of}
 
 -- a hosted shard: the node holds it, its list is lawful by itself, and who is told of its end is of the script's nodes
@@ -77,6 +78,7 @@ pub record Keeps (c : Script) (st : Entities) (ms : List Move) : Type 0 where
   pub stands : IsEntities c (fold entities_after st ms)
   pub posts_are : list_all (is_own_move c st.who) ms ≡ true
   pub facts_are : list_all (is_entity_fact st.who) (facts_of ms) ≡ true
+  pub held_are : (h : Hand) → InHand c h st → held_in_hand c st.who h (facts_of ms) ≡ true
   pub guarded_are : (vouches : List ℕ → ℕ → ℕ → Bool) (h : Hand) → InHand c h st → guarded_in_hand c vouches st.who h (facts_of ms) ≡ true
   pub goes_along : (h : Hand) → InHand c h st → InHand c (fold (hand_after c) h (facts_of ms)) (fold entities_after st ms)
 

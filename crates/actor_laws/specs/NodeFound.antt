@@ -10,6 +10,7 @@ use Rattle.yard_model.specs.Script.{Script}
 use Rattle.yard_model.specs.SlotLists.{SlotLists, shard_list, queue_list}
 use Rattle.yard_model.specs.Words.{at}
 use Rattle.world_laws.specs.Owes.{Hand, facts_in, hand_after, guarded_in_hand, is_own_post}
+use Rattle.actor_laws.specs.Held.{held_in_hand}
 use Rattle.actor_laws.specs.NodeStands.{is_own_fact, IsSoundNode, NodeInHand}
 
 -- after these acts it stands; what they post is its own; what they tell of an incarnation is of its own; and with hands of this kind each fact is guarded by what it has in hand, which goes along
@@ -17,6 +18,7 @@ pub record NodeKeepsIf (P : Hand → Type 0) (c : Script) (vouches : List ℕ �
   pub stands : IsSoundNode c (fold after st acts)
   pub posts_are : list_all (is_own_post c st.who) (items_of acts) ≡ true
   pub own_are : list_all (is_own_fact st.who) (facts_in (items_of acts)) ≡ true
+  pub held_are : (h : Hand) → NodeInHand c h st → P h → held_in_hand c st.who h (facts_in (items_of acts)) ≡ true
   pub guarded_are : (h : Hand) → NodeInHand c h st → P h → guarded_in_hand c vouches st.who h (facts_in (items_of acts)) ≡ true
   pub goes_along : (h : Hand) → NodeInHand c h st → P h → NodeInHand c (fold (hand_after c) h (facts_in (items_of acts))) (fold after st acts)
 

@@ -13,6 +13,7 @@ use Rattle.yard_model.specs.Script.{Script}
 use Rattle.yard_model.specs.SlotLists.{shard_list}
 use Rattle.yard_model.specs.Turns.{in_turn}
 use Rattle.world_laws.specs.Owes.{Hand, hand_after, guarded_in_hand}
+use Rattle.actor_laws.specs.Held.{held_in_hand}
 use Rattle.actor_laws.specs.Moves.{is_own_move, facts_of}
 use Rattle.actor_laws.specs.EntitiesStand.{IsEntities, InHand, is_entity_fact}
 
@@ -21,6 +22,7 @@ pub record KeepsFound (c : Script) (s : ℕ) (list : List Fact) (st : Entities) 
   pub stands : IsEntities c (fold entities_after st ms)
   pub posts_are : list_all (is_own_move c st.who) ms ≡ true
   pub facts_are : list_all (is_entity_fact st.who) (facts_of ms) ≡ true
+  pub held_are : (h : Hand) → InHand c h st → shard_list h.lists s ≡ list → held_in_hand c st.who h (facts_of ms) ≡ true
   pub guarded_are : (vouches : List ℕ → ℕ → ℕ → Bool) (h : Hand) → InHand c h st → shard_list h.lists s ≡ list → guarded_in_hand c vouches st.who h (facts_of ms) ≡ true
   pub goes_along : (h : Hand) → InHand c h st → shard_list h.lists s ≡ list → InHand c (fold (hand_after c) h (facts_of ms)) (fold entities_after st ms)
 

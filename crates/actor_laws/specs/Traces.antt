@@ -12,6 +12,7 @@ use Rattle.yard_model.specs.Trace.{lists_of}
 use Rattle.yard_model.specs.Words.{is_among}
 use Rattle.yard_model.specs.World.{all_sends}
 use Rattle.world_laws.specs.Owes.{Hand, has_name, facts_in, hand_after, guarded_in_hand, is_own_post}
+use Rattle.actor_laws.specs.Held.{held_in_hand}
 use Rattle.actor_laws.specs.NodeStands.{is_own_fact, IsSoundNode, IsViewed, NodeInHand}
 use Rattle.actor_laws.specs.NodeTurns.{MayTake}
 
@@ -38,6 +39,7 @@ pub record TurnGoesOn (c : Script) (trace : List Fact) (h : Hand) (st : Node) (a
   pub stands : IsSoundNode c (fold after st acts)
   pub goes_on : GoesOn c trace st.who h (facts_in (items_of acts))
   pub holds : NodeInHand c (fold (hand_after c) h (facts_in (items_of acts))) (fold after st acts)
+  pub held_are : held_in_hand c st.who h (facts_in (items_of acts)) ≡ true
   pub posts_are : list_all (is_own_post c st.who) (items_of acts) ≡ true
 
 abbrev pub TurnIsGuarded : Type 0

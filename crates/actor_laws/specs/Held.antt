@@ -1,0 +1,24 @@
+-- What a node tells of slots: of those alone that it holds, by what it has in hand, or is granted.
+use Rattle.std.specs.Prelude.{Bool, true, false, ◌&&◌, ◌||◌, List, [], ◌∷◌, Option, Some, None}
+use Rattle.yard_model.specs.declared.fact.Fact.{Fact}
+use Rattle.yard_model.specs.declared.fact.Fact.TheVariants as fact
+use Rattle.yard_model.specs.declared.incarnation.Incarnation.{Incarnation}
+use Rattle.yard_model.specs.declared.incarnation.Slot.{Slot}
+use Rattle.yard_model.specs.Script.{Script, setting}
+use Rattle.yard_model.specs.SlotReads.{holder}
+use Rattle.yard_model.specs.Trace.{slot_of, list_at}
+use Rattle.yard_model.specs.Words.{is_at}
+use Rattle.world_laws.specs.Owes.{Hand, hand_after}
+
+abbrev pub is_grant : Fact → Bool
+is_grant (fact.Granted s n x) = true
+is_grant f = false
+
+abbrev pub is_slot_held : Incarnation → Hand → Option Slot → Bool
+is_slot_held who h None = true
+is_slot_held who h (Some s) = is_at who (holder (list_at h.lists s))
+
+-- each entry is a grant, or of a slot that the node holds when it is told
+abbrev pub held_in_hand : Script → Incarnation → Hand → List Fact → Bool
+held_in_hand c who h [] = true
+held_in_hand c who h (f ∷ fs) = (is_grant f || is_slot_held who h (slot_of (setting c) f)) && held_in_hand c who (hand_after c h f) fs

@@ -87,14 +87,26 @@ office_node : (c : Script) (v : List ℕ → ℕ → ℕ → Bool) (lists : Slot
     → (o : Option Incarnation) → holder lists.coordinator ≡ o → NodeKeepsIf (FindsOffice lists st) c v st (map by_coordinator (acquire_by slot.Coordinator st.who lists.coordinator o))
 office_node c v lists st begins is own_is none (Some x) held = record {
   stands = subst (λ o. IsSoundNode c (record st { coordinator = option_map (λ k. coordinator_after k (told (fact.Held slot.Coordinator st.who x.node))) o })) (sym none) (record {
-    who_is = is.who_is; set_is = is.set_is; region = is.region; region_who = is.region_who; different = is.different; entities = is.entities; entities_who = is.entities_who; producers_full = is.producers_full; producers = is.producers; coordinator = tt;
+    who_is = is.who_is;
+    set_is = is.set_is;
+    region = is.region;
+    region_who = is.region_who;
+    different = is.different;
+    entities = is.entities;
+    entities_who = is.entities_who;
+    producers_full = is.producers_full;
+    producers = is.producers;
+    coordinator = tt;
   });
   posts_are = refl;
   own_are = refl;
   held_are = λ h i p. refl;
   guarded_are = λ h i p. refl;
   goes_along = λ h i p. subst (λ o. NodeInHand c h (record st { coordinator = option_map (λ k. coordinator_after k (told (fact.Held slot.Coordinator st.who x.node))) o })) (sym none) (record {
-    entities = i.entities; queues_there = i.queues_there; producers = i.producers; coordinator = tt;
+    entities = i.entities;
+    queues_there = i.queues_there;
+    producers = i.producers;
+    coordinator = tt;
   });
 }
 office_node c v lists st begins is own_is none None free =

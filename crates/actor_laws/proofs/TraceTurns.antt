@@ -26,9 +26,9 @@ turn_is_guarded owns stands guards c trace vouches h st i script is viewed may g
     let acts : List Act = turn (all_sends c) lists i st in
     let k : NodeKeepsIf (Finds lists st) c vouches st acts = stands c vouches lists st i script is viewed (lawful_lists owns c trace g) may in
     let finds : Finds lists st h = record {
-    office = λ none. ap (λ (l : SlotLists). l.coordinator) of.lists_are;
-    shards = λ s none. ap (λ l. shard_list l s) of.lists_are;
-    queues = λ p none. ap (λ l. queue_list l p) of.lists_are;
+      office = λ none. ap (λ (l : SlotLists). l.coordinator) of.lists_are;
+      shards = λ s none. ap (λ l. shard_list l s) of.lists_are;
+      queues = λ p none. ap (λ l. queue_list l p) of.lists_are;
     } in
     record {
       stands = k.stands;

@@ -1,5 +1,6 @@
 //! The entities of a node by themselves.
 ghost use Rattle.actor_laws.specs.EntitiesStand.{EntitiesStandLaw, NewEntitiesStand};
+
 use yard_laws::entities::{entities_follow, next_message_follows};
 
 /// Each rule of entities keeps what stands of them: an entity exists in a shard that the node holds,

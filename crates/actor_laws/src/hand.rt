@@ -1,6 +1,7 @@
 //! What a node has in hand, of a trace.
-use crate::node::turn_stands;
 ghost use Rattle.actor_laws.specs.Traces.{HandIsGuarded, TurnIsGuarded};
+
+use crate::node::turn_stands;
 use yard_laws::safety::guarded_is_own;
 
 /// After a guarded trace of which a node has in hand the lists and the names that are live at it, facts

@@ -1,11 +1,12 @@
 //! What stands of a node by itself.
+ghost use Rattle.actor_laws.specs.NodeTurns.{TurnStands, CrashStands, NodeBegins};
+
 use crate::coordinator::coordinator_begins;
 use crate::entities::{entities_stand, new_entities_stand};
 use crate::messages::genuine_is_message;
 use crate::producer::{producer_is_granted, producer_keeps, producer_routes};
 use crate::region::{region_begins, region_keeps};
 use crate::start::shard_starts;
-ghost use Rattle.actor_laws.specs.NodeTurns.{TurnStands, CrashStands, NodeBegins};
 
 /// Each input leads from a node that stands to one that stands, whatever the other nodes
 /// do and whatever lawful lists it finds of the slots that it doesn't hold. What it posts comes from it

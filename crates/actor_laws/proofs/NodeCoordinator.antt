@@ -50,103 +50,125 @@ is_no_took m = true
 abbrev pub NoTook : List Move → Type 0
 NoTook ms = list_all is_no_took ms ≡ true
 
-all_turns : {X : Type 0} (p : X → Coordinator → List Move) → ((x : X) (k : Coordinator) → NoTook (p x k)) → (xs : List X) (k : Coordinator) → NoTook (for_each coordinator_after p xs k)
-all_turns p h [] k = refl
-all_turns p h (x ∷ xs) k = all_join is_no_took (p x k) (for_each coordinator_after p xs (fold coordinator_after k (p x k))) (h x k) (all_turns p h xs (fold coordinator_after k (p x k)))
+-- and registers only regions of this view
+abbrev pub is_calm : List Incarnation → Move → Bool
+is_calm v (took s list) = false
+is_calm v (made (item.Fact (fact.Registered r))) = is_among r v
+is_calm v m = true
 
-posts_no_took : (who : Incarnation) (b : Body) (rs : List Incarnation) → NoTook (map (λ r. post who r b) rs)
-posts_no_took who b rs = all_of_map is_no_took (λ r. post who r b) rs (all_of (λ r. is_no_took (post who r b)) (λ r. refl) rs)
+abbrev pub Calm : List Incarnation → List Move → Type 0
+Calm v ms = list_all (is_calm v) ms ≡ true
 
-hand_off_no_took : (k : Coordinator) (x : Moving) → NoTook (coordinator.hand_off k x)
-hand_off_no_took k x = all_some is_no_took (λ o. post k.who o (body.HandOff x.shard (coordinator.stamp k)) ∷ []) x.owner (λ o. refl)
+all_turns : {X : Type 0} (v : List Incarnation) (p : X → Coordinator → List Move) → ((x : X) (k : Coordinator) → Calm v (p x k)) → (xs : List X) (k : Coordinator) → Calm v (for_each coordinator_after p xs k)
+all_turns v p h [] k = refl
+all_turns v p h (x ∷ xs) k = all_join (is_calm v) (p x k) (for_each coordinator_after p xs (fold coordinator_after k (p x k))) (h x k) (all_turns v p h xs (fold coordinator_after k (p x k)))
 
-last_no_took : (r : Incarnation) (k : Coordinator) (x : Moving) → NoTook (coordinator.hand_off_if_last r k x)
-last_no_took r k x = all_if is_no_took (is_among r x.awaited && is_empty (without r x.awaited)) (coordinator.hand_off k x) [] (hand_off_no_took k x) refl
+posts_calm : (v : List Incarnation) (who : Incarnation) (b : Body) (rs : List Incarnation) → Calm v (map (λ r. post who r b) rs)
+posts_calm v who b rs = all_of_map (is_calm v) (λ r. post who r b) rs (all_of (λ r. (is_calm v) (post who r b)) (λ r. refl) rs)
 
-terminate_no_took : (r : Incarnation) (k : Coordinator) → NoTook (coordinator.terminate r k)
-terminate_no_took r k = all_each is_no_took (λ (x : Moving). if is_at r x.owner then [] else coordinator.hand_off_if_last r k x) k.moving (λ x. all_if is_no_took (is_at r x.owner) [] (coordinator.hand_off_if_last r k x) refl (last_no_took r k x))
+hand_off_calm : (v : List Incarnation) (k : Coordinator) (x : Moving) → Calm v (coordinator.hand_off k x)
+hand_off_calm v k x = all_some (is_calm v) (λ o. post k.who o (body.HandOff x.shard (coordinator.stamp k)) ∷ []) x.owner (λ o. refl)
 
-pub terminate_lost_no_took : (view : List Incarnation) (k : Coordinator) → NoTook (coordinator.terminate_lost view k)
-terminate_lost_no_took view k = all_turns coordinator.terminate terminate_no_took (filter (λ r. not (is_among r view)) (regions k.entries)) k
+last_calm : (v : List Incarnation) (r : Incarnation) (k : Coordinator) (x : Moving) → Calm v (coordinator.hand_off_if_last r k x)
+last_calm v r k x = all_if (is_calm v) (is_among r x.awaited && is_empty (without r x.awaited)) (coordinator.hand_off k x) [] (hand_off_calm v k x) refl
 
-pub register_no_took : (from : Incarnation) (view : List Incarnation) (k : Coordinator) → NoTook (coordinator.register_from from view k)
-register_no_took from view k =
-    let first : List Move = if is_among from (coordinator.registered k) then [] else told (fact.Registered from) ∷ [] in
-    let answer : List Move = post k.who from body.RegisterAck ∷ [] in
-    all_if is_no_took (is_among from view) (first ++ answer) [] (all_join is_no_took first answer (all_if is_no_took (is_among from (coordinator.registered k)) [] (told (fact.Registered from) ∷ []) refl refl) refl) refl
+terminate_calm : (v : List Incarnation) (r : Incarnation) (k : Coordinator) → Calm v (coordinator.terminate r k)
+terminate_calm v r k = all_each (is_calm v) (λ (x : Moving). if is_at r x.owner then [] else coordinator.hand_off_if_last r k x) k.moving (λ x. all_if (is_calm v) (is_at r x.owner) [] (coordinator.hand_off_if_last r k x) refl (last_calm v r k x))
 
-allocate_no_took : (s : ℕ) (k : Coordinator) → NoTook (coordinator.allocate s k)
-allocate_no_took s k = all_some is_no_took (λ (x : coordinator.Share). told (fact.Allocated s x.region) ∷ post k.who x.region (body.HostShard s (coordinator.stamp k)) ∷ []) (coordinator.smallest (coordinator.shares k)) (λ x. refl)
+pub terminate_lost_calm : (v : List Incarnation) (view : List Incarnation) (k : Coordinator) → Calm v (coordinator.terminate_lost view k)
+terminate_lost_calm v view k = all_turns v coordinator.terminate (terminate_calm v) (filter (λ r. not (is_among r view)) (regions k.entries)) k
 
-begin_no_took : (ss : List ℕ) (k : Coordinator) → NoTook (coordinator.begin ss k)
-begin_no_took ss k =
+pub register_calm : (v : List Incarnation) (from : Incarnation) (k : Coordinator) → Calm v (coordinator.register_from from v k)
+register_calm v from k = by (is_among from v) refl
+  where
+    answer : List Move
+    answer = post k.who from body.RegisterAck ∷ []
+
+    by : (b : Bool) → is_among from v ≡ b → Calm v (if b then (if is_among from (coordinator.registered k) then [] else told (fact.Registered from) ∷ []) ++ answer else [])
+    by true seen = all_join (is_calm v) (if is_among from (coordinator.registered k) then [] else told (fact.Registered from) ∷ []) answer
+        (all_if (is_calm v) (is_among from (coordinator.registered k)) [] (told (fact.Registered from) ∷ []) refl (both (is_among from v) true seen refl)) refl
+    by false seen = refl
+
+allocate_calm : (v : List Incarnation) (s : ℕ) (k : Coordinator) → Calm v (coordinator.allocate s k)
+allocate_calm v s k = all_some (is_calm v) (λ (x : coordinator.Share). told (fact.Allocated s x.region) ∷ post k.who x.region (body.HostShard s (coordinator.stamp k)) ∷ []) (coordinator.smallest (coordinator.shares k)) (λ x. refl)
+
+begin_calm : (v : List Incarnation) (ss : List ℕ) (k : Coordinator) → Calm v (coordinator.begin ss k)
+begin_calm v ss k =
     let next : Stamp = coordinator.stamp_of k.entries (k.begun + 1) in
-    all_each is_no_took (λ s. told (fact.Moving s next) ∷ map (λ r. post k.who r (body.BeginHandOff s next)) (coordinator.registered k)) ss (λ s. posts_no_took k.who (body.BeginHandOff s next) (coordinator.registered k))
+    all_each (is_calm v) (λ s. told (fact.Moving s next) ∷ map (λ r. post k.who r (body.BeginHandOff s next)) (coordinator.registered k)) ss (λ s. posts_calm v k.who (body.BeginHandOff s next) (coordinator.registered k))
 
-get_home_no_took : (from : Incarnation) (s : ℕ) (k : Coordinator) → NoTook (coordinator.get_home from s k)
-get_home_no_took from s k =
+get_home_calm : (v : List Incarnation) (from : Incarnation) (s : ℕ) (k : Coordinator) → Calm v (coordinator.get_home from s k)
+get_home_calm v from s k =
     let first : List Move = if is_none (coordinator.home_of k s) then coordinator.allocate s k else [] in
     let later : Coordinator = fold coordinator_after k first in
     let tells : List Move = coordinator.tell_home from s later in
-    all_if is_no_took (is_among from (coordinator.registered k) && not (coordinator.is_moving k s)) (first ++ tells) []
-    (all_join is_no_took first tells (all_if is_no_took (is_none (coordinator.home_of k s)) (coordinator.allocate s k) [] (allocate_no_took s k) refl)
-    (all_some is_no_took (λ h. post later.who from (body.ShardHome s h (coordinator.stamp later)) ∷ []) (coordinator.home_of later s) (λ h. refl))) refl
+    all_if (is_calm v) (is_among from (coordinator.registered k) && not (coordinator.is_moving k s)) (first ++ tells) []
+    (all_join (is_calm v) first tells (all_if (is_calm v) (is_none (coordinator.home_of k s)) (coordinator.allocate s k) [] (allocate_calm v s k) refl)
+    (all_some (is_calm v) (λ h. post later.who from (body.ShardHome s h (coordinator.stamp later)) ∷ []) (coordinator.home_of later s) (λ h. refl))) refl
 
-started_no_took : (from : Incarnation) (s : ℕ) (k : Coordinator) → NoTook (coordinator.shard_started from s k)
-started_no_took from s k = all_if is_no_took (is_at from (coordinator.home_of k s)) (started s ∷ []) [] refl refl
+started_calm : (v : List Incarnation) (from : Incarnation) (s : ℕ) (k : Coordinator) → Calm v (coordinator.shard_started from s k)
+started_calm v from s k = all_if (is_calm v) (is_at from (coordinator.home_of k s)) (started s ∷ []) [] refl refl
 
-quit_no_took : (from : Incarnation) (k : Coordinator) → NoTook (coordinator.quit from k)
-quit_no_took from k =
+quit_calm : (v : List Incarnation) (from : Incarnation) (k : Coordinator) → Calm v (coordinator.quit from k)
+quit_calm v from k =
     let later : Coordinator = coordinator_after k (quits from) in
     let begins : List Move = coordinator.begin (coordinator.homes_at later from) later in
     let b : Bool = is_empty later.moving && not (is_empty (coordinator.staying later)) in
-    all_if is_no_took (is_among from (coordinator.registered k)) (quits from ∷ (if b then begins else [])) [] (all_if is_no_took b begins [] (begin_no_took (coordinator.homes_at later from) later) refl) refl
+    all_if (is_calm v) (is_among from (coordinator.registered k)) (quits from ∷ (if b then begins else [])) [] (all_if (is_calm v) b begins [] (begin_calm v (coordinator.homes_at later from) later) refl) refl
 
-acknowledge_no_took : (from : Incarnation) (s : ℕ) (given : Stamp) (k : Coordinator) → NoTook (coordinator.acknowledge from s given k)
-acknowledge_no_took from s given k =
-    all_each is_no_took (λ (x : Moving). if is_among from x.awaited then acknowledged s from ∷ coordinator.hand_off_if_last from k x else []) (coordinator.moving_at s given k)
-    (λ x. all_if is_no_took (is_among from x.awaited) (acknowledged s from ∷ coordinator.hand_off_if_last from k x) [] (last_no_took from k x) refl)
+acknowledge_calm : (v : List Incarnation) (from : Incarnation) (s : ℕ) (given : Stamp) (k : Coordinator) → Calm v (coordinator.acknowledge from s given k)
+acknowledge_calm v from s given k =
+    all_each (is_calm v) (λ (x : Moving). if is_among from x.awaited then acknowledged s from ∷ coordinator.hand_off_if_last from k x else []) (coordinator.moving_at s given k)
+    (λ x. all_if (is_calm v) (is_among from x.awaited) (acknowledged s from ∷ coordinator.hand_off_if_last from k x) [] (last_calm v from k x) refl)
 
-stopped_no_took : (from : Incarnation) (s : ℕ) (given : Stamp) (k : Coordinator) → NoTook (coordinator.shard_stopped from s given k)
-stopped_no_took from s given k =
+stopped_calm : (v : List Incarnation) (from : Incarnation) (s : ℕ) (given : Stamp) (k : Coordinator) → Calm v (coordinator.shard_stopped from s given k)
+stopped_calm v from s given k =
     let later : Coordinator = coordinator_after k (told (fact.Deallocated s)) in
-    all_if is_no_took (list_any (λ (x : Moving). is_empty x.awaited && is_at from x.owner) (coordinator.moving_at s given k)) (told (fact.Deallocated s) ∷ coordinator.allocate s later) [] (allocate_no_took s later) refl
+    all_if (is_calm v) (list_any (λ (x : Moving). is_empty x.awaited && is_at from x.owner) (coordinator.moving_at s given k)) (told (fact.Deallocated s) ∷ coordinator.allocate s later) [] (allocate_calm v s later) refl
 
-pub coordinate_no_took : (from : Incarnation) (b : Body) (view : List Incarnation) (k : Coordinator) → NoTook (coordinator.coordinate from b view k)
-coordinate_no_took from body.Register view k = register_no_took from view k
-coordinate_no_took from (body.GetShardHome s) view k = get_home_no_took from s k
-coordinate_no_took from (body.ShardStarted s) view k = started_no_took from s k
-coordinate_no_took from body.GracefulShutdownReq view k = quit_no_took from k
-coordinate_no_took from (body.BeginHandOffAck s given) view k = acknowledge_no_took from s given k
-coordinate_no_took from (body.ShardStopped s given) view k = stopped_no_took from s given k
-coordinate_no_took from b view k = refl
+pub coordinate_calm : (v : List Incarnation) (from : Incarnation) (b : Body) (k : Coordinator) → Calm v (coordinator.coordinate from b v k)
+coordinate_calm v from body.Register k = register_calm v from k
+coordinate_calm v from (body.GetShardHome s) k = get_home_calm v from s k
+coordinate_calm v from (body.ShardStarted s) k = started_calm v from s k
+coordinate_calm v from body.GracefulShutdownReq k = quit_calm v from k
+coordinate_calm v from (body.BeginHandOffAck s given) k = acknowledge_calm v from s given k
+coordinate_calm v from (body.ShardStopped s given) k = stopped_calm v from s given k
+coordinate_calm v from b k = refl
 
-again_no_took : (k : Coordinator) (x : Moving) → NoTook (coordinator.hand_off_again k x)
-again_no_took k x =
+again_calm : (v : List Incarnation) (k : Coordinator) (x : Moving) → Calm v (coordinator.hand_off_again k x)
+again_calm v k x =
     let b : Body = body.BeginHandOff x.shard (coordinator.stamp k) in
-    all_if is_no_took (is_empty x.awaited) (coordinator.hand_off k x) (map (λ r. post k.who r b) x.awaited) (hand_off_no_took k x) (posts_no_took k.who b x.awaited)
+    all_if (is_calm v) (is_empty x.awaited) (coordinator.hand_off k x) (map (λ r. post k.who r b) x.awaited) (hand_off_calm v k x) (posts_calm v k.who b x.awaited)
 
-begin_quitting_no_took : (k : Coordinator) → NoTook (coordinator.begin_quitting k)
-begin_quitting_no_took k =
+begin_quitting_calm : (v : List Incarnation) (k : Coordinator) → Calm v (coordinator.begin_quitting k)
+begin_quitting_calm v k =
     let ss : List ℕ = unwrap_or (find (λ ss. not (is_empty ss)) (map (coordinator.homes_at k) (filter (λ r. is_among r k.quitting) (coordinator.registered k)))) [] in
-    all_if is_no_took (is_empty (coordinator.staying k)) [] (coordinator.begin ss k) refl (begin_no_took ss k)
+    all_if (is_calm v) (is_empty (coordinator.staying k)) [] (coordinator.begin ss k) refl (begin_calm v ss k)
 
-host_no_took : (k : Coordinator) (s : ℕ) → NoTook (coordinator.host_again k s)
-host_no_took k s =
+host_calm : (v : List Incarnation) (k : Coordinator) (s : ℕ) → Calm v (coordinator.host_again k s)
+host_calm v k s =
     let b : Bool = coordinator.is_moving k s || slice_index_or k.started s false in
-    all_some is_no_took (λ h. if b then [] else post k.who h (body.HostShard s (coordinator.stamp k)) ∷ []) (coordinator.home_of k s) (λ h. all_if is_no_took b [] (post k.who h (body.HostShard s (coordinator.stamp k)) ∷ []) refl refl)
+    all_some (is_calm v) (λ h. if b then [] else post k.who h (body.HostShard s (coordinator.stamp k)) ∷ []) (coordinator.home_of k s) (λ h. all_if (is_calm v) b [] (post k.who h (body.HostShard s (coordinator.stamp k)) ∷ []) refl refl)
 
-pub tick_no_took : (k : Coordinator) → NoTook (coordinator.tick_coordinator k)
-tick_no_took k =
+pub tick_calm : (v : List Incarnation) (k : Coordinator) → Calm v (coordinator.tick_coordinator k)
+tick_calm v k =
     let first : List Move = if is_empty k.moving then coordinator.begin_quitting k else flat_map (coordinator.hand_off_again k) k.moving in
     let later : Coordinator = fold coordinator_after k first in
-    all_join is_no_took first (flat_map (coordinator.host_again later) (shards later.set))
-    (all_if is_no_took (is_empty k.moving) (coordinator.begin_quitting k) (flat_map (coordinator.hand_off_again k) k.moving) (begin_quitting_no_took k) (all_each is_no_took (coordinator.hand_off_again k) k.moving (again_no_took k)))
-    (all_each is_no_took (coordinator.host_again later) (shards later.set) (host_no_took later))
+    all_join (is_calm v) first (flat_map (coordinator.host_again later) (shards later.set))
+    (all_if (is_calm v) (is_empty k.moving) (coordinator.begin_quitting k) (flat_map (coordinator.hand_off_again k) k.moving) (begin_quitting_calm v k) (all_each (is_calm v) (coordinator.hand_off_again k) k.moving (again_calm v k)))
+    (all_each (is_calm v) (coordinator.host_again later) (shards later.set) (host_calm v later))
 
-pub rebalance_no_took : (limit : ℕ) (k : Coordinator) → NoTook (coordinator.rebalance limit k)
-rebalance_no_took limit k =
-    all_if is_no_took (not (is_empty k.moving) || is_empty (coordinator.picked limit k)) (told fact.Nothing ∷ []) (coordinator.begin (coordinator.picked limit k) k) refl (begin_no_took (coordinator.picked limit k) k)
+pub rebalance_calm : (v : List Incarnation) (limit : ℕ) (k : Coordinator) → Calm v (coordinator.rebalance limit k)
+rebalance_calm v limit k =
+    all_if (is_calm v) (not (is_empty k.moving) || is_empty (coordinator.picked limit k)) (told fact.Nothing ∷ []) (coordinator.begin (coordinator.picked limit k) k) refl (begin_calm v (coordinator.picked limit k) k)
+
+-- so it takes none
+pub calm_takes_none : (v : List Incarnation) (ms : List Move) → Calm v ms → NoTook ms
+calm_takes_none v ms h = all_map (is_calm v) is_no_took (one v) ms h
+  where
+    one : (v : List Incarnation) (m : Move) → is_calm v m ≡ true → is_no_took m ≡ true
+    one v (took s list) h = h
+    one v m h = refl
 
 -- So it stays the same coordinator.
 
@@ -311,13 +333,13 @@ rule_node c v st p s keeps none = by_it st.coordinator refl
 pub coordinate_node : (c : Script) (v : List ℕ → ℕ → ℕ → Bool) (st : Node) (from : Incarnation) (b : Body) → IsSoundNode c st → is_node c from ≡ true → is_genuine_body c b ≡ true
     → ((k : Coordinator) → st.coordinator ≡ Some k → is_among from st.region.view ≡ true → is_among from (regions k.entries) ≡ false → length (regions k.entries) < 16)
     → NodeKeeps c v st (of_coordinator (coordinator.coordinate from b st.region.view) st)
-coordinate_node c v st from b s node genuine room = rule_node c v st (coordinator.coordinate from b st.region.view) s (λ k e sound. coordinator_takes c k from b st.region.view sound node genuine (room k e)) (coordinate_no_took from b st.region.view)
+coordinate_node c v st from b s node genuine room = rule_node c v st (coordinator.coordinate from b st.region.view) s (λ k e sound. coordinator_takes c k from b st.region.view sound node genuine (room k e)) (λ k. calm_takes_none st.region.view (coordinator.coordinate from b st.region.view k) (coordinate_calm st.region.view from b k))
 
 pub terminate_node : (c : Script) (v : List ℕ → ℕ → ℕ → Bool) (st : Node) → IsSoundNode c st → NodeKeeps c v st (of_coordinator (coordinator.terminate_lost st.region.view) st)
-terminate_node c v st s = rule_node c v st (coordinator.terminate_lost st.region.view) s (λ k e sound. let r : KeepsRules c k = coordinator_keeps c k sound in r.terminates st.region.view) (terminate_lost_no_took st.region.view)
+terminate_node c v st s = rule_node c v st (coordinator.terminate_lost st.region.view) s (λ k e sound. let r : KeepsRules c k = coordinator_keeps c k sound in r.terminates st.region.view) (λ k. calm_takes_none st.region.view (coordinator.terminate_lost st.region.view k) (terminate_lost_calm st.region.view st.region.view k))
 
 pub tick_node : (c : Script) (v : List ℕ → ℕ → ℕ → Bool) (st : Node) → IsSoundNode c st → NodeKeeps c v st (of_coordinator coordinator.tick_coordinator st)
-tick_node c v st s = rule_node c v st coordinator.tick_coordinator s (λ k e sound. let r : KeepsRules c k = coordinator_keeps c k sound in r.ticks) tick_no_took
+tick_node c v st s = rule_node c v st coordinator.tick_coordinator s (λ k e sound. let r : KeepsRules c k = coordinator_keeps c k sound in r.ticks) (λ k. calm_takes_none [] (coordinator.tick_coordinator k) (tick_calm [] k))
 
 -- Regions that are lost.
 

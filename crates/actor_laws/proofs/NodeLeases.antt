@@ -39,7 +39,7 @@ use Rattle.world_laws.proofs.Packets.{lost_all}
 use Rattle.actor_laws.specs.NodeStands.{IsSoundNode, IsViewed, NodeInHand}
 use Rattle.actor_laws.proofs.NodeKeeps.{NodeKeeps}
 use Rattle.actor_laws.specs.NodeFound.{NodeKeepsIf, FindsOffice}
-use Rattle.actor_laws.proofs.NodeCoordinator.{terminate_node, terminate_lost_no_took, coordinator_stays, terminated_viewed}
+use Rattle.actor_laws.proofs.NodeCoordinator.{terminate_node, calm_takes_none, terminate_lost_calm, coordinator_stays, terminated_viewed}
 use Rattle.actor_laws.proofs.EntitiesMoves.{guarded_both, held_both}
 use Rattle.world_laws.proofs.Members.{itself_is}
 use Rattle.actor_laws.proofs.NodeParts.{own_both, node_none, node_both, free_hands, free_facts, region_node, facts_both, items_both, who_stays}
@@ -161,7 +161,7 @@ ended_viewed st (Some k) e =
     let ms : List Move = coordinator.terminate_lost st.region.view k in
     let later : Coordinator = fold coordinator_after k ms in
     let same : fold after st (map by_coordinator ms) ≡ record st { coordinator = Some later } = coordinator_alone st ms ∙ ap (λ o. record st { coordinator = o })
-    (ap (λ o. fold (coordinator_part st.set st.who) o (map by_coordinator ms)) e ∙ coordinator_stays st.set st.who k ms (terminate_lost_no_took st.region.view k)) in
+    (ap (λ o. fold (coordinator_part st.set st.who) o (map by_coordinator ms)) e ∙ coordinator_stays st.set st.who k ms (calm_takes_none st.region.view ms (terminate_lost_calm st.region.view st.region.view k))) in
     subst IsViewed (sym same) (terminated_viewed st.region.view k)
 
 lead_viewed : (lists : SlotLists) (st : Node) → IsViewed (fold after st (lead lists st))

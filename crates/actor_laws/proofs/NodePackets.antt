@@ -37,7 +37,7 @@ use Rattle.actor_laws.proofs.NodeKeeps.{NodeKeeps}
 use Rattle.actor_laws.specs.NodeFound.{NodeKeepsIf, FindsOffice, FindsShard, Finds, AreLawful}
 use Rattle.actor_laws.specs.NodeTurns.{MayConfirm, IsPromised}
 use Rattle.actor_laws.proofs.CoordinatorLaws.{coordinator_keeps}
-use Rattle.actor_laws.proofs.NodeCoordinator.{rule_node, coordinate_node, rebalance_no_took}
+use Rattle.actor_laws.proofs.NodeCoordinator.{rule_node, calm_takes_none, rebalance_calm, coordinate_node}
 use Rattle.actor_laws.proofs.NodeLeases.{plain_if, if_if, view_keeps}
 use Rattle.actor_laws.proofs.NodeMessages.{RouteLaws, routed_node, route_numbers_node}
 use Rattle.actor_laws.proofs.NodeParts.{node_none, node_both}
@@ -69,7 +69,7 @@ has_room c st from script is viewed k e seen fresh =
     room c k.entries st.region.view from script s.own_is r.view_is is.different (subst (λ o. IfSome o (λ (k : Coordinator). list_all (λ r. is_among r st.region.view) (regions k.entries) ≡ true)) e viewed) seen fresh
 
 pub rebalance_node : (c : Script) (v : List ℕ → ℕ → ℕ → Bool) (st : Node) (limit : ℕ) → IsSoundNode c st → NodeKeeps c v st (of_coordinator (coordinator.rebalance limit) st)
-rebalance_node c v st limit is = rule_node c v st (coordinator.rebalance limit) is (λ k e sound. let r : coordinators.KeepsRules c k = coordinator_keeps c k sound in r.rebalances limit) (rebalance_no_took limit)
+rebalance_node c v st limit is = rule_node c v st (coordinator.rebalance limit) is (λ k e sound. let r : coordinators.KeepsRules c k = coordinator_keeps c k sound in r.rebalances limit) (λ k. calm_takes_none [] (coordinator.rebalance limit k) (rebalance_calm [] limit k))
 
 -- Producers.
 

@@ -26,6 +26,7 @@ pub mod NodeProducers
 pub mod NodeRoutes
 pub mod NodeStarts
 pub mod NodeTicks
+pub mod NodeViewed
 pub mod ProducerMoves
 pub mod RegionMoves
 pub mod ShardStartLaws

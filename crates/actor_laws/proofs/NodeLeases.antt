@@ -164,7 +164,7 @@ ended_viewed st (Some k) e =
     (ap (λ o. fold (coordinator_part st.set st.who) o (map by_coordinator ms)) e ∙ coordinator_stays st.set st.who k ms (calm_takes_none st.region.view ms (terminate_lost_calm st.region.view st.region.view k))) in
     subst IsViewed (sym same) (terminated_viewed st.region.view k)
 
-lead_viewed : (lists : SlotLists) (st : Node) → IsViewed (fold after st (lead lists st))
+pub lead_viewed : (lists : SlotLists) (st : Node) → IsViewed (fold after st (lead lists st))
 lead_viewed lists st =
     let b : Bool = is_at st.who (region.oldest st.region) && is_none st.coordinator in
     let asks : List Act = if b then map by_coordinator (acquire slot.Coordinator st.who lists.coordinator) else [] in

@@ -30,7 +30,7 @@ use Rattle.actor_laws.proofs.NodeParts.{node_none, node_if, region_node, entitie
 
 -- The region's rules but View leave its view.
 
-oldest_viewless : (b : Body) (r : Region) → list_all is_viewless (region.post_oldest b r) ≡ true
+pub oldest_viewless : (b : Body) (r : Region) → list_all is_viewless (region.post_oldest b r) ≡ true
 oldest_viewless b r = all_some is_viewless (λ x. post r.who x b ∷ []) (region.oldest r) (λ x. refl)
 
 pub register_viewless : (r : Region) → list_all is_viewless (region.register r) ≡ true
@@ -39,7 +39,7 @@ register_viewless r = all_some is_viewless (λ x. if is_at x r.registered then [
 keep_viewless : (m : Message) (r : Region) → list_all is_viewless (region.keep m r) ≡ true
 keep_viewless m r = all_if is_viewless (nat_lt (sum_by length r.kept) r.set.config.buffer) (told (fact.Kept r.who m) ∷ []) (told (fact.Dropped r.who m) ∷ []) refl refl
 
-route_viewless : (m : Message) (r : Region) (o : Option Incarnation) → list_all is_viewless (region.route_by m r o) ≡ true
+pub route_viewless : (m : Message) (r : Region) (o : Option Incarnation) → list_all is_viewless (region.route_by m r o) ≡ true
 route_viewless m r None = all_join is_viewless (region.keep m r) (region.ask (shard_of r.set m.entity) r) (keep_viewless m r)
     (all_if is_viewless (slice_index_or r.asked (shard_of r.set m.entity) false) [] (region.post_oldest (body.GetShardHome (shard_of r.set m.entity)) r) refl (oldest_viewless (body.GetShardHome (shard_of r.set m.entity)) r))
 route_viewless m r (Some h) = all_if is_viewless (is_same h r.who) (region.keep m r) (post r.who h (body.Sequenced m) ∷ []) (keep_viewless m r) refl
@@ -47,7 +47,7 @@ route_viewless m r (Some h) = all_if is_viewless (is_same h r.who) (region.keep 
 forget_viewless : (s : ℕ) (r : Region) → list_all is_viewless (region.forget s r) ≡ true
 forget_viewless s r = all_if is_viewless (is_none (region.home r s)) [] (told (fact.Forget r.who s) ∷ []) refl refl
 
-begin_viewless : (s : ℕ) (stamp : Stamp) (from : Incarnation) (r : Region) → list_all is_viewless (region.begin_hand_off s stamp from r) ≡ true
+pub begin_viewless : (s : ℕ) (stamp : Stamp) (from : Incarnation) (r : Region) → list_all is_viewless (region.begin_hand_off s stamp from r) ≡ true
 begin_viewless s stamp from r =
     let first : List Move = if is_below (region.mark r s) stamp then marked s stamp ∷ region.forget s r else [] in
     all_if is_viewless (is_below stamp (region.mark r s)) [] (first ++ post r.who from (body.BeginHandOffAck s stamp) ∷ []) refl
@@ -56,7 +56,7 @@ begin_viewless s stamp from r =
 pub learn_viewless : (s : ℕ) (h : Incarnation) (stamp : Stamp) (r : Region) → list_all is_viewless (region.learn s h stamp r) ≡ true
 learn_viewless s h stamp r = all_if is_viewless (is_at h (region.home r s)) [] (told (fact.Home r.who s h) ∷ []) refl refl
 
-tick_viewless : (r : Region) → list_all is_viewless (region.tick_region r) ≡ true
+pub tick_viewless : (r : Region) → list_all is_viewless (region.tick_region r) ≡ true
 tick_viewless r =
     let mid : List Move = if r.leaving && region.is_some_home r then region.post_oldest body.GracefulShutdownReq r else [] in
     let last : List Move = flat_map (region.ask_again r) (shards r.set) in

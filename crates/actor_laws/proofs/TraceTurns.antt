@@ -10,7 +10,7 @@ use Rattle.yard_model.specs.World.{all_sends}
 use Rattle.yard_laws.specs.Guarded.{Owns, GuardedIsOwn}
 use Rattle.world_laws.specs.Owes.{facts_in}
 use Rattle.actor_laws.specs.NodeFound.{NodeKeepsIf, Finds, AreLawful}
-use Rattle.actor_laws.specs.NodeTurns.{TurnStands}
+use Rattle.actor_laws.specs.NodeTurns.{TurnStands, TurnViewed}
 use Rattle.actor_laws.specs.Traces.{HandIsGuarded, TurnIsGuarded}
 use Rattle.actor_laws.proofs.NodeProducers.{above_zero}
 
@@ -20,8 +20,8 @@ lawful_lists owns c trace g =
     let o : Owns c (lists_of (setting c) trace) = owns c trace g in
     record { coordinator = o.coordinator; shards = λ s k. o.shard s; queues = λ p k. o.queue p (above_zero p c.config.producers k).0 }
 
-pub turn_is_guarded : GuardedIsOwn → TurnStands → HandIsGuarded → TurnIsGuarded
-turn_is_guarded owns stands guards c trace vouches h st i script is viewed may g v of holds =
+pub turn_is_guarded : GuardedIsOwn → TurnStands → TurnViewed → HandIsGuarded → TurnIsGuarded
+turn_is_guarded owns stands views guards c trace vouches h st i script is viewed may g v of holds =
     let lists : SlotLists = lists_of (setting c) trace in
     let acts : List Act = turn (all_sends c) lists i st in
     let k : NodeKeepsIf (Finds lists st) c vouches st acts = stands c vouches lists st i script is viewed (lawful_lists owns c trace g) may in
@@ -32,6 +32,7 @@ turn_is_guarded owns stands guards c trace vouches h st i script is viewed may g
     } in
     record {
       stands = k.stands;
+      viewed = views (all_sends c) lists st i viewed;
       goes_on = guards c trace st.who vouches h (facts_in (items_of acts)) g v of (k.guarded_are h holds finds) k.own_are;
       holds = k.goes_along h holds finds;
       held_are = k.held_are h holds finds;

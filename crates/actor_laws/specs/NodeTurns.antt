@@ -1,5 +1,6 @@
 -- A node by itself keeps what stands of it in each input, whatever the other nodes do.
-use Rattle.std.specs.Prelude.{◌≡◌, ℕ, ◌-◌, ◌≤◌, Bool, true, List, [], length, Some}
+use Rattle.std.specs.Prelude.{fold, ◌≡◌, ℕ, ◌-◌, ◌≤◌, Bool, true, List, [], length, Some}
+use Rattle.yard_model.specs.declared.charter.Sending.{Sending}
 use Rattle.yard_model.specs.declared.input.Input.{Input}
 use Rattle.yard_model.specs.declared.input.Input.TheVariants as input
 use Rattle.yard_model.specs.declared.incarnation.Incarnation.{Incarnation}
@@ -7,7 +8,7 @@ use Rattle.yard_model.specs.declared.packet.Body.{Body}
 use Rattle.yard_model.specs.declared.packet.Body.TheVariants as body
 use Rattle.yard_model.specs.Genuine.{is_node, is_brought, is_producer, is_genuine_body}
 use Rattle.yard_model.specs.Members.{are_of_different_nodes}
-use Rattle.yard_model.specs.Node.{Node, new_node, turn, crash}
+use Rattle.yard_model.specs.Node.{Node, after, new_node, turn, crash}
 use Rattle.yard_model.specs.Producer.{Producer}
 use Rattle.yard_model.specs.Script.{Script, IsScript, setting}
 use Rattle.yard_model.specs.SlotLists.{SlotLists}
@@ -47,6 +48,10 @@ MayTake c vouches st i = Unit {0}
 abbrev pub TurnStands : Type 0
 TurnStands = (c : Script) (vouches : List ℕ → ℕ → ℕ → Bool) (lists : SlotLists) (st : Node) (i : Input) → IsScript c → IsSoundNode c st → IsViewed st → AreLawful c lists
     → MayTake c vouches st i → NodeKeepsIf (Finds lists st) c vouches st (turn (all_sends c) lists i st)
+
+-- where it is the coordinator, each registered region stays in its view
+abbrev pub TurnViewed : Type 0
+TurnViewed = (sends : List (List Sending)) (lists : SlotLists) (st : Node) (i : Input) → IsViewed st → IsViewed (fold after st (turn sends lists i st))
 
 -- each slot that it holds is freed, once it is told that it is gone
 abbrev pub CrashStands : Type 0

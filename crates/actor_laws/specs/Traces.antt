@@ -37,6 +37,7 @@ HandIsGuarded = (c : Script) (trace : List Fact) (who : Incarnation) (vouches : 
 -- a turn of a node with the leases of the trace
 pub record TurnGoesOn (c : Script) (trace : List Fact) (h : Hand) (st : Node) (acts : List Act) : Type 0 where
   pub stands : IsSoundNode c (fold after st acts)
+  pub viewed : IsViewed (fold after st acts)
   pub goes_on : GoesOn c trace st.who h (facts_in (items_of acts))
   pub holds : NodeInHand c (fold (hand_after c) h (facts_in (items_of acts))) (fold after st acts)
   pub held_are : held_in_hand c st.who h (facts_in (items_of acts)) ≡ true

@@ -1,7 +1,7 @@
 //! What a node has in hand, of a trace.
 ghost use Rattle.actor_laws.specs.Traces.{HandIsGuarded, TurnIsGuarded};
 
-use crate::node::turn_stands;
+use crate::node::{turn_stands, turn_viewed};
 use yard_laws::safety::guarded_is_own;
 
 /// After a guarded trace of which a node has in hand the lists and the names that are live at it, facts
@@ -18,5 +18,6 @@ pub fn turn_is_guarded()
 {
     guarded_is_own();
     turn_stands();
+    turn_viewed();
     hand_is_guarded();
 }

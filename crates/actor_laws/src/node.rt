@@ -1,5 +1,5 @@
 //! What stands of a node by itself.
-ghost use Rattle.actor_laws.specs.NodeTurns.{TurnStands, CrashStands, NodeBegins};
+ghost use Rattle.actor_laws.specs.NodeTurns.{TurnStands, TurnViewed, CrashStands, NodeBegins};
 
 use crate::coordinator::coordinator_begins;
 use crate::entities::{entities_stand, new_entities_stand};
@@ -26,6 +26,11 @@ pub fn turn_stands()
     producer_routes();
     producer_is_granted();
 }
+
+/// Where a node is the coordinator, each registered region is in its view: each input keeps that.
+pub fn turn_viewed()
+    ensures { TurnViewed }
+{}
 
 /// The crash of a node that stands, whatever it holds: each slot that it frees may be freed, by what it
 /// has in hand, once no name is live at it.

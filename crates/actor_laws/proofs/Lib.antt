@@ -31,4 +31,5 @@ pub mod ProducerMoves
 pub mod RegionMoves
 pub mod ShardStartLaws
 pub mod TraceLaws
+pub mod TraceOthers
 pub mod TraceTurns

@@ -26,7 +26,7 @@ use Rattle.yard_laws.proofs.SafetyLaws.{guarded_is_safe}
 use Rattle.world_laws.specs.Owes.{Hand, has_name, without_name, live_after, hand_after, follows_in_hand, lives_in_hand, guard_in_hand, guarded_in_hand}
 use Rattle.world_laws.proofs.Members.{same_is, itself_is}
 use Rattle.actor_laws.specs.NodeStands.{is_own_fact}
-use Rattle.actor_laws.specs.Traces.{IsHandOf, GoesOn, HandIsGuarded}
+use Rattle.actor_laws.specs.Traces.{IsHandOf, AreVouched, GoesOn, HandIsGuarded}
 use Rattle.actor_laws.proofs.EntitiesMoves.{any_more, or_true, name_added, name_beside, name_gone, name_stays}
 
 -- The guard of one fact.
@@ -91,6 +91,10 @@ hand_on c trace who h f own i = record {
 all_live : (c : Script) (trace : List Fact) → guarded c trace ≡ true → list_all (one_live c trace) (setting c).names ≡ true
 all_live c trace g = (and_both (list_all (one_live c trace) (setting c).names) (lawful c (lists_of (setting c) trace)) (safe_now c trace (guarded_is_safe c trace g))).0
 
+-- what is vouched for stays so
+pub vouched_on : (c : Script) (trace : List Fact) (f : Fact) (vouches : List ℕ → ℕ → ℕ → Bool) → AreVouched c trace vouches → AreVouched c (trace ++ f ∷ []) vouches
+vouched_on c trace f vouches v more w e p n y = subst (λ t. nat_le n (position p (journal e (shard_list_of c e t))) ≡ true) (sym (append_assoc trace (f ∷ []) more)) (v (f ∷ more) (ap (guarded c) (sym (append_assoc trace (f ∷ []) more)) ∙ w) e p n y)
+
 pub hand_is_guarded : HandIsGuarded
 hand_is_guarded c trace who vouches h [] g v i k own = record { guarded_are = ap (guarded c) (append-nil trace) ∙ g; in_hand = subst (λ t. IsHandOf c t who h) (sym (append-nil trace)) i }
 hand_is_guarded c trace who vouches h (f ∷ fs) g v i k own =
@@ -101,6 +105,6 @@ hand_is_guarded c trace who vouches h (f ∷ fs) g v i k own =
     let one : guard c trace f ≡ true = guarded_by_its_actor who c trace f (all_live c trace g) (ap (λ l. follows_in_hand c l f (slot_of (setting c) f)) (sym i.lists_are) ∙ n.0) (by_hand c trace who vouches h f i now n.1) in
     let next : guarded c (trace ++ f ∷ []) ≡ true = follows_more (guard c) [] trace f ∙ both (guarded c trace) (guard c trace f) g one in
     let rest : GoesOn c (trace ++ f ∷ []) who (hand_after c h f) fs = hand_is_guarded c (trace ++ f ∷ []) who vouches (hand_after c h f) fs next
-    (λ more w e p n y. subst (λ t. nat_le n (position p (journal e (shard_list_of c e t))) ≡ true) (sym (append_assoc trace (f ∷ []) more)) (v (f ∷ more) (ap (guarded c) (sym (append_assoc trace (f ∷ []) more)) ∙ w) e p n y))
+    (vouched_on c trace f vouches v)
     (hand_on c trace who h f o.0 i) m.1 o.1 in
     record { guarded_are = ap (guarded c) (sym (append_assoc trace (f ∷ []) fs)) ∙ rest.guarded_are; in_hand = subst (λ t. IsHandOf c t who (fold (hand_after c) (hand_after c h f) fs)) (append_assoc trace (f ∷ []) fs) rest.in_hand }

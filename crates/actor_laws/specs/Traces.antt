@@ -1,5 +1,5 @@
 -- What a node has in hand, of a trace: so facts that are guarded by what it has in hand are guarded after that trace.
-use Rattle.std.specs.Prelude.{◌≡◌, ℕ, Bool, true, nat_le, List, ◌++◌, fold}
+use Rattle.std.specs.Prelude.{◌≡◌, ℕ, Bool, true, false, nat_le, List, ◌++◌, fold}
 use Rattle.std.specs.List.{list_all}
 use Rattle.yard_model.specs.declared.fact.Fact.{Fact}
 use Rattle.yard_model.specs.declared.incarnation.Incarnation.{Incarnation}
@@ -9,7 +9,7 @@ use Rattle.yard_model.specs.Safe.{live_at, shard_list_of, guarded}
 use Rattle.yard_model.specs.Script.{Script, IsScript, setting}
 use Rattle.yard_model.specs.SlotReads.{journal, position}
 use Rattle.yard_model.specs.Trace.{lists_of}
-use Rattle.yard_model.specs.Words.{is_among}
+use Rattle.yard_model.specs.Words.{is_same, is_among}
 use Rattle.yard_model.specs.World.{all_sends}
 use Rattle.world_laws.specs.Owes.{Hand, has_name, facts_in, hand_after, guarded_in_hand, is_own_post}
 use Rattle.actor_laws.specs.Held.{held_in_hand}
@@ -47,3 +47,14 @@ abbrev pub TurnIsGuarded : Type 0
 TurnIsGuarded = (c : Script) (trace : List Fact) (vouches : List ℕ → ℕ → ℕ → Bool) (h : Hand) (st : Node) (i : Input) → IsScript c → IsSoundNode c st → IsViewed st → MayTake c vouches st i
     → guarded c trace ≡ true → AreVouched c trace vouches → IsHandOf c trace st.who h → NodeInHand c h st
     → TurnGoesOn c trace h st (turn (all_sends c) (lists_of (setting c) trace) i st)
+
+-- a node has its part of a trace in hand
+pub record HasInHand (c : Script) (trace : List Fact) (st : Node) (h : Hand) : Type 0 where
+  pub of_trace : IsHandOf c trace st.who h
+  pub holds : NodeInHand c h st
+
+-- facts of one incarnation leave what every other node has in hand, with the lists of the longer trace
+abbrev pub OthersHold : Type 0
+OthersHold = (c : Script) (trace : List Fact) (who : Incarnation) (vouches : List ℕ → ℕ → ℕ → Bool) (h : Hand) (fs : List Fact) (st : Node) (g : Hand) → guarded c trace ≡ true → AreVouched c trace vouches → IsHandOf c trace who h
+    → guarded_in_hand c vouches who h fs ≡ true → list_all (is_own_fact who) fs ≡ true → held_in_hand c who h fs ≡ true
+    → IsSoundNode c st → is_same st.who who ≡ false → HasInHand c trace st g → HasInHand c (trace ++ fs) st (record { lists = lists_of (setting c) (trace ++ fs); live = g.live })

@@ -1,5 +1,5 @@
 //! What a node has in hand, of a trace.
-ghost use Rattle.actor_laws.specs.Traces.{HandIsGuarded, TurnIsGuarded};
+ghost use Rattle.actor_laws.specs.Traces.{HandIsGuarded, TurnIsGuarded, OthersHold};
 
 use crate::node::{turn_stands, turn_viewed};
 use yard_laws::safety::guarded_is_own;
@@ -21,3 +21,9 @@ pub fn turn_is_guarded()
     turn_viewed();
     hand_is_guarded();
 }
+
+/// And what a node tells leaves what every other node has in hand: the lists of the slots that it holds
+/// stay, and so do the names that are live at it.
+pub fn others_hold()
+    ensures { OthersHold }
+{}

@@ -1,3 +1,4 @@
+pub mod ClusterLaws
 pub mod CoordinatorGuards
 pub mod CoordinatorLaws
 pub mod CoordinatorMoves

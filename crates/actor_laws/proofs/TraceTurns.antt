@@ -35,6 +35,8 @@ turn_is_guarded owns stands views guards c trace vouches h st i script is viewed
       viewed = views (all_sends c) lists st i viewed;
       goes_on = guards c trace st.who vouches h (facts_in (items_of acts)) g v of (k.guarded_are h holds finds) k.own_are;
       holds = k.goes_along h holds finds;
+      in_hand = k.guarded_are h holds finds;
+      own_are = k.own_are;
       held_are = k.held_are h holds finds;
       posts_are = k.posts_are;
     }

@@ -35,18 +35,20 @@ HandIsGuarded = (c : Script) (trace : List Fact) (who : Incarnation) (vouches : 
     → guarded_in_hand c vouches who h fs ≡ true → list_all (is_own_fact who) fs ≡ true → GoesOn c trace who h fs
 
 -- a turn of a node with the leases of the trace
-pub record TurnGoesOn (c : Script) (trace : List Fact) (h : Hand) (st : Node) (acts : List Act) : Type 0 where
+pub record TurnGoesOn (c : Script) (trace : List Fact) (vouches : List ℕ → ℕ → ℕ → Bool) (h : Hand) (st : Node) (acts : List Act) : Type 0 where
   pub stands : IsSoundNode c (fold after st acts)
   pub viewed : IsViewed (fold after st acts)
   pub goes_on : GoesOn c trace st.who h (facts_in (items_of acts))
   pub holds : NodeInHand c (fold (hand_after c) h (facts_in (items_of acts))) (fold after st acts)
+  pub in_hand : guarded_in_hand c vouches st.who h (facts_in (items_of acts)) ≡ true
+  pub own_are : list_all (is_own_fact st.who) (facts_in (items_of acts)) ≡ true
   pub held_are : held_in_hand c st.who h (facts_in (items_of acts)) ≡ true
   pub posts_are : list_all (is_own_post c st.who) (items_of acts) ≡ true
 
 abbrev pub TurnIsGuarded : Type 0
 TurnIsGuarded = (c : Script) (trace : List Fact) (vouches : List ℕ → ℕ → ℕ → Bool) (h : Hand) (st : Node) (i : Input) → IsScript c → IsSoundNode c st → IsViewed st → MayTake c vouches st i
     → guarded c trace ≡ true → AreVouched c trace vouches → IsHandOf c trace st.who h → NodeInHand c h st
-    → TurnGoesOn c trace h st (turn (all_sends c) (lists_of (setting c) trace) i st)
+    → TurnGoesOn c trace vouches h st (turn (all_sends c) (lists_of (setting c) trace) i st)
 
 -- a node has its part of a trace in hand
 pub record HasInHand (c : Script) (trace : List Fact) (st : Node) (h : Hand) : Type 0 where

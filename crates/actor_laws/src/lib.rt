@@ -5,6 +5,7 @@
 //! law is a function that does nothing, whose contract is the law.
 #![tactic(auto)]
 
+pub mod cluster;
 pub mod coordinator;
 pub mod entities;
 pub mod hand;

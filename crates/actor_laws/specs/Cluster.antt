@@ -1,0 +1,32 @@
+-- All nodes together, and the trace of what they told.
+use Rattle.std.specs.Prelude.{◌≡◌, ℕ, ◌+◌, Bool, true, List, ◌++◌, fold, Option, Some, slice_set}
+use Rattle.yard_model.specs.declared.fact.Fact.{Fact}
+use Rattle.yard_model.specs.declared.input.Input.{Input}
+use Rattle.yard_model.specs.Node.{Node, Act, after, items_of, turn}
+use Rattle.yard_model.specs.Safe.{guarded}
+use Rattle.yard_model.specs.Script.{Script, IsScript, setting}
+use Rattle.yard_model.specs.Trace.{lists_of}
+use Rattle.yard_model.specs.Words.{at}
+use Rattle.yard_model.specs.World.{all_sends}
+use Rattle.world_laws.specs.Owes.{Hand, facts_in}
+use Rattle.actor_laws.specs.NodeStands.{IsSoundNode, IsViewed}
+use Rattle.actor_laws.specs.NodeTurns.{MayTake}
+use Rattle.actor_laws.specs.Traces.{AreVouched, HasInHand}
+
+-- a node at its place, with its part of the trace in hand
+pub record IsMember (c : Script) (trace : List Fact) (k : ℕ) (st : Node) : Type 0 where
+  pub node_is : st.who.node ≡ k + 1
+  pub sound : IsSoundNode c st
+  pub viewed : IsViewed st
+  pub hand : Hand
+  pub has : HasInHand c trace st hand
+
+-- the trace is guarded, and each node that is up stands by it
+pub record IsCluster (c : Script) (trace : List Fact) (nodes : List (Option Node)) : Type 0 where
+  pub guarded_are : guarded c trace ≡ true
+  pub members : (k : ℕ) (st : Node) → at nodes k ≡ Some st → IsMember c trace k st
+
+-- a turn of one of them, with the leases of the trace
+abbrev pub ClusterTurns : Type 0
+ClusterTurns = (c : Script) (trace : List Fact) (nodes : List (Option Node)) (vouches : List ℕ → ℕ → ℕ → Bool) (k : ℕ) (st : Node) (i : Input) → IsScript c → IsCluster c trace nodes → at nodes k ≡ Some st → AreVouched c trace vouches → MayTake c vouches st i
+    → let acts : List Act = turn (all_sends c) (lists_of (setting c) trace) i st in IsCluster c (trace ++ facts_in (items_of acts)) (slice_set nodes k (Some (fold after st acts)))

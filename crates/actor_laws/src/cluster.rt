@@ -1,0 +1,14 @@
+//! All nodes together.
+use crate::hand::{others_hold, turn_is_guarded};
+ghost use Rattle.actor_laws.specs.Cluster.{ClusterTurns};
+
+/// A turn of one node of a cluster, whatever its input, with the leases as the trace has them: the trace
+/// with its facts is guarded, so it is safe at each prefix, and each node that is up stands by it. What
+/// the input promises: packets are genuine, a view is of different nodes, and a number that a packet
+/// confirms is recorded and queued.
+pub fn cluster_turns()
+    ensures { ClusterTurns }
+{
+    turn_is_guarded();
+    others_hold();
+}

@@ -57,7 +57,7 @@ by_hand c trace who vouches h f i v g = refl
 among_added : (x : Incarnation) (xs : List Incarnation) → is_among x (xs ++ x ∷ []) ≡ true
 among_added x xs = any_more (is_same x) xs x ∙ (ap (λ b. list_any (is_same x) xs || b) (itself_is x x refl) ∙ or_true (list_any (is_same x) xs))
 
-among_gone : (x : Incarnation) (xs : List Incarnation) → is_among x (without x xs) ≡ false
+pub among_gone : (x : Incarnation) (xs : List Incarnation) → is_among x (without x xs) ≡ false
 among_gone x [] = refl
 among_gone x (y ∷ ys) = by (is_same x y) refl (among_gone x ys)
   where

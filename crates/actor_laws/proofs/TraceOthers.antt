@@ -1,6 +1,6 @@
 -- What a node tells leaves what every other node has in hand.
-use Rattle.std.proofs.Common.{◌≡◌, ℕ, ◌-◌, ◌<◌, List, [], ◌∷◌, ◌++◌, length, sym, ap, subst, ◌∙◌, refl, true, false, true≢false}
-use Rattle.std.specs.Prelude.{Bool, ◌&&◌, ◌||◌, ◌==◌, not, ◌+◌, slice_index_or, fold, is_some, Option, Some, None, IfSome}
+use Rattle.std.proofs.Common.{◌≡◌, ℕ, ◌-◌, List, [], ◌∷◌, ◌++◌, sym, ap, subst, ◌∙◌, refl, true, false, true≢false}
+use Rattle.std.specs.Prelude.{Bool, ◌||◌, ◌==◌, not, ◌+◌, slice_index_or, is_some, Option, Some, None, IfSome}
 use Rattle.std.specs.List.{list_all}
 use Rattle.std.proofs.lemmas.List.{append-nil, append_assoc, get_or-set_other}
 use Rattle.std.proofs.lemmas.List.Sums.{fold-append}
@@ -13,26 +13,26 @@ use Rattle.yard_model.specs.Coordinator.{Coordinator}
 use Rattle.yard_model.specs.Genuine.{is_slot_of}
 use Rattle.yard_model.specs.Lawful.{is_held, is_leased, is_entry, may_follow}
 use Rattle.yard_model.specs.Node.{Node}
-use Rattle.yard_model.specs.Safe.{live_at, own_guard, guard, cross_guard, guarded}
+use Rattle.yard_model.specs.Safe.{own_guard, guard, cross_guard, guarded}
 use Rattle.yard_model.specs.Script.{Script, setting}
 use Rattle.yard_model.specs.SlotLists.{SlotLists, shard_list, queue_list}
 use Rattle.yard_model.specs.SlotReads.{holder, epoch}
 use Rattle.yard_model.specs.Trace.{slot_of, list_at, with_entry, lists_step, no_lists, lists_of}
-use Rattle.yard_model.specs.Words.{is_same, is_at, is_among, at}
+use Rattle.yard_model.specs.Words.{is_same, is_at}
 use Rattle.yard_model.proofs.FollowLaws.{follows_more}
 use Rattle.yard_laws.specs.Guarded.{Owns}
 use Rattle.yard_laws.specs.Local.{starter}
 use Rattle.yard_laws.proofs.Booleans.{true_is_not_false, and_both, both, of_not}
 use Rattle.yard_laws.proofs.LocalLaws.{others_live_on}
 use Rattle.yard_laws.proofs.Owns.{guarded_is_own}
-use Rattle.world_laws.specs.Owes.{Hand, has_name, hand_after, guard_in_hand, guarded_in_hand}
+use Rattle.world_laws.specs.Owes.{Hand, hand_after, guard_in_hand, guarded_in_hand}
 use Rattle.world_laws.proofs.Members.{same_is, itself_is}
 use Rattle.world_laws.proofs.Place.{by_place}
 use Rattle.actor_laws.specs.CoordinatorStands.{IsSound}
-use Rattle.actor_laws.specs.EntitiesStand.{IsEntities, IsHeldShard, InHand}
+use Rattle.actor_laws.specs.EntitiesStand.{IsEntities, IsHeldShard}
 use Rattle.actor_laws.specs.Held.{is_grant, is_slot_held, held_in_hand}
-use Rattle.actor_laws.specs.NodeStands.{is_own_fact, IsProducerAt, IsCoordinatorAt, IsSoundNode, NodeInHand}
-use Rattle.actor_laws.specs.Traces.{IsHandOf, AreVouched, GoesOn, HasInHand, OthersHold}
+use Rattle.actor_laws.specs.NodeStands.{is_own_fact, IsProducerAt, IsCoordinatorAt, IsSoundNode}
+use Rattle.actor_laws.specs.Traces.{IsHandOf, GoesOn, HasInHand, OthersHold}
 use Rattle.actor_laws.proofs.TraceLaws.{vouched_on, hand_is_guarded}
 
 -- A slot that another holds.
@@ -96,16 +96,16 @@ starter_is y who (fact.Gone x) own other = absurd (true_is_not_false (sym own))
 starter_is y who f own other = refl
 
 -- the lists of the longer trace
-longer : (c : Script) (trace : List Fact) (f : Fact) → lists_of (setting c) (trace ++ f ∷ []) ≡ with_entry f (lists_of (setting c) trace) (slot_of (setting c) f)
+pub longer : (c : Script) (trace : List Fact) (f : Fact) → lists_of (setting c) (trace ++ f ∷ []) ≡ with_entry f (lists_of (setting c) trace) (slot_of (setting c) f)
 longer c trace f = fold-append (lists_step (setting c)) (no_lists (setting c)) trace (f ∷ [])
 
-one_held : (c : Script) (trace : List Fact) (who : Incarnation) (h : Hand) (f : Fact) (st : Node) (g : Hand) → guarded c (trace ++ f ∷ []) ≡ true → guard c trace f ≡ true → IsHandOf c trace who h
-    → is_own_fact who f ≡ true → (is_grant f || is_slot_held who h (slot_of (setting c) f)) ≡ true → IsSoundNode c st → is_same st.who who ≡ false → HasInHand c trace st g
+pub one_held : (c : Script) (trace : List Fact) (who : Incarnation) (h : Hand) (f : Fact) (st : Node) (g : Hand) → guarded c (trace ++ f ∷ []) ≡ true → guard c trace f ≡ true → IsHandOf c trace who h
+    → is_at st.who (starter f) ≡ false → (is_grant f || is_slot_held who h (slot_of (setting c) f)) ≡ true → IsSoundNode c st → is_same st.who who ≡ false → HasInHand c trace st g
     → HasInHand c (trace ++ f ∷ []) st (record { lists = lists_of (setting c) (trace ++ f ∷ []); live = g.live })
-one_held c trace who h f st g after_it guards i own holds is other has = record {
+one_held c trace who h f st g after_it guards i starts holds is other has = record {
   of_trace = record {
     lists_are = refl;
-    live_are = λ e. has.of_trace.live_are e ∙ sym (others_live_on e trace f st.who (starter_is st.who who f own other));
+    live_are = λ e. has.of_trace.live_are e ∙ sym (others_live_on e trace f st.who starts);
   };
   holds = record {
     entities = record {
@@ -151,6 +151,6 @@ others_hold c trace who vouches h (f ∷ fs) st g safe v i guards own holds is o
     let one : GoesOn c trace who h (f ∷ []) = hand_is_guarded c trace who vouches h (f ∷ []) safe v i (both (guard_in_hand c vouches who h f) true m.0 refl) (both (is_own_fact who f) true o.0 refl) in
     let guard_is : guard c trace f ≡ true = (and_both (guarded c trace) (guard c trace f) (sym (follows_more (guard c) [] trace f) ∙ one.guarded_are)).1 in
     let new : Hand = record { lists = lists_of (setting c) (trace ++ f ∷ []); live = g.live } in
-    let kept : HasInHand c (trace ++ f ∷ []) st new = one_held c trace who h f st g one.guarded_are guard_is i o.0 k.0 is other has in
+    let kept : HasInHand c (trace ++ f ∷ []) st new = one_held c trace who h f st g one.guarded_are guard_is i (starter_is st.who who f o.0 other) k.0 is other has in
     subst (λ t. HasInHand c t st (record { lists = lists_of (setting c) t; live = g.live })) (append_assoc trace (f ∷ []) fs)
     (others_hold c (trace ++ f ∷ []) who vouches (hand_after c h f) fs st new one.guarded_are (vouched_on c trace f vouches v) one.in_hand m.1 o.1 k.1 is other kept)

@@ -1,8 +1,9 @@
 -- All nodes together, and the trace of what they told.
-use Rattle.std.specs.Prelude.{◌≡◌, ℕ, ◌+◌, Bool, true, List, ◌++◌, fold, Option, Some, slice_set}
+use Rattle.std.specs.Prelude.{◌≡◌, ℕ, ◌+◌, Bool, true, List, ◌∷◌, ◌++◌, fold, Option, None, Some, slice_set}
 use Rattle.yard_model.specs.declared.fact.Fact.{Fact}
+use Rattle.yard_model.specs.declared.fact.Fact.TheVariants as fact
 use Rattle.yard_model.specs.declared.input.Input.{Input}
-use Rattle.yard_model.specs.Node.{Node, Act, after, items_of, turn}
+use Rattle.yard_model.specs.Node.{Node, Act, after, items_of, turn, crash}
 use Rattle.yard_model.specs.Safe.{guarded}
 use Rattle.yard_model.specs.Script.{Script, IsScript, setting}
 use Rattle.yard_model.specs.Trace.{lists_of}
@@ -30,3 +31,7 @@ pub record IsCluster (c : Script) (trace : List Fact) (nodes : List (Option Node
 abbrev pub ClusterTurns : Type 0
 ClusterTurns = (c : Script) (trace : List Fact) (nodes : List (Option Node)) (vouches : List ℕ → ℕ → ℕ → Bool) (k : ℕ) (st : Node) (i : Input) → IsScript c → IsCluster c trace nodes → at nodes k ≡ Some st → AreVouched c trace vouches → MayTake c vouches st i
     → let acts : List Act = turn (all_sends c) (lists_of (setting c) trace) i st in IsCluster c (trace ++ facts_in (items_of acts)) (slice_set nodes k (Some (fold after st acts)))
+
+-- the crash of one of them
+abbrev pub ClusterLoses : Type 0
+ClusterLoses = (c : Script) (trace : List Fact) (nodes : List (Option Node)) (k : ℕ) (st : Node) → IsCluster c trace nodes → at nodes k ≡ Some st → IsCluster c (trace ++ (fact.Gone st.who ∷ crash st)) (slice_set nodes k None)

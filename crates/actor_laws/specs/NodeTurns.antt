@@ -1,5 +1,7 @@
 -- A node by itself keeps what stands of it in each input, whatever the other nodes do.
 use Rattle.std.specs.Prelude.{fold, ◌≡◌, ℕ, ◌-◌, ◌≤◌, Bool, true, List, [], length, Some}
+use Rattle.std.specs.List.{list_all}
+use Rattle.yard_model.specs.declared.fact.Fact.{Fact}
 use Rattle.yard_model.specs.declared.charter.Sending.{Sending}
 use Rattle.yard_model.specs.declared.input.Input.{Input}
 use Rattle.yard_model.specs.declared.input.Input.TheVariants as input
@@ -16,7 +18,8 @@ use Rattle.yard_model.specs.SlotReads.{queued}
 use Rattle.yard_model.specs.Words.{at}
 use Rattle.yard_model.specs.World.{all_sends}
 use Rattle.world_laws.specs.Owes.{Hand, guarded_in_hand}
-use Rattle.actor_laws.specs.NodeStands.{IsSoundNode, IsViewed, NodeInHand}
+use Rattle.actor_laws.specs.Held.{held_in_hand}
+use Rattle.actor_laws.specs.NodeStands.{is_own_fact, IsSoundNode, IsViewed, NodeInHand}
 use Rattle.actor_laws.specs.NodeFound.{NodeKeepsIf, Finds, AreLawful}
 
 -- where the node has the queue of this producer, so many numbers to the entity are queued, and the last of them is vouched for
@@ -53,10 +56,16 @@ TurnStands = (c : Script) (vouches : List ℕ → ℕ → ℕ → Bool) (lists :
 abbrev pub TurnViewed : Type 0
 TurnViewed = (sends : List (List Sending)) (lists : SlotLists) (st : Node) (i : Input) → IsViewed st → IsViewed (fold after st (turn sends lists i st))
 
+-- entries of slots that it holds, each of which may stand where it is told
+pub record CrashIs (c : Script) (vouches : List ℕ → ℕ → ℕ → Bool) (st : Node) (h : Hand) (fs : List Fact) : Type 0 where
+  pub guarded_are : guarded_in_hand c vouches st.who h fs ≡ true
+  pub held_are : held_in_hand c st.who h fs ≡ true
+  pub own_are : list_all (is_own_fact st.who) fs ≡ true
+
 -- each slot that it holds is freed, once it is told that it is gone
 abbrev pub CrashStands : Type 0
 CrashStands = (c : Script) (vouches : List ℕ → ℕ → ℕ → Bool) (st : Node) (h : Hand) → IsSoundNode c st → NodeInHand c h st
-    → guarded_in_hand c vouches st.who (record { lists = h.lists; live = [] }) (crash st) ≡ true
+    → CrashIs c vouches st (record { lists = h.lists; live = [] }) (crash st)
 
 -- a node that comes up: it stands, and holds nothing
 pub record IsNew (c : Script) (who : Incarnation) : Type 0 where

@@ -1,6 +1,8 @@
 //! All nodes together.
-use crate::hand::{others_hold, turn_is_guarded};
-ghost use Rattle.actor_laws.specs.Cluster.{ClusterTurns};
+ghost use Rattle.actor_laws.specs.Cluster.{ClusterTurns, ClusterLoses};
+
+use crate::hand::{hand_is_guarded, others_hold, turn_is_guarded};
+use crate::node::crash_stands;
 
 /// A turn of one node of a cluster, whatever its input, with the leases as the trace has them: the trace
 /// with its facts is guarded, so it is safe at each prefix, and each node that is up stands by it. What
@@ -10,5 +12,15 @@ pub fn cluster_turns()
     ensures { ClusterTurns }
 {
     turn_is_guarded();
+    others_hold();
+}
+
+/// A crash of one node of a cluster, whatever it holds: the trace with `gone` and each slot that it frees
+/// is guarded, and each node that is still up stands by it.
+pub fn cluster_loses()
+    ensures { ClusterLoses }
+{
+    crash_stands();
+    hand_is_guarded();
     others_hold();
 }

@@ -1,8 +1,8 @@
 //! Laws of the actors of a node, each by itself, and of a node by itself, whatever the other actors
 //! and nodes do: what stands of it between its rules, that each rule keeps it, that the facts which a
 //! rule tells may stand where they are told, by what it has in hand, and that each packet it posts
-//! comes from its node and is made of the script. So a node's turn keeps a guarded trace guarded. Each
-//! law is a function that does nothing, whose contract is the law.
+//! comes from its node and is made of the script. So turns and crashes of the nodes of a cluster keep
+//! their trace guarded. Each law is a function that does nothing, whose contract is the law.
 #![tactic(auto)]
 
 pub mod cluster;

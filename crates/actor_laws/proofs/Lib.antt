@@ -1,4 +1,5 @@
 pub mod ClusterLaws
+pub mod ClusterMore
 pub mod CoordinatorGuards
 pub mod CoordinatorLaws
 pub mod CoordinatorMoves

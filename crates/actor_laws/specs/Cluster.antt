@@ -1,14 +1,18 @@
 -- All nodes together, and the trace of what they told.
-use Rattle.std.specs.Prelude.{◌≡◌, ℕ, ◌+◌, Bool, true, List, ◌∷◌, ◌++◌, fold, Option, None, Some, slice_set}
+use Rattle.std.specs.Prelude.{◌≡◌, ℕ, ◌+◌, ◌<◌, Bool, true, false, List, length, ◌∷◌, ◌++◌, fold, Option, None, Some, slice_set}
+use Rattle.std.specs.List.{list_all}
 use Rattle.yard_model.specs.declared.fact.Fact.{Fact}
 use Rattle.yard_model.specs.declared.fact.Fact.TheVariants as fact
 use Rattle.yard_model.specs.declared.input.Input.{Input}
-use Rattle.yard_model.specs.Node.{Node, Act, after, items_of, turn, crash}
-use Rattle.yard_model.specs.Safe.{guarded}
+use Rattle.yard_model.specs.Node.{Node, Act, after, items_of, turn, crash, new_node}
+use Rattle.yard_model.specs.Genuine.{is_node}
+use Rattle.yard_model.specs.declared.incarnation.Incarnation.{Incarnation}
+use Rattle.yard_model.specs.Safe.{live_at, guarded}
 use Rattle.yard_model.specs.Script.{Script, IsScript, setting}
 use Rattle.yard_model.specs.Trace.{lists_of}
-use Rattle.yard_model.specs.Words.{at}
+use Rattle.yard_model.specs.Words.{is_among, at}
 use Rattle.yard_model.specs.World.{all_sends}
+use Rattle.yard_laws.specs.Free.{is_free}
 use Rattle.world_laws.specs.Owes.{Hand, facts_in}
 use Rattle.actor_laws.specs.NodeStands.{IsSoundNode, IsViewed}
 use Rattle.actor_laws.specs.NodeTurns.{MayTake}
@@ -35,3 +39,12 @@ ClusterTurns = (c : Script) (trace : List Fact) (nodes : List (Option Node)) (vo
 -- the crash of one of them
 abbrev pub ClusterLoses : Type 0
 ClusterLoses = (c : Script) (trace : List Fact) (nodes : List (Option Node)) (k : ℕ) (st : Node) → IsCluster c trace nodes → at nodes k ≡ Some st → IsCluster c (trace ++ (fact.Gone st.who ∷ crash st)) (slice_set nodes k None)
+
+-- facts of no slot, that tell nothing of live entities, wherever they come from
+abbrev pub ClusterHears : Type 0
+ClusterHears = (c : Script) (trace : List Fact) (nodes : List (Option Node)) (fs : List Fact) → list_all is_free fs ≡ true → IsCluster c trace nodes → IsCluster c (trace ++ fs) nodes
+
+-- a node comes up at its place, and nothing is live at its incarnation
+abbrev pub ClusterGains : Type 0
+ClusterGains = (c : Script) (trace : List Fact) (nodes : List (Option Node)) (k : ℕ) (who : Incarnation) → is_node c who ≡ true → who.node ≡ k + 1 → k < length nodes → ((e : List ℕ) → is_among who (live_at e trace) ≡ false)
+    → IsCluster c trace nodes → IsCluster c trace (slice_set nodes k (Some (new_node (setting c) who)))

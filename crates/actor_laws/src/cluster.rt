@@ -1,8 +1,9 @@
 //! All nodes together.
-ghost use Rattle.actor_laws.specs.Cluster.{ClusterTurns, ClusterLoses};
+ghost use Rattle.actor_laws.specs.Cluster.{ClusterTurns, ClusterLoses, ClusterHears, ClusterGains};
 
 use crate::hand::{hand_is_guarded, others_hold, turn_is_guarded};
-use crate::node::crash_stands;
+use crate::node::{crash_stands, new_node_stands};
+use yard_laws::safety::guarded_is_own;
 
 /// A turn of one node of a cluster, whatever its input, with the leases as the trace has them: the trace
 /// with its facts is guarded, so it is safe at each prefix, and each node that is up stands by it. What
@@ -23,4 +24,18 @@ pub fn cluster_loses()
     crash_stands();
     hand_is_guarded();
     others_hold();
+}
+
+/// Facts that are entries of no slot and tell nothing of live entities, as that a node is up or a packet
+/// was sent, keep a cluster.
+pub fn cluster_hears()
+    ensures { ClusterHears }
+{}
+
+/// A node that comes up at its place joins a cluster, where nothing is live at its incarnation.
+pub fn cluster_gains()
+    ensures { ClusterGains }
+{
+    guarded_is_own();
+    new_node_stands();
 }

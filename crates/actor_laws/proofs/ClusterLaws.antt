@@ -18,7 +18,7 @@ use Rattle.world_laws.specs.Owes.{Hand, facts_in, hand_after}
 use Rattle.world_laws.proofs.Members.{same_is}
 use Rattle.world_laws.proofs.Place.{none_is_not_some, inside, some_is, by_place, placed_at, placed_beside}
 use Rattle.actor_laws.specs.NodeTurns.{CrashStands, CrashIs}
-use Rattle.actor_laws.specs.Traces.{IsHandOf, AreVouched, HasInHand, GoesOn, HandIsGuarded, TurnGoesOn, TurnIsGuarded, OthersHold}
+use Rattle.actor_laws.specs.Traces.{recorded, RecordedStays, IsHandOf, AreVouched, HasInHand, GoesOn, HandIsGuarded, TurnGoesOn, TurnIsGuarded, OthersHold}
 use Rattle.actor_laws.specs.Cluster.{IsMember, ClusterTurns, ClusterLoses}
 use Rattle.actor_laws.proofs.NodeParts.{who_stays}
 use Rattle.actor_laws.proofs.TraceLaws.{among_gone}
@@ -35,12 +35,12 @@ not_same x y j k at_j at_k other = by (is_same x y) refl
         one_less : (a b : ℕ) → a + 1 ≡ b + 1 → a ≡ b
         one_less a b e = omega (arith, e)
 
-pub cluster_turns : TurnIsGuarded → OthersHold → ClusterTurns
-cluster_turns turns others c trace nodes vouches k st i script is here v may =
+pub cluster_turns : TurnIsGuarded → OthersHold → RecordedStays → ClusterTurns
+cluster_turns turns others stays c trace nodes k st i script is here may =
     let me : IsMember c trace k st = is.members k st here in
     let acts : List Act = turn (all_sends c) (lists_of (setting c) trace) i st in
     let fs : List Fact = facts_in (items_of acts) in
-    let t : TurnGoesOn c trace vouches me.hand st acts = turns c trace vouches me.hand st i script me.sound me.viewed may is.guarded_are v me.has.of_trace me.has.holds in
+    let t : TurnGoesOn c trace (recorded c trace) me.hand st acts = turns c trace (recorded c trace) me.hand st i script me.sound me.viewed may is.guarded_are (stays c trace) me.has.of_trace me.has.holds in
     let now : Node = fold after st acts in
     record {
       guarded_are = t.goes_on.guarded_are;
@@ -61,13 +61,13 @@ cluster_turns turns others c trace nodes vouches k st i script is here v may =
         let me : IsMember c trace k st = is.members k st here in
         let acts : List Act = turn (all_sends c) (lists_of (setting c) trace) i st in
         let fs : List Fact = facts_in (items_of acts) in
-        let t : TurnGoesOn c trace vouches me.hand st acts = turns c trace vouches me.hand st i script me.sound me.viewed may is.guarded_are v me.has.of_trace me.has.holds in
+        let t : TurnGoesOn c trace (recorded c trace) me.hand st acts = turns c trace (recorded c trace) me.hand st i script me.sound me.viewed may is.guarded_are (stays c trace) me.has.of_trace me.has.holds in
         record {
           node_is = it.node_is;
           sound = it.sound;
           viewed = it.viewed;
           hand = record { lists = lists_of (setting c) (trace ++ fs); live = it.hand.live };
-          has = others c trace st.who vouches me.hand fs y it.hand is.guarded_are v me.has.of_trace t.in_hand t.own_are t.held_are it.sound (not_same y.who st.who j k it.node_is me.node_is other) it.has;
+          has = others c trace st.who (recorded c trace) me.hand fs y it.hand is.guarded_are (stays c trace) me.has.of_trace t.in_hand t.own_are t.held_are it.sound (not_same y.who st.who j k it.node_is me.node_is other) it.has;
         }
 
 -- The crash.

@@ -34,4 +34,5 @@ pub mod RegionMoves
 pub mod ShardStartLaws
 pub mod TraceLaws
 pub mod TraceOthers
+pub mod TraceRecords
 pub mod TraceTurns

@@ -16,7 +16,7 @@ use Rattle.yard_laws.specs.Free.{is_free}
 use Rattle.world_laws.specs.Owes.{Hand, facts_in}
 use Rattle.actor_laws.specs.NodeStands.{IsSoundNode, IsViewed}
 use Rattle.actor_laws.specs.NodeTurns.{MayTake}
-use Rattle.actor_laws.specs.Traces.{AreVouched, HasInHand}
+use Rattle.actor_laws.specs.Traces.{recorded, HasInHand}
 
 -- a node at its place, with its part of the trace in hand
 pub record IsMember (c : Script) (trace : List Fact) (k : ℕ) (st : Node) : Type 0 where
@@ -31,9 +31,9 @@ pub record IsCluster (c : Script) (trace : List Fact) (nodes : List (Option Node
   pub guarded_are : guarded c trace ≡ true
   pub members : (k : ℕ) (st : Node) → at nodes k ≡ Some st → IsMember c trace k st
 
--- a turn of one of them, with the leases of the trace
+-- a turn of one of them, with the leases of the trace; what a packet confirms is recorded in it
 abbrev pub ClusterTurns : Type 0
-ClusterTurns = (c : Script) (trace : List Fact) (nodes : List (Option Node)) (vouches : List ℕ → ℕ → ℕ → Bool) (k : ℕ) (st : Node) (i : Input) → IsScript c → IsCluster c trace nodes → at nodes k ≡ Some st → AreVouched c trace vouches → MayTake c vouches st i
+ClusterTurns = (c : Script) (trace : List Fact) (nodes : List (Option Node)) (k : ℕ) (st : Node) (i : Input) → IsScript c → IsCluster c trace nodes → at nodes k ≡ Some st → MayTake c (recorded c trace) st i
     → let acts : List Act = turn (all_sends c) (lists_of (setting c) trace) i st in IsCluster c (trace ++ facts_in (items_of acts)) (slice_set nodes k (Some (fold after st acts)))
 
 -- the crash of one of them

@@ -25,6 +25,14 @@ pub record IsHandOf (c : Script) (trace : List Fact) (who : Incarnation) (h : Ha
 abbrev pub AreVouched : Script → List Fact → (List ℕ → ℕ → ℕ → Bool) → Type 0
 AreVouched c trace vouches = (more : List Fact) → guarded c (trace ++ more) ≡ true → (e : List ℕ) (p n : ℕ) → vouches e p n ≡ true → nat_le n (position p (journal e (shard_list_of c e (trace ++ more)))) ≡ true
 
+-- a number is recorded in its entity's journal
+abbrev pub recorded : Script → List Fact → List ℕ → ℕ → ℕ → Bool
+recorded c trace e p n = nat_le n (position p (journal e (shard_list_of c e trace)))
+
+-- what is recorded stays so: a trace vouches for it
+abbrev pub RecordedStays : Type 0
+RecordedStays = (c : Script) (trace : List Fact) → AreVouched c trace (recorded c trace)
+
 pub record GoesOn (c : Script) (trace : List Fact) (who : Incarnation) (h : Hand) (fs : List Fact) : Type 0 where
   pub guarded_are : guarded c (trace ++ fs) ≡ true
   pub in_hand : IsHandOf c (trace ++ fs) who (fold (hand_after c) h fs)

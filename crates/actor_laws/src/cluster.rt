@@ -1,7 +1,7 @@
 //! All nodes together.
 ghost use Rattle.actor_laws.specs.Cluster.{ClusterTurns, ClusterLoses, ClusterHears, ClusterGains};
 
-use crate::hand::{hand_is_guarded, others_hold, turn_is_guarded};
+use crate::hand::{hand_is_guarded, others_hold, recorded_stays, turn_is_guarded};
 use crate::node::{crash_stands, new_node_stands};
 use yard_laws::safety::guarded_is_own;
 
@@ -14,6 +14,7 @@ pub fn cluster_turns()
 {
     turn_is_guarded();
     others_hold();
+    recorded_stays();
 }
 
 /// A crash of one node of a cluster, whatever it holds: the trace with `gone` and each slot that it frees

@@ -1,5 +1,5 @@
 //! What a node has in hand, of a trace.
-ghost use Rattle.actor_laws.specs.Traces.{HandIsGuarded, TurnIsGuarded, OthersHold};
+ghost use Rattle.actor_laws.specs.Traces.{HandIsGuarded, TurnIsGuarded, OthersHold, RecordedStays};
 
 use crate::node::{turn_stands, turn_viewed};
 use yard_laws::safety::guarded_is_own;
@@ -26,4 +26,9 @@ pub fn turn_is_guarded()
 /// stay, and so do the names that are live at it.
 pub fn others_hold()
     ensures { OthersHold }
+{}
+
+/// A number that is recorded in its entity's journal stays so in a longer guarded trace.
+pub fn recorded_stays()
+    ensures { RecordedStays }
 {}

@@ -1,6 +1,6 @@
 -- A cluster hears free facts, and gains nodes.
 use Rattle.std.proofs.Common.{◌≡◌, ℕ, List, [], ◌∷◌, ◌++◌, sym, ap, subst, ◌∙◌, refl, true}
-use Rattle.std.specs.Prelude.{Option, Some, slice_set}
+use Rattle.std.specs.Prelude.{None, Option, Some, slice_set}
 use Rattle.std.specs.List.{list_all}
 use Rattle.std.proofs.lemmas.List.{append-nil, append_assoc}
 use Rattle.yard_model.specs.declared.fact.Fact.{Fact}
@@ -12,12 +12,13 @@ use Rattle.yard_model.specs.Trace.{lists_of}
 use Rattle.yard_model.specs.Words.{is_among, at}
 use Rattle.yard_model.proofs.FollowLaws.{follows_more}
 use Rattle.yard_laws.specs.Free.{is_free}
-use Rattle.yard_laws.specs.Guarded.{Owns, GuardedIsOwn}
+use Rattle.yard_laws.specs.Guarded.{Owns, GuardedIsOwn, GuardedIsSafe}
 use Rattle.yard_laws.proofs.FreeLaws.{free_is_guarded, free_leaves_lists, free_leaves_live}
 use Rattle.yard_laws.proofs.Booleans.{and_both, both}
-use Rattle.world_laws.proofs.Place.{some_is, by_place, placed_at, placed_beside}
+use Rattle.world_laws.proofs.Place.{none_is_not_some, some_is, by_place, placed_at, placed_beside}
+use Rattle.actor_laws.proofs.EntitiesNew.{same_at}
 use Rattle.actor_laws.specs.NodeTurns.{NodeBegins, IsNew}
-use Rattle.actor_laws.specs.Cluster.{IsMember, IsCluster, ClusterHears, ClusterGains}
+use Rattle.actor_laws.specs.Cluster.{IsMember, IsCluster, ClusterHears, ClusterGains, ClusterBegins, ClusterIsSafe}
 
 -- One fact.
 
@@ -78,3 +79,11 @@ cluster_gains owns begins c trace nodes k who node at_k less fresh is = record {
       hand = record { lists = lists; live = [] };
       has = record { of_trace = record { lists_are = refl; live_are = λ e. sym (fresh e) }; holds = new.in_hand (record { lists = lists; live = [] }) owned.shards owned.queues refl };
     }
+
+-- None yet.
+
+pub cluster_begins : ClusterBegins
+cluster_begins c n = record { guarded_are = refl; members = λ k st e. absurd (none_is_not_some st (sym (same_at None n k) ∙ e)) }
+
+pub cluster_is_safe : GuardedIsSafe → ClusterIsSafe
+cluster_is_safe safes c trace nodes is = safes c trace is.guarded_are

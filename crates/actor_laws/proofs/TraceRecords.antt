@@ -1,6 +1,6 @@
 -- What is recorded in a guarded trace stays so.
 use Rattle.std.proofs.Common.{◌≡◌, ℕ, ◌≤◌, ◌<◌, ◌+◌, List, [], ◌∷◌, ◌++◌, length, sym, ap, subst, ◌∙◌, refl, true, false, arith}
-use Rattle.std.specs.Prelude.{Bool, ◌&&◌, ◌==◌, nat_le, fold, count_by, slice_index_or, slice_set, Option, Some, None, if◌then◌else◌}
+use Rattle.std.specs.Prelude.{Bool, ◌==◌, nat_le, count_by, Option, Some, None, if◌then◌else◌}
 use Rattle.std.proofs.lemmas.Bool.Decides.{nat_tests}
 use Rattle.std.proofs.lemmas.List.{append-nil, append_assoc, get_or-set_same, get_or-set_other}
 use Rattle.std.proofs.lemmas.List.Sums.{fold-append}
@@ -9,7 +9,7 @@ use Rattle.yard_model.specs.declared.fact.Fact.TheVariants as fact
 use Rattle.yard_model.specs.declared.packet.Record.{Record}
 use Rattle.yard_model.specs.declared.incarnation.Slot.{Slot}
 use Rattle.yard_model.specs.declared.incarnation.Slot.TheVariants as slot
-use Rattle.yard_model.specs.Genuine.{is_shard, is_slot_of}
+use Rattle.yard_model.specs.Genuine.{is_shard}
 use Rattle.yard_model.specs.Lawful.{may_follow}
 use Rattle.yard_model.specs.Safe.{own_guard, cross_guard, guard, guarded, shard_list_of}
 use Rattle.yard_model.specs.Script.{Script, is_name, setting}
@@ -23,7 +23,7 @@ use Rattle.yard_laws.proofs.Before.{guarded_before}
 use Rattle.yard_laws.proofs.Booleans.{and_both, below}
 use Rattle.yard_laws.proofs.Owns.{guarded_is_own}
 use Rattle.world_laws.proofs.Place.{by_place}
-use Rattle.actor_laws.specs.Traces.{recorded, AreVouched, RecordedStays}
+use Rattle.actor_laws.specs.Traces.{RecordedStays}
 use Rattle.actor_laws.proofs.TraceOthers.{longer}
 
 -- A record more.

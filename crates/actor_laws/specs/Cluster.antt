@@ -1,5 +1,5 @@
 -- All nodes together, and the trace of what they told.
-use Rattle.std.specs.Prelude.{◌≡◌, ℕ, ◌+◌, ◌<◌, Bool, true, false, List, length, ◌∷◌, ◌++◌, fold, Option, None, Some, slice_set}
+use Rattle.std.specs.Prelude.{◌≡◌, ℕ, ◌+◌, ◌<◌, true, false, List, [], length, replicate, ◌∷◌, ◌++◌, fold, Option, None, Some, slice_set}
 use Rattle.std.specs.List.{list_all}
 use Rattle.yard_model.specs.declared.fact.Fact.{Fact}
 use Rattle.yard_model.specs.declared.fact.Fact.TheVariants as fact
@@ -7,7 +7,7 @@ use Rattle.yard_model.specs.declared.input.Input.{Input}
 use Rattle.yard_model.specs.Node.{Node, Act, after, items_of, turn, crash, new_node}
 use Rattle.yard_model.specs.Genuine.{is_node}
 use Rattle.yard_model.specs.declared.incarnation.Incarnation.{Incarnation}
-use Rattle.yard_model.specs.Safe.{live_at, guarded}
+use Rattle.yard_model.specs.Safe.{live_at, safe, guarded}
 use Rattle.yard_model.specs.Script.{Script, IsScript, setting}
 use Rattle.yard_model.specs.Trace.{lists_of}
 use Rattle.yard_model.specs.Words.{is_among, at}
@@ -48,3 +48,11 @@ ClusterHears = (c : Script) (trace : List Fact) (nodes : List (Option Node)) (fs
 abbrev pub ClusterGains : Type 0
 ClusterGains = (c : Script) (trace : List Fact) (nodes : List (Option Node)) (k : ℕ) (who : Incarnation) → is_node c who ≡ true → who.node ≡ k + 1 → k < length nodes → ((e : List ℕ) → is_among who (live_at e trace) ≡ false)
     → IsCluster c trace nodes → IsCluster c trace (slice_set nodes k (Some (new_node (setting c) who)))
+
+-- before any node is up
+abbrev pub ClusterBegins : Type 0
+ClusterBegins = (c : Script) (n : ℕ) → IsCluster c [] (replicate n None)
+
+-- its trace is safe
+abbrev pub ClusterIsSafe : Type 0
+ClusterIsSafe = (c : Script) (trace : List Fact) (nodes : List (Option Node)) → IsCluster c trace nodes → safe c trace ≡ true

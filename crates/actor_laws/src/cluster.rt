@@ -1,9 +1,9 @@
 //! All nodes together.
-ghost use Rattle.actor_laws.specs.Cluster.{ClusterTurns, ClusterLoses, ClusterHears, ClusterGains};
+ghost use Rattle.actor_laws.specs.Cluster.{ClusterTurns, ClusterLoses, ClusterHears, ClusterGains, ClusterBegins, ClusterIsSafe};
 
 use crate::hand::{hand_is_guarded, others_hold, recorded_stays, turn_is_guarded};
 use crate::node::{crash_stands, new_node_stands};
-use yard_laws::safety::guarded_is_own;
+use yard_laws::safety::{guarded_is_own, guarded_is_safe};
 
 /// A turn of one node of a cluster, whatever its input, with the leases as the trace has them: the trace
 /// with its facts is guarded, so it is safe at each prefix, and each node that is up stands by it. What
@@ -39,4 +39,17 @@ pub fn cluster_gains()
 {
     guarded_is_own();
     new_node_stands();
+}
+
+/// Before any node is up there is a cluster.
+pub fn cluster_begins()
+    ensures { ClusterBegins }
+{}
+
+/// The trace of a cluster is safe at each prefix: at most one incarnation of an entity is live, at the
+/// holder of its shard's lease, each state shown is its journal's fold, and the lists are lawful.
+pub fn cluster_is_safe()
+    ensures { ClusterIsSafe }
+{
+    guarded_is_safe();
 }

@@ -31,6 +31,7 @@ use Rattle.world_laws.proofs.Facts.{may_of}
 use Rattle.world_laws.proofs.Members.{same_is, itself_is}
 use Rattle.world_laws.proofs.Rules.{all_join, all_if, all_some, all_each, who_fold}
 use Rattle.yard_model.specs.Trace.{slot_of}
+use Rattle.actor_laws.proofs.NodeParts.{node_none}
 use Rattle.actor_laws.specs.Held.{is_grant, is_slot_held, held_in_hand}
 use Rattle.actor_laws.specs.Moves.{is_own_move, facts_of}
 use Rattle.actor_laws.specs.CoordinatorStands.{IsSound, is_coordinator_fact, entered, Keeps, KeepsRules}
@@ -315,10 +316,6 @@ coordinator_node c v st k ms s e keeps h = record {
 
     hand_is : (x : Hand) → fold (hand_after c) x (facts_in (items_of (map by_coordinator ms))) ≡ with_coordinator x (fold entered x.lists.coordinator (facts_of ms))
     hand_is x = ap (λ is. fold (hand_after c) x (facts_in is)) (coordinator_items ms) ∙ coordinator_in_hand c x (facts_of ms) keeps.facts_are
-
--- where nothing is done
-pub node_none : (c : Script) (v : List ℕ → ℕ → ℕ → Bool) (st : Node) → IsSoundNode c st → NodeKeeps c v st []
-node_none c v st s = record { stands = s; posts_are = refl; own_are = refl; held_are = λ x i. refl; guarded_are = λ x i. refl; goes_along = λ x i. i }
 
 -- a rule of the coordinator, where there is one
 pub rule_node : (c : Script) (v : List ℕ → ℕ → ℕ → Bool) (st : Node) (p : Coordinator → List Move) → IsSoundNode c st → ((k : Coordinator) → st.coordinator ≡ Some k → IsSound c k → Keeps c k (p k)) → ((k : Coordinator) → NoTook (p k)) → NodeKeeps c v st (of_coordinator p st)

@@ -29,8 +29,8 @@ use Rattle.yard_laws.proofs.Booleans.{and_both, both}
 use Rattle.world_laws.specs.Owes.{Hand, live_after, hand_after, follows_in_hand, lives_in_hand, guard_in_hand, guarded_in_hand}
 use Rattle.world_laws.proofs.Members.{itself_is}
 use Rattle.world_laws.proofs.Place.{some_is, inside, by_place}
-use Rattle.actor_laws.proofs.EntitiesMoves.{or_this, holder_in_hand}
-use Rattle.actor_laws.specs.Held.{is_grant, is_slot_held, held_in_hand}
+use Rattle.actor_laws.proofs.EntitiesMoves.{entry_told, or_this, holder_in_hand}
+use Rattle.actor_laws.specs.Held.{slot_told, is_grant, is_slot_held, held_in_hand}
 use Rattle.actor_laws.specs.Moves.{is_own_move, facts_of}
 use Rattle.actor_laws.specs.EntitiesStand.{IsHeldShard, is_for, is_entity_fact, IsEntities, InHand, Keeps}
 use Rattle.actor_laws.proofs.EntitiesCells.{same_cells, cells_count}
@@ -144,8 +144,8 @@ entry_keeps c st f e is brought there shards none of own_is still guard live our
   };
   posts_are = refl;
   facts_are = both (is_entity_fact st.who f) true ours refl;
-  held_are = λ h i. both (is_grant f || is_slot_held st.who h (slot_of (setting c) f)) true (or_this (is_grant f) (is_slot_held st.who h (slot_of (setting c) f))
-      (ap (is_slot_held st.who h) of ∙ (ap (is_at st.who) (holder_in_hand c st e h is there i) ∙ itself_is st.who st.who refl))) refl;
+  held_are = λ h i. both (is_grant f || is_slot_held st.who h (slot_told (setting c) f)) true (or_this (is_grant f) (is_slot_held st.who h (slot_told (setting c) f))
+      (ap (is_slot_held st.who h) (entry_told (setting c) f (slot.Shard (shard_of (setting c) e)) of) ∙ (ap (is_at st.who) (holder_in_hand c st e h is there i) ∙ itself_is st.who st.who refl))) refl;
   guarded_are = λ v h i. both (guard_in_hand c v st.who h f) true (both (follows_in_hand c h.lists f (slot_of (setting c) f)) (lives_in_hand c v st.who h f)
       (ap (follows_in_hand c h.lists f) of ∙ both (is_shard c (shard_of (setting c) e)) (may_follow c (slot.Shard (shard_of (setting c) e)) (shard_list h.lists (shard_of (setting c) e)) f) shard_is
       (ap (λ l. may_follow c (slot.Shard (shard_of (setting c) e)) l f) (list_in_hand c st e h is there i) ∙ may_of c (slot.Shard (shard_of (setting c) e)) (entries st e) f own_is)) (guard v h i)) refl;

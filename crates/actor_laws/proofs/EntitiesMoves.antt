@@ -13,6 +13,7 @@ use Rattle.yard_model.specs.declared.input.Phase.TheVariants as phase
 use Rattle.yard_model.specs.declared.packet.Message.{Message}
 use Rattle.yard_model.specs.declared.incarnation.Incarnation.{Incarnation}
 use Rattle.yard_model.specs.declared.incarnation.Keep.{Keep}
+use Rattle.yard_model.specs.declared.incarnation.Slot.{Slot}
 use Rattle.yard_model.specs.declared.state.State.{State}
 use Rattle.std.specs.Cmp.Lexicographic.{nat_list_eq_equiv}
 use Rattle.yard_model.specs.Entities.{Cell, Entities, Hosted, is_phase, stash_step, cell_after, cell, hosted, entries_in, entries, is_hosted, is_in_phase, entity_of, hosted_step, entities_after}
@@ -28,8 +29,9 @@ use Rattle.yard_model.specs.Words.{is_at, is_same, at}
 use Rattle.yard_laws.proofs.Booleans.{and_both, both, same_name}
 use Rattle.world_laws.specs.Owes.{Hand, has_name, without_name, live_after, hand_after, follows_in_hand, lives_in_hand, guard_in_hand, guarded_in_hand, facts_in}
 use Rattle.world_laws.proofs.Members.{itself_is}
+use Rattle.world_laws.proofs.Place.{none_is_not_some}
 use Rattle.world_laws.proofs.Rules.{all_join}
-use Rattle.actor_laws.specs.Held.{is_grant, is_slot_held, held_in_hand}
+use Rattle.actor_laws.specs.Held.{slot_told, is_grant, is_slot_held, held_in_hand}
 use Rattle.actor_laws.specs.Moves.{is_own_move, facts_of}
 use Rattle.actor_laws.specs.EntitiesStand.{IsHeldShard, is_for, is_entity_fact, IsEntities, InHand, Keeps}
 use Rattle.actor_laws.proofs.EntitiesCells.{own_cell, other_cell, cells_count}
@@ -53,8 +55,8 @@ guarded_both c vouches who h (x ∷ xs) ys f g =
 pub held_both : (c : Script) (who : Incarnation) (h : Hand) (xs ys : List Fact) → held_in_hand c who h xs ≡ true → held_in_hand c who (fold (hand_after c) h xs) ys ≡ true → held_in_hand c who h (xs ++ ys) ≡ true
 held_both c who h [] ys f g = g
 held_both c who h (x ∷ xs) ys f g =
-    let m : ((is_grant x || is_slot_held who h (slot_of (setting c) x)) ≡ true) × (held_in_hand c who (hand_after c h x) xs ≡ true) = and_both (is_grant x || is_slot_held who h (slot_of (setting c) x)) (held_in_hand c who (hand_after c h x) xs) f in
-    both (is_grant x || is_slot_held who h (slot_of (setting c) x)) (held_in_hand c who (hand_after c h x) (xs ++ ys)) m.0 (held_both c who (hand_after c h x) xs ys m.1 g)
+    let m : ((is_grant x || is_slot_held who h (slot_told (setting c) x)) ≡ true) × (held_in_hand c who (hand_after c h x) xs ≡ true) = and_both (is_grant x || is_slot_held who h (slot_told (setting c) x)) (held_in_hand c who (hand_after c h x) xs) f in
+    both (is_grant x || is_slot_held who h (slot_told (setting c) x)) (held_in_hand c who (hand_after c h x) (xs ++ ys)) m.0 (held_both c who (hand_after c h x) xs ys m.1 g)
 
 -- one of two
 pub or_this : (a b : Bool) → b ≡ true → (a || b) ≡ true
@@ -195,6 +197,16 @@ name_stays e f (x ∷ xs) other = by (is_name e x) refl (name_stays e f xs other
     by true k rest = rest ∙ ap (λ b. b || has_name f xs) (sym (ap (is_name f) (sym (same_name e x k)) ∙ turned e f other))
     by false k rest = ap (λ b. is_name f x || b) rest
 
+-- The slot whose holder tells a fact.
+
+entity_told : (set : Setting) (who : Incarnation) (f : Fact) → is_entity_fact who f ≡ true → slot_told set f ≡ slot_of set f
+entity_told set who (fact.Moving s stamp) h = absurd (true≢false (sym h))
+entity_told set who f h = refl
+
+pub entry_told : (set : Setting) (f : Fact) (s : Slot) → slot_of set f ≡ Some s → slot_told set f ≡ Some s
+entry_told set (fact.Moving t stamp) s h = absurd (none_is_not_some s h)
+entry_told set f s h = h
+
 -- A fact of an entity, which is no entry.
 
 keeps_told : (c : Script) (st : Entities) (f : Fact) (e : List ℕ) → IsEntities c st → is_brought c e ≡ true → entity_of (told f) ≡ Some e → hosted_step st.set st.hosted (told f) ≡ st.hosted
@@ -209,7 +221,7 @@ keeps_told c st f e is brought of shards none ours home stash guard live others 
   stands = stands_cell c st (told f) e is brought of shards home stash;
   posts_are = refl;
   facts_are = both (is_entity_fact st.who f) true ours refl;
-  held_are = λ h i. both (is_grant f || is_slot_held st.who h (slot_of (setting c) f)) true (or_this (is_grant f) (is_slot_held st.who h (slot_of (setting c) f)) (ap (is_slot_held st.who h) none)) refl;
+  held_are = λ h i. both (is_grant f || is_slot_held st.who h (slot_told (setting c) f)) true (or_this (is_grant f) (is_slot_held st.who h (slot_told (setting c) f)) (ap (is_slot_held st.who h) (entity_told (setting c) st.who f ours ∙ none))) refl;
   guarded_are = λ v h i. both (guard_in_hand c v st.who h f) true (both (follows_in_hand c h.lists f (slot_of (setting c) f)) (lives_in_hand c v st.who h f) (ap (follows_in_hand c h.lists f) none) (guard v h i)) refl;
   goes_along = λ h i. along_cell c st (told f) e h (hand_after c h f) is brought of shards i (ap (with_entry f h.lists) none) (live h i) (others h);
 }
@@ -249,7 +261,7 @@ failed_keeps c st e is brought = keeps_told c st (fact.WriteFailed st.who e) e i
     (λ h i. name_gone e h.live) (λ h g other. name_stays e g h.live other)
 
 pub stashed_keeps : (c : Script) (st : Entities) (m : Message) → IsEntities c st → is_brought c m.entity ≡ true → is_for c m.entity m ≡ true → Keeps c st (told (fact.Stashed st.who m) ∷ [])
-stashed_keeps c st m is brought good = keeps_told c st (fact.Stashed st.who m) m.entity is brought refl refl refl refl (is.at_home m.entity brought)
+stashed_keeps c st m is brought good = keeps_told c st (fact.Stashed st.who m) m.entity is brought refl refl refl (itself_is st.who st.who refl) (is.at_home m.entity brought)
     (all_join (is_for c m.entity) (cell st m.entity).stash (m ∷ []) (is.stashed m.entity brought) (both (is_for c m.entity m) true good refl))
     (λ v h i. refl) (λ h i. i.live_are m.entity brought) (λ h g other. refl)
 
@@ -258,7 +270,7 @@ drop_all p [] h = refl
 drop_all p (x ∷ xs) h = (and_both (p x) (list_all p xs) h).1
 
 pub dropped_keeps : (c : Script) (st : Entities) (m : Message) → IsEntities c st → is_brought c m.entity ≡ true → Keeps c st (told (fact.Dropped st.who m) ∷ [])
-dropped_keeps c st m is brought = keeps_told c st (fact.Dropped st.who m) m.entity is brought refl refl refl refl (is.at_home m.entity brought)
+dropped_keeps c st m is brought = keeps_told c st (fact.Dropped st.who m) m.entity is brought refl refl refl (itself_is st.who st.who refl) (is.at_home m.entity brought)
     (stash (cell st m.entity).phase (cell st m.entity).stash (is.stashed m.entity brought)) (λ v h i. refl) (λ h i. i.live_are m.entity brought) (λ h g other. refl)
   where
     stash : (p : Phase) (xs : List Message) → list_all (is_for c m.entity) xs ≡ true → list_all (is_for c m.entity) (stash_step p xs (told (fact.Dropped st.who m))) ≡ true

@@ -233,7 +233,7 @@ write_stays m r pos st None =
     (all_if is_staying (r.number % st.set.config.snapshot == 0) (told (fact.Snapshot m.entity r.number) ∷ []) [] refl refl)
     (all_if is_staying (nat_le (slice_index_or (cell st m.entity).reach (m.producer - 1) 0) (pos + st.set.config.window / 2)) (post st.who m.origin (body.Request m.producer m.entity pos (pos + st.set.config.window)) ∷ []) [] refl refl)
 
-deliver_stays : (m : Message) (st : Entities) (p : Phase) → list_all is_staying (entities.deliver_by m st p) ≡ true
+pub deliver_stays : (m : Message) (st : Entities) (p : Phase) → list_all is_staying (entities.deliver_by m st p) ≡ true
 deliver_stays m st phase.Absent = refl
 deliver_stays m st phase.Loading = all_if is_staying (nat_lt (length (cell st m.entity).stash) st.set.config.window) (told (fact.Stashed st.who m) ∷ []) (told (fact.Dropped st.who m) ∷ []) refl refl
 deliver_stays m st phase.Stopping = all_if is_staying (nat_lt (length (cell st m.entity).stash) st.set.config.window) (told (fact.Stashed st.who m) ∷ []) (told (fact.Dropped st.who m) ∷ []) refl refl
@@ -245,7 +245,7 @@ deliver_stays m st phase.Active =
 
 -- Recovery.
 
-activate_keeps : (c : Script) (st : Entities) (e : List ℕ) → EntitiesFollow → IsEntities c st → is_brought c e ≡ true → is_in_phase phase.Absent st e ≡ false → Keeps c st (entities.activate e st)
+pub activate_keeps : (c : Script) (st : Entities) (e : List ℕ) → EntitiesFollow → IsEntities c st → is_brought c e ≡ true → is_in_phase phase.Absent st e ≡ false → Keeps c st (entities.activate e st)
 activate_keeps c st e law is brought live =
     let records : List Record = journal e (entries st e) in
     let f : Fact = fact.Active st.who e (length records) (folded st.set.config.kind records) in

@@ -1,3 +1,8 @@
+pub mod CarriedEntities
+pub mod CarriedLists
+pub mod CarriedQueues
+pub mod CarriedRoutes
+pub mod CarriedTurns
 pub mod ClusterLaws
 pub mod ClusterMore
 pub mod CoordinatorGuards
@@ -30,6 +35,7 @@ pub mod NodeStarts
 pub mod NodeTicks
 pub mod NodeViewed
 pub mod ProducerMoves
+pub mod Quiet
 pub mod RegionMoves
 pub mod ShardStartLaws
 pub mod TraceLaws

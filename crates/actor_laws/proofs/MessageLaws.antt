@@ -22,13 +22,13 @@ use Rattle.actor_laws.specs.Messages.{GenuineIsMessage}
 use Rattle.actor_laws.proofs.EntitiesMoves.{name_itself}
 
 -- the order of names
-abbrev name_cmp : List ℕ → List ℕ → Ordering
+abbrev pub name_cmp : List ℕ → List ℕ → Ordering
 name_cmp = slice_cmp nat_cmp
 
 -- Names that are inserted.
 
 -- a name that was among them stays
-insert_stays : (e k : List ℕ) (xs : List (List ℕ)) → list_any (is_name e) xs ≡ true → list_any (is_name e) (insert_key name_cmp xs k) ≡ true
+pub insert_stays : (e k : List ℕ) (xs : List (List ℕ)) → list_any (is_name e) xs ≡ true → list_any (is_name e) (insert_key name_cmp xs k) ≡ true
 insert_stays e k [] h = absurd (true≢false (sym h))
 insert_stays e k (x ∷ xs) h = by (name_cmp k x) (insert_stays e k xs)
   where
@@ -42,7 +42,7 @@ insert_stays e k (x ∷ xs) h = by (name_cmp k x) (insert_stays e k xs)
     by Greater rest = later (is_name e x) rest h
 
 -- the name that is inserted is among them
-insert_there : (k : List ℕ) (xs : List (List ℕ)) → list_any (is_name k) (insert_key name_cmp xs k) ≡ true
+pub insert_there : (k : List ℕ) (xs : List (List ℕ)) → list_any (is_name k) (insert_key name_cmp xs k) ≡ true
 insert_there k [] = left_of (is_name k k) false (name_itself k)
 insert_there k (x ∷ xs) = by (name_cmp k x) refl (insert_there k xs)
   where

@@ -30,13 +30,13 @@ use Rattle.world_laws.specs.Owes.{Hand, facts_in, hand_after, guard_in_hand, gua
 use Rattle.world_laws.proofs.Facts.{may_of}
 use Rattle.world_laws.proofs.Members.{same_is, itself_is}
 use Rattle.world_laws.proofs.Rules.{all_join, all_if, all_some, all_each, who_fold}
-use Rattle.yard_model.specs.Trace.{slot_of}
 use Rattle.actor_laws.proofs.NodeParts.{node_none}
-use Rattle.actor_laws.specs.Held.{is_grant, is_slot_held, held_in_hand}
+use Rattle.actor_laws.specs.Held.{slot_told, is_grant, is_slot_held, held_in_hand}
 use Rattle.actor_laws.specs.Moves.{is_own_move, facts_of}
 use Rattle.actor_laws.specs.CoordinatorStands.{IsSound, is_coordinator_fact, entered, Keeps, KeepsRules}
 use Rattle.actor_laws.specs.NodeStands.{is_own_fact, IsCoordinatorAt, IsSoundNode, NodeInHand}
 use Rattle.actor_laws.proofs.NodeKeeps.{NodeKeeps}
+use Rattle.actor_laws.proofs.Quiet.{is_quiet_body, is_quiet}
 use Rattle.actor_laws.proofs.CoordinatorReads.{regions_more}
 use Rattle.actor_laws.proofs.CoordinatorMoves.{all_of_map, all_picked, entries_after}
 use Rattle.actor_laws.proofs.CoordinatorRules.{all_each_of}
@@ -51,10 +51,14 @@ is_no_took m = true
 abbrev pub NoTook : List Move → Type 0
 NoTook ms = list_all is_no_took ms ≡ true
 
--- and registers only regions of this view
+-- and registers only regions of this view, and brings no message on
 abbrev pub is_calm : List Incarnation → Move → Bool
 is_calm v (took s list) = false
 is_calm v (made (item.Fact (fact.Registered r))) = is_among r v
+is_calm v (made (item.Fact (fact.Kept x m))) = false
+is_calm v (made (item.Fact (fact.Stashed x m))) = false
+is_calm v (made (item.Fact (fact.Wrote e r))) = false
+is_calm v (made (item.Post p)) = is_quiet_body p.body
 is_calm v m = true
 
 abbrev pub Calm : List Incarnation → List Move → Type 0
@@ -64,8 +68,8 @@ all_turns : {X : Type 0} (v : List Incarnation) (p : X → Coordinator → List 
 all_turns v p h [] k = refl
 all_turns v p h (x ∷ xs) k = all_join (is_calm v) (p x k) (for_each coordinator_after p xs (fold coordinator_after k (p x k))) (h x k) (all_turns v p h xs (fold coordinator_after k (p x k)))
 
-posts_calm : (v : List Incarnation) (who : Incarnation) (b : Body) (rs : List Incarnation) → Calm v (map (λ r. post who r b) rs)
-posts_calm v who b rs = all_of_map (is_calm v) (λ r. post who r b) rs (all_of (λ r. (is_calm v) (post who r b)) (λ r. refl) rs)
+posts_calm : (v : List Incarnation) (who : Incarnation) (b : Body) (rs : List Incarnation) → is_quiet_body b ≡ true → Calm v (map (λ r. post who r b) rs)
+posts_calm v who b rs quiet = all_of_map (is_calm v) (λ r. post who r b) rs (all_of (λ r. (is_calm v) (post who r b)) (λ r. quiet) rs)
 
 hand_off_calm : (v : List Incarnation) (k : Coordinator) (x : Moving) → Calm v (coordinator.hand_off k x)
 hand_off_calm v k x = all_some (is_calm v) (λ o. post k.who o (body.HandOff x.shard (coordinator.stamp k)) ∷ []) x.owner (λ o. refl)
@@ -96,7 +100,7 @@ allocate_calm v s k = all_some (is_calm v) (λ (x : coordinator.Share). told (fa
 begin_calm : (v : List Incarnation) (ss : List ℕ) (k : Coordinator) → Calm v (coordinator.begin ss k)
 begin_calm v ss k =
     let next : Stamp = coordinator.stamp_of k.entries (k.begun + 1) in
-    all_each (is_calm v) (λ s. told (fact.Moving s next) ∷ map (λ r. post k.who r (body.BeginHandOff s next)) (coordinator.registered k)) ss (λ s. posts_calm v k.who (body.BeginHandOff s next) (coordinator.registered k))
+    all_each (is_calm v) (λ s. told (fact.Moving s next) ∷ map (λ r. post k.who r (body.BeginHandOff s next)) (coordinator.registered k)) ss (λ s. posts_calm v k.who (body.BeginHandOff s next) (coordinator.registered k) refl)
 
 get_home_calm : (v : List Incarnation) (from : Incarnation) (s : ℕ) (k : Coordinator) → Calm v (coordinator.get_home from s k)
 get_home_calm v from s k =
@@ -139,7 +143,7 @@ coordinate_calm v from b k = refl
 again_calm : (v : List Incarnation) (k : Coordinator) (x : Moving) → Calm v (coordinator.hand_off_again k x)
 again_calm v k x =
     let b : Body = body.BeginHandOff x.shard (coordinator.stamp k) in
-    all_if (is_calm v) (is_empty x.awaited) (coordinator.hand_off k x) (map (λ r. post k.who r b) x.awaited) (hand_off_calm v k x) (posts_calm v k.who b x.awaited)
+    all_if (is_calm v) (is_empty x.awaited) (coordinator.hand_off k x) (map (λ r. post k.who r b) x.awaited) (hand_off_calm v k x) (posts_calm v k.who b x.awaited refl)
 
 begin_quitting_calm : (v : List Incarnation) (k : Coordinator) → Calm v (coordinator.begin_quitting k)
 begin_quitting_calm v k =
@@ -169,6 +173,18 @@ calm_takes_none v ms h = all_map (is_calm v) is_no_took (one v) ms h
   where
     one : (v : List Incarnation) (m : Move) → is_calm v m ≡ true → is_no_took m ≡ true
     one v (took s list) h = h
+    one v m h = refl
+
+-- and it is quiet
+pub calm_quiet : (v : List Incarnation) (ms : List Move) → Calm v ms → list_all is_quiet ms ≡ true
+calm_quiet v ms h = all_map (is_calm v) is_quiet (one v) ms h
+  where
+    one : (v : List Incarnation) (m : Move) → is_calm v m ≡ true → is_quiet m ≡ true
+    one v (made (item.Fact (fact.Kept x m))) h = absurd (true_is_not_false (sym h))
+    one v (made (item.Fact (fact.Stashed x m))) h = absurd (true_is_not_false (sym h))
+    one v (made (item.Fact (fact.Wrote e r))) h = absurd (true_is_not_false (sym h))
+    one v (made (item.Fact f)) h = refl
+    one v (made (item.Post p)) h = h
     one v m h = refl
 
 -- So it stays the same coordinator.
@@ -263,12 +279,12 @@ with_in_hand c h st k list i e = record {
 
 -- moves that a coordinator keeps, a node keeps
 -- its entries are of its slot, which stays held
-held_on : (c : Script) (who : Incarnation) (h : Hand) (f : Fact) → is_coordinator_fact f ≡ true → holder h.lists.coordinator ≡ Some who → ((is_grant f || is_slot_held who h (slot_of (setting c) f)) ≡ true) × (holder (hand_after c h f).lists.coordinator ≡ Some who)
+held_on : (c : Script) (who : Incarnation) (h : Hand) (f : Fact) → is_coordinator_fact f ≡ true → holder h.lists.coordinator ≡ Some who → ((is_grant f || is_slot_held who h (slot_told (setting c) f)) ≡ true) × (holder (hand_after c h f).lists.coordinator ≡ Some who)
 held_on c who h (fact.Registered r) e k = (ap (is_at who) k ∙ itself_is who who refl, fold-append holder_step None h.lists.coordinator (fact.Registered r ∷ []) ∙ k)
 held_on c who h (fact.Terminated r) e k = (ap (is_at who) k ∙ itself_is who who refl, fold-append holder_step None h.lists.coordinator (fact.Terminated r ∷ []) ∙ k)
 held_on c who h (fact.Allocated s r) e k = (ap (is_at who) k ∙ itself_is who who refl, fold-append holder_step None h.lists.coordinator (fact.Allocated s r ∷ []) ∙ k)
 held_on c who h (fact.Deallocated s) e k = (ap (is_at who) k ∙ itself_is who who refl, fold-append holder_step None h.lists.coordinator (fact.Deallocated s ∷ []) ∙ k)
-held_on c who h (fact.Moving s stamp) e k = (refl, k)
+held_on c who h (fact.Moving s stamp) e k = (ap (is_at who) k ∙ itself_is who who refl, k)
 held_on c who h fact.Nothing e k = (refl, k)
 held_on c who h f e k = absurd (true_is_not_false (sym e))
 
@@ -276,17 +292,25 @@ coordinator_held : (c : Script) (who : Incarnation) (h : Hand) (fs : List Fact) 
 coordinator_held c who h [] e k = refl
 coordinator_held c who h (f ∷ fs) e k =
     let m : (is_coordinator_fact f ≡ true) × (list_all is_coordinator_fact fs ≡ true) = and_both (is_coordinator_fact f) (list_all is_coordinator_fact fs) e in
-    let one : ((is_grant f || is_slot_held who h (slot_of (setting c) f)) ≡ true) × (holder (hand_after c h f).lists.coordinator ≡ Some who) = held_on c who h f m.0 k in
-    both (is_grant f || is_slot_held who h (slot_of (setting c) f)) (held_in_hand c who (hand_after c h f) fs) one.0 (coordinator_held c who (hand_after c h f) fs m.1 one.1)
+    let one : ((is_grant f || is_slot_held who h (slot_told (setting c) f)) ≡ true) × (holder (hand_after c h f).lists.coordinator ≡ Some who) = held_on c who h f m.0 k in
+    both (is_grant f || is_slot_held who h (slot_told (setting c) f)) (held_in_hand c who (hand_after c h f) fs) one.0 (coordinator_held c who (hand_after c h f) fs m.1 one.1)
 
--- what a coordinator tells is of no incarnation where entities are live
+-- what a coordinator tells is of no incarnation that does something
 coordinator_own : (who : Incarnation) (f : Fact) → is_coordinator_fact f ≡ true → is_own_fact who f ≡ true
 coordinator_own who (fact.Start x e) h = absurd (true_is_not_false (sym h))
 coordinator_own who (fact.Active x e n s) h = absurd (true_is_not_false (sym h))
 coordinator_own who (fact.Stop x e) h = absurd (true_is_not_false (sym h))
 coordinator_own who (fact.WriteFailed x e) h = absurd (true_is_not_false (sym h))
 coordinator_own who (fact.Granted s n x) h = absurd (true_is_not_false (sym h))
+coordinator_own who (fact.Up x) h = absurd (true_is_not_false (sym h))
 coordinator_own who (fact.Gone x) h = absurd (true_is_not_false (sym h))
+coordinator_own who (fact.View x v) h = absurd (true_is_not_false (sym h))
+coordinator_own who (fact.Home x s k) h = absurd (true_is_not_false (sym h))
+coordinator_own who (fact.Forget x s) h = absurd (true_is_not_false (sym h))
+coordinator_own who (fact.Kept x m) h = absurd (true_is_not_false (sym h))
+coordinator_own who (fact.Dropped x m) h = absurd (true_is_not_false (sym h))
+coordinator_own who (fact.Stashed x m) h = absurd (true_is_not_false (sym h))
+coordinator_own who (fact.Held s x n) h = absurd (true_is_not_false (sym h))
 coordinator_own who f h = refl
 
 pub coordinator_node : (c : Script) (v : List ℕ → ℕ → ℕ → Bool) (st : Node) (k : Coordinator) (ms : List Move) → IsSoundNode c st → st.coordinator ≡ Some k → Keeps c k ms → NoTook ms → NodeKeeps c v st (map by_coordinator ms)

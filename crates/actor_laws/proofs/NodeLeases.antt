@@ -99,7 +99,7 @@ office_node c v lists st begins is own_is none (Some x) held = record {
     coordinator = tt;
   });
   posts_are = refl;
-  own_are = refl;
+  own_are = both (is_same st.who st.who) true (itself_is st.who st.who refl) refl;
   held_are = λ h i p. refl;
   guarded_are = λ h i p. refl;
   goes_along = λ h i p. subst (λ o. NodeInHand c h (record st { coordinator = option_map (λ k. coordinator_after k (told (fact.Held slot.Coordinator st.who x.node))) o })) (sym none) (record {

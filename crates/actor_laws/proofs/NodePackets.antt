@@ -108,7 +108,7 @@ then_push c v p e st acts laws script above first =
     let last : NodeKeeps c v mid (push p e mid) = push_all c v p e mid laws script first.stands above in
     node_both c v st acts (push p e mid ++ []) first (node_both c v mid (push p e mid) [] last (node_none c v (fold after mid (push p e mid)) last.stands))
 
-confirms_node : (c : Script) (v : List ℕ → ℕ → ℕ → Bool) (p : ℕ) (e : List ℕ) (n : ℕ) (st : Node) → TurnLaws → IsSoundNode c st → 0 < p → MayConfirm v st p e n → NodeKeeps c v st (of_producer p (producer.confirm e n) st)
+pub confirms_node : (c : Script) (v : List ℕ → ℕ → ℕ → Bool) (p : ℕ) (e : List ℕ) (n : ℕ) (st : Node) → TurnLaws → IsSoundNode c st → 0 < p → MayConfirm v st p e n → NodeKeeps c v st (of_producer p (producer.confirm e n) st)
 confirms_node c v p e n st laws is above may = producer_node c v st p (producer.confirm e n) is (λ k g. confirm_node laws.produces c v st p k e n is above g (may k g).0 (may k g).1)
 
 ack_node : (c : Script) (v : List ℕ → ℕ → ℕ → Bool) (p : ℕ) (e : List ℕ) (n : ℕ) (st : Node) → TurnLaws → IsScript c → IsSoundNode c st → 0 < p → MayConfirm v st p e n → NodeKeeps c v st (ack p e n st)
@@ -127,7 +127,7 @@ resend_node : (c : Script) (v : List ℕ → ℕ → ℕ → Bool) (p : ℕ) (e 
 resend_node c v p e f st laws script is above = route_numbers_node c v p e (producer.to_resend e f) st laws.routes script is (λ k g. (laws.sends c k (is.producers p k above g).stands).resent_well e f)
 
 -- the sends of a producer
-sends_are : (c : Script) (p : ℕ) → is_producer c p ≡ true → slice_index_or (all_sends c) (p - 1) [] ≡ sends c p
+pub sends_are : (c : Script) (p : ℕ) → is_producer c p ≡ true → slice_index_or (all_sends c) (p - 1) [] ≡ sends c p
 sends_are c p e =
     let b : (nat_le 1 p ≡ true) × (nat_le p c.config.producers ≡ true) = and_both (nat_le 1 p) (nat_le p c.config.producers) e in
     let low : 1 ≤ p = at_most 1 p b.0 in

@@ -22,12 +22,12 @@ use Rattle.yard_laws.proofs.Booleans.{true_is_not_false, and_both, both, all_map
 use Rattle.yard_laws.proofs.PartsLaws.{region_alone, entities_alone, region_items, entities_items}
 use Rattle.world_laws.specs.Owes.{Hand, facts_in, hand_after, guard_in_hand, guarded_in_hand, is_own_post}
 use Rattle.world_laws.proofs.Rules.{all_join, region_who}
-use Rattle.yard_model.specs.Trace.{slot_of}
-use Rattle.actor_laws.specs.Held.{is_grant, is_slot_held, held_in_hand}
+use Rattle.actor_laws.specs.Held.{slot_told, is_grant, is_slot_held, held_in_hand}
 use Rattle.actor_laws.specs.Moves.{is_own_move, facts_of}
 use Rattle.actor_laws.specs.EntitiesStand as entities
 use Rattle.actor_laws.specs.EntitiesStand.{IsEntities, InHand, is_entity_fact}
 use Rattle.actor_laws.specs.RegionStands as regions
+use Rattle.actor_laws.specs.RegionStands.{is_region_fact}
 use Rattle.actor_laws.specs.NodeStands.{is_own_fact, IsSoundNode, NodeInHand}
 use Rattle.actor_laws.proofs.NodeKeeps.{NodeKeeps}
 use Rattle.actor_laws.specs.NodeFound.{NodeKeepsIf}
@@ -152,38 +152,30 @@ free_facts (made (item.Fact f) ∷ ms) h =
 free_facts (made (item.Post p) ∷ ms) h = free_facts ms h
 free_facts (m ∷ ms) h = free_facts ms h
 
--- free facts tell of no incarnation
-free_own : (who : Incarnation) (f : Fact) → is_free f ≡ true → is_own_fact who f ≡ true
-free_own who (fact.Start x e) h = absurd (true_is_not_false (sym h))
-free_own who (fact.Active x e n s) h = absurd (true_is_not_false (sym h))
-free_own who (fact.Stop x e) h = absurd (true_is_not_false (sym h))
-free_own who (fact.WriteFailed x e) h = absurd (true_is_not_false (sym h))
-free_own who (fact.Granted s n x) h = absurd (true_is_not_false (sym h))
-free_own who (fact.Gone x) h = absurd (true_is_not_false (sym h))
-free_own who f h = refl
+-- what a region tells is of its own incarnation
+region_own : (who : Incarnation) (f : Fact) → is_region_fact who f ≡ true → is_own_fact who f ≡ true
+region_own who (fact.View x v) h = h
+region_own who (fact.Home x s k) h = h
+region_own who (fact.Forget x s) h = h
+region_own who (fact.Kept x m) h = h
+region_own who (fact.Dropped x m) h = h
+region_own who f h = absurd (true_is_not_false (sym h))
 
--- free facts are of no slot
-free_slot : (set : Setting) (f : Fact) → is_free f ≡ true → slot_of set f ≡ None
-free_slot set (fact.Granted s n x) h = absurd (true_is_not_false (sym h))
-free_slot set (fact.Freed s n why) h = absurd (true_is_not_false (sym h))
-free_slot set (fact.Registered r) h = absurd (true_is_not_false (sym h))
-free_slot set (fact.Terminated r) h = absurd (true_is_not_false (sym h))
-free_slot set (fact.Allocated s r) h = absurd (true_is_not_false (sym h))
-free_slot set (fact.Deallocated s) h = absurd (true_is_not_false (sym h))
-free_slot set (fact.Wrote e r) h = absurd (true_is_not_false (sym h))
-free_slot set (fact.Snapshot e n) h = absurd (true_is_not_false (sym h))
-free_slot set (fact.Remembered e) h = absurd (true_is_not_false (sym h))
-free_slot set (fact.Forgotten e) h = absurd (true_is_not_false (sym h))
-free_slot set (fact.Queued p e n k) h = absurd (true_is_not_false (sym h))
-free_slot set (fact.Confirmed p e n) h = absurd (true_is_not_false (sym h))
-free_slot set f h = refl
+-- and of no slot
+region_told : (set : Setting) (who : Incarnation) (f : Fact) → is_region_fact who f ≡ true → slot_told set f ≡ None
+region_told set who (fact.View x v) h = refl
+region_told set who (fact.Home x s k) h = refl
+region_told set who (fact.Forget x s) h = refl
+region_told set who (fact.Kept x m) h = refl
+region_told set who (fact.Dropped x m) h = refl
+region_told set who f h = absurd (true_is_not_false (sym h))
 
-free_held : (c : Script) (who : Incarnation) (h : Hand) (fs : List Fact) → list_all is_free fs ≡ true → held_in_hand c who h fs ≡ true
-free_held c who h [] e = refl
-free_held c who h (f ∷ fs) e =
-    let m : (is_free f ≡ true) × (list_all is_free fs ≡ true) = and_both (is_free f) (list_all is_free fs) e in
-    both (is_grant f || is_slot_held who h (slot_of (setting c) f)) (held_in_hand c who (hand_after c h f) fs)
-    (or_this (is_grant f) (is_slot_held who h (slot_of (setting c) f)) (ap (is_slot_held who h) (free_slot (setting c) f m.0))) (free_held c who (hand_after c h f) fs m.1)
+region_held : (c : Script) (who : Incarnation) (h : Hand) (fs : List Fact) → list_all (is_region_fact who) fs ≡ true → held_in_hand c who h fs ≡ true
+region_held c who h [] e = refl
+region_held c who h (f ∷ fs) e =
+    let m : (is_region_fact who f ≡ true) × (list_all (is_region_fact who) fs ≡ true) = and_both (is_region_fact who f) (list_all (is_region_fact who) fs) e in
+    both (is_grant f || is_slot_held who h (slot_told (setting c) f)) (held_in_hand c who (hand_after c h f) fs)
+    (or_this (is_grant f) (is_slot_held who h (slot_told (setting c) f)) (ap (is_slot_held who h) (region_told (setting c) who f m.0))) (region_held c who (hand_after c h f) fs m.1)
 
 -- The region's moves.
 
@@ -193,6 +185,7 @@ region_node c v st ms is k different =
     let same : fold after st (map by_region ms) ≡ later = region_alone st ms in
     let facts : facts_in (items_of (map by_region ms)) ≡ facts_of ms = ap facts_in (region_items ms) in
     let free : list_all is_free (facts_of ms) ≡ true = free_facts ms k.free_are in
+    let ours : list_all (is_region_fact st.who) (facts_of ms) ≡ true = subst (λ w. list_all (is_region_fact w) (facts_of ms) ≡ true) is.region_who k.facts_are in
     record {
       stands = subst (IsSoundNode c) (sym same) (record {
         who_is = is.who_is;
@@ -207,8 +200,8 @@ region_node c v st ms is k different =
         coordinator = is.coordinator;
       });
       posts_are = ap (list_all (is_own_post c st.who)) (region_items ms) ∙ subst (λ w. list_all (is_own_post c w) (flat_map item_of ms) ≡ true) is.region_who (own_items c st.region.who ms k.posts_are);
-      own_are = ap (list_all (is_own_fact st.who)) facts ∙ all_map is_free (is_own_fact st.who) (free_own st.who) (facts_of ms) free;
-      held_are = λ h i. ap (held_in_hand c st.who h) facts ∙ free_held c st.who h (facts_of ms) free;
+      own_are = ap (list_all (is_own_fact st.who)) facts ∙ all_map (is_region_fact st.who) (is_own_fact st.who) (region_own st.who) (facts_of ms) ours;
+      held_are = λ h i. ap (held_in_hand c st.who h) facts ∙ region_held c st.who h (facts_of ms) ours;
       guarded_are = λ h i. ap (guarded_in_hand c v st.who h) facts ∙ free_guards c v st.who h (facts_of ms) free;
       goes_along = λ h i. subst (λ x. NodeInHand c (fold (hand_after c) h (facts_in (items_of (map by_region ms)))) x) (sym same)
           (subst (λ x. NodeInHand c x later) (sym (ap (fold (hand_after c) h) facts ∙ free_hands c h (facts_of ms) free))
@@ -255,7 +248,15 @@ entity_own who (fact.WriteFailed x e) h = h
 entity_own who (fact.Granted (slot.Shard s) n x) h = h
 entity_own who (fact.Granted slot.Coordinator n x) h = absurd (true_is_not_false (sym h))
 entity_own who (fact.Granted (slot.Queue p) n x) h = absurd (true_is_not_false (sym h))
+entity_own who (fact.Stashed x m) h = h
+entity_own who (fact.Dropped x m) h = h
+entity_own who (fact.Held s x n) h = h
+entity_own who (fact.Up x) h = absurd (true_is_not_false (sym h))
 entity_own who (fact.Gone x) h = absurd (true_is_not_false (sym h))
+entity_own who (fact.View x v) h = absurd (true_is_not_false (sym h))
+entity_own who (fact.Home x s k) h = absurd (true_is_not_false (sym h))
+entity_own who (fact.Forget x s) h = absurd (true_is_not_false (sym h))
+entity_own who (fact.Kept x m) h = absurd (true_is_not_false (sym h))
 entity_own who f h = refl
 
 -- by moves whose facts are guarded with hands of one kind

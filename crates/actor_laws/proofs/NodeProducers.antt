@@ -27,8 +27,8 @@ use Rattle.yard_laws.proofs.Booleans.{and_both, both, at_most}
 use Rattle.world_laws.specs.Owes.{Hand, has_name, live_after, hand_after, follows_in_hand, lives_in_hand, guard_in_hand, guarded_in_hand, facts_in, is_own_post}
 use Rattle.world_laws.proofs.Members.{itself_is}
 use Rattle.world_laws.proofs.Place.{none_is_not_some, some_is, inside, by_place, placed_at, placed_beside}
-use Rattle.actor_laws.specs.Held.{is_grant, is_slot_held, held_in_hand}
-use Rattle.actor_laws.proofs.EntitiesMoves.{or_this}
+use Rattle.actor_laws.specs.Held.{slot_told, is_grant, is_slot_held, held_in_hand}
+use Rattle.actor_laws.proofs.EntitiesMoves.{entry_told, or_this}
 use Rattle.actor_laws.specs.NodeStands.{is_own_fact, IsProducerAt, IsSoundNode, NodeInHand}
 use Rattle.actor_laws.proofs.NodeKeeps.{NodeKeeps}
 use Rattle.actor_laws.specs.ProducerStands.{IsProducer, Rules, IsGranted, ProducerKeeps, ProducerIsGranted}
@@ -236,8 +236,8 @@ entry_node c v st p k f o is above found of live follows lives its by here = rec
   stands = subst (IsSoundNode c) (sym moved) (stands_put c st p o is above less (λ j e. (here j e).at_is));
   posts_are = refl;
   own_are = both (is_own_fact st.who f) true its refl;
-  held_are = λ h i. both (is_grant f || is_slot_held st.who h (slot_of (setting c) f)) true (or_this (is_grant f) (is_slot_held st.who h (slot_of (setting c) f))
-      (ap (is_slot_held st.who h) of ∙ (ap (λ l. is_at st.who (holder l)) (i.producers p k above found) ∙ (ap (is_at st.who) (a.stands.held_is ∙ ap Some a.who_is) ∙ itself_is st.who st.who refl)))) refl;
+  held_are = λ h i. both (is_grant f || is_slot_held st.who h (slot_told (setting c) f)) true (or_this (is_grant f) (is_slot_held st.who h (slot_told (setting c) f))
+      (ap (is_slot_held st.who h) (entry_told (setting c) f (slot.Queue p) of) ∙ (ap (λ l. is_at st.who (holder l)) (i.producers p k above found) ∙ (ap (is_at st.who) (a.stands.held_is ∙ ap Some a.who_is) ∙ itself_is st.who st.who refl)))) refl;
   guarded_are = λ h i. both (guard_in_hand c v st.who h f) true (entry_guarded c v st.who p k.entries f h number of follows (i.producers p k above found) (lives h)) refl;
   goes_along = λ h i. subst (NodeInHand c (hand_after c h f)) (sym moved) (along_entry c h st p k.entries f o is i less of live (i.producers p k above found) (λ j e. (here j e).entries_are));
 }
@@ -335,7 +335,7 @@ held_node : (c : Script) (v : List ℕ → ℕ → ℕ → Bool) (st : Node) (p 
 held_node c v st p list x is above less free = record {
   stands = subst (IsSoundNode c) (sym moved) (stands_put c st p None is above less (λ j e. absurd (none_is_not_some j e)));
   posts_are = refl;
-  own_are = refl;
+  own_are = both (is_same st.who st.who) true (itself_is st.who st.who refl) refl;
   held_are = λ h i found. refl;
   guarded_are = λ h i found. refl;
   goes_along = λ h i found. subst (NodeInHand c h) (sym moved) (along_put c h h st p None i less refl refl refl refl (λ q other. refl) (λ j e. absurd (none_is_not_some j e)));

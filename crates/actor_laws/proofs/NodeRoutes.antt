@@ -91,7 +91,7 @@ answer_node c v st to b law script is node genuine = let r : regions.Rules c st.
 
 -- The entities' rules.
 
-running_hosted : (o : Option Hosted) → entities.is_running_in o ≡ true → not (is_none o) ≡ true
+pub running_hosted : (o : Option Hosted) → entities.is_running_in o ≡ true → not (is_none o) ≡ true
 running_hosted None h = absurd (true≢false (sym h))
 running_hosted (Some x) h = refl
 

@@ -58,7 +58,7 @@ starts_node c v lists s st law is own_is shard =
 
 -- ShardHome and HostShard.
 
-learn_node : (c : Script) (v : List ℕ → ℕ → ℕ → Bool) (st : Node) (s : ℕ) (h : Incarnation) (stamp : Stamp) → regions.RegionKeeps → IsScript c → IsSoundNode c st → is_shard c s ≡ true → is_node c h ≡ true → NodeKeeps c v st (of_region (region.learn s h stamp) st)
+pub learn_node : (c : Script) (v : List ℕ → ℕ → ℕ → Bool) (st : Node) (s : ℕ) (h : Incarnation) (stamp : Stamp) → regions.RegionKeeps → IsScript c → IsSoundNode c st → is_shard c s ≡ true → is_node c h ≡ true → NodeKeeps c v st (of_region (region.learn s h stamp) st)
 learn_node c v st s h stamp law script is shard node = let r : regions.Rules c st.region = law c st.region script is.region in region_rule c v st (region.learn s h stamp st.region) is (r.learns s h stamp shard node) (learn_viewless s h stamp st.region)
 
 -- the region learns of a home first, which leaves what the node has in hand as it is

@@ -48,14 +48,14 @@ use Rattle.actor_laws.proofs.NodeStarts.{starts_node}
 -- What goes on beside a shard.
 
 -- a rule of the coordinator goes on beside every shard
-coordinated_beside : (c : Script) (s : ℕ) (st : Node) (p : Coordinator → List Move) → IsSoundNode c st → ((k : Coordinator) → coordinators.IsSound c k → coordinators.Keeps c k (p k)) → Beside c s st (of_coordinator p st)
+pub coordinated_beside : (c : Script) (s : ℕ) (st : Node) (p : Coordinator → List Move) → IsSoundNode c st → ((k : Coordinator) → coordinators.IsSound c k → coordinators.Keeps c k (p k)) → Beside c s st (of_coordinator p st)
 coordinated_beside c s st p is keeps = by st.coordinator is.coordinator
   where
     by : (o : Option Coordinator) → IfSome o (IsCoordinatorAt c st.who) → Beside c s st (where_some (λ k. map by_coordinator (p k)) o)
     by None x = beside_none c s st
     by (Some k) x = let j : coordinators.Keeps c k (p k) = keeps k x.sound in coordinator_beside c s st (p k) j.facts_are
 
-lead_beside : (c : Script) (s : ℕ) (lists : SlotLists) (st : Node) → IsSoundNode c (let asks : List Act = (if is_at st.who (region.oldest st.region) && is_none st.coordinator then map by_coordinator (acquire slot.Coordinator st.who lists.coordinator) else []) in fold after st asks) → Beside c s st (lead lists st)
+pub lead_beside : (c : Script) (s : ℕ) (lists : SlotLists) (st : Node) → IsSoundNode c (let asks : List Act = (if is_at st.who (region.oldest st.region) && is_none st.coordinator then map by_coordinator (acquire slot.Coordinator st.who lists.coordinator) else []) in fold after st asks) → Beside c s st (lead lists st)
 lead_beside c s lists st is =
     let b : Bool = is_at st.who (region.oldest st.region) && is_none st.coordinator in
     let asks : List Act = if b then map by_coordinator (acquire slot.Coordinator st.who lists.coordinator) else [] in
@@ -112,7 +112,7 @@ start_beside c s t lists st is other =
 -- The shards, one after another.
 
 -- Start again of one shard
-again_node : (c : Script) (v : List ℕ → ℕ → ℕ → Bool) (lists : SlotLists) (t : ℕ) (st : Node) → TurnLaws → IsScript c → IsSoundNode c st → AreLawful c lists → is_shard c t ≡ true → NodeKeepsIf (FindsShard lists t st) c v st (start_again lists t st)
+pub again_node : (c : Script) (v : List ℕ → ℕ → ℕ → Bool) (lists : SlotLists) (t : ℕ) (st : Node) → TurnLaws → IsScript c → IsSoundNode c st → AreLawful c lists → is_shard c t ≡ true → NodeKeepsIf (FindsShard lists t st) c v st (start_again lists t st)
 again_node c v lists t st laws script is lawful shard =
     let begins : NodeKeepsIf (FindsShard lists t st) c v st (start lists t st) = starts_node c v lists t st laws.starts is (lawful.shards t shard) shard in
     let mid : Node = fold after st (start lists t st) in
@@ -121,7 +121,7 @@ again_node c v lists t st laws script is lawful shard =
     (λ e. then_plain (FindsShard lists t st) c v st (start lists t st) (release t mid ++ []) begins (node_both c v mid (release t mid) [] frees (node_none c v (fold after mid (release t mid)) frees.stands)))
     (λ e. plain_if (FindsShard lists t st) c v st [] (node_none c v st is))
 
-again_beside : (c : Script) (v : List ℕ → ℕ → ℕ → Bool) (s t : ℕ) (lists : SlotLists) (st : Node) → TurnLaws → IsScript c → IsSoundNode c st → AreLawful c lists → is_shard c t ≡ true → not (t == s) ≡ true → Beside c s st (start_again lists t st)
+pub again_beside : (c : Script) (v : List ℕ → ℕ → ℕ → Bool) (s t : ℕ) (lists : SlotLists) (st : Node) → TurnLaws → IsScript c → IsSoundNode c st → AreLawful c lists → is_shard c t ≡ true → not (t == s) ≡ true → Beside c s st (start_again lists t st)
 again_beside c v s t lists st laws script is lawful shard other =
     let begins : NodeKeepsIf (FindsShard lists t st) c v st (start lists t st) = starts_node c v lists t st laws.starts is (lawful.shards t shard) shard in
     let mid : Node = fold after st (start lists t st) in
@@ -130,18 +130,18 @@ again_beside c v s t lists st laws script is lawful shard other =
     (beside_both c s mid (release t mid) [] (release_beside c v s t mid laws.routes script begins.stands other) (beside_none c s (fold after mid (release t mid)))))
     (λ e. beside_none c s st)
 
-not_same : (x y : ℕ) → x + 1 ≤ y → not (x == y) ≡ true
+pub not_same : (x y : ℕ) → x + 1 ≤ y → not (x == y) ≡ true
 not_same x y less = grind (arith, nat_tests)
 
 -- what is in hand of the shards from a on is what was found
-abbrev FindsFrom : SlotLists → ℕ → Node → Hand → Type 0
+abbrev pub FindsFrom : SlotLists → ℕ → Node → Hand → Type 0
 FindsFrom lists a st h = (s : ℕ) → a ≤ s → FindsShard lists s st h
 
 -- so it is after what goes on beside them
-found_beside : (c : Script) (lists : SlotLists) (s : ℕ) (st : Node) (acts : List Act) (h : Hand) → Beside c s st acts → FindsShard lists s st h → FindsShard lists s (fold after st acts) (fold (hand_after c) h (facts_in (items_of acts)))
+pub found_beside : (c : Script) (lists : SlotLists) (s : ℕ) (st : Node) (acts : List Act) (h : Hand) → Beside c s st acts → FindsShard lists s st h → FindsShard lists s (fold after st acts) (fold (hand_after c) h (facts_in (items_of acts)))
 found_beside c lists s st acts h b f = λ none. b.hand_is h ∙ f (sym b.hosted_is ∙ none)
 
-agains_node : (c : Script) (v : List ℕ → ℕ → ℕ → Bool) (lists : SlotLists) (a n : ℕ) (st : Node) → TurnLaws → IsScript c → IsSoundNode c st → AreLawful c lists → a + n ≤ c.config.shards → NodeKeepsIf (FindsFrom lists a st) c v st (for_each after (start_again lists) (numbers a n) st)
+pub agains_node : (c : Script) (v : List ℕ → ℕ → ℕ → Bool) (lists : SlotLists) (a n : ℕ) (st : Node) → TurnLaws → IsScript c → IsSoundNode c st → AreLawful c lists → a + n ≤ c.config.shards → NodeKeepsIf (FindsFrom lists a st) c v st (for_each after (start_again lists) (numbers a n) st)
 agains_node c v lists a zero st laws script is lawful below = plain_if (FindsFrom lists a st) c v st [] (node_none c v st is)
 agains_node c v lists a (suc n) st laws script is lawful below =
     let shard : is_shard c a ≡ true = is_below a c.config.shards (omega (arith, below)) in
@@ -160,7 +160,7 @@ then_found c v lists st acts rest first b k = both_if (FindsFrom lists 0 st) (Fi
 
 -- The queues, one pair after another.
 
-sends_again : (c : Script) (v : List ℕ → ℕ → ℕ → Bool) (p : ℕ) (e : List ℕ) (st : Node) → TurnLaws → IsScript c → IsSoundNode c st → 0 < p → NodeKeeps c v st (send_again p e st)
+pub sends_again : (c : Script) (v : List ℕ → ℕ → ℕ → Bool) (p : ℕ) (e : List ℕ) (st : Node) → TurnLaws → IsScript c → IsSoundNode c st → 0 < p → NodeKeeps c v st (send_again p e st)
 sends_again c v p e st laws script is above =
     let marks : List Act = of_producer p (λ k. map (pushed e) (producer.to_repeat e k)) st in
     let first : NodeKeeps c v st marks = producer_node c v st p (λ k. map (pushed e) (producer.to_repeat e k)) is (λ k g. repeat_node c v st p k e is above g) in
@@ -172,7 +172,7 @@ sends_again c v p e st laws script is above =
     repeated : (c : Script) (st : Node) (p : ℕ) (e : List ℕ) (k : Producer) → TurnLaws → IsSoundNode c st → 0 < p → at st.producers (p - 1) ≡ Some k → list_all (producing.is_sent_well c e k) (producer.to_repeat e k) ≡ true
     repeated c st p e k laws is above g = (laws.sends c k (is.producers p k above g).stands).repeated_well e
 
-names_again : (c : Script) (v : List ℕ → ℕ → ℕ → Bool) (p : ℕ) (es : List (List ℕ)) (st : Node) → TurnLaws → IsScript c → IsSoundNode c st → 0 < p → NodeKeeps c v st (for_each after (send_again p) es st)
+pub names_again : (c : Script) (v : List ℕ → ℕ → ℕ → Bool) (p : ℕ) (es : List (List ℕ)) (st : Node) → TurnLaws → IsScript c → IsSoundNode c st → 0 < p → NodeKeeps c v st (for_each after (send_again p) es st)
 names_again c v p [] st laws script is above = node_none c v st is
 names_again c v p (e ∷ es) st laws script is above =
     let first : NodeKeeps c v st (send_again p e st) = sends_again c v p e st laws script is above in

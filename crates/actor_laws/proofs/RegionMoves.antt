@@ -5,6 +5,7 @@ use Rattle.std.specs.List.{list_all, flat_map, slice_get, sum_by}
 use Rattle.std.proofs.lemmas.Bool.Decides.{nat_tests}
 use Rattle.std.proofs.lemmas.List.{length-set}
 use Rattle.std.proofs.lemmas.List.Sums.{fold-append}
+use Rattle.yard_model.specs.declared.fact.Fact.{Fact}
 use Rattle.yard_model.specs.declared.fact.Fact.TheVariants as fact
 use Rattle.yard_model.specs.declared.out.Item.TheVariants as item
 use Rattle.yard_model.specs.declared.packet.Body.{Body}
@@ -26,8 +27,9 @@ use Rattle.world_laws.specs.Owes.{is_own_post}
 use Rattle.world_laws.proofs.Members.{itself_is}
 use Rattle.world_laws.proofs.Place.{none_is_not_some, some_is}
 use Rattle.world_laws.proofs.Rules.{all_join, all_if}
-use Rattle.actor_laws.specs.Moves.{is_own_move}
-use Rattle.actor_laws.specs.RegionStands.{is_kept_well, IsRegion, Keeps, RegionKeeps, RegionJoins, ShardsAreThere}
+use Rattle.actor_laws.specs.Moves.{is_own_move, facts_of}
+use Rattle.actor_laws.proofs.EntitiesMoves.{facts_both}
+use Rattle.actor_laws.specs.RegionStands.{is_kept_well, is_region_fact, IsRegion, Keeps, RegionKeeps, RegionJoins, ShardsAreThere}
 
 -- Tables.
 
@@ -74,11 +76,11 @@ of_first p (y ∷ ys) x all e = ap p (sym (some_is y x e)) ∙ (and_both (p y) (
 
 -- a move that keeps what stands of a region, and that posts and tells what it may
 abbrev pub is_fit : Script → Incarnation → Move → Bool
-is_fit c who (made (item.Fact (fact.View x v))) = true
-is_fit c who (made (item.Fact (fact.Home x s h))) = is_node c h
-is_fit c who (made (item.Fact (fact.Forget x s))) = true
-is_fit c who (made (item.Fact (fact.Kept x m))) = is_genuine c m
-is_fit c who (made (item.Fact (fact.Dropped x m))) = true
+is_fit c who (made (item.Fact (fact.View x v))) = is_same x who
+is_fit c who (made (item.Fact (fact.Home x s h))) = is_same x who && is_node c h
+is_fit c who (made (item.Fact (fact.Forget x s))) = is_same x who
+is_fit c who (made (item.Fact (fact.Kept x m))) = is_same x who && is_genuine c m
+is_fit c who (made (item.Fact (fact.Dropped x m))) = is_same x who
 is_fit c who (made (item.Post p)) = is_own_post c who (item.Post p)
 is_fit c who (viewed xs) = list_all (is_node c) xs
 is_fit c who (registered_with x) = is_node c x
@@ -100,6 +102,22 @@ fit_free c who (made (item.Fact (fact.Kept x m))) h = refl
 fit_free c who (made (item.Fact (fact.Dropped x m))) h = refl
 fit_free c who (made (item.Fact f)) h = absurd (true_is_not_false (sym h))
 fit_free c who m h = refl
+
+fit_fact : (c : Script) (who : Incarnation) (f : Fact) → is_fit c who (made (item.Fact f)) ≡ true → is_region_fact who f ≡ true
+fit_fact c who (fact.View x v) h = h
+fit_fact c who (fact.Home x s y) h = (and_both (is_same x who) (is_node c y) h).0
+fit_fact c who (fact.Forget x s) h = h
+fit_fact c who (fact.Kept x m) h = (and_both (is_same x who) (is_genuine c m) h).0
+fit_fact c who (fact.Dropped x m) h = h
+fit_fact c who f h = absurd (true_is_not_false (sym h))
+
+fit_facts : (c : Script) (who : Incarnation) (ms : List Move) → list_all (is_fit c who) ms ≡ true → list_all (is_region_fact who) (facts_of ms) ≡ true
+fit_facts c who [] h = refl
+fit_facts c who (made (item.Fact f) ∷ ms) h =
+    let n : (is_fit c who (made (item.Fact f)) ≡ true) × (list_all (is_fit c who) ms ≡ true) = and_both (is_fit c who (made (item.Fact f))) (list_all (is_fit c who) ms) h in
+    both (is_region_fact who f) (list_all (is_region_fact who) (facts_of ms)) (fit_fact c who f n.0) (fit_facts c who ms n.1)
+fit_facts c who (made (item.Post p) ∷ ms) h = fit_facts c who ms (and_both (is_own_post c who (item.Post p)) (list_all (is_fit c who) ms) h).1
+fit_facts c who (m ∷ ms) h = fit_facts c who ms (and_both (is_fit c who m) (list_all (is_fit c who) ms) h).1
 
 homes_written : (c : Script) (homes : List (Option Incarnation)) (t : ℕ) (v : Option Incarnation) → ((h : Incarnation) → v ≡ Some h → is_node c h ≡ true)
     → ((s : ℕ) (h : Incarnation) → slice_index_or homes s None ≡ Some h → is_node c h ≡ true)
@@ -147,7 +165,7 @@ one_stands c st (made (item.Fact (fact.Home x t y))) h r = record {
   set_is = r.set_is;
   view_is = r.view_is;
   registered_is = r.registered_is;
-  homes_are = homes_written c st.homes t (Some y) (λ z e. ap (is_node c) (sym (some_is y z e)) ∙ h) r.homes_are;
+  homes_are = homes_written c st.homes t (Some y) (λ z e. ap (is_node c) (sym (some_is y z e)) ∙ (and_both (is_same x st.who) (is_node c y) h).1) r.homes_are;
   kept_are = r.kept_are;
   homes_full = length-set st.homes t (Some y) ∙ r.homes_full;
   marks_full = r.marks_full;
@@ -172,7 +190,7 @@ one_stands c st (made (item.Fact (fact.Kept x m))) h r = record {
   view_is = r.view_is;
   registered_is = r.registered_is;
   homes_are = r.homes_are;
-  kept_are = kept_more c st.set st.kept m h r.kept_are;
+  kept_are = kept_more c st.set st.kept m (and_both (is_same x st.who) (is_genuine c m) h).1 r.kept_are;
   homes_full = r.homes_full;
   marks_full = r.marks_full;
   asked_full = r.asked_full;
@@ -280,6 +298,7 @@ kept_by_fit c st ms r h = record {
   stands = all_stand c st ms h r;
   posts_are = all_map (is_fit c st.who) (is_own_move c st.who) (fit_own c st.who) ms h;
   free_are = all_map (is_fit c st.who) is_free_move (fit_free c st.who) ms h;
+  facts_are = fit_facts c st.who ms h;
 }
 
 who_stays : (st : Region) (ms : List Move) → (fold region_after st ms).who ≡ st.who
@@ -291,6 +310,7 @@ region_joins c st xs ys f g = record {
   stands = subst (IsRegion c) (sym (fold-append region_after st xs ys)) g.stands;
   posts_are = all_join (is_own_move c st.who) xs ys f.posts_are (subst (λ w. list_all (is_own_move c w) ys ≡ true) (who_stays st xs) g.posts_are);
   free_are = all_join is_free_move xs ys f.free_are g.free_are;
+  facts_are = ap (list_all (is_region_fact st.who)) (facts_both xs ys) ∙ all_join (is_region_fact st.who) (facts_of xs) (facts_of ys) f.facts_are (subst (λ w. list_all (is_region_fact w) (facts_of ys) ≡ true) (who_stays st xs) g.facts_are);
 }
 
 -- Rules.
@@ -311,7 +331,7 @@ fit_register c st r = all_where_some (is_fit c st.who) (λ x. if is_at x st.regi
     (fit_post c st.who x body.Register r.who_is (of_first (is_node c) st.view x r.view_is e) refl))
 
 fit_forget : (c : Script) (s : ℕ) (st : Region) → AreFit c st.who (region.forget s st)
-fit_forget c s st = all_if (is_fit c st.who) (is_none (region.home st s)) [] (told (fact.Forget st.who s) ∷ []) refl refl
+fit_forget c s st = all_if (is_fit c st.who) (is_none (region.home st s)) [] (told (fact.Forget st.who s) ∷ []) refl (both (is_same st.who st.who) true (itself_is st.who st.who refl) refl)
 
 fit_lost : (c : Script) (xs : List Incarnation) (st : Region) (s : ℕ) → AreFit c st.who (region.forget_lost xs st s)
 fit_lost c xs st s = all_where_some (is_fit c st.who) (λ h. if is_among h xs then [] else region.forget s st) (region.home st s)
@@ -324,11 +344,13 @@ all_none_wrong (x ∷ xs) = all_none_wrong xs
 fit_view : (c : Script) (v : ℕ) (xs : List Incarnation) (st : Region) → list_all (is_node c) xs ≡ true → AreFit c st.who (region.take_view v xs st)
 fit_view c v xs st nodes =
     let lost : List Move = flat_map (region.forget_lost xs st) (shards st.set) in
-    both (list_all (is_node c) xs) (list_all (is_fit c st.who) lost) nodes
-    (all_each_of (is_fit c st.who) (λ s. true) (region.forget_lost xs st) (shards st.set) (all_none_wrong (shards st.set)) (λ s e. fit_lost c xs st s))
+    both (list_all (is_node c) xs) (is_same st.who st.who && list_all (is_fit c st.who) lost) nodes
+    (both (is_same st.who st.who) (list_all (is_fit c st.who) lost) (itself_is st.who st.who refl)
+    (all_each_of (is_fit c st.who) (λ s. true) (region.forget_lost xs st) (shards st.set) (all_none_wrong (shards st.set)) (λ s e. fit_lost c xs st s)))
 
 fit_learn : (c : Script) (s : ℕ) (h : Incarnation) (stamp : Stamp) (st : Region) → is_node c h ≡ true → AreFit c st.who (region.learn s h stamp st)
-fit_learn c s h stamp st node = all_if (is_fit c st.who) (is_at h (region.home st s)) [] (told (fact.Home st.who s h) ∷ []) refl (both (is_node c h) true node refl)
+fit_learn c s h stamp st node = all_if (is_fit c st.who) (is_at h (region.home st s)) [] (told (fact.Home st.who s h) ∷ []) refl
+    (both (is_same st.who st.who && is_node c h) true (both (is_same st.who st.who) (is_node c h) (itself_is st.who st.who refl) node) refl)
 
 fit_hand_off : (c : Script) (s : ℕ) (stamp : Stamp) (from : Incarnation) (st : Region) → IsRegion c st → is_shard c s ≡ true → is_node c from ≡ true → AreFit c st.who (region.begin_hand_off s stamp from st)
 fit_hand_off c s stamp from st r shard node =
@@ -340,7 +362,9 @@ fit_hand_off c s stamp from st r shard node =
     (fit_post c st.who from (body.BeginHandOffAck s stamp) r.who_is node shard))
 
 fit_keep : (c : Script) (m : Message) (st : Region) → is_genuine c m ≡ true → AreFit c st.who (region.keep m st)
-fit_keep c m st genuine = all_if (is_fit c st.who) (nat_lt (sum_by length st.kept) st.set.config.buffer) (told (fact.Kept st.who m) ∷ []) (told (fact.Dropped st.who m) ∷ []) (both (is_genuine c m) true genuine refl) refl
+fit_keep c m st genuine = all_if (is_fit c st.who) (nat_lt (sum_by length st.kept) st.set.config.buffer) (told (fact.Kept st.who m) ∷ []) (told (fact.Dropped st.who m) ∷ [])
+    (both (is_same st.who st.who && is_genuine c m) true (both (is_same st.who st.who) (is_genuine c m) (itself_is st.who st.who refl) genuine) refl)
+    (both (is_same st.who st.who) true (itself_is st.who st.who refl) refl)
 
 fit_ask : (c : Script) (s : ℕ) (st : Region) → IsRegion c st → is_shard c s ≡ true → AreFit c st.who (region.ask s st)
 fit_ask c s st r shard = all_if (is_fit c st.who) (slice_index_or st.asked s false) [] (region.post_oldest (body.GetShardHome s) st) refl (fit_oldest c st (body.GetShardHome s) r shard)

@@ -64,7 +64,7 @@ found_then c s list st xs ys f g =
 
 -- another node holds it
 held_keeps : (c : Script) (st : Entities) (s : ℕ) (list : List Fact) (n : ℕ) → IsEntities c st → KeepsFound c s list st (told (fact.Held (slot.Shard s) st.who n) ∷ [])
-held_keeps c st s list n is = record { stands = is; posts_are = refl; facts_are = refl; held_are = λ h i found. refl; guarded_are = λ v h i found. refl; goes_along = λ h i found. i }
+held_keeps c st s list n is = record { stands = is; posts_are = refl; facts_are = both (is_same st.who st.who) true (itself_is st.who st.who refl) refl; held_are = λ h i found. refl; guarded_are = λ v h i found. refl; goes_along = λ h i found. i }
 
 -- it is granted, and its store is taken
 granted_keeps : (c : Script) (st : Entities) (s : ℕ) (list : List Fact) → IsEntities c st → is_shard c s ≡ true → own c (slot.Shard s) list ≡ true → holder list ≡ None

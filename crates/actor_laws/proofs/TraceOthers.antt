@@ -14,7 +14,7 @@ use Rattle.yard_model.specs.Genuine.{is_slot_of}
 use Rattle.yard_model.specs.Lawful.{is_held, is_leased, is_entry, may_follow}
 use Rattle.yard_model.specs.Node.{Node}
 use Rattle.yard_model.specs.Safe.{own_guard, guard, cross_guard, guarded}
-use Rattle.yard_model.specs.Script.{Script, setting}
+use Rattle.yard_model.specs.Script.{Script, Setting, setting}
 use Rattle.yard_model.specs.SlotLists.{SlotLists, shard_list, queue_list}
 use Rattle.yard_model.specs.SlotReads.{holder, epoch}
 use Rattle.yard_model.specs.Trace.{slot_of, list_at, with_entry, lists_step, no_lists, lists_of}
@@ -30,7 +30,7 @@ use Rattle.world_laws.proofs.Members.{same_is, itself_is}
 use Rattle.world_laws.proofs.Place.{by_place}
 use Rattle.actor_laws.specs.CoordinatorStands.{IsSound}
 use Rattle.actor_laws.specs.EntitiesStand.{IsEntities, IsHeldShard}
-use Rattle.actor_laws.specs.Held.{is_grant, is_slot_held, held_in_hand}
+use Rattle.actor_laws.specs.Held.{slot_told, is_grant, is_slot_held, held_in_hand}
 use Rattle.actor_laws.specs.NodeStands.{is_own_fact, IsProducerAt, IsCoordinatorAt, IsSoundNode}
 use Rattle.actor_laws.specs.Traces.{IsHandOf, GoesOn, HasInHand, OthersHold}
 use Rattle.actor_laws.proofs.TraceLaws.{vouched_on, hand_is_guarded}
@@ -141,16 +141,21 @@ one_held c trace who h f st g after_it guards i starts holds is other has = reco
 
 -- All of them.
 
+-- so is the slot of an entry held
+entry_held : (set : Setting) (who : Incarnation) (h : Hand) (f : Fact) → (is_grant f || is_slot_held who h (slot_told set f)) ≡ true → (is_grant f || is_slot_held who h (slot_of set f)) ≡ true
+entry_held set who h (fact.Moving s stamp) k = refl
+entry_held set who h f k = k
+
 pub others_hold : OthersHold
 others_hold c trace who vouches h [] st g safe v i guards own holds is other has = subst (λ t. HasInHand c t st (record { lists = lists_of (setting c) t; live = g.live })) (sym (append-nil trace))
     (subst (λ l. HasInHand c trace st (record { lists = l; live = g.live })) has.of_trace.lists_are has)
 others_hold c trace who vouches h (f ∷ fs) st g safe v i guards own holds is other has =
     let m : (guard_in_hand c vouches who h f ≡ true) × (guarded_in_hand c vouches who (hand_after c h f) fs ≡ true) = and_both (guard_in_hand c vouches who h f) (guarded_in_hand c vouches who (hand_after c h f) fs) guards in
     let o : (is_own_fact who f ≡ true) × (list_all (is_own_fact who) fs ≡ true) = and_both (is_own_fact who f) (list_all (is_own_fact who) fs) own in
-    let k : ((is_grant f || is_slot_held who h (slot_of (setting c) f)) ≡ true) × (held_in_hand c who (hand_after c h f) fs ≡ true) = and_both (is_grant f || is_slot_held who h (slot_of (setting c) f)) (held_in_hand c who (hand_after c h f) fs) holds in
+    let k : ((is_grant f || is_slot_held who h (slot_told (setting c) f)) ≡ true) × (held_in_hand c who (hand_after c h f) fs ≡ true) = and_both (is_grant f || is_slot_held who h (slot_told (setting c) f)) (held_in_hand c who (hand_after c h f) fs) holds in
     let one : GoesOn c trace who h (f ∷ []) = hand_is_guarded c trace who vouches h (f ∷ []) safe v i (both (guard_in_hand c vouches who h f) true m.0 refl) (both (is_own_fact who f) true o.0 refl) in
     let guard_is : guard c trace f ≡ true = (and_both (guarded c trace) (guard c trace f) (sym (follows_more (guard c) [] trace f) ∙ one.guarded_are)).1 in
     let new : Hand = record { lists = lists_of (setting c) (trace ++ f ∷ []); live = g.live } in
-    let kept : HasInHand c (trace ++ f ∷ []) st new = one_held c trace who h f st g one.guarded_are guard_is i (starter_is st.who who f o.0 other) k.0 is other has in
+    let kept : HasInHand c (trace ++ f ∷ []) st new = one_held c trace who h f st g one.guarded_are guard_is i (starter_is st.who who f o.0 other) (entry_held (setting c) who h f k.0) is other has in
     subst (λ t. HasInHand c t st (record { lists = lists_of (setting c) t; live = g.live })) (append_assoc trace (f ∷ []) fs)
     (others_hold c (trace ++ f ∷ []) who vouches (hand_after c h f) fs st new one.guarded_are (vouched_on c trace f vouches v) one.in_hand m.1 o.1 k.1 is other kept)

@@ -31,7 +31,7 @@ use Rattle.actor_laws.proofs.TraceOthers.{longer}
 more_of : (q : Record → Bool) (xs : List Record) (x : Record) → count_by q xs ≤ count_by q (xs ++ x ∷ [])
 more_of q xs x = let same : count_by q (xs ++ x ∷ []) ≡ count_by q xs + (if q x then 1 else 0) = fold-append (λ a y. a + (if q y then 1 else 0)) 0 xs (x ∷ []) in omega (arith, same)
 
-same_at_most : (a : ℕ) → a ≤ a
+pub same_at_most : (a : ℕ) → a ≤ a
 same_at_most a = omega (arith)
 
 step_rises : (p : ℕ) (e : List ℕ) (old : List Record) (f : Fact) → position p old ≤ position p (journal_step e old f)
@@ -42,7 +42,7 @@ step_rises p e old (fact.Wrote x r) = by (is_name x e)
     by false = same_at_most (position p old)
 step_rises p e old f = same_at_most (position p old)
 
-entry_rises : (p : ℕ) (e : List ℕ) (list : List Fact) (f : Fact) → position p (journal e list) ≤ position p (journal e (list ++ f ∷ []))
+pub entry_rises : (p : ℕ) (e : List ℕ) (list : List Fact) (f : Fact) → position p (journal e list) ≤ position p (journal e (list ++ f ∷ []))
 entry_rises p e list f = subst (λ l. position p (journal e list) ≤ position p l) (sym (fold-append (journal_step e) [] list (f ∷ []))) (step_rises p e (journal e list) f)
 
 -- A fact more.
@@ -80,7 +80,7 @@ all_rise c trace (f ∷ fs) p e g =
     let rest : position p (journal e (shard_list_of c e (trace ++ f ∷ []))) ≤ position p (journal e (shard_list_of c e (trace ++ (f ∷ fs)))) = subst (λ t. position p (journal e (shard_list_of c e (trace ++ f ∷ []))) ≤ position p (journal e (shard_list_of c e t))) (append_assoc trace (f ∷ []) fs) (all_rise c (trace ++ f ∷ []) fs p e h) in
     omega (arith, one, rest)
 
-at_most_more : (n a b : ℕ) → a ≤ b → nat_le n a ≡ true → nat_le n b ≡ true
+pub at_most_more : (n a b : ℕ) → a ≤ b → nat_le n a ≡ true → nat_le n b ≡ true
 at_most_more n a b rise e = grind (arith, nat_tests)
 
 pub recorded_stays : RecordedStays

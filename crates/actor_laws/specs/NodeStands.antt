@@ -52,12 +52,20 @@ pub record NodeInHand (c : Script) (h : Hand) (st : Node) : Type 0 where
   pub producers : (p : ℕ) (k : Producer) → 0 < p → at st.producers (p - 1) ≡ Some k → queue_list h.lists p ≡ k.entries
   pub coordinator : IfSome st.coordinator (λ k. h.lists.coordinator ≡ k.entries)
 
--- what a fact tells of the incarnation at which entities are live, or which is granted a slot, it tells of this one
+-- where a fact tells of the incarnation that does something, it tells of this one; and none tells that one is up or gone
 abbrev pub is_own_fact : Incarnation → Fact → Bool
+is_own_fact who (fact.Up x) = false
+is_own_fact who (fact.Gone x) = false
+is_own_fact who (fact.View x v) = is_same x who
+is_own_fact who (fact.Home x s k) = is_same x who
+is_own_fact who (fact.Forget x s) = is_same x who
+is_own_fact who (fact.Kept x m) = is_same x who
+is_own_fact who (fact.Dropped x m) = is_same x who
+is_own_fact who (fact.Stashed x m) = is_same x who
+is_own_fact who (fact.Held s x n) = is_same x who
 is_own_fact who (fact.Start x e) = is_same x who
 is_own_fact who (fact.Active x e n s) = is_same x who
 is_own_fact who (fact.Stop x e) = is_same x who
 is_own_fact who (fact.WriteFailed x e) = is_same x who
 is_own_fact who (fact.Granted s n x) = is_same x who
-is_own_fact who (fact.Gone x) = false
 is_own_fact who f = true

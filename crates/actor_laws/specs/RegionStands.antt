@@ -1,6 +1,8 @@
--- What stands of a region between its rules, and that each rule keeps it, posts only its own and tells only free facts.
-use Rattle.std.specs.Prelude.{◌≡◌, ℕ, Bool, true, ◌==◌, ◌&&◌, List, [], ◌∷◌, ◌++◌, length, fold, Some, IfSome, IsTrue}
+-- What stands of a region between its rules, and that each rule keeps it, posts only its own and tells only free facts of its own.
+use Rattle.std.specs.Prelude.{◌≡◌, ℕ, Bool, true, false, ◌==◌, ◌&&◌, List, [], ◌∷◌, ◌++◌, length, fold, Some, IfSome, IsTrue}
 use Rattle.std.specs.List.{list_all, slice_get}
+use Rattle.yard_model.specs.declared.fact.Fact.{Fact}
+use Rattle.yard_model.specs.declared.fact.Fact.TheVariants as fact
 use Rattle.yard_model.specs.declared.incarnation.Incarnation.{Incarnation}
 use Rattle.yard_model.specs.declared.incarnation.Stamp.{Stamp}
 use Rattle.yard_model.specs.declared.packet.Body.{Body}
@@ -11,8 +13,9 @@ use Rattle.yard_model.specs.Region as region
 use Rattle.yard_model.specs.Region.{Region, region_after}
 use Rattle.yard_model.specs.Script.{Script, Setting, IsScript, setting}
 use Rattle.yard_model.specs.Setting.{shard_of}
+use Rattle.yard_model.specs.Words.{is_same}
 use Rattle.yard_laws.specs.Free.{is_free_move}
-use Rattle.actor_laws.specs.Moves.{is_own_move}
+use Rattle.actor_laws.specs.Moves.{is_own_move, facts_of}
 
 -- a genuine message of this shard
 abbrev pub is_kept_well : Script → Setting → ℕ → Message → Bool
@@ -34,11 +37,21 @@ pub record IsRegion (c : Script) (st : Region) : Type 0 where
   pub asked_full : length st.asked ≡ c.config.shards
   pub kept_full : length st.kept ≡ c.config.shards
 
--- after these moves it stands, and they post only what is its own and tell only free facts
+-- the facts that a region tells: of its own incarnation
+abbrev pub is_region_fact : Incarnation → Fact → Bool
+is_region_fact who (fact.View x v) = is_same x who
+is_region_fact who (fact.Home x s h) = is_same x who
+is_region_fact who (fact.Forget x s) = is_same x who
+is_region_fact who (fact.Kept x m) = is_same x who
+is_region_fact who (fact.Dropped x m) = is_same x who
+is_region_fact who f = false
+
+-- after these moves it stands, and they post only what is its own and tell only free facts, of its own incarnation
 pub record Keeps (c : Script) (st : Region) (ms : List Move) : Type 0 where
   pub stands : IsRegion c (fold region_after st ms)
   pub posts_are : IsTrue (list_all (is_own_move c st.who) ms)
   pub free_are : IsTrue (list_all is_free_move ms)
+  pub facts_are : list_all (is_region_fact st.who) (facts_of ms) ≡ true
 
 -- its rules, each under what its input promises
 pub record Rules (c : Script) (st : Region) : Type 0 where

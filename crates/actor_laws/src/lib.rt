@@ -5,6 +5,7 @@
 //! their trace guarded. Each law is a function that does nothing, whose contract is the law.
 #![tactic(auto)]
 
+pub mod carried;
 pub mod cluster;
 pub mod coordinator;
 pub mod entities;

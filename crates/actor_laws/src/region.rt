@@ -2,7 +2,8 @@
 ghost use Rattle.actor_laws.specs.RegionStands.{RegionKeeps, RegionJoins, RegionBegins, ShardsAreThere};
 
 /// Each rule of a region that stands leads to one that stands, whatever the other actors do; what it
-/// posts comes from its node and is made of the script, and its facts are free.
+/// posts comes from its node and is made of the script, and its facts are free and tell of its own
+/// incarnation.
 pub fn region_keeps()
     ensures { RegionKeeps }
 {

@@ -1,0 +1,197 @@
+-- The world along the items of one turn: its lists go on with the facts, its wire with the packets.
+use Rattle.std.proofs.Common.{◌≡◌, ◌⊎◌, inl, inr, ℕ, zero, suc, ◌+◌, List, [], ◌∷◌, ◌++◌, length, sym, ap, subst, ◌∙◌, refl, true, false, true≢false}
+use Rattle.std.specs.Prelude.{Bool, ◌&&◌, nat_lt, not, fold, Option, Some, if◌then◌else◌}
+use Rattle.std.specs.List.{list_all, slice_get}
+use Rattle.std.proofs.lemmas.List.{append-nil, append_assoc}
+use Rattle.std.proofs.lemmas.List.Sums.{fold-append}
+use Rattle.yard_model.specs.declared.fact.Fact.{Fact}
+use Rattle.yard_model.specs.declared.fact.Fact.TheVariants as fact
+use Rattle.yard_model.specs.declared.out.Item.{Item}
+use Rattle.yard_model.specs.declared.out.Item.TheVariants as item
+use Rattle.yard_model.specs.declared.packet.Body.{Body}
+use Rattle.yard_model.specs.declared.packet.Body.TheVariants as body
+use Rattle.yard_model.specs.declared.packet.Packet.{Packet}
+use Rattle.yard_model.specs.declared.incarnation.Incarnation.{Incarnation}
+use Rattle.yard_model.specs.declared.charter.Sending.{Sending}
+use Rattle.yard_model.specs.Genuine.{is_genuine_packet}
+use Rattle.yard_model.specs.Node.{Node}
+use Rattle.yard_model.specs.Safe.{guard, guarded}
+use Rattle.yard_model.specs.Script.{Script, Setting, setting}
+use Rattle.yard_model.specs.SlotLists.{SlotLists}
+use Rattle.yard_model.specs.Trace.{lists_step, lists_of}
+use Rattle.yard_model.specs.Words.{is_same}
+use Rattle.yard_model.specs.World.{World, world_after, members_step, ups_step, wire_step, nodes_step, numbered, count_posts, input_facts}
+use Rattle.yard_model.proofs.FollowLaws.{follows_more}
+use Rattle.yard_laws.proofs.Booleans.{and_both}
+use Rattle.yard_laws.proofs.Before.{guarded_before}
+use Rattle.yard_laws.proofs.Owns.{lists_more}
+use Rattle.world_laws.specs.Owes.{Hand, facts_in, hand_after, is_own_post}
+use Rattle.world_laws.specs.Standing.{is_different_body}
+use Rattle.world_laws.proofs.Place.{none_is_not_some, some_is}
+use Rattle.actor_laws.specs.Carried.{is_view, is_carried_body, is_carried_fact, carried_in_hand}
+use Rattle.play_laws.specs.Sound.{IsWell, AreQueued}
+use Rattle.play_laws.proofs.Queued.{all_carried_on, fact_queued}
+
+-- Words that a fact leaves.
+
+-- no node comes up or is gone by it, and no packet is sent
+abbrev pub is_still : Fact → Bool
+is_still (fact.Up x) = false
+is_still (fact.Gone x) = false
+is_still (fact.Sent k p) = false
+is_still f = true
+
+pub members_still : (old : List Incarnation) (f : Fact) → is_still f ≡ true → members_step old f ≡ old
+members_still old (fact.Up x) h = absurd (true≢false (sym h))
+members_still old (fact.Gone x) h = absurd (true≢false (sym h))
+members_still old f h = refl
+
+pub ups_still : (old : List ℕ) (f : Fact) → is_still f ≡ true → ups_step old f ≡ old
+ups_still old (fact.Up x) h = absurd (true≢false (sym h))
+ups_still old f h = refl
+
+pub nodes_still : (set : Setting) (old : List (Option Node)) (f : Fact) → is_still f ≡ true → nodes_step set old f ≡ old
+nodes_still set old (fact.Up x) h = absurd (true≢false (sym h))
+nodes_still set old (fact.Gone x) h = absurd (true≢false (sym h))
+nodes_still set old f h = refl
+
+pub wire_still : (old : List Packet) (f : Fact) → is_still f ≡ true → wire_step old f ≡ old
+wire_still old (fact.Sent k p) h = absurd (true≢false (sym h))
+wire_still old f h = refl
+
+-- The wire.
+
+abbrev pub AreWell : Script → SlotLists → List Packet → Type 0
+AreWell c lists wire = (j : ℕ) (p : Packet) → slice_get wire j ≡ Some p → IsWell c lists p
+
+last_or_before : (wire : List Packet) (p q : Packet) (j : ℕ) → slice_get (wire ++ p ∷ []) j ≡ Some q → (slice_get wire j ≡ Some q) ⊎ (p ≡ q)
+last_or_before [] p q zero e = inr (some_is p q e)
+last_or_before [] p q (suc j) e = absurd (none_is_not_some q e)
+last_or_before (x ∷ xs) p q zero e = inl e
+last_or_before (x ∷ xs) p q (suc j) e = last_or_before xs p q j e
+
+pub well_more : (c : Script) (lists : SlotLists) (wire : List Packet) (p : Packet) → IsWell c lists p → AreWell c lists wire → AreWell c lists (wire ++ p ∷ [])
+well_more c lists wire p one all j q e = by (last_or_before wire p q j e)
+  where
+    by : (slice_get wire j ≡ Some q) ⊎ (p ≡ q) → IsWell c lists q
+    by (inl before) = all j q before
+    by (inr same) = subst (IsWell c lists) same one
+
+-- with the lists after more facts
+pub well_on : (c : Script) (lists : SlotLists) (fs : List Fact) (wire : List Packet) → AreWell c lists wire → AreWell c (fold (lists_step (setting c)) lists fs) wire
+well_on c lists fs wire all j p e =
+    let one : IsWell c lists p = all j p e in
+    record { genuine = one.genuine; different = one.different; carried = all_carried_on c fs lists p.body one.carried }
+
+-- Along.
+
+-- the world after the items: these words are as they were, and the lists are these
+pub record Went (c : Script) (set : Setting) (sends : List (List Sending)) (ups : List ℕ) (members : List Incarnation) (nodes : List (Option Node)) (lists : SlotLists) (v : World) : Type 0 where
+  pub set_is : v.set ≡ set
+  pub sends_are : v.sends ≡ sends
+  pub ups_are : v.ups ≡ ups
+  pub members_are : v.members ≡ members
+  pub nodes_are : v.nodes ≡ nodes
+  pub lists_are : v.lists ≡ lists
+  pub queued_are : AreQueued c lists
+  pub wire_is : AreWell c lists v.wire
+
+abbrev pub WentOn : Script → World → SlotLists → World → Type 0
+WentOn c w lists v = Went c w.set w.sends w.ups w.members w.nodes lists v
+
+no_view : (b : Body) → not (is_view b) ≡ true → is_different_body b ≡ true
+no_view (body.View v xs) h = absurd (true≢false (sym h))
+no_view b h = refl
+
+pub went_items : (c : Script) (who : Incarnation) (limit k : ℕ) (is : List Item) (u : List Fact) (h : Hand) (w : World) → h.lists ≡ lists_of (setting c) u → w.set ≡ setting c → w.lists ≡ lists_of (setting c) u
+    → guarded c (u ++ facts_in is) ≡ true → list_all (is_own_post c who) is ≡ true → list_all is_still (facts_in is) ≡ true → carried_in_hand c h is ≡ true
+    → AreQueued c (lists_of (setting c) u) → AreWell c (lists_of (setting c) u) w.wire
+    → WentOn c w (lists_of (setting c) (u ++ facts_in is)) (fold world_after w (numbered limit k is))
+went_items c who limit k [] u h w hand set_is lists_are g posts still carried q wire = subst (λ t. WentOn c w (lists_of (setting c) t) w) (sym (append-nil u)) (record {
+  set_is = refl;
+  sends_are = refl;
+  ups_are = refl;
+  members_are = refl;
+  nodes_are = refl;
+  lists_are = lists_are;
+  queued_are = q;
+  wire_is = wire;
+})
+went_items c who limit k (item.Post p ∷ is) u h w hand set_is lists_are g posts still carried q wire =
+    by (nat_lt k limit) (λ v s l r. went_items c who limit (k + 1) is u h v hand s l g (and_both (is_own_post c who (item.Post p)) (list_all (is_own_post c who) is) posts).1 still m.1 q r)
+  where
+    m : ((not (is_view p.body) && is_carried_body c h.lists p.body) ≡ true) × (carried_in_hand c h is ≡ true)
+    m = and_both (not (is_view p.body) && is_carried_body c h.lists p.body) (carried_in_hand c h is) carried
+
+    n : (not (is_view p.body) ≡ true) × (is_carried_body c h.lists p.body ≡ true)
+    n = and_both (not (is_view p.body)) (is_carried_body c h.lists p.body) m.0
+
+    well : IsWell c (lists_of (setting c) u) p
+    well = record {
+      genuine = (and_both (is_same p.from who) (is_genuine_packet c p) (and_both (is_own_post c who (item.Post p)) (list_all (is_own_post c who) is) posts).0).1;
+      different = no_view p.body n.0;
+      carried = subst (λ l. is_carried_body c l p.body ≡ true) hand n.1;
+    }
+
+    more : List Fact
+    more = numbered limit (k + 1) is
+
+    lists : SlotLists
+    lists = lists_of (setting c) (u ++ facts_in is)
+
+    by : (b : Bool) → ((v : World) → v.set ≡ setting c → v.lists ≡ lists_of (setting c) u → AreWell c (lists_of (setting c) u) v.wire → WentOn c v lists (fold world_after v more))
+        → WentOn c w lists (fold world_after w ((if b then fact.Sent (k + 1) p ∷ [] else []) ++ more))
+    by true rest = rest (world_after w (fact.Sent (k + 1) p)) set_is lists_are (well_more c (lists_of (setting c) u) w.wire p well wire)
+    by false rest = rest w set_is lists_are wire
+went_items c who limit k (item.Fact f ∷ is) u h w hand set_is lists_are g posts still carried q wire =
+    let m : (is_carried_fact h.lists f ≡ true) × (carried_in_hand c (hand_after c h f) is ≡ true) = and_both (is_carried_fact h.lists f) (carried_in_hand c (hand_after c h f) is) carried in
+    let s : (is_still f ≡ true) × (list_all is_still (facts_in is) ≡ true) = and_both (is_still f) (list_all is_still (facts_in is)) still in
+    let longer : (u ++ f ∷ []) ++ facts_in is ≡ u ++ (f ∷ facts_in is) = append_assoc u (f ∷ []) (facts_in is) in
+    let all : guarded c ((u ++ f ∷ []) ++ facts_in is) ≡ true = ap (guarded c) longer ∙ g in
+    let one : (guarded c u ≡ true) × (guard c u f ≡ true) = and_both (guarded c u) (guard c u f) (sym (follows_more (guard c) [] u f) ∙ guarded_before c (u ++ f ∷ []) (facts_in is) all) in
+    let next : lists_step (setting c) (lists_of (setting c) u) f ≡ lists_of (setting c) (u ++ f ∷ []) = sym (lists_more c u f) in
+    let rest : WentOn c (world_after w f) (lists_of (setting c) ((u ++ f ∷ []) ++ facts_in is)) (fold world_after (world_after w f) (numbered limit k is)) =
+    went_items c who limit k is (u ++ f ∷ []) (hand_after c h f) (world_after w f) (ap (λ l. lists_step (setting c) l f) hand ∙ next) set_is
+    (ap (λ t. lists_step t w.lists f) set_is ∙ (ap (λ l. lists_step (setting c) l f) lists_are ∙ next)) all
+    posts s.1 m.1 (fact_queued c u f one.1 (subst (λ l. is_carried_fact l f ≡ true) hand m.0) q)
+    (subst (AreWell c (lists_of (setting c) (u ++ f ∷ []))) (sym (wire_still w.wire f s.0)) (subst (λ l. AreWell c l w.wire) next (well_on c (lists_of (setting c) u) (f ∷ []) w.wire wire))) in
+    subst (λ t. WentOn c w (lists_of (setting c) t) (fold world_after (world_after w f) (numbered limit k is))) longer (record {
+      set_is = rest.set_is;
+      sends_are = rest.sends_are;
+      ups_are = rest.ups_are ∙ ups_still w.ups f s.0;
+      members_are = rest.members_are ∙ members_still w.members f s.0;
+      nodes_are = rest.nodes_are ∙ nodes_still w.set w.nodes f s.0;
+      lists_are = rest.lists_are;
+      queued_are = rest.queued_are;
+      wire_is = rest.wire_is;
+    })
+
+pub went_input : (c : Script) (who : Incarnation) (is : List Item) (u : List Fact) (h : Hand) (w : World) → h.lists ≡ lists_of (setting c) u → w.set ≡ setting c → w.lists ≡ lists_of (setting c) u
+    → guarded c (u ++ facts_in is) ≡ true → list_all (is_own_post c who) is ≡ true → list_all is_still (facts_in is) ≡ true → carried_in_hand c h is ≡ true
+    → AreQueued c (lists_of (setting c) u) → AreWell c (lists_of (setting c) u) w.wire
+    → WentOn c w (lists_of (setting c) (u ++ facts_in is)) (fold world_after w (input_facts w is))
+went_input c who is u h w hand set_is lists_are g posts still carried q wire =
+    subst (WentOn c w (lists_of (setting c) (u ++ facts_in is))) (sym (fold-append world_after w fs (full b)))
+    (last b (went_items c who w.limit (length w.wire) is u h w hand set_is lists_are g posts still carried q wire))
+  where
+    fs : List Fact
+    fs = numbered w.limit (length w.wire) is
+
+    b : Bool
+    b = nat_lt w.limit (fold count_posts (length w.wire) is)
+
+    full : Bool → List Fact
+    full b = if b then fact.WireFull ∷ [] else []
+
+    last : (b : Bool) → let v : World = fold world_after w fs in WentOn c w (lists_of (setting c) (u ++ facts_in is)) v → WentOn c w (lists_of (setting c) (u ++ facts_in is)) (fold world_after v (full b))
+    last true m = record {
+      set_is = m.set_is;
+      sends_are = m.sends_are;
+      ups_are = m.ups_are;
+      members_are = m.members_are;
+      nodes_are = m.nodes_are;
+      lists_are = m.lists_are;
+      queued_are = m.queued_are;
+      wire_is = m.wire_is;
+    }
+    last false m = m

@@ -120,7 +120,7 @@ pub record Along (orders : List Line) (views : List (List Incarnation)) (who : I
   pub placed : (j : ℕ) (x : Node) → at w.nodes j ≡ Some x → x.who.node ≡ j + 1
   pub knows : KnowsViews views w
 
-along_by : (orders : List Line) (views : List (List Incarnation)) (who : Incarnation) (i : ℕ) (k : Known) (w : World) (st later : Node) (f : Fact) → IsPlain k f → Along orders views who i k w st
+pub along_by : (orders : List Line) (views : List (List Incarnation)) (who : Incarnation) (i : ℕ) (k : Known) (w : World) (st later : Node) (f : Fact) → IsPlain k f → Along orders views who i k w st
     → later.who ≡ st.who → know_node k f (actor k f) st ≡ later
     → ((j : ℕ) (x : Node) → j ≢ i → at w.nodes j ≡ Some x → know_node k f (actor k f) x ≡ x)
     → KnowsViews views (world_after w f)
@@ -158,7 +158,7 @@ along_shown orders views who i k w st f p a acts knows =
         same_place j e = omega (arith, e)
 
 -- nobody in particular told it
-along_free : (orders : List Line) (views : List (List Incarnation)) (who : Incarnation) (i : ℕ) (k : Known) (w : World) (st : Node) (f : Fact) → IsPlain k f → Along orders views who i k w st
+pub along_free : (orders : List Line) (views : List (List Incarnation)) (who : Incarnation) (i : ℕ) (k : Known) (w : World) (st : Node) (f : Fact) → IsPlain k f → Along orders views who i k w st
     → actor k f ≡ None → KnowsViews views (world_after w f)
     → Along orders views who i (know k f) (world_after w f) st
 along_free orders views who i k w st f p a none knows = along_by orders views who i k w st st f p a refl (know_none k f st none) (λ j x ne e. know_none k f x none) knows

@@ -54,7 +54,7 @@ pub record Agree (orders : List Line) (k : Known) (w : World) : Type 0 where
   pub knows : KnowsViews k.views w
 
 -- what a step tells keeps it so
-abbrev IsKnown : List Line → World → Made → Type 0
+abbrev pub IsKnown : List Line → World → Made → Type 0
 IsKnown orders w m = (k : Known) → Agree orders k w → Agree orders (fold know k m.facts) m.world
 
 -- A fact that shows nothing of any node.
@@ -64,10 +64,10 @@ map_same g [] h = refl
 map_same g (None ∷ xs) h = ap (λ l. None ∷ l) (map_same g xs (λ j. h (suc j)))
 map_same g (Some x ∷ xs) h = ap₂ (λ a l. Some a ∷ l) (h 0 x refl) (map_same g xs (λ j. h (suc j)))
 
-still_known : (k : Known) (f : Fact) → ((j : ℕ) (x : Node) → at k.world.nodes j ≡ Some x → know_node k f (actor k f) x ≡ x) → know_world k f ≡ k.world
+pub still_known : (k : Known) (f : Fact) → ((j : ℕ) (x : Node) → at k.world.nodes j ≡ Some x → know_node k f (actor k f) x ≡ x) → know_world k f ≡ k.world
 still_known k f h = ap (λ l. record k.world { nodes = l }) (map_same (know_node k f (actor k f)) k.world.nodes h)
 
-agree_still : (orders : List Line) (k : Known) (w : World) (f : Fact) → Agree orders k w → know_world k f ≡ k.world → ordered_by k f k.world ≡ k.world
+pub agree_still : (orders : List Line) (k : Known) (w : World) (f : Fact) → Agree orders k w → know_world k f ≡ k.world → ordered_by k f k.world ≡ k.world
     → KnowsViews (know k f).views (world_after w f) → Agree orders (know k f) (world_after w f)
 agree_still orders k w f a still ordered views = record {
   orders_are = a.orders_are;
@@ -75,7 +75,7 @@ agree_still orders k w f a still ordered views = record {
   knows = views;
 }
 
-nobody_acts : (k : Known) (f : Fact) → actor k f ≡ None → know_world k f ≡ k.world
+pub nobody_acts : (k : Known) (f : Fact) → actor k f ≡ None → know_world k f ≡ k.world
 nobody_acts k f e = still_known k f (λ j x h. know_none k f x e)
 
 -- Orders' lines.
@@ -113,7 +113,7 @@ line_known orders w n built k a =
     agree_still orders k w (fact.At n) a (nobody_acts k (fact.At n) (no_word (order_at k.orders n) k.world here)) (no_send (order_at k.orders n) k.world here)
     (record { count = a.knows.count; now = a.knows.now; posted = a.knows.posted })
 
-nothing_is_known : (orders : List Line) (w : World) → IsKnown orders w (world.nothing w)
+pub nothing_is_known : (orders : List Line) (w : World) → IsKnown orders w (world.nothing w)
 nothing_is_known orders w k a = agree_still orders k w fact.Nothing a (nobody_acts k fact.Nothing refl) refl (record { count = a.knows.count; now = a.knows.now; posted = a.knows.posted })
 
 -- Views.
@@ -137,7 +137,7 @@ length_more : {A : Type 0} (xs : List A) (x : A) → length (xs ++ x ∷ []) ≡
 length_more [] x = refl
 length_more (y ∷ ys) x = let e : length (ys ++ x ∷ []) ≡ length ys + 1 = length_more ys x in omega (arith, e)
 
-view_more : (views : List (List Incarnation)) (m : List Incarnation) (b : Body) → IsViewOf views b → IsViewOf (views ++ m ∷ []) b
+pub view_more : (views : List (List Incarnation)) (m : List Incarnation) (b : Body) → IsViewOf views b → IsViewOf (views ++ m ∷ []) b
 view_more views m (body.View v xs) h = (below v (length views) (length (views ++ m ∷ [])) h.0 (length_more views m), front views m v h.0 ∙ h.1)
   where
     below : (a b c : ℕ) → nat_lt a b ≡ true → c ≡ b + 1 → nat_lt a c ≡ true
@@ -145,21 +145,21 @@ view_more views m (body.View v xs) h = (below v (length views) (length (views ++
 view_more views m b h = tt
 
 -- a version more
-knows_more : (views : List (List Incarnation)) (w v : World) → KnowsViews views w → v.version ≡ w.version + 1 → v.wire ≡ w.wire → KnowsViews (views ++ v.members ∷ []) v
+pub knows_more : (views : List (List Incarnation)) (w v : World) → KnowsViews views w → v.version ≡ w.version + 1 → v.wire ≡ w.wire → KnowsViews (views ++ v.members ∷ []) v
 knows_more views w v h version wire = record {
   count = length_more views v.members ∙ (ap (λ n. n + 1) h.count ∙ ap (λ n. n + 1) (sym version));
   now = ap (λ n. slice_index_or (views ++ v.members ∷ []) n []) (version ∙ sym h.count) ∙ last views v.members;
   posted = λ j p e. view_more views v.members p.body (h.posted j p (ap (λ l. slice_get l j) (sym wire) ∙ e));
 }
 
-up_known : (orders : List Line) (w : World) (x : Incarnation) → IsKnown orders w (tell (fact.Up x ∷ []) w)
+pub up_known : (orders : List Line) (w : World) (x : Incarnation) → IsKnown orders w (tell (fact.Up x ∷ []) w)
 up_known orders w x k a =
     let f : Fact = fact.Up x in
     let same : world_after (know_world k f) f ≡ world_after w f = ap (λ v. world_after v f) (nobody_acts k f refl ∙ a.world_is) in
     agree_still orders k w f a (nobody_acts k f refl) refl
     (subst (λ ms. KnowsViews (k.views ++ ms ∷ []) (world_after w f)) (ap (λ v. v.members) (sym same)) (knows_more k.views w (world_after w f) a.knows refl refl))
 
-gone_known : (orders : List Line) (w : World) (x : Incarnation) → IsKnown orders w (tell (fact.Gone x ∷ []) w)
+pub gone_known : (orders : List Line) (w : World) (x : Incarnation) → IsKnown orders w (tell (fact.Gone x ∷ []) w)
 gone_known orders w x k a =
     let f : Fact = fact.Gone x in
     let same : world_after (know_world k f) f ≡ world_after w f = ap (λ v. world_after v f) (nobody_acts k f refl ∙ a.world_is) in
@@ -202,7 +202,7 @@ full_known : (orders : List Line) (w : World) (b : Bool) (k : Known) → Agree o
 full_known orders w false k a = a
 full_known orders w true k a = agree_still orders k w fact.WireFull a (nobody_acts k fact.WireFull refl) refl (record { count = a.knows.count; now = a.knows.now; posted = a.knows.posted })
 
-views_known : (orders : List Line) (w : World) → IsKnown orders w (world.views w)
+pub views_known : (orders : List Line) (w : World) → IsKnown orders w (world.views w)
 views_known orders w k a =
     let is : List Item = map (λ x. item.Post (record { from = x; to = x; body = body.View w.version w.members })) w.members in
     let fs : List Fact = numbered w.limit (length w.wire) is in
@@ -233,7 +233,7 @@ none_known orders w k a = a
 
 -- Nodes that come up and go down.
 
-come_up_known : (orders : List Line) (w : World) (n : ℕ) → IsKnown orders w (world.come_up n w)
+pub come_up_known : (orders : List Line) (w : World) (n : ℕ) → IsKnown orders w (world.come_up n w)
 come_up_known orders w n =
     let x : Incarnation = record { node = n; number = slice_index_or w.ups (n - 1) 0 + 1 } in
     then_known orders w (tell (fact.Up x ∷ []) w) world.views (up_known orders w x) (λ e. views_known orders (world_after w (fact.Up x)))
@@ -305,7 +305,7 @@ crash_known orders c w n s = if_known orders w (is_none (node_at w n)) (world.no
 
 -- Deliveries.
 
-posted_is : (orders : List Line) (k : Known) (w : World) (j : ℕ) (p : Packet) → Agree orders k w → slice_get w.wire j ≡ Some p → posted k.world (suc j) ≡ Some p
+pub posted_is : (orders : List Line) (k : Known) (w : World) (j : ℕ) (p : Packet) → Agree orders k w → slice_get w.wire j ≡ Some p → posted k.world (suc j) ≡ Some p
 posted_is orders k w j p a e = ap (slice_get k.world.wire) (before j) ∙ (ap (λ v. slice_get v.wire j) a.world_is ∙ e)
   where
     before : (j : ℕ) → suc j - 1 ≡ j
@@ -344,7 +344,7 @@ along_first orders c w i st k a e s =
     }
 
 -- after them
-along_last : (orders : List Line) (views : List (List Incarnation)) (who : Incarnation) (i : ℕ) (k : Known) (w : World) (st : Node) → Along orders views who i k w st → Agree orders k (with_node st w)
+pub along_last : (orders : List Line) (views : List (List Incarnation)) (who : Incarnation) (i : ℕ) (k : Known) (w : World) (st : Node) → Along orders views who i k w st → Agree orders k (with_node st w)
 along_last orders views who i k w st a = record {
   orders_are = a.orders_are;
   world_is = ap₂ (λ (v : World) (l : List (Option Node)). record v { nodes = l }) a.rest_is (same_table k.world.nodes (slice_set w.nodes (st.who.node - 1) (Some st)) (a.size ∙ sym (length-set w.nodes (st.who.node - 1) (Some st))) same);

@@ -1,6 +1,6 @@
 -- The end of a world: every node stops, and the stores are at home.
 use Rattle.std.proofs.Common.{◌≡◌, ◌≢◌, ℕ, zero, suc, ◌+◌, ◌-◌, ◌<◌, ◌≤◌, true, List, [], ◌∷◌, ◌++◌, length, fold, refl, ap, sym, ◌∙◌, subst, arith}
-use Rattle.std.specs.Prelude.{nat_lt, nat_le, map, Option, Some, None, slice_index_or, slice_set}
+use Rattle.std.specs.Prelude.{nat_lt, nat_le, map, Option, Some, None, is_some, slice_index_or, slice_set}
 use Rattle.std.specs.List.{list_all, flat_map}
 use Rattle.std.proofs.lemmas.Bool.Decides.{nat_tests}
 use Rattle.std.proofs.lemmas.List.Folds.{list_all-append}
@@ -32,7 +32,7 @@ use Rattle.world_laws.proofs.UpDown.{go_down_goes}
 use Rattle.yard_laws.proofs.Booleans.{true_is_not_false, and_both, both}
 use Rattle.world_sim.specs.declared.fault.StepFault.{StepFault}
 use Rattle.world_sim.specs.declared.fault.StepFault.TheVariants as fault
-use Rattle.world_sim.specs.Played.{AreFreed, is_freed, made_of}
+use Rattle.world_sim.specs.Played.{FreesSome, AreFreed, is_freed, made_of}
 use Rattle.world_sim.specs.Stopped.{IsStopped}
 use Rattle.world_sim.specs.World.{IsKept, IsWorld}
 use Rattle.world_sim.specs.Yard.{Yard, IsSeen, IsFirm, Goes}
@@ -79,18 +79,18 @@ crash_freed st =
     (each_freed (λ p. where_some (λ k. freed_stopped (slot.Queue p) k.entries) (at st.producers (p - 1))) (producers st.set) (λ p. some_freed (λ k. freed_stopped (slot.Queue p) k.entries) (at st.producers (p - 1)) (λ k. refl)))
 
 -- nothing is freed at first
-none_freed : (c : Script) (lists : SlotLists) → AreFreed c lists lists
+none_freed : (c : Script) (lists : SlotLists) → FreesSome c lists lists
 none_freed c lists = record { freed = []; all_freed = refl; lists_are = refl }
 
 -- some, and then others
-freed_on : (c : Script) (lists mid new : SlotLists) → AreFreed c lists mid → AreFreed c mid new → AreFreed c lists new
+freed_on : (c : Script) (lists mid new : SlotLists) → FreesSome c lists mid → FreesSome c mid new → FreesSome c lists new
 freed_on c lists mid new a b = record {
   freed = a.freed ++ b.freed;
   all_freed = join_freed a.freed b.freed a.all_freed b.all_freed;
   lists_are = b.lists_are ∙ (ap (λ l. fold (lists_step (setting c)) l b.freed) a.lists_are ∙ sym (fold-append (lists_step (setting c)) lists a.freed b.freed));
 }
 
-down_by : (c : Script) (w : World) (o : Option Node) → w.set ≡ setting c → AreFreed c w.lists (go_down_by o w).world.lists
+down_by : (c : Script) (w : World) (o : Option Node) → w.set ≡ setting c → FreesSome c w.lists (go_down_by o w).world.lists
 down_by c w None e = none_freed c w.lists
 down_by c w (Some st) e = record {
   freed = crash st;
@@ -148,7 +148,7 @@ stopped_next y z lists v i node s e g = record {
   down = λ k less. by_place (at m.world.nodes k ≡ None) k i
       (λ same. ap (at m.world.nodes) same ∙ down_now y.script v i (node_at v (i + 1)) s.firm_is.stands_is (ap (at v.nodes) here))
       (λ other. down_stays v (node_at v (i + 1)) k (s.down k (lower k less other)));
-  freed_are = subst (λ c. AreFreed c lists m.world.lists) (sym e) (freed_on y.script lists v.lists m.world.lists s.freed_are (down_by y.script v (node_at v (i + 1)) s.firm_is.stands_is.set_is));
+  freed_are = subst (λ c. FreesSome c lists m.world.lists) (sym e) (freed_on y.script lists v.lists m.world.lists s.freed_are (down_by y.script v (node_at v (i + 1)) s.firm_is.stands_is.set_is));
 }
   where
     m : Made
@@ -196,6 +196,14 @@ none_holds c w s stands down i = by (holder (list_at w.lists s)) refl
         let count : length w.nodes ≡ c.config.nodes = stands.nodes_there in
         let less : x.node - 1 < c.config.nodes = omega (arith, within, count) in
         absurd (none_is_not_some t.node (sym (down (x.node - 1) less) ∙ t.is_up))
+
+-- so each slot that was held is freed
+pub all_free : (y : Yard) (lists : SlotLists) (w : World) → IsStopped y.script.config.nodes lists y w → AreFreed y.script lists w.lists
+all_free y lists w s = record {
+  some_are = s.freed_are;
+  own_are = s.firm_is.stands_is.owns;
+  free_are = λ t i. ap is_some (none_holds y.script w t s.firm_is.stands_is s.down i);
+}
 
 -- so the book has no holder
 pub none_leased : (b : Book) (y : Yard) (lists : SlotLists) (w : World) → b ≡ y.book → IsStopped y.script.config.nodes lists y w → (t : Slot) → is_slot_of b.script t ≡ true → at b.holders (place_of b.script.config t) ≡ None

@@ -1,5 +1,5 @@
 -- A world, order by order.
-use Rattle.std.proofs.Common.{◌≡◌, ℕ, zero, suc, ◌+◌, ◌<◌, ◌≤◌, Bool, true, false, List, [], ◌∷◌, length, refl, ap, sym, ◌∙◌, subst, arith}
+use Rattle.std.proofs.Common.{◌≡◌, ℕ, zero, suc, ◌+◌, ◌<◌, ◌≤◌, Bool, true, false, List, [], ◌∷◌, length, ap, sym, ◌∙◌, subst, arith}
 use Rattle.std.specs.Prelude.{slice_get, slice_index_or, Option, Some, None}
 use Rattle.yard_model.specs.declared.fact.Fact.{Fact}
 use Rattle.yard_model.specs.declared.charter.Line.{Line}
@@ -136,4 +136,4 @@ filled y z n f l before after e k full = record {
 }
 
 pub cut_short : (y z : Yard) (n : ℕ) (f : Option StepFault) (l : Line) (before after : List Fact) → f ≡ None → z.script ≡ y.script → ToldSome before after (play_line l (made_of y.script n).world).facts → CutShort (seen y n f) l before (seen z n (Some fault.OutOfMemory)) after
-cut_short y z n f l before after e script t = record { fresh_is = e; told_some = t; script_is = script; fault_is = refl }
+cut_short y z n f l before after e script t = record { fresh_is = e; told_some = t; new_is = ap (λ c. record { script = c; count = n; fault = Some fault.OutOfMemory }) script }

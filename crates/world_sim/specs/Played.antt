@@ -4,9 +4,12 @@ use Rattle.std.specs.List.{list_all}
 use Rattle.yard_model.specs.declared.fact.Fact.{Fact}
 use Rattle.yard_model.specs.declared.fact.Fact.TheVariants as fact
 use Rattle.yard_model.specs.declared.charter.Line.{Line}
+use Rattle.yard_model.specs.declared.incarnation.Slot.{Slot}
 use Rattle.yard_model.specs.Script.{Script, setting}
 use Rattle.yard_model.specs.SlotLists.{SlotLists}
-use Rattle.yard_model.specs.Trace.{lists_step}
+use Rattle.yard_model.specs.Genuine.{is_slot_of}
+use Rattle.yard_model.specs.Lawful.{own, is_held}
+use Rattle.yard_model.specs.Trace.{list_at, lists_step}
 use Rattle.yard_model.specs.World.{Made, new_world, play_line, played, in_order, wire_limit}
 use Rattle.world_sim.specs.Mail.{ToldSome}
 use Rattle.world_sim.specs.declared.fault.StepFault.{StepFault}
@@ -46,8 +49,7 @@ pub record Filled (old : Played) (l : Line) (before : List Fact) (new : Played) 
 pub record CutShort (old : Played) (l : Line) (before : List Fact) (new : Played) (after : List Fact) : Type 0 where
   pub fresh_is : old.fault ≡ None
   pub told_some : ToldSome before after (next_of old.script old.count l).facts
-  pub script_is : new.script ≡ old.script
-  pub fault_is : new.fault ≡ Some fault.OutOfMemory
+  pub new_is : new ≡ record { script = old.script; count = old.count; fault = Some fault.OutOfMemory }
 
 -- what an answer says where the world wasn't spent
 abbrev pub Answers : Played → Line → List Fact → Result (Unit {0}) StepFault → Played → List Fact → Type 0
@@ -68,11 +70,17 @@ abbrev pub is_freed : Fact → Bool
 is_freed (fact.Freed s n why) = true
 is_freed f = false
 
--- these lists are those of the world, with an entry more that frees it where a slot was held
-pub record AreFreed (c : Script) (lists : SlotLists) (new : SlotLists) : Type 0 where
+-- these lists are those of the world, with entries more that free slots
+pub record FreesSome (c : Script) (lists : SlotLists) (new : SlotLists) : Type 0 where
   pub freed : List Fact
   pub all_freed : IsTrue (list_all is_freed freed)
   pub lists_are : new ≡ fold (lists_step (setting c)) lists freed
+
+-- and each is lawful by itself and held by nobody: so those have the one entry more that were held, and no other
+pub record AreFreed (c : Script) (lists : SlotLists) (new : SlotLists) : Type 0 where
+  pub some_are : FreesSome c lists new
+  pub own_are : (s : Slot) → IsTrue (is_slot_of c s) → IsTrue (own c s (list_at new s))
+  pub free_are : (s : Slot) → IsTrue (is_slot_of c s) → is_held (list_at new s) ≡ false
 
 -- Laws of the worlds after orders.
 

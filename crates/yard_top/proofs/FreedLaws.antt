@@ -104,9 +104,9 @@ report_same set old new same =
 
 freed_same : (c : Script) (old new : SlotLists) → AreFreed c old new → ReadSame old new
 freed_same c old new freed = record {
-  journals = λ e s. ap (λ (l : SlotLists). journal e (shard_list l s)) freed.lists_are ∙ shards_keep (journal e) (journal_passes e) (setting c) old s freed.freed freed.all_freed;
-  queues = λ e p. ap (λ (l : SlotLists). queued e (queue_list l p)) freed.lists_are ∙ queues_keep (queued e) (queued_passes e) (setting c) old p freed.freed freed.all_freed;
-  counts = λ e p. ap (λ (l : SlotLists). confirmed e (queue_list l p)) freed.lists_are ∙ queues_keep (confirmed e) (confirmed_passes e) (setting c) old p freed.freed freed.all_freed;
+  journals = λ e s. ap (λ (l : SlotLists). journal e (shard_list l s)) freed.some_are.lists_are ∙ shards_keep (journal e) (journal_passes e) (setting c) old s freed.some_are.freed freed.some_are.all_freed;
+  queues = λ e p. ap (λ (l : SlotLists). queued e (queue_list l p)) freed.some_are.lists_are ∙ queues_keep (queued e) (queued_passes e) (setting c) old p freed.some_are.freed freed.some_are.all_freed;
+  counts = λ e p. ap (λ (l : SlotLists). confirmed e (queue_list l p)) freed.some_are.lists_are ∙ queues_keep (confirmed e) (confirmed_passes e) (setting c) old p freed.some_are.freed freed.some_are.all_freed;
 }
 
 -- they have the same report

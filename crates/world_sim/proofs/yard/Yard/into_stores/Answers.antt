@@ -4,7 +4,7 @@ use Rattle.shard_store.specs.Stores.{lists_at}
 use Rattle.world_sim.specs.Played.{AreFreed}
 use Rattle.world_sim.specs.Stopped.{IsStopped}
 use Rattle.world_sim.specs.Yard.{Yard}
-use Rattle.world_sim.proofs.StoresLaws.{none_leased, lists_home}
+use Rattle.world_sim.proofs.StoresLaws.{all_free, none_leased, lists_home}
 use Rattle.world_sim.proofs.yard.Yard.into_stores.Goals as goal
 
 pub into_stores-requires : goal.into_stores-requires
@@ -21,4 +21,4 @@ returns-clause-lists g c = λ w f.
     sym (lists_home c.yard.inside.book c.stop.new.self w.lists r.0 (ap (λ (v : Yard). v.book) c.yard.view_is) stopped)
     ∙ (ap (λ (x : Script). lists_at x.config c.yard.inside.book.places) c.stop.ensures.script
     ∙ ap (lists_at c.args.self.script.config) (sym c.into_stores.ensures.places)) in
-    subst (AreFreed c.args.self.script w.lists) home (subst (λ (x : Script). AreFreed x w.lists r.0.lists) c.stop.ensures.script stopped.freed_are)
+    subst (AreFreed c.args.self.script w.lists) home (subst (λ (x : Script). AreFreed x w.lists r.0.lists) c.stop.ensures.script (all_free c.stop.new.self w.lists r.0 stopped))

@@ -40,7 +40,7 @@ use Rattle.world_laws.proofs.Place.{none_is_not_some, some_is, inside, placed_at
 use Rattle.world_laws.proofs.UpDown.{crash_is}
 use Rattle.world_laws.proofs.Play.{deliver_goes, line_goes}
 use Rattle.world_laws.proofs.Begin.{begins_standing}
-use Rattle.world_laws.proofs.Stand.{Fine, tell_fine}
+use Rattle.world_laws.proofs.Stand.{tell_fine}
 use Rattle.query_laws.specs.Known.{PlayedIsKnown}
 use Rattle.query_laws.proofs.Nodes.{same_table}
 use Rattle.query_laws.proofs.Showing.{IsOffice, AreShown, same_some, view_packet_shown, register_shown}
@@ -478,7 +478,7 @@ drain_more : (orders : List Line) (c : Script) (w : World) (q : Step) → ((v : 
 drain_more orders c w q h s going [] = none_known orders w
 drain_more orders c w q h s going (n ∷ ns) =
     then_known orders w (world.deliver n w) q (deliver_known orders c w n s going)
-    (λ e. let d : Goes c w (world.deliver n) = deliver_goes c w n in h (world.deliver n w).world (d.0 s) e)
+    (λ e. let d : Goes c w (world.deliver n) = deliver_goes c w n in h (world.deliver n w).world (d s) e)
 
 drain_known : (orders : List Line) (c : Script) (from n : ℕ) (w : World) → Stands c w → w.full ≡ false → IsKnown orders w (world.drain from n w)
 drain_known orders c from zero w s going = none_known orders w
@@ -500,7 +500,7 @@ line_order_known orders c l w all b s going =
     (λ e. play_known orders c l.order (world_after w (fact.At l.number)) b (line_stands s) e))
   where
     line_stands : Stands c w → Stands c (world_after w (fact.At l.number))
-    line_stands s = let t : Fine c w (tell (fact.At l.number ∷ []) w) = tell_fine c w (fact.At l.number ∷ []) refl refl s in t.stands
+    line_stands s = tell_fine c w (fact.At l.number ∷ []) refl refl s
 
 lines_known : (orders : List Line) (c : Script) (ls : List Line) (w : World) → list_all (λ (l : Line). is_built_order l.order) orders ≡ true
     → list_all (λ (l : Line). is_order c.config l.order) ls ≡ true → list_all (λ (l : Line). is_built_order l.order) ls ≡ true → Stands c w → w.full ≡ false → IsKnown orders w (in_order (map play_line ls) w)
@@ -510,7 +510,7 @@ lines_known orders c (l ∷ ls) w all k b s going =
     let d : (is_built_order l.order ≡ true) × (list_all (λ (l : Line). is_built_order l.order) ls ≡ true) = and_both (is_built_order l.order) (list_all (λ (l : Line). is_built_order l.order) ls) b in
     let g : Goes c w (play_line l) = line_goes c w l m.0 d.0 in
     then_known orders w (play_line l w) (in_order (map play_line ls)) (line_order_known orders c l w all d.0 s going)
-    (λ e. lines_known orders c ls (play_line l w).world all m.1 d.1 (g.0 s) e)
+    (λ e. lines_known orders c ls (play_line l w).world all m.1 d.1 (g s) e)
 
 all_take : {A : Type 0} (p : A → Bool) (n : ℕ) (xs : List A) → list_all p xs ≡ true → list_all p (take n xs) ≡ true
 all_take p zero xs e = refl
@@ -524,7 +524,7 @@ played_is_known c limit n script built =
     let first : World = new_world c limit in
     let ls : List Line = take n c.orders in
     let start : Agree c.orders (nothing_known c.orders first) first = record { orders_are = refl; world_is = refl; knows = record { count = refl; now = refl; posted = λ j p e. absurd (none_is_not_some p (sym (none_got j) ∙ e)) } } in
-    let stands : Stands c first = (begins_standing c limit script).0 in
+    let stands : Stands c first = begins_standing c limit script in
     let end : Agree c.orders (fold know (nothing_known c.orders first) (in_order (map play_line ls) first).facts) (in_order (map play_line ls) first).world =
     lines_known c.orders c ls first built (all_take (λ (l : Line). is_order c.config l.order) n c.orders script.orders) (all_take (λ (l : Line). is_built_order l.order) n c.orders built) stands refl (nothing_known c.orders first) start in
     end.world_is

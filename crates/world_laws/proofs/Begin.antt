@@ -23,26 +23,24 @@ none_owns c s = refl
 
 pub begins_standing : BeginsStanding
 begins_standing c limit k =
-    let w : World = new_world c limit in (
-      record {
-        script_is = k;
-        set_is = refl;
-        sends_are = refl;
-        nodes_there = length-replicate c.config.nodes None;
-        ups_there = length-replicate c.config.nodes 0;
-        shards_there = length-replicate c.config.shards [];
-        queues_there = length-replicate c.config.producers [];
-        members_are = λ x m. absurd (true_is_not_false (sym m));
-        members_different = refl;
-        nodes_are = λ j st e. absurd (none_is_not_some st (sym (get_replicate c.config.nodes j None) ∙ e));
-        hands_are = record {
-          holders = λ s x i h. absurd (none_is_not_some x (sym (ap holder (no_list c s)) ∙ h));
-          hands = λ s j st i e h. absurd (none_is_not_some st (sym (get_replicate c.config.nodes j None) ∙ e));
-        };
-        owns = λ s i. ap (own c s) (no_list c s) ∙ none_owns c s;
-        genuine = refl;
-        built = refl;
-        different = refl;
-      },
-      record { lists_are = refl; guarded_are = refl; none_live = λ e. refl },
-    )
+    let w : World = new_world c limit in
+    record {
+      script_is = k;
+      set_is = refl;
+      sends_are = refl;
+      nodes_there = length-replicate c.config.nodes None;
+      ups_there = length-replicate c.config.nodes 0;
+      shards_there = length-replicate c.config.shards [];
+      queues_there = length-replicate c.config.producers [];
+      members_are = λ x m. absurd (true_is_not_false (sym m));
+      members_different = refl;
+      nodes_are = λ j st e. absurd (none_is_not_some st (sym (get_replicate c.config.nodes j None) ∙ e));
+      hands_are = record {
+        holders = λ s x i h. absurd (none_is_not_some x (sym (ap holder (no_list c s)) ∙ h));
+        hands = λ s j st i e h. absurd (none_is_not_some st (sym (get_replicate c.config.nodes j None) ∙ e));
+      };
+      owns = λ s i. ap (own c s) (no_list c s) ∙ none_owns c s;
+      genuine = refl;
+      built = refl;
+      different = refl;
+    }

@@ -22,8 +22,8 @@ use Rattle.yard_laws.proofs.Booleans.{true_is_not_false, same_number, other_numb
 use Rattle.world_laws.specs.Built.{is_built_packet}
 use Rattle.world_laws.specs.Hands.{held_list, HasHand, AreHands}
 use Rattle.world_laws.specs.Standing.{IsCoordinator, IsNode, IsUp, IsThere, has_different_members, Stands}
-use Rattle.world_laws.proofs.Facts.{led, told_on}
-use Rattle.world_laws.proofs.Stand.{Fine, goes_item, goes_on, led_item, items_go, items_led, all_after, all_ours, lists_fold, wire_all, good_genuine, good_built, good_different}
+use Rattle.world_laws.proofs.Facts.{led}
+use Rattle.world_laws.proofs.Stand.{Fine, goes_item, goes_on, led_item, items_go, items_led, all_after, wire_all, good_genuine, good_built, good_different}
 
 -- Places of a table.
 
@@ -235,7 +235,4 @@ place_fine c w k st acts e t s =
     let place : new.who.node - 1 ≡ k = ap (λ y. y.node - 1) t.who_is ∙ node_of_place c w k st e s in
     let is : with_node new (fold world_after w fs) ≡ with_place w fs list k new =
     ap (with_node new) (all_after c w fs go) ∙ (ap (λ l. with_place w fs l (new.who.node - 1) new) led_is ∙ ap (λ i. with_place w fs list i new) place) in
-    record {
-      stands = subst (Stands c) (sym is) (place_stands c w k st new fs list e s go t.self_is t.who_is t.leads t.own_is);
-      tells = λ trace told. told_on c trace fs w (with_node new (fold world_after w fs)) s.set_is told (all_ours c fs go) (ap (own c slot.Coordinator) led_is ∙ t.own_is) (lists_fold w fs);
-    }
+    subst (Stands c) (sym is) (place_stands c w k st new fs list e s go t.self_is t.who_is t.leads t.own_is)

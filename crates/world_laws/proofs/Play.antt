@@ -16,11 +16,10 @@ use Rattle.yard_model.specs.Node.{Node, packet}
 use Rattle.yard_model.specs.World as world
 use Rattle.yard_model.specs.World.{World, Made, Step, tell, then_step, in_order, handle, node_at, new_world, play_line, played}
 use Rattle.yard_laws.proofs.Booleans.{true_is_not_false, and_both, both}
-use Rattle.yard_laws.proofs.SafetyLaws.{guarded_is_safe}
 use Rattle.world_laws.specs.Built.{is_built_order, is_built_packet}
-use Rattle.world_laws.specs.Standing.{IsUp, IsThere, has_different_members, Stands, Told}
-use Rattle.world_laws.specs.Keeps.{HandleGoes, DeliverGoes, DrainGoes, LineGoes, PlayedGoes, PlayedIsSafe}
-use Rattle.world_laws.proofs.Stand.{Fine, goes_of, tell_fine, then_fine}
+use Rattle.world_laws.specs.Standing.{IsUp, IsThere, has_different_members, Stands}
+use Rattle.world_laws.specs.Keeps.{HandleGoes, DeliverGoes, DrainGoes, LineGoes, PlayedGoes}
+use Rattle.world_laws.proofs.Stand.{Fine, tell_fine, then_fine}
 use Rattle.world_laws.proofs.Place.{none_is_not_some, some_is, place_fine}
 use Rattle.world_laws.proofs.Packets.{IsReady, packet_turned}
 use Rattle.world_laws.proofs.UpDown.{entries_are, nothing_fine, if_fine, up_order_fine, crash_fine}
@@ -37,7 +36,7 @@ handle_fine c w i st p e genuine built different k =
     place_fine c w i st (packet w.lists p.from p.body st) e (packet_turned c w.lists st p.from k.script_is sender ready p.body m.1 built different) k
 
 pub handle_goes : HandleGoes
-handle_goes c w i st p e to genuine built different = goes_of c w (handle (input.Packet p) st) (handle_fine c w i st p e genuine built different)
+handle_goes c w i st p e to genuine built different = handle_fine c w i st p e genuine built different
 
 -- Delivery.
 
@@ -66,7 +65,7 @@ deliver_fine c w zero k = nothing_fine c w k
 deliver_fine c w (suc i) k = deliver_by_fine c w i (slice_get w.wire i) refl k
 
 pub deliver_goes : DeliverGoes
-deliver_goes c w i = goes_of c w (world.deliver i) (deliver_fine c w i)
+deliver_goes c w i = deliver_fine c w i
 
 more_fine : (c : Script) (w : World) (q : Step) → ((v : World) → Stands c v → Fine c v (q v)) → Stands c w → (ks : List ℕ)
     → Fine c w (elim ks as (λ x. Made) [ [] ↦ tell [] w | i ∷ is ↦ then_step (world.deliver i w) q ])
@@ -78,7 +77,7 @@ drain_fine c from zero w k = tell_fine c w [] refl refl k
 drain_fine c from (suc n) w k = more_fine c w (world.drain from n) (drain_fine c from n) k (filter (nat_lt from) w.fresh)
 
 pub drain_goes : DrainGoes
-drain_goes c w from n = goes_of c w (world.drain from n) (drain_fine c from n w)
+drain_goes c w from n = drain_fine c from n w
 
 pump_fine : (c : Script) (w : World) (n : ℕ) → Stands c w → Fine c w (world.pump n w)
 pump_fine c w n k = if_fine c w (is_empty w.fresh) (world.nothing w) (world.drain 0 n w) (λ e. nothing_fine c w k) (λ e. drain_fine c 0 n w k)
@@ -103,7 +102,7 @@ line_fine c w l e b k =
     (then_fine c w m (world.play l.order) (tell_fine c w (fact.At l.number ∷ []) refl refl k) (play_fine c l.order m.world e b))
 
 pub line_goes : LineGoes
-line_goes c w l e b = goes_of c w (play_line l) (line_fine c w l e b)
+line_goes c w l e b = line_fine c w l e b
 
 -- Scripts.
 
@@ -125,14 +124,4 @@ all_take p (suc n) (x ∷ xs) e =
 pub played_goes : PlayedGoes
 played_goes c limit n k b =
     let w : World = new_world c limit in
-    let start : Stands c w × Told c [] w = begins_standing c limit k in
-    let f : Fine c w (in_order (map play_line (take n c.orders)) w) = lines_fine c (take n c.orders) w (all_take (λ (l : Line). is_order c.config l.order) n c.orders k.orders) (all_take (λ (l : Line). is_built_order l.order) n c.orders b) start.0 in
-    (f.stands, f.tells [] start.1)
-
-pub played_is_safe : PlayedIsSafe
-played_is_safe c limit k b =
-    let w : World = new_world c limit in
-    let start : Stands c w × Told c [] w = begins_standing c limit k in
-    let f : Fine c w (played c limit) = lines_fine c c.orders w k.orders b start.0 in
-    let t : Told c (played c limit).facts (played c limit).world = f.tells [] start.1 in
-    guarded_is_safe c (played c limit).facts t.guarded_are
+    lines_fine c (take n c.orders) w (all_take (λ (l : Line). is_order c.config l.order) n c.orders k.orders) (all_take (λ (l : Line). is_built_order l.order) n c.orders b) (begins_standing c limit k)

@@ -2,7 +2,6 @@
 use Rattle.std.proofs.Common.{◌≡◌, ℕ, ◌+◌, sym, ap, ◌∙◌, refl, subst}
 use Rattle.std.specs.Prelude.{Bool, true, false, ◌&&◌, nat_lt, List, [], ◌∷◌, ◌++◌, length, fold, if◌then◌else◌}
 use Rattle.std.specs.List.{list_all}
-use Rattle.std.proofs.lemmas.List.{append_assoc}
 use Rattle.std.proofs.lemmas.List.Folds.{list_all-append}
 use Rattle.std.proofs.lemmas.List.Sums.{fold-append}
 use Rattle.yard_model.specs.declared.fact.Fact.{Fact}
@@ -13,24 +12,17 @@ use Rattle.yard_model.specs.declared.incarnation.Slot.TheVariants as slot
 use Rattle.yard_model.specs.declared.packet.Packet.{Packet}
 use Rattle.yard_model.specs.Script.{Script}
 use Rattle.yard_model.specs.Genuine.{is_genuine_packet}
-use Rattle.yard_model.specs.Lawful.{own}
-use Rattle.yard_model.specs.Trace.{lists_step}
 use Rattle.yard_model.specs.World.{World, Made, Step, world_after, wire_step, fresh_step, full_step, tell, then_step, numbered, count_posts, input_facts}
 use Rattle.yard_laws.proofs.Booleans.{true_is_not_false, and_both, both}
 use Rattle.world_laws.specs.Built.{is_built_packet}
 use Rattle.world_laws.specs.Hands.{HasHand}
-use Rattle.world_laws.specs.Standing.{IsUp, IsThere, has_different_members, Stands, Told}
-use Rattle.world_laws.specs.Keeps.{Goes}
-use Rattle.world_laws.proofs.Facts.{is_ours, led, told_on}
+use Rattle.world_laws.specs.Standing.{IsUp, IsThere, has_different_members, Stands}
+use Rattle.world_laws.proofs.Facts.{is_ours, led}
 
 -- What a step gives, where the world before it stands.
 
-pub record Fine (c : Script) (w : World) (m : Made) : Type 0 where
-  pub stands : Stands c m.world
-  pub tells : (trace : List Fact) → Told c trace w → Told c (trace ++ m.facts) m.world
-
-pub goes_of : (c : Script) (w : World) (q : Step) → (Stands c w → Fine c w (q w)) → Goes c w q
-goes_of c w q f = (λ k. let g : Fine c w (q w) = f k in g.stands, λ k trace t. let g : Fine c w (q w) = f k in g.tells trace t)
+abbrev pub Fine : Script → World → Made → Type 0
+Fine c w m = Stands c m.world
 
 -- Facts of an input.
 
@@ -113,10 +105,6 @@ all_after c w (f ∷ fs) h =
     let m : (goes_on c f ≡ true) × (list_all (goes_on c) fs ≡ true) = and_both (goes_on c f) (list_all (goes_on c) fs) h in
     ap (λ v. fold world_after v fs) (one_after c w f m.0) ∙ all_after c (after_telling w (f ∷ [])) fs m.1
 
-pub lists_fold : (w : World) (fs : List Fact) → (fold world_after w fs).lists ≡ fold (lists_step w.set) w.lists fs
-lists_fold w [] = refl
-lists_fold w (f ∷ fs) = lists_fold (world_after w f) fs
-
 -- what holds of good packets holds of all that are posted
 wire_one : (c : Script) (p : Packet → Bool) → ((x : Packet) → is_good c x ≡ true → p x ≡ true) → (wire : List Packet) (f : Fact) → goes_on c f ≡ true → list_all p wire ≡ true → list_all p (wire_step wire f) ≡ true
 wire_one c p h wire (fact.Sent k x) g e = list_all-append p wire (x ∷ []) ∙ both (list_all p wire) (list_all p (x ∷ [])) e (both (p x) true (h x g) refl)
@@ -181,29 +169,27 @@ items_led w list is =
 -- Facts alone.
 
 pub tell_fine : (c : Script) (w : World) (fs : List Fact) → list_all (goes_on c) fs ≡ true → fold led w.lists.coordinator fs ≡ w.lists.coordinator → Stands c w → Fine c w (tell fs w)
-tell_fine c w fs go same k = record {
-  stands = subst (Stands c) (sym (all_after c w fs go ∙ ap (λ l. record w { wire = fold wire_step w.wire fs; fresh = fold fresh_step w.fresh fs; full = fold full_step w.full fs; lists = record w.lists { coordinator = l } }) same)) (record {
-    script_is = k.script_is;
-    set_is = k.set_is;
-    sends_are = k.sends_are;
-    nodes_there = k.nodes_there;
-    ups_there = k.ups_there;
-    shards_there = k.shards_there;
-    queues_there = k.queues_there;
-    members_are = λ x m. let t : IsThere w x = k.members_are x m in record { node = t.node; is_up = t.is_up; who_is = t.who_is };
-    members_different = k.members_different;
-    nodes_are = λ j st e. let u : IsUp c w j st = k.nodes_are j st e in record { node_is = u.node_is; member_is = u.member_is; self_is = u.self_is };
-    hands_are = record {
-      holders = λ s x i h. let t : HasHand w s x = k.hands_are.holders s x i h in record { node = t.node; is_up = t.is_up; who_is = t.who_is; hand_is = t.hand_is };
-      hands = λ s j st i e h. k.hands_are.hands s j st i e h;
-    };
-    owns = k.owns;
-    genuine = wire_all c (is_genuine_packet c) (good_genuine c) w.wire fs go k.genuine;
-    built = wire_all c is_built_packet (good_built c) w.wire fs go k.built;
-    different = wire_all c has_different_members (good_different c) w.wire fs go k.different;
-  });
-  tells = λ trace t. told_on c trace fs w (fold world_after w fs) k.set_is t (all_ours c fs go) (ap (own c slot.Coordinator) same ∙ k.owns slot.Coordinator refl) (lists_fold w fs);
-}
+tell_fine c w fs go same k =
+    subst (Stands c) (sym (all_after c w fs go ∙ ap (λ l. record w { wire = fold wire_step w.wire fs; fresh = fold fresh_step w.fresh fs; full = fold full_step w.full fs; lists = record w.lists { coordinator = l } }) same)) (record {
+      script_is = k.script_is;
+      set_is = k.set_is;
+      sends_are = k.sends_are;
+      nodes_there = k.nodes_there;
+      ups_there = k.ups_there;
+      shards_there = k.shards_there;
+      queues_there = k.queues_there;
+      members_are = λ x m. let t : IsThere w x = k.members_are x m in record { node = t.node; is_up = t.is_up; who_is = t.who_is };
+      members_different = k.members_different;
+      nodes_are = λ j st e. let u : IsUp c w j st = k.nodes_are j st e in record { node_is = u.node_is; member_is = u.member_is; self_is = u.self_is };
+      hands_are = record {
+        holders = λ s x i h. let t : HasHand w s x = k.hands_are.holders s x i h in record { node = t.node; is_up = t.is_up; who_is = t.who_is; hand_is = t.hand_is };
+        hands = λ s j st i e h. k.hands_are.hands s j st i e h;
+      };
+      owns = k.owns;
+      genuine = wire_all c (is_genuine_packet c) (good_genuine c) w.wire fs go k.genuine;
+      built = wire_all c is_built_packet (good_built c) w.wire fs go k.built;
+      different = wire_all c has_different_members (good_different c) w.wire fs go k.different;
+    })
 
 -- Steps in turn.
 
@@ -212,6 +198,4 @@ then_fine c w m q f g = at m.world.full
   where
     at : (b : Bool) → Fine c w (elim b as (λ b. Made) [ true ↦ m | false ↦ let n : Made = q m.world in record { facts = m.facts ++ n.facts; world = n.world } ])
     at true = f
-    at false =
-        let h : Fine c m.world (q m.world) = g f.stands in
-        record { stands = h.stands; tells = λ trace t. subst (λ l. Told c l (q m.world).world) (append_assoc trace m.facts (q m.world).facts) (h.tells (trace ++ m.facts) (f.tells trace t)) }
+    at false = g f

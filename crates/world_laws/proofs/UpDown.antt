@@ -35,8 +35,7 @@ use Rattle.yard_laws.proofs.LocalLaws.{among_fewer}
 use Rattle.world_laws.specs.Hands.{held_list, HasHand}
 use Rattle.world_laws.specs.Standing.{IsNode, IsUp, IsThere, Stands}
 use Rattle.world_laws.specs.Keeps.{ViewsGo, ComeUpGoes, GoDownGoes, UpGoes, CrashGoes}
-use Rattle.world_laws.proofs.Facts.{told_on}
-use Rattle.world_laws.proofs.Stand.{Fine, goes_of, is_good, good_is, goes_item, led_item, items_go, items_led, tell_fine, then_fine}
+use Rattle.world_laws.proofs.Stand.{Fine, is_good, good_is, goes_item, led_item, items_go, items_led, tell_fine, then_fine}
 use Rattle.world_laws.proofs.Place.{none_is_not_some, some_is, inside, placed_at, placed_beside, by_place, NoneElse, none_else, IsLed, are_hands, owns_with, node_of_place}
 use Rattle.world_laws.proofs.Members.{same_is, all_among, among_front, last_among, by_last, different_last, node_of_some, among_kept, gone_from, different_filter}
 
@@ -71,7 +70,7 @@ views_fine c w k =
     tell_fine c w (input_facts w items) (items_go c w items (views_good c w w.members nodes k.members_different nodes)) (items_led w w.lists.coordinator items ∙ posts_led w.lists.coordinator w w.members) k
 
 pub views_go : ViewsGo
-views_go c w = goes_of c w world.views (views_fine c w)
+views_go c w = (views_fine c w)
 
 -- A node that comes up.
 
@@ -153,10 +152,7 @@ up_stands c w x node empty k =
         none_is_not_some t.node (sym empty ∙ (ap (λ n. at w.nodes (n - 1)) (sym same) ∙ t.is_up))))
 
 up_fine : (c : Script) (w : World) (x : Incarnation) → is_node c x ≡ true → at w.nodes (x.node - 1) ≡ None → Stands c w → Fine c w (tell (fact.Up x ∷ []) w)
-up_fine c w x node empty k = record {
-  stands = up_stands c w x node empty k;
-  tells = λ trace t. told_on c trace (fact.Up x ∷ []) w (world_after w (fact.Up x)) k.set_is t refl (k.owns slot.Coordinator refl) refl;
-}
+up_fine c w x node empty k = up_stands c w x node empty k
 
 pub come_up_fine : (c : Script) (w : World) (n : ℕ) → is_in 1 c.config.nodes n ≡ true → at w.nodes (n - 1) ≡ None → Stands c w → Fine c w (world.come_up n w)
 come_up_fine c w n node empty k =
@@ -165,7 +161,7 @@ come_up_fine c w n node empty k =
     then_fine c w m world.views (up_fine c w x node empty k) (views_fine c m.world)
 
 pub come_up_goes : ComeUpGoes
-come_up_goes c w n node empty = goes_of c w (world.come_up n) (come_up_fine c w n node empty)
+come_up_goes c w n node empty = (come_up_fine c w n node empty)
 
 -- A node that goes down.
 
@@ -282,10 +278,7 @@ entries_are c w i st h e k is =
 
 down_fine_by : (c : Script) (w : World) (i : ℕ) (st : Node) → at w.nodes i ≡ Some st → Stands c w → (o : Option Coordinator) → st.coordinator ≡ o
     → Fine c w (tell (fact.Gone st.who ∷ where_some (λ (k : Coordinator). freed_stopped slot.Coordinator k.entries) o) w)
-down_fine_by c w i st e k None is = record {
-  stands = down_stands c w i st w.lists.coordinator e k (k.owns slot.Coordinator refl) (led_without c w i st e k is);
-  tells = λ trace t. told_on c trace (fact.Gone st.who ∷ []) w (without_node w st.who w.lists.coordinator) k.set_is t refl (k.owns slot.Coordinator refl) refl;
-}
+down_fine_by c w i st e k None is = down_stands c w i st w.lists.coordinator e k (k.owns slot.Coordinator refl) (led_without c w i st e k is)
 down_fine_by c w i st e k (Some h) is =
     let list : List Fact = w.lists.coordinator in
     let f : Fact = fact.Freed slot.Coordinator (epoch h.entries) cause.Stopped in
@@ -294,10 +287,7 @@ down_fine_by c w i st e k (Some h) is =
     let held : holder list ≡ Some st.who = k.hands_are.hands slot.Coordinator i st refl e (ap (λ o. is_some (option_map (λ y. y.entries) o)) is) in
     let own_is : own c slot.Coordinator new ≡ true = own_more c slot.Coordinator list f (k.owns slot.Coordinator refl)
     (both (is_held list && (epoch h.entries == epoch list)) true (both (is_held list) (epoch h.entries == epoch list) (ap is_some held) (number_itself (epoch h.entries) (epoch list) (ap epoch same))) refl) in
-    record {
-      stands = down_stands c w i st new e k own_is (led_freed c w i st new e k (ap (λ o. is_some (option_map (λ y. y.entries) o)) is) (holder_more list f));
-      tells = λ trace t. told_on c trace (fact.Gone st.who ∷ f ∷ []) w (without_node w st.who new) k.set_is t refl own_is refl;
-    }
+    down_stands c w i st new e k own_is (led_freed c w i st new e k (ap (λ o. is_some (option_map (λ y. y.entries) o)) is) (holder_more list f))
 
 down_fine : (c : Script) (w : World) (i : ℕ) (st : Node) → at w.nodes i ≡ Some st → Stands c w → Fine c w (tell (fact.Gone st.who ∷ crash st) w)
 down_fine c w i st e k =
@@ -312,7 +302,7 @@ pub go_down_fine : (c : Script) (w : World) (n : ℕ) → Stands c w → Fine c 
 go_down_fine c w n k = go_down_by_fine c w (n - 1) (node_at w n) refl k
 
 pub go_down_goes : GoDownGoes
-go_down_goes c w n node = goes_of c w (world.go_down n) (go_down_fine c w n)
+go_down_goes c w n node = (go_down_fine c w n)
 
 -- Orders.
 
@@ -331,7 +321,7 @@ pub up_order_fine : (c : Script) (w : World) (n : ℕ) → is_in 1 c.config.node
 up_order_fine c w n node k = if_fine c w (is_none (node_at w n)) (world.come_up n w) (world.nothing w) (λ e. come_up_fine c w n node (none_of (node_at w n) e) k) (λ e. nothing_fine c w k)
 
 pub up_goes : UpGoes
-up_goes c w n node = goes_of c w (world.up n) (up_order_fine c w n node)
+up_goes c w n node = (up_order_fine c w n node)
 
 pub crash_fine : (c : Script) (w : World) (n : ℕ) → Stands c w → Fine c w (world.crash_node n w)
 crash_fine c w n k =
@@ -339,4 +329,4 @@ crash_fine c w n k =
     if_fine c w (is_none (node_at w n)) (world.nothing w) (then_step m world.views) (λ e. nothing_fine c w k) (λ e. then_fine c w m world.views (go_down_fine c w n k) (views_fine c m.world))
 
 pub crash_goes : CrashGoes
-crash_goes c w n node = goes_of c w (world.crash_node n) (crash_fine c w n)
+crash_goes c w n node = (crash_fine c w n)

@@ -1,7 +1,6 @@
--- Steps of the world that keep what stands, and tell guarded facts.
-use Rattle.std.specs.Prelude.{◌≡◌, ℕ, ◌-◌, Bool, true, List, [], ◌++◌, map, take, Some, None, IsTrue}
+-- Steps of the world that keep what stands.
+use Rattle.std.specs.Prelude.{◌≡◌, ℕ, ◌-◌, Bool, true, map, take, Some, None, IsTrue}
 use Rattle.std.specs.List.{list_all}
-use Rattle.yard_model.specs.declared.fact.Fact.{Fact}
 use Rattle.yard_model.specs.declared.charter.Line.{Line}
 use Rattle.yard_model.specs.declared.input.Input.TheVariants as input
 use Rattle.yard_model.specs.declared.packet.Packet.{Packet}
@@ -10,25 +9,16 @@ use Rattle.yard_model.specs.Genuine.{is_genuine_packet}
 use Rattle.yard_model.specs.Script.{Script, IsScript, is_order}
 use Rattle.yard_model.specs.Node.{Node}
 use Rattle.yard_model.specs.Words.{at}
-use Rattle.yard_model.specs.Safe.{safe}
-use Rattle.yard_model.specs.World.{World, Made, Step, new_world, play_line, played, in_order, views, come_up, go_down, up, crash_node, handle, deliver, drain}
+use Rattle.yard_model.specs.World.{World, Made, Step, new_world, play_line, in_order, views, come_up, go_down, up, crash_node, handle, deliver, drain}
 use Rattle.world_laws.specs.Built.{is_built_order, is_built_packet}
-use Rattle.world_laws.specs.Standing.{Stands, Told, has_different_members}
+use Rattle.world_laws.specs.Standing.{Stands, has_different_members}
 
 -- after the step what stood stands
-abbrev pub Keeps : Script → World → Step → Type 0
-Keeps c w q = Stands c w → Stands c (q w).world
-
--- and the trace with its facts led there
-abbrev pub Tells : Script → World → Step → Type 0
-Tells c w q = Stands c w → (trace : List Fact) → Told c trace w → Told c (trace ++ (q w).facts) (q w).world
-
--- both
 abbrev pub Goes : Script → World → Step → Type 0
-Goes c w q = Keeps c w q × Tells c w q
+Goes c w q = Stands c w → Stands c (q w).world
 
 abbrev pub BeginsStanding : Type 0
-BeginsStanding = (c : Script) (limit : ℕ) → IsScript c → Stands c (new_world c limit) × Told c [] (new_world c limit)
+BeginsStanding = (c : Script) (limit : ℕ) → IsScript c → Stands c (new_world c limit)
 
 abbrev pub ViewsGo : Type 0
 ViewsGo = (c : Script) (w : World) → Goes c w views
@@ -63,11 +53,7 @@ LineGoes = (c : Script) (w : World) (l : Line) → IsTrue (is_order c.config l.o
 abbrev pub are_built : Script → Bool
 are_built c = list_all (λ (l : Line). is_built_order l.order) c.orders
 
--- after any number of the script's orders, with any limit of packets, what stands stands, and the facts are guarded
+-- after any number of the script's orders, with any limit of packets, what stands stands
 abbrev pub PlayedGoes : Type 0
 PlayedGoes = (c : Script) (limit n : ℕ) → IsScript c → IsTrue (are_built c)
-    → let m : Made = in_order (map play_line (take n c.orders)) (new_world c limit) in Stands c m.world × Told c m.facts m.world
-
--- so the trace of a script is safe, also one that stops at the limit
-abbrev pub PlayedIsSafe : Type 0
-PlayedIsSafe = (c : Script) (limit : ℕ) → IsScript c → IsTrue (are_built c) → IsTrue (safe c (played c limit).facts)
+    → let m : Made = in_order (map play_line (take n c.orders)) (new_world c limit) in Stands c m.world

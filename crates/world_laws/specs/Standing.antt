@@ -1,7 +1,6 @@
--- What is so of the world between any two inputs, and of the trace that led to it.
-use Rattle.std.specs.Prelude.{◌≡◌, ℕ, ◌+◌, Bool, true, List, [], length, replicate, Some, None, IfSome, IsTrue}
+-- What is so of the world between any two inputs.
+use Rattle.std.specs.Prelude.{◌≡◌, ℕ, ◌+◌, Bool, true, [], length, replicate, Some, None, IfSome, IsTrue}
 use Rattle.std.specs.List.{list_all}
-use Rattle.yard_model.specs.declared.fact.Fact.{Fact}
 use Rattle.yard_model.specs.declared.incarnation.Incarnation.{Incarnation}
 use Rattle.yard_model.specs.declared.packet.Body.{Body}
 use Rattle.yard_model.specs.declared.packet.Body.TheVariants as body
@@ -14,12 +13,11 @@ use Rattle.yard_model.specs.Lawful.{own}
 use Rattle.yard_model.specs.Members.{are_of_different_nodes}
 use Rattle.yard_model.specs.SlotReads.{holder, regions}
 use Rattle.yard_model.specs.Words.{is_among, at}
-use Rattle.yard_model.specs.Trace.{list_at, lists_of}
+use Rattle.yard_model.specs.Trace.{list_at}
 use Rattle.yard_model.specs.Coordinator.{Coordinator}
 use Rattle.yard_model.specs.Entities.{new_entities}
 use Rattle.yard_model.specs.Node.{Node}
 use Rattle.yard_model.specs.World.{World, node_at, all_sends}
-use Rattle.yard_model.specs.Safe.{live_at, guarded}
 use Rattle.world_laws.specs.Built.{is_built_packet}
 use Rattle.world_laws.specs.Hands.{AreHands}
 
@@ -84,9 +82,3 @@ pub record Stands (c : Script) (w : World) : Type 0 where
   pub genuine : IsTrue (list_all (is_genuine_packet c) w.wire)
   pub built : IsTrue (list_all is_built_packet w.wire)
   pub different : IsTrue (list_all has_different_members w.wire)
-
--- a trace that led to this world: its facts are guarded, and no entity is live yet
-pub record Told (c : Script) (trace : List Fact) (w : World) : Type 0 where
-  pub lists_are : w.lists ≡ lists_of (setting c) trace
-  pub guarded_are : IsTrue (guarded c trace)
-  pub none_live : (e : List ℕ) → live_at e trace ≡ []

@@ -1,7 +1,7 @@
-//! Steps of the world that keep what stands, and tell guarded facts.
-ghost use Rattle.world_laws.specs.Keeps.{BeginsStanding, ViewsGo, ComeUpGoes, GoDownGoes, UpGoes, CrashGoes, HandleGoes, DeliverGoes, DrainGoes, LineGoes, PlayedGoes, PlayedIsSafe};
+//! Steps of the world that keep what stands.
+ghost use Rattle.world_laws.specs.Keeps.{BeginsStanding, ViewsGo, ComeUpGoes, GoDownGoes, UpGoes, CrashGoes, HandleGoes, DeliverGoes, DrainGoes, LineGoes, PlayedGoes};
 
-/// A world in which no node is up and nothing is posted stands, and no fact led there.
+/// A world in which no node is up and nothing is posted stands.
 pub fn begins_standing()
     ensures { BeginsStanding }
 {}
@@ -53,13 +53,7 @@ pub fn line_goes()
     ensures { LineGoes }
 {}
 
-/// After any number of a script's orders what stands stands, and all facts are guarded, whatever the
-/// limit of packets.
+/// After any number of a script's orders what stands stands, whatever the limit of packets.
 pub fn played_goes()
     ensures { PlayedGoes }
-{}
-
-/// The trace of a script is safe, also where it stops at the limit of packets.
-pub fn played_is_safe()
-    ensures { PlayedIsSafe }
 {}

@@ -91,7 +91,7 @@ goes_marked y mail w k before after s p f i u e = record {
 pub sound_marked : (y z : Yard) (w : World) (k : ℕ) → IsSound y w → z.script ≡ y.script → IsSeen z (marked k w).world → IsSound z (marked k w).world
 sound_marked y z w k s e g = record {
   seen_is = g;
-  stands_is = subst (λ c. Stands c (marked k w).world) (sym e) (tell_fine y.script w (fact.Got k ∷ []) refl refl s.stands_is).stands;
+  stands_is = subst (λ c. Stands c (marked k w).world) (sym e) (tell_fine y.script w (fact.Got k ∷ []) refl refl s.stands_is);
   going_is = s.going_is;
 }
 
@@ -249,7 +249,7 @@ drain_goes_on old y z start facts after from n more left k one d h g script vers
       let going : m.world.full ≡ false = sym j.seen_is.full_is ∙ full in
       record {
         now = m.world;
-        sound = record { seen_is = j.seen_is; stands_is = subst (λ c. Stands c m.world) (sym script) ((deliver_goes y.script i.now k).0 i.sound.stands_is); going_is = going };
+        sound = record { seen_is = j.seen_is; stands_is = subst (λ c. Stands c m.world) (sym script) (deliver_goes y.script i.now k i.sound.stands_is); going_is = going };
         rest = λ last v e. i.rest last v (drain_next y v i.now from left k facts last i.sound.seen_is h (goes_then facts after last v m (world.drain from left) going j.facts_are e));
         cut = λ last t. i.cut last (cut_some y i.now from left k facts last i.sound.seen_is h (cut_next facts after last m (world.drain from left) going j.facts_are t));
       };

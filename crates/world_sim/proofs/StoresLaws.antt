@@ -144,7 +144,7 @@ stopped_first y w f = record { firm_is = f; down = λ k less. absurd (omega (ari
 
 pub stopped_next : (y z : Yard) (lists : SlotLists) (v : World) (i : ℕ) → is_in 1 y.script.config.nodes (i + 1) ≡ true → IsStopped i lists y v → z.script ≡ y.script → IsSeen z (go_down (i + 1) v).world → IsStopped (i + 1) lists z (go_down (i + 1) v).world
 stopped_next y z lists v i node s e g = record {
-  firm_is = record { seen_is = g; stands_is = subst (λ c. Stands c m.world) (sym e) ((go_down_goes y.script v (i + 1) node).0 s.firm_is.stands_is) };
+  firm_is = record { seen_is = g; stands_is = subst (λ c. Stands c m.world) (sym e) (go_down_goes y.script v (i + 1) node s.firm_is.stands_is) };
   down = λ k less. by_place (at m.world.nodes k ≡ None) k i
       (λ same. ap (at m.world.nodes) same ∙ down_now y.script v i (node_at v (i + 1)) s.firm_is.stands_is (ap (at v.nodes) here))
       (λ other. down_stays v (node_at v (i + 1)) k (s.down k (lower k less other)));
@@ -247,7 +247,7 @@ lists_home b y lists w same s = lists_same (lists_at y.script.config b.places) w
 -- The world's parts, where it found memory.
 
 pub firm_kept : (y : Yard) (n : ℕ) (f : Option StepFault) → IsWorld y n f → f ≢ Some fault.OutOfMemory → IsFirm y (made_of y.script n).world
-firm_kept y n f w h = record { seen_is = by f h w.kept; stands_is = (played_goes y.script wire_limit n w.script_is w.built).0 }
+firm_kept y n f w h = record { seen_is = by f h w.kept; stands_is = played_goes y.script wire_limit n w.script_is w.built }
   where
     by : (f : Option StepFault) → f ≢ Some fault.OutOfMemory → IsKept y n f → IsSeen y (made_of y.script n).world
     by None h k = k.0.seen_is

@@ -31,7 +31,7 @@ going_at y n f w e = subst (IsKept y n) e w.kept
 pub sound_at : (y : Yard) (n : ℕ) (f : Option StepFault) → IsWorld y n f → f ≡ None → IsSound y (made_of y.script n).world
 sound_at y n f w e = record {
   seen_is = (going_at y n f w e).0.seen_is;
-  stands_is = (played_goes y.script wire_limit n w.script_is w.built).0;
+  stands_is = played_goes y.script wire_limit n w.script_is w.built;
   going_is = (going_at y n f w e).0.full_is;
 }
 

@@ -16,10 +16,10 @@ use crate::course::stop_in;
 use crate::text::Text;
 use behaviour_core::laws::decided_law;
 use behaviour_kinds::{Account, Cart, Counter};
+use play_laws::play::trace_is_safe;
 use shard_store::Stores;
 use std::alloc::{AllocError, Global};
 use trace_text::{push_fact, push_report};
-use world_laws::keeps::played_is_safe;
 use world_sim::laws::made_law;
 use world_sim::{StepFault, World};
 use yard_laws::safety::safe_is_safe_now;
@@ -35,7 +35,7 @@ pub fn replay_report(alloc: Global, charter: &Charter) -> Result<Text, AllocErro
     ensures stop { IfOk result (λ t. t.stop ≡ stop_in (trace_of charter.now)) }
     ensures safe { IsTrue (safe charter.now (trace_of charter.now)) }
 {
-    trace_is_safe(charter);
+    is_safe(charter);
     match charter.config().kind {
         Kind::Counter => replayed(alloc, charter, Counter),
         Kind::Account => replayed(alloc, charter, Account),
@@ -43,13 +43,12 @@ pub fn replay_report(alloc: Global, charter: &Charter) -> Result<Text, AllocErro
     }
 }
 
-/// The trace of a script of these orders is safe.
-fn trace_is_safe(charter: &Charter)
-    requires { IsTrue (are_built charter.now) }
+/// The trace of a script is safe.
+fn is_safe(charter: &Charter)
     ensures { IsTrue (safe charter.now (trace_of charter.now)) }
 {
     charter.config();
-    played_is_safe();
+    trace_is_safe();
 }
 
 /// The text of a script's trace, played in a world whose entities behave so.

@@ -1,0 +1,3 @@
+mod LodgedLaws
+mod TableLaws
+pub mod NameLaws

@@ -72,11 +72,11 @@ abbrev pub of_coordinator : Coordinator → List ℕ
 of_coordinator k = length k.entries ∷ k.begun ∷ of_list of_incarnation k.quitting ++ of_list (λ b. of_bool b ∷ []) k.started ++ of_list of_moving k.moving
 
 abbrev pub of_node : Node → List ℕ
-of_node st = of_incarnation st.who ++ of_region st.region ++ of_list (of_option of_hosted) st.entities.hosted ++ of_list of_cell st.entities.cells
+of_node st = of_incarnation st.who ++ of_region st.region ++ st.entities.version ∷ of_list (of_option of_hosted) st.entities.hosted ++ of_list of_cell st.entities.cells
     ++ of_list (of_option of_producer) st.producers ++ of_option of_coordinator st.coordinator
 
 abbrev pub of_world : World → List ℕ
-of_world w = w.version ∷ length w.wire ∷ of_bool w.full ∷ of_list of_incarnation w.members ++ of_list of_number w.ups ++ of_list of_number w.fresh
+of_world w = w.set.config.shards ∷ w.behaviour ∷ w.version ∷ length w.wire ∷ w.past ∷ of_bool w.full ∷ of_list of_incarnation w.members ++ of_list of_number w.ups ++ of_list of_number w.fresh
     ++ of_list (λ (l : List Fact). length l ∷ []) w.lists.shards ++ length w.lists.coordinator ∷ of_list (λ (l : List Fact). length l ∷ []) w.lists.queues
     ++ of_list of_number w.ordered ++ of_list (of_option of_node) w.nodes
 

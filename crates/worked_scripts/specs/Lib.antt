@@ -22,6 +22,7 @@ pub mod HostedAlready
 pub mod LastRegionLeaves
 pub mod OldestCrashes
 pub mod OriginOfReleased
+pub mod OtherShards
 pub mod PacketNeverPosted
 pub mod PacketToGoneNode
 pub mod Passivation
@@ -42,6 +43,7 @@ pub mod Steady
 pub mod Tables
 pub mod TickInARound
 pub mod TickSendsAgain
+pub mod UpgradedAccount
 pub mod WireFull
 pub mod WordAfterTheRound
 pub mod Worked

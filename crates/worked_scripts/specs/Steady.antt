@@ -7,7 +7,7 @@ use Rattle.yard_model.specs.Script.{Script, setting}
 use Rattle.yard_model.specs.SlotLists.{SlotLists}
 use Rattle.yard_model.specs.Trace.{no_lists, lists_of}
 use Rattle.yard_model.specs.World.{trace_of, all_sends}
-use Rattle.yard_model.specs.Lawful.{settled}
+use Rattle.yard_model.specs.Settled.{settled}
 use Rattle.yard_model.specs.Workers.{worker_orders, is_steady, worked}
 use Rattle.worked_scripts.specs.Worked.{script_of}
 

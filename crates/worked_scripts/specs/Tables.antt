@@ -1,5 +1,5 @@
--- Small tables: hashes of names, picks of a round, the replies of an account.
-use Rattle.std.specs.Prelude.{ℕ, ◌+◌, codes, List, [], ◌∷◌, length, map, Option}
+-- Small tables: hashes of names, picks of a round, the replies of an account of version 1.
+use Rattle.std.specs.Prelude.{ℕ, ◌+◌, codes, List, [], ◌∷◌, length, map, Option, fold}
 use Rattle.std.specs.List.{scan}
 use Rattle.std.specs.Option.{option_map}
 use Rattle.yard_model.specs.declared.event.Command.{Command}
@@ -10,7 +10,6 @@ use Rattle.yard_model.specs.declared.state.State.TheVariants as state
 use Rattle.yard_model.specs.Shard.{java_hash, shard}
 use Rattle.yard_model.specs.Behaviour.{decide, apply}
 use Rattle.yard_model.specs.Coordinator.{Share, picks, smallest}
-use Rattle.std.specs.Prelude.{fold}
 
 abbrev pub names : List (List ℕ)
 names = codes "cart" ∷ codes "Aa" ∷ codes "BB" ∷ codes "cart-7" ∷ codes "polygenelubricants" ∷ []
@@ -45,10 +44,10 @@ abbrev pub orders : List Command
 orders = command.Deposit 5 ∷ command.Create ∷ command.Deposit 100 ∷ command.Withdraw 150 ∷ command.Close ∷ command.Withdraw 100 ∷ command.Close ∷ command.Balance ∷ command.Create ∷ []
 
 abbrev pub after : State → Command → State
-after st c = fold apply st (decide st c).events
+after st c = fold apply st (decide 1 st c).events
 
 abbrev pub account_replies : List Reply
-account_replies = scan after (λ st c. (decide st c).reply) state.NoAccount orders
+account_replies = scan after (λ st c. (decide 1 st c).reply) state.NoAccount orders
 
 abbrev pub account_state : State
 account_state = fold after state.NoAccount orders

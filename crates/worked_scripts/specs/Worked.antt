@@ -15,8 +15,10 @@ use Rattle.yard_model.specs.SlotReads.{journal}
 use Rattle.yard_model.specs.Genuine.{is_genuine_packet}
 use Rattle.yard_model.specs.World.{played, wire_limit, trace_of, all_sends, settled_from}
 use Rattle.yard_model.specs.Trace.{lists_of}
-use Rattle.yard_model.specs.Lawful.{is_folded, is_merged, settled}
-use Rattle.yard_model.specs.Safe.{safe, guarded}
+use Rattle.yard_model.specs.Lawful.{is_folded, is_merged}
+use Rattle.yard_model.specs.Settled.{settled}
+use Rattle.yard_model.specs.Safe.{safe}
+use Rattle.yard_model.specs.Guards.{guarded}
 use Rattle.worked_scripts.specs.Digest.{agree}
 
 -- orders that stand on the lines from n on
@@ -69,7 +71,7 @@ HasJournals c = list_all (λ e. is_folded c (journal_at c e) && is_merged c e (j
 
 -- a world that is given its lists settles with these lines
 abbrev pub SettlesFrom : Script → List Bytes → Type 0
-SettlesFrom c lines = flat_map fact_line (settled_from c (lists_of (setting c) (trace_of c))).facts ≡ text_of lines
+SettlesFrom c lines = flat_map fact_line (settled_from c 1 (lists_of (setting c) (trace_of c))).facts ≡ text_of lines
 
 -- at its end all sends are queued, recorded and confirmed
 abbrev pub IsSettled : Script → Type 0

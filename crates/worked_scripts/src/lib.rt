@@ -45,6 +45,8 @@ ghost use Rattle.worked_scripts.specs.AcknowledgedByALostCoordinator as acknowle
 ghost use Rattle.worked_scripts.specs.HostedAlready as hosted_already_lines;
 ghost use Rattle.worked_scripts.specs.DroppedAndAsked as dropped_and_asked_lines;
 ghost use Rattle.worked_scripts.specs.GivenLists as given_lists_lines;
+ghost use Rattle.worked_scripts.specs.OtherShards as other_shards_lines;
+ghost use Rattle.worked_scripts.specs.UpgradedAccount as upgraded_account_lines;
 ghost use Rattle.worked_scripts.specs.AloneFirst as alone_first_lines;
 ghost use Rattle.worked_scripts.specs.AloneCollisionGapRepeat as alone_collision_gap_repeat_lines;
 ghost use Rattle.worked_scripts.specs.AloneAccount as alone_account_lines;
@@ -53,49 +55,28 @@ use yard_model::{Reply, State};
 
 /// A node comes up and takes a queue; a command is kept until its shard has a home, is recorded and is confirmed.
 pub fn first_delivery()
-    ensures prints { Prints first_delivery_lines.script first_delivery_lines.printed }
-    ensures agrees { Agrees first_delivery_lines.script }
-    ensures genuine { IsGenuine first_delivery_lines.script }
-    ensures journals { HasJournals first_delivery_lines.script }
-    ensures safe { IsSafe first_delivery_lines.script }
-    ensures guarded { IsGuarded first_delivery_lines.script }
+    ensures { Prints first_delivery_lines.script first_delivery_lines.printed }
 {}
 
 /// The shard lives at one node and the queue at another.
 pub fn remote_delivery()
     ensures prints { Prints remote_delivery_lines.script remote_delivery_lines.printed }
-    ensures agrees { Agrees remote_delivery_lines.script }
-    ensures genuine { IsGenuine remote_delivery_lines.script }
-    ensures journals { HasJournals remote_delivery_lines.script }
-    ensures safe { IsSafe remote_delivery_lines.script }
-    ensures guarded { IsGuarded remote_delivery_lines.script }
     ensures settled { IsSettled remote_delivery_lines.script }
 {}
 
 /// Two commands overtake one another: the later is sent again from the first that is missing.
 pub fn reordered_delivery()
-    ensures prints { Prints reordered_delivery_lines.script reordered_delivery_lines.printed }
-    ensures agrees { Agrees reordered_delivery_lines.script }
-    ensures genuine { IsGenuine reordered_delivery_lines.script }
-    ensures journals { HasJournals reordered_delivery_lines.script }
-    ensures safe { IsSafe reordered_delivery_lines.script }
-    ensures guarded { IsGuarded reordered_delivery_lines.script }
+    ensures { Prints reordered_delivery_lines.script reordered_delivery_lines.printed }
 {}
 
 /// A packet that is delivered again is acknowledged again, and nothing more.
 pub fn repeated_delivery()
-    ensures prints { Prints repeated_delivery_lines.script repeated_delivery_lines.printed }
-    ensures agrees { Agrees repeated_delivery_lines.script }
-    ensures genuine { IsGenuine repeated_delivery_lines.script }
-    ensures journals { HasJournals repeated_delivery_lines.script }
+    ensures { Prints repeated_delivery_lines.script repeated_delivery_lines.printed }
 {}
 
 /// A packet that was never posted cannot be delivered.
 pub fn packet_never_posted()
-    ensures prints { Prints packet_never_posted_lines.script packet_never_posted_lines.printed }
-    ensures agrees { Agrees packet_never_posted_lines.script }
-    ensures genuine { IsGenuine packet_never_posted_lines.script }
-    ensures journals { HasJournals packet_never_posted_lines.script }
+    ensures { Prints packet_never_posted_lines.script packet_never_posted_lines.printed }
 {}
 
 /// A snapshot is taken, the node crashes, and the entity recovers elsewhere from snapshot and journal; the repeat is recognised.
@@ -110,10 +91,7 @@ pub fn snapshot_crash_repeat()
 
 /// A buffer of one message: the second is dropped, and sent again by a tick.
 pub fn full_buffer()
-    ensures prints { Prints full_buffer_lines.script full_buffer_lines.printed }
-    ensures agrees { Agrees full_buffer_lines.script }
-    ensures genuine { IsGenuine full_buffer_lines.script }
-    ensures journals { HasJournals full_buffer_lines.script }
+    ensures { Prints full_buffer_lines.script full_buffer_lines.printed }
 {}
 
 /// A region leaves while a command is on its way: the shard is handed off, and the command reaches its new home.
@@ -129,165 +107,90 @@ pub fn handoff_under_traffic()
 
 /// The same, where entities are remembered.
 pub fn handoff_of_remembered()
-    ensures prints { Prints handoff_of_remembered_lines.script handoff_of_remembered_lines.printed }
-    ensures agrees { Agrees handoff_of_remembered_lines.script }
-    ensures genuine { IsGenuine handoff_of_remembered_lines.script }
-    ensures journals { HasJournals handoff_of_remembered_lines.script }
-    ensures safe { IsSafe handoff_of_remembered_lines.script }
-    ensures guarded { IsGuarded handoff_of_remembered_lines.script }
+    ensures { Prints handoff_of_remembered_lines.script handoff_of_remembered_lines.printed }
 {}
 
 /// A word of a round that is closed is ignored.
 pub fn word_after_the_round()
-    ensures prints { Prints word_after_the_round_lines.script word_after_the_round_lines.printed }
-    ensures agrees { Agrees word_after_the_round_lines.script }
-    ensures genuine { IsGenuine word_after_the_round_lines.script }
-    ensures journals { HasJournals word_after_the_round_lines.script }
+    ensures { Prints word_after_the_round_lines.script word_after_the_round_lines.printed }
 {}
 
 /// A write is reported as failed, and its record stands: after recovery the command is a repeat.
 pub fn failed_write_kept()
-    ensures prints { Prints failed_write_kept_lines.script failed_write_kept_lines.printed }
-    ensures agrees { Agrees failed_write_kept_lines.script }
-    ensures genuine { IsGenuine failed_write_kept_lines.script }
-    ensures journals { HasJournals failed_write_kept_lines.script }
-    ensures safe { IsSafe failed_write_kept_lines.script }
-    ensures guarded { IsGuarded failed_write_kept_lines.script }
+    ensures { Prints failed_write_kept_lines.script failed_write_kept_lines.printed }
 {}
 
 /// A write fails and leaves no record: after recovery the command is written.
 pub fn failed_write_lost()
-    ensures prints { Prints failed_write_lost_lines.script failed_write_lost_lines.printed }
-    ensures agrees { Agrees failed_write_lost_lines.script }
-    ensures genuine { IsGenuine failed_write_lost_lines.script }
-    ensures journals { HasJournals failed_write_lost_lines.script }
-    ensures safe { IsSafe failed_write_lost_lines.script }
-    ensures guarded { IsGuarded failed_write_lost_lines.script }
+    ensures { Prints failed_write_lost_lines.script failed_write_lost_lines.printed }
 {}
 
 /// The coordinator crashes in the middle of a round: the next one allocates what the lost one left, and old words are ignored.
 pub fn coordinator_lost_in_round()
-    ensures prints { Prints coordinator_lost_in_round_lines.script coordinator_lost_in_round_lines.printed }
-    ensures agrees { Agrees coordinator_lost_in_round_lines.script }
-    ensures genuine { IsGenuine coordinator_lost_in_round_lines.script }
-    ensures journals { HasJournals coordinator_lost_in_round_lines.script }
-    ensures safe { IsSafe coordinator_lost_in_round_lines.script }
-    ensures guarded { IsGuarded coordinator_lost_in_round_lines.script }
+    ensures { Prints coordinator_lost_in_round_lines.script coordinator_lost_in_round_lines.printed }
 {}
 
 /// A packet to an incarnation that is gone is lost.
 pub fn packet_to_gone_node()
-    ensures prints { Prints packet_to_gone_node_lines.script packet_to_gone_node_lines.printed }
-    ensures agrees { Agrees packet_to_gone_node_lines.script }
-    ensures genuine { IsGenuine packet_to_gone_node_lines.script }
-    ensures journals { HasJournals packet_to_gone_node_lines.script }
+    ensures { Prints packet_to_gone_node_lines.script packet_to_gone_node_lines.printed }
 {}
 
 /// A command that comes while an entity passivates is stashed, and the entity starts again.
 pub fn passivation()
-    ensures prints { Prints passivation_lines.script passivation_lines.printed }
-    ensures agrees { Agrees passivation_lines.script }
-    ensures genuine { IsGenuine passivation_lines.script }
-    ensures journals { HasJournals passivation_lines.script }
-    ensures safe { IsSafe passivation_lines.script }
-    ensures guarded { IsGuarded passivation_lines.script }
+    ensures { Prints passivation_lines.script passivation_lines.printed }
 {}
 
 /// The same, where entities are remembered: it is forgotten, and remembered anew.
 pub fn passivation_remembered()
-    ensures prints { Prints passivation_remembered_lines.script passivation_remembered_lines.printed }
-    ensures agrees { Agrees passivation_remembered_lines.script }
-    ensures genuine { IsGenuine passivation_remembered_lines.script }
-    ensures journals { HasJournals passivation_remembered_lines.script }
-    ensures safe { IsSafe passivation_remembered_lines.script }
-    ensures guarded { IsGuarded passivation_remembered_lines.script }
+    ensures { Prints passivation_remembered_lines.script passivation_remembered_lines.printed }
 {}
 
 /// Five carts of two producers over three nodes, of which one leaves.
 pub fn carts_and_leaving()
     ensures prints { Prints carts_and_leaving_lines.script carts_and_leaving_lines.printed }
-    ensures agrees { Agrees carts_and_leaving_lines.script }
-    ensures genuine { IsGenuine carts_and_leaving_lines.script }
-    ensures journals { HasJournals carts_and_leaving_lines.script }
     ensures settled { IsSettled carts_and_leaving_lines.script }
 {}
 
 /// Nothing but a send that waits, and a settle.
 pub fn settle_alone()
     ensures prints { Prints settle_alone_lines.script settle_alone_lines.printed }
-    ensures agrees { Agrees settle_alone_lines.script }
-    ensures genuine { IsGenuine settle_alone_lines.script }
-    ensures journals { HasJournals settle_alone_lines.script }
-    ensures safe { IsSafe settle_alone_lines.script }
-    ensures guarded { IsGuarded settle_alone_lines.script }
     ensures settled { IsSettled settle_alone_lines.script }
 {}
 
 /// A queue that is held is not granted; one that is given back is.
 pub fn queue_held()
-    ensures prints { Prints queue_held_lines.script queue_held_lines.printed }
-    ensures agrees { Agrees queue_held_lines.script }
-    ensures genuine { IsGenuine queue_held_lines.script }
-    ensures journals { HasJournals queue_held_lines.script }
-    ensures safe { IsSafe queue_held_lines.script }
-    ensures guarded { IsGuarded queue_held_lines.script }
+    ensures { Prints queue_held_lines.script queue_held_lines.printed }
 {}
 
 /// A producer takes its queue again: what is confirmed is not sent again.
 pub fn queue_taken_again()
-    ensures prints { Prints queue_taken_again_lines.script queue_taken_again_lines.printed }
-    ensures agrees { Agrees queue_taken_again_lines.script }
-    ensures genuine { IsGenuine queue_taken_again_lines.script }
-    ensures journals { HasJournals queue_taken_again_lines.script }
-    ensures safe { IsSafe queue_taken_again_lines.script }
-    ensures guarded { IsGuarded queue_taken_again_lines.script }
+    ensures { Prints queue_taken_again_lines.script queue_taken_again_lines.printed }
 {}
 
 /// The oldest node crashes, and the next one leads.
 pub fn oldest_crashes()
-    ensures prints { Prints oldest_crashes_lines.script oldest_crashes_lines.printed }
-    ensures agrees { Agrees oldest_crashes_lines.script }
-    ensures genuine { IsGenuine oldest_crashes_lines.script }
-    ensures journals { HasJournals oldest_crashes_lines.script }
-    ensures safe { IsSafe oldest_crashes_lines.script }
-    ensures guarded { IsGuarded oldest_crashes_lines.script }
+    ensures { Prints oldest_crashes_lines.script oldest_crashes_lines.printed }
 {}
 
 /// A new region gets a shard, and then all is even.
 pub fn rebalancing()
-    ensures prints { Prints rebalancing_lines.script rebalancing_lines.printed }
-    ensures agrees { Agrees rebalancing_lines.script }
-    ensures genuine { IsGenuine rebalancing_lines.script }
-    ensures journals { HasJournals rebalancing_lines.script }
-    ensures safe { IsSafe rebalancing_lines.script }
-    ensures guarded { IsGuarded rebalancing_lines.script }
+    ensures { Prints rebalancing_lines.script rebalancing_lines.printed }
 {}
 
 /// The only region leaves: there is nowhere to move its shards.
 pub fn last_region_leaves()
-    ensures prints { Prints last_region_leaves_lines.script last_region_leaves_lines.printed }
-    ensures agrees { Agrees last_region_leaves_lines.script }
-    ensures genuine { IsGenuine last_region_leaves_lines.script }
-    ensures journals { HasJournals last_region_leaves_lines.script }
-    ensures safe { IsSafe last_region_leaves_lines.script }
-    ensures guarded { IsGuarded last_region_leaves_lines.script }
+    ensures { Prints last_region_leaves_lines.script last_region_leaves_lines.printed }
 {}
 
 /// A crash before anything is sent; the settle completes all.
 pub fn crash_before_a_send()
     ensures prints { Prints crash_before_a_send_lines.script crash_before_a_send_lines.printed }
-    ensures agrees { Agrees crash_before_a_send_lines.script }
-    ensures genuine { IsGenuine crash_before_a_send_lines.script }
-    ensures journals { HasJournals crash_before_a_send_lines.script }
     ensures settled { IsSettled crash_before_a_send_lines.script }
 {}
 
 /// A crash in the middle of a handoff; the settle completes all.
 pub fn crash_in_a_handoff()
     ensures prints { Prints crash_in_a_handoff_lines.script crash_in_a_handoff_lines.printed }
-    ensures agrees { Agrees crash_in_a_handoff_lines.script }
-    ensures genuine { IsGenuine crash_in_a_handoff_lines.script }
-    ensures journals { HasJournals crash_in_a_handoff_lines.script }
     ensures settled { IsSettled crash_in_a_handoff_lines.script }
 {}
 
@@ -305,60 +208,32 @@ pub fn settle_in_three_ticks()
 /// A settle of a command that was queued and never delivered.
 pub fn settle_after_a_send_in_flight()
     ensures prints { Prints settle_after_a_send_in_flight_lines.script settle_after_a_send_in_flight_lines.printed }
-    ensures agrees { Agrees settle_after_a_send_in_flight_lines.script }
-    ensures genuine { IsGenuine settle_after_a_send_in_flight_lines.script }
-    ensures journals { HasJournals settle_after_a_send_in_flight_lines.script }
-    ensures safe { IsSafe settle_after_a_send_in_flight_lines.script }
-    ensures guarded { IsGuarded settle_after_a_send_in_flight_lines.script }
     ensures settled { IsSettled settle_after_a_send_in_flight_lines.script }
 {}
 
 /// A tick sends the first number again that isn't confirmed.
 pub fn tick_sends_again()
-    ensures prints { Prints tick_sends_again_lines.script tick_sends_again_lines.printed }
-    ensures agrees { Agrees tick_sends_again_lines.script }
-    ensures genuine { IsGenuine tick_sends_again_lines.script }
-    ensures journals { HasJournals tick_sends_again_lines.script }
-    ensures safe { IsSafe tick_sends_again_lines.script }
-    ensures guarded { IsGuarded tick_sends_again_lines.script }
+    ensures { Prints tick_sends_again_lines.script tick_sends_again_lines.printed }
 {}
 
 /// A kept message keeps the origin that it came with.
 pub fn origin_of_released()
-    ensures prints { Prints origin_of_released_lines.script origin_of_released_lines.printed }
-    ensures agrees { Agrees origin_of_released_lines.script }
-    ensures genuine { IsGenuine origin_of_released_lines.script }
-    ensures journals { HasJournals origin_of_released_lines.script }
-    ensures safe { IsSafe origin_of_released_lines.script }
-    ensures guarded { IsGuarded origin_of_released_lines.script }
+    ensures { Prints origin_of_released_lines.script origin_of_released_lines.printed }
 {}
 
 /// The stash of an entity that stops with its shard is dropped.
 pub fn stash_of_stopped()
-    ensures prints { Prints stash_of_stopped_lines.script stash_of_stopped_lines.printed }
-    ensures agrees { Agrees stash_of_stopped_lines.script }
-    ensures genuine { IsGenuine stash_of_stopped_lines.script }
-    ensures journals { HasJournals stash_of_stopped_lines.script }
-    ensures safe { IsSafe stash_of_stopped_lines.script }
-    ensures guarded { IsGuarded stash_of_stopped_lines.script }
+    ensures { Prints stash_of_stopped_lines.script stash_of_stopped_lines.printed }
 {}
 
 /// While a round is open, a tick tells the other shards' homes again.
 pub fn tick_in_a_round()
-    ensures prints { Prints tick_in_a_round_lines.script tick_in_a_round_lines.printed }
-    ensures agrees { Agrees tick_in_a_round_lines.script }
-    ensures genuine { IsGenuine tick_in_a_round_lines.script }
-    ensures journals { HasJournals tick_in_a_round_lines.script }
-    ensures safe { IsSafe tick_in_a_round_lines.script }
-    ensures guarded { IsGuarded tick_in_a_round_lines.script }
+    ensures { Prints tick_in_a_round_lines.script tick_in_a_round_lines.printed }
 {}
 
 /// A region that is awaited is terminated in the middle of a round.
 pub fn awaited_region_is_lost()
-    ensures prints { Prints awaited_region_is_lost_lines.script awaited_region_is_lost_lines.printed }
-    ensures agrees { Agrees awaited_region_is_lost_lines.script }
-    ensures genuine { IsGenuine awaited_region_is_lost_lines.script }
-    ensures journals { HasJournals awaited_region_is_lost_lines.script }
+    ensures { Prints awaited_region_is_lost_lines.script awaited_region_is_lost_lines.printed }
 {}
 
 /// Room for seven packets: the trace stops within an input, after all other facts of it.
@@ -368,71 +243,52 @@ pub fn wire_full()
 
 /// A shard that is stopping is handed off again, by the next coordinator: stamp and addressee are the new ones.
 pub fn second_handoff()
-    ensures prints { Prints second_handoff_lines.script second_handoff_lines.printed }
-    ensures agrees { Agrees second_handoff_lines.script }
-    ensures genuine { IsGenuine second_handoff_lines.script }
-    ensures journals { HasJournals second_handoff_lines.script }
-    ensures safe { IsSafe second_handoff_lines.script }
-    ensures guarded { IsGuarded second_handoff_lines.script }
+    ensures { Prints second_handoff_lines.script second_handoff_lines.printed }
 {}
 
 /// An entity that passivates when its shard is handed off is forgotten all the same.
 pub fn handoff_while_passivating()
-    ensures prints { Prints handoff_while_passivating_lines.script handoff_while_passivating_lines.printed }
-    ensures agrees { Agrees handoff_while_passivating_lines.script }
-    ensures genuine { IsGenuine handoff_while_passivating_lines.script }
-    ensures journals { HasJournals handoff_while_passivating_lines.script }
-    ensures safe { IsSafe handoff_while_passivating_lines.script }
-    ensures guarded { IsGuarded handoff_while_passivating_lines.script }
+    ensures { Prints handoff_while_passivating_lines.script handoff_while_passivating_lines.printed }
 {}
 
 /// A handoff that begins lets a region ask again for the home.
 pub fn asked_again_in_a_round()
-    ensures prints { Prints asked_again_in_a_round_lines.script asked_again_in_a_round_lines.printed }
-    ensures agrees { Agrees asked_again_in_a_round_lines.script }
-    ensures genuine { IsGenuine asked_again_in_a_round_lines.script }
-    ensures journals { HasJournals asked_again_in_a_round_lines.script }
+    ensures { Prints asked_again_in_a_round_lines.script asked_again_in_a_round_lines.printed }
 {}
 
 /// An acknowledgement is taken from any sender, and a tick registers with the oldest.
 pub fn acknowledged_by_a_lost_coordinator()
-    ensures prints { Prints acknowledged_by_a_lost_coordinator_lines.script acknowledged_by_a_lost_coordinator_lines.printed }
-    ensures agrees { Agrees acknowledged_by_a_lost_coordinator_lines.script }
-    ensures genuine { IsGenuine acknowledged_by_a_lost_coordinator_lines.script }
-    ensures journals { HasJournals acknowledged_by_a_lost_coordinator_lines.script }
-    ensures safe { IsSafe acknowledged_by_a_lost_coordinator_lines.script }
-    ensures guarded { IsGuarded acknowledged_by_a_lost_coordinator_lines.script }
+    ensures { Prints acknowledged_by_a_lost_coordinator_lines.script acknowledged_by_a_lost_coordinator_lines.printed }
 {}
 
 /// A home that hosts its shard already says so again.
 pub fn hosted_already()
-    ensures prints { Prints hosted_already_lines.script hosted_already_lines.printed }
-    ensures agrees { Agrees hosted_already_lines.script }
-    ensures genuine { IsGenuine hosted_already_lines.script }
-    ensures journals { HasJournals hosted_already_lines.script }
-    ensures safe { IsSafe hosted_already_lines.script }
-    ensures guarded { IsGuarded hosted_already_lines.script }
+    ensures { Prints hosted_already_lines.script hosted_already_lines.printed }
 {}
 
 /// A message that is dropped asks for its shard's home.
 pub fn dropped_and_asked()
-    ensures prints { Prints dropped_and_asked_lines.script dropped_and_asked_lines.printed }
-    ensures agrees { Agrees dropped_and_asked_lines.script }
-    ensures genuine { IsGenuine dropped_and_asked_lines.script }
-    ensures journals { HasJournals dropped_and_asked_lines.script }
-    ensures safe { IsSafe dropped_and_asked_lines.script }
-    ensures guarded { IsGuarded dropped_and_asked_lines.script }
+    ensures { Prints dropped_and_asked_lines.script dropped_and_asked_lines.printed }
 {}
 
 /// Both nodes crash in a handoff; a world that is given the lists they leave settles.
 pub fn given_lists()
     ensures prints { Prints given_lists_lines.script given_lists_lines.printed }
-    ensures agrees { Agrees given_lists_lines.script }
-    ensures genuine { IsGenuine given_lists_lines.script }
-    ensures journals { HasJournals given_lists_lines.script }
-    ensures safe { IsSafe given_lists_lines.script }
-    ensures guarded { IsGuarded given_lists_lines.script }
     ensures settles { SettlesFrom given_lists_lines.script given_lists_lines.settled }
+{}
+
+/// While no node is up, the number of shards changes: the entity goes to another shard with its journal, and the epochs go on.
+pub fn other_shards()
+    ensures prints { Prints other_shards_lines.script other_shards_lines.printed }
+    ensures agrees { Agrees other_shards_lines.script }
+    ensures safe { IsSafe other_shards_lines.script }
+{}
+
+/// A deposit with a memo is refused; while no node is up, behaviours are upgraded, and after that a withdrawal with a memo is taken.
+pub fn upgraded_account()
+    ensures prints { Prints upgraded_account_lines.script upgraded_account_lines.printed }
+    ensures agrees { Agrees upgraded_account_lines.script }
+    ensures safe { IsSafe upgraded_account_lines.script }
 {}
 
 /// Alone, one send that is delivered is recorded.

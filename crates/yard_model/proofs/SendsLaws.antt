@@ -49,6 +49,9 @@ sends_within p orders = omega (arith, grown orders [])
     one xs (order.Pump k) = omega arith
     one xs (order.Rebalance l) = omega arith
     one xs order.Settle = omega arith
+    one xs (order.Reshard n) = omega arith
+    one xs order.Upgrade = omega arith
+    one xs (order.Ping q) = omega arith
 
     grown : (rest : List Line) (xs : List Sending) → length (fold (with_send_of p) xs rest) ≤ length xs + length rest
     grown [] xs = omega arith

@@ -1,5 +1,7 @@
 -- What entities do (Akka 2.6, Event Sourcing): the command handler Decide gives events and a reply, the event handler
--- Apply gives the state after an event, and Fold is the state after the records of a journal.
+-- Apply gives the state after an event, and Fold is the state after the records of a journal. A behaviour is of version 1
+-- or 2: in version 2 the events of an account have a memo, and Adapt (Akka 2.6, Event Sourcing: event adapters) makes an
+-- event of version 1 one of version 2.
 use Rattle.std.specs.Prelude.{ℕ, ◌+◌, ◌-◌, Bool, true, false, ◌==◌, ◌&&◌, nat_lt, nat_le, not, List, [], ◌∷◌, length, map, filter, fold, if◌then◌else◌}
 use Rattle.std.specs.List.{list_any, list_all}
 use Rattle.yard_model.specs.declared.event.Kind.{Kind}
@@ -29,6 +31,13 @@ most_items = 16
 abbrev pub is_amount : ℕ → Bool
 is_amount k = is_in 1 1000000 k
 
+-- the greatest memo
+abbrev pub most_memo : ℕ
+most_memo = 9999
+
+abbrev pub is_memo : ℕ → Bool
+is_memo m = is_in 1 most_memo m
+
 abbrev pub is_item_number : ℕ → Bool
 is_item_number i = is_in 1 9999 i
 
@@ -42,6 +51,8 @@ is_of_kind kind.Counter command.Read = true
 is_of_kind kind.Account command.Create = true
 is_of_kind kind.Account (command.Deposit k) = is_amount k
 is_of_kind kind.Account (command.Withdraw k) = is_amount k
+is_of_kind kind.Account (command.DepositWithMemo k m) = is_amount k && is_memo m
+is_of_kind kind.Account (command.WithdrawWithMemo k m) = is_amount k && is_memo m
 is_of_kind kind.Account command.Balance = true
 is_of_kind kind.Account command.Close = true
 is_of_kind kind.Cart (command.AddItem x) = is_item x
@@ -62,19 +73,44 @@ ok v = record { events = []; reply = reply.Value v }
 abbrev pub gives : Event → ℕ → Decision
 gives e v = record { events = e ∷ []; reply = reply.Value v }
 
-abbrev pub decide_open : ℕ → Command → Decision
-decide_open b command.Create = no 2
-decide_open b (command.Deposit k) = if nat_lt most (b + k) then no 5 else gives (event.Deposited k) (b + k)
-decide_open b (command.Withdraw k) = if nat_lt b k then no 3 else gives (event.Withdrawn k) (b - k)
-decide_open b command.Balance = ok b
-decide_open b command.Close = if b == 0 then gives event.AccountClosed 0 else no 4
-decide_open b c = no 0
+-- Adapt: the event of version 2; an event that has none of its own there stays
+abbrev pub adapt : Event → Event
+adapt (event.Deposited k) = event.DepositedWithMemo k 0
+adapt (event.Withdrawn k) = event.WithdrawnWithMemo k 0
+adapt e = e
+
+-- an event of version 1, as this version tells it
+abbrev pub in_version : ℕ → Event → Event
+in_version v e = if nat_lt v 2 then e else adapt e
+
+-- a command with a memo is refused in version 1, in every state
+abbrev pub with_memo : ℕ → Decision → Decision
+with_memo v d = if nat_lt v 2 then no 6 else d
+
+-- pays in, or takes out, with this event
+abbrev pub pays_in : ℕ → ℕ → Event → Decision
+pays_in b k e = if nat_lt most (b + k) then no 5 else gives e (b + k)
+
+abbrev pub takes_out : ℕ → ℕ → Event → Decision
+takes_out b k e = if nat_lt b k then no 3 else gives e (b - k)
+
+abbrev pub decide_open : ℕ → ℕ → Command → Decision
+decide_open v b command.Create = no 2
+decide_open v b (command.Deposit k) = pays_in b k (in_version v (event.Deposited k))
+decide_open v b (command.Withdraw k) = takes_out b k (in_version v (event.Withdrawn k))
+decide_open v b (command.DepositWithMemo k m) = with_memo v (pays_in b k (event.DepositedWithMemo k m))
+decide_open v b (command.WithdrawWithMemo k m) = with_memo v (takes_out b k (event.WithdrawnWithMemo k m))
+decide_open v b command.Balance = ok b
+decide_open v b command.Close = if b == 0 then gives event.AccountClosed 0 else no 4
+decide_open v b c = no 0
 
 -- an account that isn't open
-abbrev pub decide_shut : State → Command → Decision
-decide_shut state.NoAccount command.Create = gives event.Created 0
-decide_shut st command.Create = no 2
-decide_shut st c = no 1
+abbrev pub decide_shut : ℕ → State → Command → Decision
+decide_shut v state.NoAccount command.Create = gives event.Created 0
+decide_shut v st command.Create = no 2
+decide_shut v st (command.DepositWithMemo k m) = with_memo v (no 1)
+decide_shut v st (command.WithdrawWithMemo k m) = with_memo v (no 1)
+decide_shut v st c = no 1
 
 abbrev pub has_item : ℕ → List CartItem → Bool
 has_item i items = list_any (λ x. x.item == i) items
@@ -87,14 +123,14 @@ decide_cart items (command.AdjustItem x) = if has_item x.item items then gives (
 decide_cart items command.Checkout = if length items == 0 then no 5 else gives event.CheckedOut (length items)
 decide_cart items c = no 0
 
--- Decide: the events and the reply of a command at a state
-abbrev pub decide : State → Command → Decision
-decide (state.Counter n) (command.Add k) = if nat_lt most (n + k) then no 1 else gives (event.Added k) (n + k)
-decide (state.Counter n) c = ok n
-decide (state.Open b) c = decide_open b c
-decide (state.Cart true items) c = no 1
-decide (state.Cart false items) c = decide_cart items c
-decide st c = decide_shut st c
+-- Decide, of a version: the events and the reply of a command at a state, whose kind is that of the command
+abbrev pub decide : ℕ → State → Command → Decision
+decide v (state.Counter n) (command.Add k) = if nat_lt most (n + k) then no 1 else gives (event.Added k) (n + k)
+decide v (state.Counter n) c = ok n
+decide v (state.Open b m) c = decide_open v b c
+decide v (state.Cart true items) c = no 1
+decide v (state.Cart false items) c = decide_cart items c
+decide v st c = decide_shut v st c
 
 -- an item among others, before the first of a higher number
 abbrev pub item_among : CartItem → List CartItem → List CartItem
@@ -111,26 +147,32 @@ adjusted x y = if y.item == x.item then x else y
 abbrev pub items_adjusted : CartItem → List CartItem → List CartItem
 items_adjusted x items = map (adjusted x) items
 
--- Apply: the state after an event
-abbrev pub apply : State → Event → State
-apply (state.Counter n) (event.Added k) = state.Counter (n + k)
-apply state.NoAccount event.Created = state.Open 0
-apply (state.Open b) (event.Deposited k) = state.Open (b + k)
-apply (state.Open b) (event.Withdrawn k) = state.Open (b - k)
-apply (state.Open b) event.AccountClosed = state.Closed
-apply (state.Cart out items) (event.ItemAdded x) = state.Cart out (item_among x items)
-apply (state.Cart out items) (event.ItemRemoved i) = state.Cart out (items_without i items)
-apply (state.Cart out items) (event.ItemAdjusted x) = state.Cart out (items_adjusted x items)
-apply (state.Cart out items) event.CheckedOut = state.Cart true items
-apply st e = st
+-- the state after an event of version 2
+abbrev pub apply_adapted : State → Event → State
+apply_adapted (state.Counter n) (event.Added k) = state.Counter (n + k)
+apply_adapted state.NoAccount event.Created = state.Open 0 0
+apply_adapted (state.Open b m) (event.DepositedWithMemo k n) = state.Open (b + k) n
+apply_adapted (state.Open b m) (event.WithdrawnWithMemo k n) = state.Open (b - k) n
+apply_adapted (state.Open b m) event.AccountClosed = state.Closed
+apply_adapted (state.Cart out items) (event.ItemAdded x) = state.Cart out (item_among x items)
+apply_adapted (state.Cart out items) (event.ItemRemoved i) = state.Cart out (items_without i items)
+apply_adapted (state.Cart out items) (event.ItemAdjusted x) = state.Cart out (items_adjusted x items)
+apply_adapted (state.Cart out items) event.CheckedOut = state.Cart true items
+apply_adapted st e = st
 
--- an event is applicable where some command of the state's kind is answered with it alone
+-- Apply: the state after an event, of either version
+abbrev pub apply : State → Event → State
+apply st e = apply_adapted st (adapt e)
+
+-- an event is applicable where some command of the state's kind is answered with it alone, in one version or the other
 abbrev pub is_applicable : State → Event → Bool
 is_applicable (state.Counter n) (event.Added k) = is_in 1 1000 k && nat_le (n + k) most
 is_applicable state.NoAccount event.Created = true
-is_applicable (state.Open b) (event.Deposited k) = is_amount k && nat_le (b + k) most
-is_applicable (state.Open b) (event.Withdrawn k) = is_amount k && nat_le k b
-is_applicable (state.Open b) event.AccountClosed = b == 0
+is_applicable (state.Open b m) (event.Deposited k) = is_amount k && nat_le (b + k) most
+is_applicable (state.Open b m) (event.Withdrawn k) = is_amount k && nat_le k b
+is_applicable (state.Open b m) (event.DepositedWithMemo k n) = is_amount k && nat_le n most_memo && nat_le (b + k) most
+is_applicable (state.Open b m) (event.WithdrawnWithMemo k n) = is_amount k && nat_le n most_memo && nat_le k b
+is_applicable (state.Open b m) event.AccountClosed = b == 0
 is_applicable (state.Cart false items) (event.ItemAdded x) = is_item x && not (has_item x.item items) && nat_lt (length items) most_items
 is_applicable (state.Cart false items) (event.ItemRemoved i) = is_item_number i && has_item i items
 is_applicable (state.Cart false items) (event.ItemAdjusted x) = is_item x && has_item x.item items
@@ -154,7 +196,7 @@ are_rising (x ∷ xs) = is_below_all x xs && are_rising xs
 abbrev pub is_valid : Kind → State → Bool
 is_valid kind.Counter (state.Counter n) = nat_le n most
 is_valid kind.Account state.NoAccount = true
-is_valid kind.Account (state.Open b) = nat_le b most
+is_valid kind.Account (state.Open b m) = nat_le b most && nat_le m most_memo
 is_valid kind.Account state.Closed = true
 is_valid kind.Cart (state.Cart out items) = are_rising items && list_all is_item items && nat_le (length items) most_items
 is_valid k st = false

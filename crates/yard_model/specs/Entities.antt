@@ -48,6 +48,7 @@ pub record Hosted : Type 0 where
 pub record Entities : Type 0 where
   pub who : Incarnation
   pub set : Setting
+  pub version : ℕ  -- of the node's behaviour
   pub hosted : List (Option Hosted)  -- per shard
   pub cells : List Cell  -- per name
 
@@ -55,8 +56,8 @@ abbrev pub new_cell : Setting → Cell
 new_cell set = record { phase = phase.Absent; passivating = false; stash = []; armed = None; reach = replicate set.config.producers 0 }
 
 -- of a node that comes up
-abbrev pub new_entities : Setting → Incarnation → Entities
-new_entities set who = record { who = who; set = set; hosted = replicate set.config.shards None; cells = replicate (length set.names) (new_cell set) }
+abbrev pub new_entities : Setting → ℕ → Incarnation → Entities
+new_entities set version who = record { who = who; set = set; version = version; hosted = replicate set.config.shards None; cells = replicate (length set.names) (new_cell set) }
 
 abbrev pub is_phase : Phase → Phase → Bool
 is_phase phase.Absent phase.Absent = true
@@ -168,7 +169,7 @@ hosted_step set old (handed_off s stamp to) = slice_set old s (option_map (λ h.
 hosted_step set old m = old
 
 abbrev pub entities_after : Entities → Move → Entities
-entities_after st m = record { who = st.who; set = st.set; hosted = hosted_step st.set st.hosted m; cells = cells_step st.set st.cells m }
+entities_after st m = record { who = st.who; set = st.set; version = st.version; hosted = hosted_step st.set st.hosted m; cells = cells_step st.set st.cells m }
 
 -- What is read.
 
@@ -222,7 +223,7 @@ stash_message m st = if nat_lt (length (cell st m.entity).stash) st.set.config.w
 -- the record that a message gives: the next of the journal, under the lease's epoch, as Decide answers at the journal's Fold
 abbrev pub record_of : Message → Entities → List Record → Record
 record_of m st records =
-    let d : Decision = decide (folded st.set.config.kind records) m.command in
+    let d : Decision = decide st.version (folded st.set.config.kind records) m.command in
     record { number = length records + 1; epoch = epoch (entries st m.entity); producer = m.producer; place = m.number; command = m.command; events = d.events; reply = d.reply }
 
 -- where the record's number is a multiple of `snapshot`: `snapshot`

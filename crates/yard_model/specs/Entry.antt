@@ -18,6 +18,7 @@ shard_fact s (shard.Wrote e r) = fact.Wrote e r
 shard_fact s (shard.Snapshot e m) = fact.Snapshot e m
 shard_fact s (shard.Remembered e) = fact.Remembered e
 shard_fact s (shard.Forgotten e) = fact.Forgotten e
+shard_fact s (shard.Reshard n k) = fact.Resharded s n k
 
 -- an entry of the coordinator
 abbrev pub coord_fact : CoordEntry → Fact
@@ -27,6 +28,7 @@ coord_fact (coord.Registered r) = fact.Registered r
 coord_fact (coord.Terminated r) = fact.Terminated r
 coord_fact (coord.Allocated s r) = fact.Allocated s r
 coord_fact (coord.Deallocated s) = fact.Deallocated s
+coord_fact (coord.Reshard n k) = fact.Reshard n k
 
 -- an entry of producer p's queue
 abbrev pub queue_fact : ℕ → QueueEntry → Fact

@@ -1,20 +1,20 @@
 -- Which lists are lawful: each entry may follow those before it.
-use Rattle.std.specs.Prelude.{ℕ, ◌+◌, ◌-◌, Bool, true, false, ◌==◌, ◌&&◌, nat_lt, nat_le, not, List, [], length, is_some, is_none, slice_index_or}
+use Rattle.std.specs.Prelude.{ℕ, ◌+◌, Bool, true, false, ◌==◌, ◌&&◌, nat_lt, nat_le, not, List, [], length, is_some, is_none}
 use Rattle.std.specs.List.{list_any, list_all, slice_get}
 use Rattle.std.specs.Option.{option_map_or}
 use Rattle.yard_model.specs.declared.fact.Fact.{Fact}
 use Rattle.yard_model.specs.declared.fact.Fact.TheVariants as fact
 use Rattle.yard_model.specs.declared.packet.Record.{Record}
-use Rattle.yard_model.specs.declared.charter.Sending.{Sending}
 use Rattle.yard_model.specs.declared.incarnation.Slot.{Slot}
 use Rattle.yard_model.specs.declared.incarnation.Slot.TheVariants as slot
-use Rattle.yard_model.specs.Script.{Script, setting, sends, count_to}
+use Rattle.yard_model.specs.Script.{Script, setting, sends, with_shards, versions}
 use Rattle.yard_model.specs.Setting.{shards, producers, shard_of}
 use Rattle.yard_model.specs.Words.{is_among}
 use Rattle.yard_model.specs.Equal.{is_sending, is_decision, is_slot}
 use Rattle.yard_model.specs.Genuine.{is_node, is_shard, is_producer, is_brought, is_planned}
 use Rattle.yard_model.specs.Follow.{each_follows}
-use Rattle.yard_model.specs.Behaviour.{decide, folded}
+use Rattle.yard_model.specs.Opening.{begins, Parts, parts_of}
+use Rattle.yard_model.specs.Behaviour.{is_in, decide, folded}
 use Rattle.yard_model.specs.SlotLists.{SlotLists, shard_list, queue_list}
 use Rattle.yard_model.specs.SlotReads.{holder, epoch, journal, position, last_snapshot, is_remembered, regions, allocation, queued, confirmed, queued_in_all}
 
@@ -30,15 +30,15 @@ is_leased list (fact.Freed s n why) = is_held list && (n == epoch list)
 is_leased list (fact.Wrote e r) = is_held list && (r.epoch == epoch list)
 is_leased list f = is_held list
 
--- OneWriter: one incarnation after the other holds the slot, and it alone writes (Akka: one live instance per persistence id)
-abbrev pub one_writer : List Fact → Bool
-one_writer list = each_follows is_leased [] list
-
 -- Journals.
 
--- a record that is folded after these: it has the next number, and its events and reply are what Decide gives at their Fold
+-- its events and reply are what Decide gives at the Fold of these, in this version
+abbrev pub is_decided : ℕ → Script → List Record → Record → Bool
+is_decided v c before r = is_decision (decide v (folded c.config.kind before) r.command) (record { events = r.events; reply = r.reply })
+
+-- a record that is folded after these: it has the next number, and is decided in a version that the script admits
 abbrev pub is_folded_after : Script → List Record → Record → Bool
-is_folded_after c before r = (r.number == length before + 1) && is_decision (decide (folded c.config.kind before) r.command) (record { events = r.events; reply = r.reply })
+is_folded_after c before r = (r.number == length before + 1) && list_any (λ v. is_decided v c before r) (versions c)
 
 -- Folded
 abbrev pub is_folded : Script → List Record → Bool
@@ -101,9 +101,33 @@ is_entry c (slot.Queue p) list f = is_queue_entry c p list f
 abbrev pub may_follow : Script → Slot → List Fact → Fact → Bool
 may_follow c s list f = is_leased list f && is_entry c s list f
 
--- Own: what is lawful of one slot's list alone
+-- Where a list begins anew.
+
+-- an entry that may stand before the first grant of a shard's list, up to epoch k: one of its names, as the number of shards has changed; its records have an epoch from 1 to k. What ends these is the change itself, once
+abbrev pub may_be_brought : Script → ℕ → ℕ → List Fact → Fact → Bool
+may_be_brought c s k list (fact.Granted t n x) = false
+may_be_brought c s k list (fact.Freed t n why) = false
+may_be_brought c s k list (fact.Wrote e r) = is_in 1 k r.epoch && is_shard_entry c s list (fact.Wrote e r)
+may_be_brought c s k list (fact.Resharded t n j) = (t == s) && not (list_any begins list)
+may_be_brought c s k list f = is_shard_entry c s list f
+
+-- an entry of the coordinator's list up to a change of the number of shards: so many shards as there can be. The change itself stands where no grant is open
+abbrev pub may_be_before : Script → List Fact → Fact → Bool
+may_be_before c list (fact.Reshard n k) = not (is_held list) && is_in 1 128 n
+may_be_before c list f = may_follow (with_shards 128 c) slot.Coordinator list f
+
+abbrev pub may_open : Script → Slot → ℕ → List Fact → Fact → Bool
+may_open c (slot.Shard s) k list f = may_be_brought c s k list f
+may_open c slot.Coordinator k list f = may_be_before c list f
+may_open c (slot.Queue p) k list f = false
+
+-- what a list begins anew with: the entries up to the last change of the number of shards, if there is one
+abbrev pub is_opening : Script → Slot → List Fact → Bool
+is_opening c s list = each_follows (may_open c s (epoch list)) [] list
+
+-- Own: what is lawful of one slot's list alone: `granted` and `freed` alternate, and one incarnation after the other writes (OneWriter; Akka: one live instance per persistence id)
 abbrev pub own : Script → Slot → List Fact → Bool
-own c s list = each_follows (may_follow c s) [] list
+own c s list = let parts : Parts = parts_of list in is_opening c s parts.opening && each_follows (may_follow c s) parts.opening parts.since
 
 -- the journal has a record of p with place n
 abbrev pub has_place : ℕ → ℕ → List Record → Bool
@@ -124,12 +148,3 @@ lawful c lists = (length lists.shards == c.config.shards) && (length lists.queue
     && own c slot.Coordinator lists.coordinator
     && list_all (λ p. own c (slot.Queue p) (queue_list lists p)) (producers (setting c))
     && confirmed_there c lists
-
--- Settled: of each pair, every one of these sends is queued, in the journal and confirmed
-abbrev pub is_settled_pair : Script → List (List Sending) → SlotLists → ℕ → List ℕ → Bool
-is_settled_pair c all lists p e =
-    let n : ℕ = count_to e (slice_index_or all (p - 1) []) in
-    (queued e (queue_list lists p) == n) && (position p (journal e (shard_list lists (shard_of (setting c) e))) == n) && (confirmed e (queue_list lists p) == n)
-
-abbrev pub settled : Script → List (List Sending) → SlotLists → Bool
-settled c all lists = list_all (λ p. list_all (is_settled_pair c all lists p) (setting c).names) (producers (setting c))

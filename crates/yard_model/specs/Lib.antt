@@ -5,9 +5,11 @@ pub mod Counts
 pub mod Entities
 pub mod Entry
 pub mod Equal
+pub mod Era
 pub mod Events
 pub mod Follow
 pub mod Genuine
+pub mod Guards
 pub mod Items
 pub mod Lawful
 pub mod Loads
@@ -15,6 +17,7 @@ pub mod Members
 pub mod Move
 pub mod Name
 pub mod Node
+pub mod Opening
 pub mod Padded
 pub mod Producer
 pub mod Queries
@@ -23,6 +26,7 @@ pub mod Replay
 pub mod Safe
 pub mod Script
 pub mod Setting
+pub mod Settled
 pub mod Shard
 pub mod ShardSet
 pub mod SlotLists

@@ -41,13 +41,13 @@ pub record Node : Type 0 where
   pub producers : List (Option Producer)  -- those whose queue it holds
   pub coordinator : Option Coordinator  -- while it holds the slot
 
--- a node that comes up
-abbrev pub new_node : Setting → Incarnation → Node
-new_node set who = record {
+-- a node that comes up, with a behaviour of this version
+abbrev pub new_node : Setting → ℕ → Incarnation → Node
+new_node set version who = record {
   who = who;
   set = set;
   region = region.new_region set who;
-  entities = entities.new_entities set who;
+  entities = entities.new_entities set version who;
   producers = replicate set.config.producers None;
   coordinator = None;
 }

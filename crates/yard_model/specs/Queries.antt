@@ -1,5 +1,5 @@
 -- The queries of a trace: every word of the world and of each node, read off the facts alone, by a fold of one-fact steps. A fact is an item of the node that acts by it; it may show silent moves besides; the packet that a node got, and the order that begins, show the others.
-use Rattle.std.specs.Prelude.{ℕ, ◌-◌, Bool, true, false, ◌==◌, List, [], ◌∷◌, ◌++◌, map, find, fold, Option, Some, None, slice_index_or, if◌then◌else◌}
+use Rattle.std.specs.Prelude.{ℕ, ◌-◌, Bool, true, false, ◌==◌, nat_lt, List, [], ◌∷◌, ◌++◌, map, find, fold, Option, Some, None, slice_index_or, if◌then◌else◌}
 use Rattle.std.specs.List.{flat_map, slice_get}
 use Rattle.std.specs.Option.{option_map, option_and_then}
 use Rattle.yard_model.specs.declared.fact.Fact.{Fact}
@@ -41,9 +41,9 @@ nothing_known orders w = record { orders = orders; world = w; views = [] ∷ [];
 abbrev pub order_at : List Line → ℕ → Option Order
 order_at orders n = option_map (λ (l : Line). l.order) (find (λ (l : Line). l.number == n) orders)
 
--- packet k
+-- packet k, where it was posted since the number of shards last changed
 abbrev pub posted : World → ℕ → Option Packet
-posted w k = slice_get w.wire (k - 1)
+posted w k = if nat_lt w.past k then slice_get w.wire (k - 1) else None
 
 -- Who acts by a fact.
 

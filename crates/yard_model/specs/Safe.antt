@@ -1,5 +1,5 @@
 -- Safety of a trace: one live instance of an entity, states that are the journals', lawful lists at each prefix.
-use Rattle.std.specs.Prelude.{ℕ, Bool, true, false, ◌==◌, ◌&&◌, List, [], ◌∷◌, ◌++◌, length, fold, not, nat_le, Option, Some, None, if◌then◌else◌}
+use Rattle.std.specs.Prelude.{ℕ, Bool, true, false, ◌==◌, ◌&&◌, List, [], ◌∷◌, ◌++◌, length, fold, not, Option, if◌then◌else◌}
 use Rattle.std.specs.List.{list_all}
 use Rattle.std.specs.Option.{option_map_or}
 use Rattle.yard_model.specs.declared.fact.Fact.{Fact}
@@ -7,19 +7,17 @@ use Rattle.yard_model.specs.declared.fact.Fact.TheVariants as fact
 use Rattle.yard_model.specs.declared.packet.Record.{Record}
 use Rattle.yard_model.specs.declared.incarnation.Incarnation.{Incarnation}
 use Rattle.yard_model.specs.declared.state.State.{State}
-use Rattle.yard_model.specs.declared.incarnation.Slot.{Slot}
-use Rattle.yard_model.specs.declared.incarnation.Slot.TheVariants as slot
 use Rattle.yard_model.specs.Script.{Script, is_name, setting}
-use Rattle.yard_model.specs.Setting.{shard_of, names_of}
+use Rattle.yard_model.specs.Setting.{shard_of}
 use Rattle.yard_model.specs.Words.{is_at, is_empty, without}
 use Rattle.yard_model.specs.Equal.{is_state}
-use Rattle.yard_model.specs.Genuine.{is_slot_of}
-use Rattle.yard_model.specs.Follow.{each_follows}
+use Rattle.yard_model.specs.Genuine.{is_slot_of, is_brought}
 use Rattle.yard_model.specs.Behaviour.{folded}
 use Rattle.yard_model.specs.SlotLists.{shard_list}
-use Rattle.yard_model.specs.SlotReads.{holder, epoch, journal, position}
-use Rattle.yard_model.specs.Trace.{slot_of, list_at, lists_of}
-use Rattle.yard_model.specs.Lawful.{may_follow, lawful}
+use Rattle.yard_model.specs.SlotReads.{holder, epoch, journal}
+use Rattle.yard_model.specs.Trace.{slot_of, lists_of}
+use Rattle.yard_model.specs.Era.{Era, first_era, era_step, version_in}
+use Rattle.yard_model.specs.Lawful.{is_decided, lawful}
 
 -- Live.
 
@@ -54,38 +52,23 @@ one_live c trace e = at_most_holder (holder (shard_list_of c e trace)) (live_at 
 abbrev pub is_journal_state : Script → ℕ → State → List Record → Bool
 is_journal_state c m st records = (m == length records) && is_state st (folded c.config.kind records)
 
--- a slot is the script's; a record is written where the entity is live, under the epoch of its shard's lease; an Active entity's records and state are its journal's
+-- a name and a slot are the script's; a record is written where the entity is live, under the epoch of its shard's lease, and is decided in the version in force; an Active entity's records and state are its journal's; where the number of shards changes, nothing is live
 abbrev pub shows : Script → List Fact → Fact → Bool
-shows c trace (fact.Wrote e r) = not (is_empty (live_at e trace)) && (r.epoch == epoch (shard_list_of c e trace))
+shows c trace (fact.Start x e) = is_brought c e
+shows c trace (fact.Wrote e r) = not (is_empty (live_at e trace)) && (r.epoch == epoch (shard_list_of c e trace)) && is_decided (version_in trace) c (journal e (shard_list_of c e trace)) r
 shows c trace (fact.Active x e m st) = is_journal_state c m st (journal e (shard_list_of c e trace))
+shows c trace (fact.Reshard n k) = list_all (λ e. is_empty (live_at e trace)) (setting c).names
+shows c trace (fact.Resharded s n k) = false
 shows c trace f = option_map_or (is_slot_of c) (slot_of (setting c) f) true
 
 abbrev pub is_safe_now : Script → List Fact → Bool
 is_safe_now c trace = list_all (one_live c trace) (setting c).names && lawful c (lists_of (setting c) trace)
 
+-- from an era on, at each prefix
+abbrev pub safe_from : Era → List Fact → Bool
+safe_from era [] = is_safe_now era.script era.trace
+safe_from era (f ∷ fs) = is_safe_now era.script era.trace && shows era.script era.trace f && safe_from (era_step era f) fs
+
 -- Safe: OneLive, StateShown, and Lawful of the lists at each prefix
 abbrev pub safe : Script → List Fact → Bool
-safe c trace = is_safe_now c [] && each_follows (λ before f. shows c before f && is_safe_now c (before ++ f ∷ [])) [] trace
-
--- Guards: what makes a fact safe after a safe trace.
-
-abbrev pub own_guard : Script → List Fact → Fact → Option Slot → Bool
-own_guard c trace f None = true
-own_guard c trace f (Some s) = is_slot_of c s && may_follow c s (list_at (lists_of (setting c) trace) s) f
-
--- the holder of its shard starts an entity that isn't live; a live one writes; a shard is freed when none of its entities is live; an Active one is its journal; a confirmed number is recorded
-abbrev pub cross_guard : Script → List Fact → Fact → Bool
-cross_guard c trace (fact.Start x e) = is_at x (holder (shard_list_of c e trace)) && is_empty (live_at e trace)
-cross_guard c trace (fact.Wrote e r) = not (is_empty (live_at e trace))
-cross_guard c trace (fact.Freed (slot.Shard s) n why) = list_all (λ e. is_empty (live_at e trace)) (names_of (setting c) s)
-cross_guard c trace (fact.Active x e m st) = is_journal_state c m st (journal e (shard_list_of c e trace))
-cross_guard c trace (fact.Confirmed p e n) = nat_le n (position p (journal e (shard_list_of c e trace)))
-cross_guard c trace f = true
-
--- a fact is guarded after these: an entry may follow in the list of its slot, and what other lists and live entities have to say
-abbrev pub guard : Script → List Fact → Fact → Bool
-guard c trace f = own_guard c trace f (slot_of (setting c) f) && cross_guard c trace f
-
--- each fact is guarded
-abbrev pub guarded : Script → List Fact → Bool
-guarded c trace = each_follows (guard c) [] trace
+safe c trace = safe_from (first_era c) trace

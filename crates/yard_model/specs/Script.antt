@@ -1,5 +1,5 @@
 -- What a script says: its settings and its orders; what is read off them: names, sends, plans.
-use Rattle.std.specs.Prelude.{ℕ, ◌+◌, Bool, true, ◌==◌, ◌&&◌, ◌≤◌, nat_eq, List, [], ◌∷◌, ◌++◌, length, map, filter, fold, Option, Some, None, if◌then◌else◌, IsTrue}
+use Rattle.std.specs.Prelude.{ℕ, ◌+◌, Bool, true, false, ◌==◌, ◌&&◌, ◌≤◌, nat_eq, List, [], ◌∷◌, ◌++◌, length, map, filter, fold, Option, Some, None, if◌then◌else◌, IsTrue}
 use Rattle.std.specs.List.{list_any, list_all}
 use Rattle.std.specs.Ordering.{nat_cmp}
 use Rattle.std.specs.Cmp.Lexicographic.{pointwise, slice_cmp}
@@ -102,6 +102,9 @@ is_order c (order.Deliver k) = is_in 1 1000000 k
 is_order c (order.Pump k) = is_in 1 10000 k
 is_order c (order.Rebalance l) = is_in 1 128 l
 is_order c order.Settle = true
+is_order c (order.Reshard n) = is_in 1 128 n
+is_order c order.Upgrade = true
+is_order c (order.Ping p) = is_in 1 c.producers p
 
 -- what a charter may be made of
 pub record IsScript (c : Script) : Type 0 where
@@ -110,6 +113,21 @@ pub record IsScript (c : Script) : Type 0 where
   pub names : length (names_in c.orders) ≤ 1000
   pub pairs : length (pairs_in c.orders) ≤ 4000
   pub fits : length c.orders ≤ 200000
+
+-- the same script with so many shards
+abbrev pub with_shards : ℕ → Script → Script
+with_shards n c = record { config = record c.config { shards = n }; orders = c.orders }
+
+abbrev pub is_upgrade : Order → Bool
+is_upgrade order.Upgrade = true
+is_upgrade o = false
+
+-- the versions of behaviours that a script admits
+abbrev pub versions : Script → List ℕ
+versions c = if list_any (λ (l : Line). is_upgrade l.order) c.orders then 1 ∷ 2 ∷ [] else 1 ∷ []
+
+abbrev pub is_version : Script → ℕ → Bool
+is_version c v = list_any (λ w. w == v) (versions c)
 
 -- what the actors know of a script: its settings and its names
 pub record Setting : Type 0 where

@@ -5,6 +5,10 @@ use Rattle.yard_model.specs.Words.{numbers}
 use Rattle.yard_model.specs.Script.{Setting, is_name}
 use Rattle.yard_model.specs.Shard.{shard}
 
+-- the same with so many shards
+abbrev pub set_shards : ℕ → Setting → Setting
+set_shards n set = record { config = record set.config { shards = n }; names = set.names }
+
 -- the shards, rising
 abbrev pub shards : Setting → List ℕ
 shards set = numbers 0 set.config.shards

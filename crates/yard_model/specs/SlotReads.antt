@@ -21,9 +21,10 @@ holder list = fold holder_step None list
 
 abbrev pub epoch_step : ℕ → Fact → ℕ
 epoch_step old (fact.Granted slot n x) = n
+epoch_step old (fact.Resharded s n k) = k
 epoch_step old f = old
 
--- the epoch of the last `granted`, 0 before
+-- the epoch of the last `granted`; before the first it is 0, or what a change of the number of shards set it to
 abbrev pub epoch : List Fact → ℕ
 epoch list = fold epoch_step 0 list
 
@@ -73,9 +74,10 @@ abbrev pub allocation_step : ℕ → Option Incarnation → Fact → Option Inca
 allocation_step s old (fact.Allocated t r) = if t == s then Some r else old
 allocation_step s old (fact.Deallocated t) = if t == s then None else old
 allocation_step s old (fact.Terminated r) = if is_at r old then None else old
+allocation_step s old (fact.Reshard n k) = None
 allocation_step s old f = old
 
--- the region that shard s is allocated to: that of the last `allocated s`, with no later `deallocated s`, nor `terminated` of that region
+-- the region that shard s is allocated to: that of the last `allocated s`, with no later `deallocated s`, `terminated` of that region or `reshard`
 abbrev pub allocation : ℕ → List Fact → Option Incarnation
 allocation s list = fold (allocation_step s) None list
 

@@ -51,7 +51,7 @@ next_message posted p e k = record { producer = p; entity = e; number = count_of
 -- the record of a message after the records of its entity
 abbrev pub next_record : Kind → List Record → Message → Record
 next_record kind before m =
-    let d : Decision = decide (folded kind before) m.command in
+    let d : Decision = decide 1 (folded kind before) m.command in
     record { number = length before + 1; epoch = 1; producer = m.producer; place = m.number; command = m.command; events = d.events; reply = d.reply }
 
 -- one entry more in the list of a shard

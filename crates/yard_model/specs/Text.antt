@@ -60,6 +60,8 @@ command_text command.Read = codes "read"
 command_text command.Create = codes "create"
 command_text (command.Deposit k) = words (codes "deposit" ∷ decimal k ∷ [])
 command_text (command.Withdraw k) = words (codes "withdraw" ∷ decimal k ∷ [])
+command_text (command.DepositWithMemo k m) = words (codes "deposit" ∷ decimal k ∷ decimal m ∷ [])
+command_text (command.WithdrawWithMemo k m) = words (codes "withdraw" ∷ decimal k ∷ decimal m ∷ [])
 command_text command.Balance = codes "balance"
 command_text command.Close = codes "close"
 command_text (command.AddItem x) = words (codes "add" ∷ decimal x.item ∷ decimal x.quantity ∷ [])
@@ -72,6 +74,8 @@ event_text (event.Added k) = words (codes "added" ∷ decimal k ∷ [])
 event_text event.Created = codes "created"
 event_text (event.Deposited k) = words (codes "deposited" ∷ decimal k ∷ [])
 event_text (event.Withdrawn k) = words (codes "withdrawn" ∷ decimal k ∷ [])
+event_text (event.DepositedWithMemo k m) = words (codes "deposited" ∷ decimal k ∷ codes "memo" ∷ decimal m ∷ [])
+event_text (event.WithdrawnWithMemo k m) = words (codes "withdrawn" ∷ decimal k ∷ codes "memo" ∷ decimal m ∷ [])
 event_text event.AccountClosed = codes "closed"
 event_text (event.ItemAdded x) = words (codes "added" ∷ decimal x.item ∷ decimal x.quantity ∷ [])
 event_text (event.ItemRemoved i) = words (codes "removed" ∷ decimal i ∷ [])
@@ -99,7 +103,7 @@ items_text (x ∷ xs) = join_with_byte 44 (map item_text (x ∷ xs))
 abbrev pub state_text : State → Bytes
 state_text (state.Counter n) = decimal n
 state_text state.NoAccount = codes "none"
-state_text (state.Open b) = words (codes "open" ∷ decimal b ∷ [])
+state_text (state.Open b m) = words (codes "open" ∷ decimal b ∷ (if m == 0 then [] else codes "memo" ∷ decimal m ∷ []))
 state_text state.Closed = codes "closed"
 state_text (state.Cart out items) = words ((if out then codes "out" else codes "open") ∷ items_text items ∷ [])
 
@@ -177,6 +181,14 @@ fact_words (fact.Forgotten e) = codes "forgotten" ∷ e ∷ []
 fact_words (fact.Waits p e k) = codes "waits" ∷ decimal p ∷ e ∷ command_text k ∷ []
 fact_words (fact.Queued p e n k) = codes "queued" ∷ decimal p ∷ e ∷ decimal n ∷ command_text k ∷ []
 fact_words (fact.Confirmed p e n) = codes "confirmed" ∷ decimal p ∷ e ∷ decimal n ∷ []
+fact_words (fact.Reshard n k) = codes "reshard" ∷ decimal n ∷ decimal k ∷ []
+fact_words (fact.Resharded s n k) = codes "reshard" ∷ decimal n ∷ decimal k ∷ []
+fact_words (fact.Upgrade v) = codes "upgrade" ∷ decimal v ∷ []
+fact_words (fact.SentAsk k x) = codes "sent" ∷ decimal k ∷ codes "ask" ∷ incarnation_text x ∷ []
+fact_words (fact.SentJob k x e) = codes "sent" ∷ decimal k ∷ codes "job" ∷ incarnation_text x ∷ e ∷ []
+fact_words (fact.SentDone k x e) = codes "sent" ∷ decimal k ∷ codes "done" ∷ incarnation_text x ∷ e ∷ []
+fact_words (fact.Given e x) = codes "given" ∷ e ∷ incarnation_text x ∷ []
+fact_words (fact.Did x e) = codes "did" ∷ incarnation_text x ∷ e ∷ []
 
 abbrev pub fact_line : Fact → Bytes
 fact_line f = line (fact_words f)

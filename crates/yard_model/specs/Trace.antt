@@ -22,6 +22,8 @@ slot_of set (fact.Remembered e) = Some (slot.Shard (shard_of set e))
 slot_of set (fact.Forgotten e) = Some (slot.Shard (shard_of set e))
 slot_of set (fact.Queued p e n c) = Some (slot.Queue p)
 slot_of set (fact.Confirmed p e n) = Some (slot.Queue p)
+slot_of set (fact.Reshard n k) = Some slot.Coordinator
+slot_of set (fact.Resharded s n k) = Some (slot.Shard s)
 slot_of set f = None
 
 -- the list of a slot

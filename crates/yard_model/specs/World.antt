@@ -1,6 +1,6 @@
 -- The world: all nodes, one step after the other, as the orders of a script say. Its words, but for the nodes and what was ordered, are folds of one-fact steps over the facts.
-use Rattle.std.specs.Prelude.{ℕ, zero, suc, ◌+◌, ◌-◌, ◌*◌, Bool, true, false, ◌==◌, ◌||◌, nat_lt, not, max, List, [], ◌∷◌, ◌++◌, length, map, filter, fold, sum, replicate, Option, Some, None, is_none, slice_index_or, slice_set, if◌then◌else◌}
-use Rattle.std.specs.List.{list_any, flat_map, slice_get}
+use Rattle.std.specs.Prelude.{ℕ, zero, suc, ◌+◌, ◌-◌, ◌*◌, Bool, true, false, ◌==◌, ◌&&◌, ◌||◌, nat_lt, not, max, List, [], ◌∷◌, ◌++◌, length, map, filter, fold, sum, replicate, Option, Some, None, is_none, is_some, slice_index_or, slice_set, if◌then◌else◌}
+use Rattle.std.specs.List.{list_any, slice_get}
 use Rattle.yard_model.specs.declared.fact.Fact.{Fact}
 use Rattle.yard_model.specs.declared.fact.Fact.TheVariants as fact
 use Rattle.yard_model.specs.declared.out.Item.{Item}
@@ -17,20 +17,22 @@ use Rattle.yard_model.specs.declared.charter.Order.{Order}
 use Rattle.yard_model.specs.declared.charter.Order.TheVariants as order
 use Rattle.yard_model.specs.declared.charter.Sending.{Sending}
 use Rattle.yard_model.specs.Script.{Script, Setting, setting, sends}
-use Rattle.yard_model.specs.Setting.{producers}
+use Rattle.yard_model.specs.Setting.{producers, set_shards}
 use Rattle.yard_model.specs.SlotLists.{SlotLists, queue_list}
 use Rattle.yard_model.specs.Words.{numbers, is_among, is_empty, at, without}
-use Rattle.yard_model.specs.SlotReads.{holder, queued, confirmed, queued_in_all}
+use Rattle.yard_model.specs.SlotReads.{holder, epoch, queued, confirmed, queued_in_all}
 use Rattle.yard_model.specs.Entities.{is_in_phase}
 use Rattle.yard_model.specs.Node.{Node, new_node, after, items_of, turn, crash}
 use Rattle.yard_model.specs.Trace.{no_lists, lists_step}
+use Rattle.yard_model.specs.Era.{upgrade_step, opening_of, reshaped}
 
 -- the sends of each producer
 abbrev pub all_sends : Script → List (List Sending)
 all_sends c = map (sends c) (numbers 1 c.config.producers)
 
 pub record World : Type 0 where
-  pub set : Setting
+  pub set : Setting  -- with the number of shards in force
+  pub behaviour : ℕ  -- the version of behaviours in force
   pub sends : List (List Sending)  -- of each producer, from 1
   pub limit : ℕ  -- on the numbers of packets
   pub members : List Incarnation  -- those that are up, oldest first
@@ -38,15 +40,17 @@ pub record World : Type 0 where
   pub ups : List ℕ  -- per node: the number of its last incarnation
   pub wire : List Packet  -- what was posted, from number 1
   pub fresh : List ℕ  -- the numbers that were never delivered, rising
+  pub past : ℕ  -- how many were posted before the number of shards last changed: those go to incarnations that are gone
   pub lists : SlotLists
   pub full : Bool  -- the limit was passed, and the trace stops
   pub ordered : List ℕ  -- per producer: how many of its sends were ordered so far
   pub nodes : List (Option Node)  -- per node, where it is up
 
 -- no node is up and nothing is posted
-abbrev pub world_of : Script → ℕ → SlotLists → List ℕ → List ℕ → World
-world_of c limit lists ups ordered = record {
+abbrev pub world_of : Script → ℕ → ℕ → SlotLists → List ℕ → List ℕ → World
+world_of c version limit lists ups ordered = record {
   set = setting c;
+  behaviour = version;
   sends = all_sends c;
   limit = limit;
   members = [];
@@ -54,6 +58,7 @@ world_of c limit lists ups ordered = record {
   ups = ups;
   wire = [];
   fresh = [];
+  past = 0;
   lists = lists;
   full = false;
   ordered = ordered;
@@ -89,21 +94,38 @@ abbrev pub full_step : Bool → Fact → Bool
 full_step old fact.WireFull = true
 full_step old f = old
 
-abbrev pub nodes_step : Setting → List (Option Node) → Fact → List (Option Node)
-nodes_step set old (fact.Up x) = slice_set old (x.node - 1) (Some (new_node set x))
-nodes_step set old (fact.Gone x) = slice_set old (x.node - 1) None
-nodes_step set old f = old
+abbrev pub past_step : List Packet → ℕ → Fact → ℕ
+past_step wire old (fact.Reshard n k) = length wire
+past_step wire old f = old
+
+abbrev pub set_step : Setting → Fact → Setting
+set_step old (fact.Reshard n k) = set_shards n old
+set_step old f = old
+
+-- an entry stands at the end of its slot's list; with another number of shards the lists begin anew
+abbrev pub lists_after : Setting → SlotLists → Fact → SlotLists
+lists_after set old (fact.Reshard n k) = reshaped set n k old
+lists_after set old f = lists_step set old f
+
+-- a node comes up with the settings and the version in force
+abbrev pub nodes_step : Setting → ℕ → List (Option Node) → Fact → List (Option Node)
+nodes_step set version old (fact.Up x) = slice_set old (x.node - 1) (Some (new_node set version x))
+nodes_step set version old (fact.Gone x) = slice_set old (x.node - 1) None
+nodes_step set version old f = old
 
 abbrev pub world_after : World → Fact → World
 world_after w f = record w {
+  set = set_step w.set f;
+  behaviour = upgrade_step w.behaviour f;
   members = members_step w.members f;
   version = version_step w.version f;
   ups = ups_step w.ups f;
   wire = wire_step w.wire f;
   fresh = fresh_step w.fresh f;
-  lists = lists_step w.set w.lists f;
+  past = past_step w.wire w.past f;
+  lists = lists_after w.set w.lists f;
   full = full_step w.full f;
-  nodes = nodes_step w.set w.nodes f;
+  nodes = nodes_step w.set w.behaviour w.nodes f;
 }
 
 -- Steps of the world give facts, and the world after them.
@@ -239,13 +261,13 @@ active_node e w = fold (λ found o. if is_active_at e o then o else found) None 
 
 -- Delivery.
 
--- the packet as an input, where the incarnation that it is addressed to is up
-abbrev pub hand_over : Packet → Step
-hand_over p w = if is_among p.to w.members then give (input.Packet p) (node_at w p.to.node) w else tell [] w
+-- packet k as an input, where the incarnation that it is addressed to is up
+abbrev pub hand_over : ℕ → Packet → Step
+hand_over k p w = if nat_lt w.past k && is_among p.to w.members then give (input.Packet p) (node_at w p.to.node) w else tell [] w
 
 abbrev pub deliver_by : ℕ → Option Packet → Step
 deliver_by k None w = nothing w
-deliver_by k (Some p) w = then_step (tell (fact.Got k ∷ []) w) (hand_over p)
+deliver_by k (Some p) w = then_step (tell (fact.Got k ∷ []) w) (hand_over k p)
 
 -- packet k isn't posted: `nothing`. Else `got k`, and it is handed over; it may be delivered again
 abbrev pub deliver : ℕ → Step
@@ -274,11 +296,23 @@ tick_while_left from bound (suc n) w = elim (list_any (is_left w) (producers w.s
   | true ↦ then_step (then_step (give input.Tick (node_at w 1) w) (drain from bound)) (tick_while_left from bound n)
 ]
 
--- no drain of a settle makes so many deliveries, and a settle not so many ticks
-abbrev pub settle_bound : World → ℕ
-settle_bound w = 40 * (sum w.ordered + w.set.config.shards + w.set.config.producers + length w.set.names + 1)
+-- something is left, or a packet past `from` was never delivered
+abbrev pub is_unsettled : ℕ → World → Bool
+is_unsettled from w = list_any (is_left w) (producers w.set) || not (is_empty (filter (nat_lt from) w.fresh))
 
--- every node goes down; node 1 comes up; drain what is posted from then on; node 1 takes every queue; drain; tick while something is left; node 1 goes down; `settled`
+-- node 1 goes down; `settled`. A settle whose budget is spent before stops without
+abbrev pub settle_end : ℕ → Step
+settle_end from w = if is_unsettled from w then tell [] w else in_order (go_down 1 ∷ tell (fact.Settled ∷ []) ∷ []) w
+
+-- how many commands of p were sent and aren't confirmed
+abbrev pub outstanding : World → ℕ → ℕ
+outstanding w p = ordered_of w p - sum (map (λ e. confirmed e (queue_list w.lists p)) w.set.names)
+
+-- the budget: no drain of a settle makes so many deliveries, and a settle not so many ticks
+abbrev pub settle_bound : World → ℕ
+settle_bound w = 40 * (sum (map (outstanding w) (producers w.set)) + w.set.config.shards + w.set.config.producers + length w.set.names + 1)
+
+-- every node goes down; node 1 comes up; drain what is posted from then on; node 1 takes every queue; drain; tick while something is left; the end
 abbrev pub settle : Step
 settle w =
     let from : ℕ = length w.wire in
@@ -290,9 +324,25 @@ settle w =
     ∷ in_order (map (λ p. produce p 1) (producers w.set))
     ∷ drain from bound
     ∷ tick_while_left from bound bound
-    ∷ go_down 1
-    ∷ tell (fact.Settled ∷ [])
+    ∷ settle_end from
     ∷ []) w
+
+-- Other shards, another version.
+
+abbrev pub is_any_up : World → Bool
+is_any_up w = list_any is_some w.nodes
+
+-- the greatest epoch of a shard's lease so far
+abbrev pub greatest_epoch : SlotLists → ℕ
+greatest_epoch lists = fold (λ m l. max m (epoch l)) 0 lists.shards
+
+-- a node is up, or there are so many shards already: `nothing`. Else `reshard`, with the greatest epoch of a shard's lease
+abbrev pub reshard : ℕ → Step
+reshard n w = if is_any_up w || (n == w.set.config.shards) then nothing w else tell (fact.Reshard n (greatest_epoch w.lists) ∷ []) w
+
+-- a node is up, or version 2 is in force: `nothing`. Else `upgrade`
+abbrev pub upgrade : Step
+upgrade w = if is_any_up w || (w.behaviour == 2) then nothing w else tell (fact.Upgrade 2 ∷ []) w
 
 -- Orders.
 
@@ -310,6 +360,9 @@ play (order.Deliver k) w = deliver k w
 play (order.Pump n) w = pump n w
 play (order.Rebalance n) w = give_or (input.Rebalance n) (node_of w (holder w.lists.coordinator)) nothing w
 play order.Settle w = settle w
+play (order.Reshard n) w = reshard n w
+play order.Upgrade w = upgrade w
+play (order.Ping p) w = nothing w
 
 -- a send is ordered
 abbrev pub with_order : Option Order → World → World
@@ -322,7 +375,7 @@ play_line l w = then_step (tell (fact.At l.number ∷ []) (with_order (Some l.or
 
 -- a world that begins
 abbrev pub new_world : Script → ℕ → World
-new_world c limit = world_of c limit (no_lists (setting c)) (replicate c.config.nodes 0) (replicate c.config.producers 0)
+new_world c limit = world_of c 1 limit (no_lists (setting c)) (replicate c.config.nodes 0) (replicate c.config.producers 0)
 
 -- from the beginning, one order after the other
 abbrev pub played : Script → ℕ → Made
@@ -344,9 +397,10 @@ number_step old (fact.Granted s n x) = if x.node == 1 then max old x.number else
 number_step old (fact.Registered x) = if x.node == 1 then max old x.number else old
 number_step old f = old
 
--- the settle of a world of given lists, in which every send is ordered and the numbers of node 1 go on past those in the lists
-abbrev pub settled_from : Script → SlotLists → Made
-settled_from c lists = settle (world_of c wire_limit lists (slice_set (replicate c.config.nodes 0) 0 (fold number_step 0 entries)) (map length (all_sends c)))
-  where
-    entries : List Fact
-    entries = flat_map (λ x. x) lists.shards ++ lists.coordinator ++ flat_map (λ x. x) lists.queues
+-- the world of given lists, in which every send is ordered and the numbers of node 1 go on past those in the lists
+abbrev pub given_world : Script → ℕ → SlotLists → World
+given_world c version lists = world_of c version wire_limit lists (slice_set (replicate c.config.nodes 0) 0 (fold number_step 0 (opening_of version lists))) (map length (all_sends c))
+
+-- and its settle
+abbrev pub settled_from : Script → ℕ → SlotLists → Made
+settled_from c version lists = settle (given_world c version lists)

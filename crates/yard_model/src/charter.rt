@@ -3,7 +3,7 @@ ghost use Rattle.std.specs.Prelude.{◌≡◌, ℕ, ◌+◌, ◌-◌, ◌<◌, �
 ghost use Rattle.std.specs.Ordering.{nat_cmp};
 ghost use Rattle.std.specs.Cmp.Lexicographic.{slice_cmp};
 ghost use Rattle.std.specs.List.Sorted.{IsStrictlySortedBy};
-ghost use Rattle.yard_model.specs.Script.{names_in, sends_in, sends, IsScript};
+ghost use Rattle.yard_model.specs.Script.{names_in, sends_in, sends, with_shards, IsScript};
 ghost use Rattle.yard_model.specs.Charter.{KeepsSends};
 ghost use Rattle.yard_model.specs.Counts.{names, CountsNone};
 ghost use Rattle.yard_model.specs.Words.{numbers};
@@ -69,6 +69,12 @@ pub enum Order {
     Rebalance(u8),
     /// Start the cluster anew on one node, and run it until all is recorded and confirmed.
     Settle,
+    /// Change the number of shards, to 1 to 128.
+    Reshard(u8),
+    /// Go over to version 2 of the behaviours.
+    Upgrade,
+    /// Let a producer send a command to each instance of a daemon.
+    Ping(ProducerNo),
 }
 
 /// An order and the number of its line, from 1.
@@ -138,6 +144,20 @@ impl Charter {
     {
         let orders = Vec::from_slice(alloc, self.orders.as_slice())?;
         Charter::new(alloc, self.config, orders)
+    }
+
+    /// The charter of the same orders with so many shards. The only error is want of memory.
+    pub fn with_shards(&self, alloc: Global, shards: u8) -> Result<Charter, AllocError>
+        requires low { 1 ≤ shards }
+        requires high { shards ≤ 128 }
+        ensures { IfOk result (λ c. c ≡ with_shards shards self.now) }
+    {
+        let orders = Vec::from_slice(alloc, self.orders.as_slice())?;
+        let config = Config {
+            shards,
+            ..self.config
+        };
+        Charter::new(alloc, config, orders)
     }
 
     /// The settings.

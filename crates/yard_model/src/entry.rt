@@ -24,6 +24,14 @@ pub enum ShardEntry {
     Remembered(EntityName),
     /// It is so no longer.
     Forgotten(EntityName),
+    /// The number of shards has changed: the list begins anew, with the entries of the shard's names
+    /// before this one.
+    Reshard {
+        /// How many shards there are from here on, 1 to 128.
+        shards: u8,
+        /// The greatest epoch of any shard's lease so far; grants go on above it.
+        epoch: u32,
+    },
 }
 
 /// An entry of the coordinator's list.
@@ -41,6 +49,13 @@ pub enum CoordEntry {
     Allocated(ShardNo, Incarnation),
     /// A shard has no home any more.
     Deallocated(ShardNo),
+    /// The number of shards has changed: no shard has a home, and the regions stay registered.
+    Reshard {
+        /// How many shards there are from here on, 1 to 128.
+        shards: u8,
+        /// The greatest epoch of any shard's lease so far.
+        epoch: u32,
+    },
 }
 
 /// An entry of a producer's queue.

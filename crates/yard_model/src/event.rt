@@ -26,6 +26,10 @@ pub enum Command {
     Deposit(u32),
     /// To an account: take out.
     Withdraw(u32),
+    /// To an account: pay in, with a memo of 1 to 9999 (from version 2 of the behaviour on).
+    DepositWithMemo(u32, u16),
+    /// To an account: take out, with a memo of 1 to 9999 (from version 2 of the behaviour on).
+    WithdrawWithMemo(u32, u16),
     /// To an account: tell the balance.
     Balance,
     /// To an account: close it.
@@ -51,6 +55,10 @@ pub enum Event {
     Deposited(u32),
     /// An account's balance has fallen.
     Withdrawn(u32),
+    /// An account's balance has risen, and this is its last memo; 0 where the command had none.
+    DepositedWithMemo(u32, u16),
+    /// An account's balance has fallen, and this is its last memo; 0 where the command had none.
+    WithdrawnWithMemo(u32, u16),
     /// An account is closed.
     AccountClosed,
     /// An item is in the cart.

@@ -89,4 +89,20 @@ pub enum Fact {
     Queued(ProducerNo, EntityName, u32, Command),
     /// The producer knows that all numbers up to this one are recorded.
     Confirmed(ProducerNo, EntityName, u32),
+    /// There are so many shards from here on; with the greatest epoch of any shard's lease so far.
+    Reshard(u8, u32),
+    /// The same, as the entry of this shard's list, which begins anew with it. No order tells it.
+    Resharded(ShardNo, u8, u32),
+    /// The behaviours are of this version from here on.
+    Upgrade(u8),
+    /// A worker asks for work; the packet has this number, from 1.
+    SentAsk(u32, Incarnation),
+    /// A job is posted to a worker.
+    SentJob(u32, Incarnation, EntityName),
+    /// A worker posts that it has done a job.
+    SentDone(u32, Incarnation, EntityName),
+    /// A job is given to a worker.
+    Given(EntityName, Incarnation),
+    /// A worker has done a job.
+    Did(Incarnation, EntityName),
 }

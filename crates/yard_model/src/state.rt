@@ -21,8 +21,14 @@ pub enum State {
     Counter(u64),
     /// No account yet.
     NoAccount,
-    /// An open account with its balance, at most 10^15.
-    Open(u64),
+    /// An open account.
+    Open {
+        /// Its balance, at most 10^15.
+        balance: u64,
+        /// The memo of its last deposit or withdrawal, at most 9999; 0 where that had none, and before
+        /// the first.
+        memo: u16,
+    },
     /// A closed account.
     Closed,
     /// A cart with its items by rising number; `out` once it is checked out.
@@ -57,14 +63,37 @@ impl State {
     {
         match (self, event) {
             (State::Counter(total), Event::Added(k)) => State::Counter(*total + u64::from(*k)),
-            (State::NoAccount, Event::Created) => State::Open(0),
-            (State::Open(balance), Event::Deposited(k)) => State::Open(*balance + u64::from(*k)),
-            (State::Open(balance), Event::Withdrawn(k)) => State::Open(*balance - u64::from(*k)),
-            (State::Open(_), Event::AccountClosed) => State::Closed,
+            (State::NoAccount, Event::Created) => State::Open {
+                balance: 0,
+                memo: 0,
+            },
+            (State::Open { balance, memo }, _) => after_in_account(*balance, *memo, event),
             (State::Cart { out, items }, _) => after_in_cart(*out, items, event),
             _ => *self,
         }
     }
+}
+
+/// The open account after an event that is applicable to it.
+fn after_in_account(balance: u64, memo: u16, event: &Event) -> State
+    requires { IsTrue (is_applicable (State.Open balance memo) event.now) }
+    ensures { result ≡ apply (State.Open balance memo) event.now }
+{
+    match event {
+        Event::Deposited(k) => open(balance + u64::from(*k), 0),
+        Event::Withdrawn(k) => open(balance - u64::from(*k), 0),
+        Event::DepositedWithMemo(k, m) => open(balance + u64::from(*k), *m),
+        Event::WithdrawnWithMemo(k, m) => open(balance - u64::from(*k), *m),
+        Event::AccountClosed => State::Closed,
+        _ => open(balance, memo),
+    }
+}
+
+/// An open account.
+fn open(balance: u64, memo: u16) -> State
+    ensures { result ≡ State.Open balance memo }
+{
+    State::Open { balance, memo }
 }
 
 /// The cart after an event that is applicable to it.

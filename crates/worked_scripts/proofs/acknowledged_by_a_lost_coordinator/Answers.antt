@@ -2,21 +2,6 @@ use Rattle.std.proofs.Common.{refl}
 use Rattle.std.specs.Fmt.{digits}
 use Rattle.worked_scripts.proofs.acknowledged_by_a_lost_coordinator.Goals as goal
 
-pub returns-clause-prints : goal.returns-clause-prints
+pub returns : goal.returns
 unfolding digits
-returns-clause-prints c = refl
-
-pub returns-clause-agrees : goal.returns-clause-agrees
-returns-clause-agrees c = refl
-
-pub returns-clause-genuine : goal.returns-clause-genuine
-returns-clause-genuine c = refl
-
-pub returns-clause-journals : goal.returns-clause-journals
-returns-clause-journals c = refl
-
-pub returns-clause-safe : goal.returns-clause-safe
-returns-clause-safe c = refl
-
-pub returns-clause-guarded : goal.returns-clause-guarded
-returns-clause-guarded c = refl
+returns c = refl

@@ -6,14 +6,5 @@ pub returns-clause-prints : goal.returns-clause-prints
 unfolding digits
 returns-clause-prints c = refl
 
-pub returns-clause-agrees : goal.returns-clause-agrees
-returns-clause-agrees c = refl
-
-pub returns-clause-genuine : goal.returns-clause-genuine
-returns-clause-genuine c = refl
-
-pub returns-clause-journals : goal.returns-clause-journals
-returns-clause-journals c = refl
-
 pub returns-clause-settled : goal.returns-clause-settled
 returns-clause-settled c = refl

@@ -10,7 +10,7 @@ use Rattle.yard_model.specs.SlotReads.{regions}
 use Rattle.yard_model.specs.Words.{is_among}
 use Rattle.yard_model.specs.Coordinator as coordinator
 use Rattle.yard_model.specs.Coordinator.{Coordinator}
-use Rattle.actor_laws.specs.CoordinatorStands.{IsSound, Keeps, KeepsRules, CoordinatorKeeps, CoordinatorTakes, CoordinatorBegins}
+use Rattle.actor_laws.specs.CoordinatorStands.{IsGoodCoordinator, KeepsCoordinator, KeepsRules, CoordinatorKeeps, CoordinatorTakes, CoordinatorBegins}
 use Rattle.actor_laws.proofs.CoordinatorMoves.{goes_keeps}
 use Rattle.actor_laws.proofs.CoordinatorRules as rules
 
@@ -27,8 +27,8 @@ coordinator_keeps c st k = record {
   ticks = goes_keeps c st (coordinator.tick_coordinator st) k (rules.ticks c st k);
 }
 
-takes : (c : Script) (st : Coordinator) (from : Incarnation) (b : Body) (view : List Incarnation) → IsSound c st → is_node c from ≡ true → is_genuine_body c b ≡ true → (is_among from view ≡ true → is_among from (regions st.entries) ≡ false → length (regions st.entries) < 16)
-    → KeepsRules c st → Keeps c st (coordinator.coordinate from b view st)
+takes : (c : Script) (st : Coordinator) (from : Incarnation) (b : Body) (view : List Incarnation) → IsGoodCoordinator c st → is_node c from ≡ true → is_genuine_body c b ≡ true → (is_among from view ≡ true → is_among from (regions st.entries) ≡ false → length (regions st.entries) < 16)
+    → KeepsRules c st → KeepsCoordinator c st (coordinator.coordinate from b view st)
 takes c st from body.Register view k node genuine room r = r.registers from view node room
 takes c st from (body.GetShardHome s) view k node genuine room r = r.gets from s genuine
 takes c st from (body.ShardStarted s) view k node genuine room r = r.starts from s

@@ -16,14 +16,15 @@ use Rattle.yard_model.specs.Words.{is_same, is_at, is_among, is_stamp}
 use Rattle.yard_model.specs.Move.{Move, made, quits, started, acknowledged, item_of}
 use Rattle.yard_model.specs.Coordinator.{Coordinator, Moving, coordinator_after, coordinator_step, quitting_step, moving_step, not_awaited, stamp_of}
 use Rattle.yard_model.proofs.FollowLaws.{own_more}
+use Rattle.plain_laws.proofs.Booleans.{true_is_not_false, and_both, both, of_not, same_number, number_itself, all_map, all_filter}
+use Rattle.plain_laws.proofs.Members.{same_is, itself_is}
+use Rattle.plain_laws.proofs.Lists.{all_join}
 use Rattle.yard_laws.specs.Free.{is_free_move}
-use Rattle.yard_laws.proofs.Booleans.{true_is_not_false, and_both, both, of_not, same_number, number_itself, all_map, all_filter}
 use Rattle.yard_laws.proofs.Live.{holder_more}
-use Rattle.world_laws.specs.Owes.{facts_in, is_own_post}
-use Rattle.world_laws.proofs.Members.{same_is, itself_is}
-use Rattle.world_laws.proofs.Rules.{all_join}
+use Rattle.yard_laws.proofs.LostLaws.{free_keeps, entries_after}
+use Rattle.actor_laws.specs.Owes.{facts_in, is_own_post}
 use Rattle.actor_laws.specs.Moves.{is_own_move, facts_of}
-use Rattle.actor_laws.specs.CoordinatorStands.{is_owned, is_sound_moving, IsSound, is_coordinator_fact, entered, Keeps}
+use Rattle.actor_laws.specs.CoordinatorStands.{is_owned, is_sound_moving, IsGoodCoordinator, is_coordinator_fact, entered, KeepsCoordinator}
 use Rattle.actor_laws.proofs.EntitiesMoves.{facts_append}
 use Rattle.actor_laws.proofs.CoordinatorReads.{allocation_more, allocated_of, regions_are_nodes}
 
@@ -75,13 +76,6 @@ goes_join c who list (m ∷ ms) ys e f =
 -- it is allowed, and leaves the list
 abbrev pub is_quiet : Script → Incarnation → List Fact → Move → Bool
 is_quiet c who list m = is_free_move m && is_allowed c who list m
-
-free_keeps : (list : List Fact) (m : Move) → is_free_move m ≡ true → coordinator_step list m ≡ list
-free_keeps list (made (item.Fact (fact.Registered r))) e = absurd (true_is_not_false (sym e))
-free_keeps list (made (item.Fact (fact.Terminated r))) e = absurd (true_is_not_false (sym e))
-free_keeps list (made (item.Fact (fact.Allocated s r))) e = absurd (true_is_not_false (sym e))
-free_keeps list (made (item.Fact (fact.Deallocated s))) e = absurd (true_is_not_false (sym e))
-free_keeps list m e = refl
 
 pub quiet_keeps : (c : Script) (who : Incarnation) (list : List Fact) (ms : List Move) → list_all (is_quiet c who list) ms ≡ true → fold coordinator_step list ms ≡ list
 quiet_keeps c who list [] e = refl
@@ -218,7 +212,7 @@ moving_one c st (acknowledged s r) o e h =
     step x f false = f
 moving_one c st m o e h = e
 
-one_sound : (c : Script) (st : Coordinator) (m : Move) → IsSound c st → is_allowed c st.who st.entries m ≡ true → IsSound c (coordinator_after st m)
+one_sound : (c : Script) (st : Coordinator) (m : Move) → IsGoodCoordinator c st → is_allowed c st.who st.entries m ≡ true → IsGoodCoordinator c (coordinator_after st m)
 one_sound c st m k h = record {
   who_is = k.who_is;
   set_is = k.set_is;
@@ -230,7 +224,7 @@ one_sound c st m k h = record {
 
 -- All moves.
 
-pub all_sound : (c : Script) (st : Coordinator) (ms : List Move) → IsSound c st → goes c st.who st.entries ms ≡ true → IsSound c (fold coordinator_after st ms)
+pub all_sound : (c : Script) (st : Coordinator) (ms : List Move) → IsGoodCoordinator c st → goes c st.who st.entries ms ≡ true → IsGoodCoordinator c (fold coordinator_after st ms)
 all_sound c st [] k h = k
 all_sound c st (m ∷ ms) k h =
     let n : (is_allowed c st.who st.entries m ≡ true) × (goes c st.who (coordinator_step st.entries m) ms ≡ true) = and_both (is_allowed c st.who st.entries m) (goes c st.who (coordinator_step st.entries m) ms) h in
@@ -278,12 +272,8 @@ all_entered list (m ∷ ms) =
     all_entered (coordinator_step list m) ms
     ∙ (ap (λ l. fold entered l (facts_of ms)) (one_entered list m) ∙ (sym (fold-append entered list (facts_in (item_of m)) (facts_of ms)) ∙ ap (fold entered list) (sym (facts_append (item_of m) (flat_map item_of ms)))))
 
-pub entries_after : (st : Coordinator) (ms : List Move) → (fold coordinator_after st ms).entries ≡ fold coordinator_step st.entries ms
-entries_after st [] = refl
-entries_after st (m ∷ ms) = entries_after (coordinator_after st m) ms
-
 -- moves that are allowed where they stand keep what stands
-pub goes_keeps : (c : Script) (st : Coordinator) (ms : List Move) → IsSound c st → goes c st.who st.entries ms ≡ true → Keeps c st ms
+pub goes_keeps : (c : Script) (st : Coordinator) (ms : List Move) → IsGoodCoordinator c st → goes c st.who st.entries ms ≡ true → KeepsCoordinator c st ms
 goes_keeps c st ms k h = record {
   sound = all_sound c st ms k h;
   posts_are = all_own c st.who st.entries ms h;

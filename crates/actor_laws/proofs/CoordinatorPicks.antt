@@ -5,8 +5,8 @@ use Rattle.std.specs.List.{list_all}
 use Rattle.yard_model.specs.declared.incarnation.Incarnation.{Incarnation}
 use Rattle.yard_model.specs.Words.{is_same, is_among}
 use Rattle.yard_model.specs.Coordinator.{Share, with_pick, picks}
-use Rattle.yard_laws.proofs.Booleans.{true_is_not_false, and_both, both, left_of, right_of, at_most, not_below, below}
-use Rattle.world_laws.proofs.Members.{same_is, itself_is}
+use Rattle.plain_laws.proofs.Booleans.{true_is_not_false, and_both, both, left_of, right_of, at_most, not_below, below}
+use Rattle.plain_laws.proofs.Members.{same_is, itself_is}
 
 -- One of several that none beats.
 

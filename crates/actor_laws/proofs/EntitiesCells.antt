@@ -8,7 +8,7 @@ use Rattle.yard_model.specs.Genuine.{is_brought}
 use Rattle.yard_model.specs.Move.{Move}
 use Rattle.yard_model.specs.Script.{Script, Setting, is_name, names_in, setting}
 use Rattle.yard_model.specs.Setting.{place}
-use Rattle.yard_laws.proofs.Booleans.{same_name}
+use Rattle.plain_laws.proofs.Booleans.{same_name}
 use Rattle.actor_laws.specs.EntitiesStand.{IsEntities}
 
 -- Places of names.

@@ -1,6 +1,7 @@
 -- What stands of entities, at entries, posts and silent moves.
+use Rattle.yard_model.specs.Opening.{begins}
 use Rattle.std.proofs.Common.{◌≡◌, ℕ, ◌<◌, List, [], ◌∷◌, ◌++◌, length, sym, ap, subst, ◌∙◌, refl, true, arith}
-use Rattle.std.specs.Prelude.{Bool, ◌||◌, ◌&&◌, not, nat_lt, fold, Option, Some, None, is_none, slice_set, slice_index_or}
+use Rattle.std.specs.Prelude.{Bool, ◌||◌, ◌&&◌, not, nat_lt, fold, Option, Some, None, is_none, slice_set, slice_index_or, false}
 use Rattle.std.specs.List.{list_all}
 use Rattle.std.specs.Option.{option_map}
 use Rattle.std.proofs.lemmas.Bool.Decides.{nat_tests}
@@ -24,22 +25,21 @@ use Rattle.yard_model.specs.SlotLists.{shard_list}
 use Rattle.yard_model.specs.SlotReads.{holder, holder_step}
 use Rattle.yard_model.specs.Trace.{slot_of, with_entry}
 use Rattle.yard_model.specs.Words.{is_at, at, is_same}
-use Rattle.yard_model.proofs.FollowLaws.{follows_more}
-use Rattle.yard_laws.proofs.Booleans.{and_both, both}
-use Rattle.world_laws.specs.Owes.{Hand, live_after, hand_after, follows_in_hand, lives_in_hand, guard_in_hand, guarded_in_hand}
-use Rattle.world_laws.proofs.Members.{itself_is}
-use Rattle.world_laws.proofs.Place.{some_is, inside, by_place}
-use Rattle.actor_laws.proofs.EntitiesMoves.{entry_told, or_this, holder_in_hand}
+use Rattle.yard_model.proofs.FollowLaws.{own_grows}
+use Rattle.plain_laws.proofs.Booleans.{and_both, both, right_of}
+use Rattle.actor_laws.specs.Owes.{Hand, live_after, hand_after, follows_in_hand, lives_in_hand, guard_in_hand, guarded_in_hand}
+use Rattle.plain_laws.proofs.Members.{itself_is}
+use Rattle.plain_laws.proofs.Lists.{some_is, inside, by_place}
+use Rattle.actor_laws.proofs.EntitiesMoves.{entry_told, holder_in_hand, stands_cell, along_cell, some_of, list_in_hand}
 use Rattle.actor_laws.specs.Held.{slot_told, is_grant, is_slot_held, held_in_hand}
 use Rattle.actor_laws.specs.Moves.{is_own_move, facts_of}
-use Rattle.actor_laws.specs.EntitiesStand.{IsHeldShard, is_for, is_entity_fact, IsEntities, InHand, Keeps}
+use Rattle.actor_laws.specs.EntitiesStand.{IsHeldShard, is_for, is_entity_fact, IsEntities, InHand, KeepsEntities}
 use Rattle.actor_laws.proofs.EntitiesCells.{same_cells, cells_count}
-use Rattle.actor_laws.proofs.EntitiesMoves.{stands_cell, along_cell, some_of, list_in_hand}
 
 -- Posts and silent moves.
 
 -- a move that changes nothing
-pub still_keeps : (c : Script) (st : Entities) (m : Move) → IsEntities c st → entities_after st m ≡ st → is_own_move c st.who m ≡ true → facts_of (m ∷ []) ≡ [] → Keeps c st (m ∷ [])
+pub still_keeps : (c : Script) (st : Entities) (m : Move) → IsEntities c st → entities_after st m ≡ st → is_own_move c st.who m ≡ true → facts_of (m ∷ []) ≡ [] → KeepsEntities c st (m ∷ [])
 still_keeps c st m is same own none = record {
   stands = subst (IsEntities c) (sym same) is;
   posts_are = both (is_own_move c st.who m) true own refl;
@@ -55,7 +55,7 @@ still_keeps c st m is same own none = record {
 -- a move of one entity that tells nothing, leaves its stash, and leaves it there or away
 pub cell_keeps : (c : Script) (st : Entities) (m : Move) (e : List ℕ) → IsEntities c st → is_brought c e ≡ true → entity_of m ≡ Some e → hosted_step st.set st.hosted m ≡ st.hosted → is_own_move c st.who m ≡ true → facts_of (m ∷ []) ≡ []
     → is_phase phase.Absent (cell_after (cell st e) m).phase ≡ is_in_phase phase.Absent st e → (cell_after (cell st e) m).stash ≡ (cell st e).stash
-    → Keeps c st (m ∷ [])
+    → KeepsEntities c st (m ∷ [])
 cell_keeps c st m e is brought of shards own none there stash = record {
   stands = stands_cell c st m e is brought of shards (λ k. is.at_home e brought (sym there ∙ k)) (ap (list_all (is_for c e)) stash ∙ is.stashed e brought);
   posts_are = both (is_own_move c st.who m) true own refl;
@@ -63,7 +63,7 @@ cell_keeps c st m e is brought of shards own none there stash = record {
   held_are = λ h i. ap (held_in_hand c st.who h) none;
   guarded_are = λ v h i. ap (guarded_by v h) none;
   goes_along = λ h i. subst (λ fs. InHand c (fold (hand_after c) h fs) (entities_after st m)) (sym none)
-      (along_cell c st m e h h is brought of shards i refl (i.live_are e brought ∙ ap not (sym there)) (λ f other. refl));
+      (along_cell c st m e h h is brought of shards i refl refl (i.live_are e brought ∙ ap not (sym there)) (λ f other. refl));
 }
   where
     guarded_by : (List ℕ → ℕ → ℕ → Bool) → Hand → List Fact → Bool
@@ -75,10 +75,10 @@ own_post c who to b from there genuine =
     (both (is_same who who) (is_node c who && is_node c to && is_genuine_body c b) (itself_is who who refl)
     (both (is_node c who && is_node c to) (is_genuine_body c b) (both (is_node c who) (is_node c to) from there) genuine)) refl
 
-pub recovered_post_keeps : (c : Script) (st : Entities) (e : List ℕ) → IsEntities c st → is_brought c e ≡ true → Keeps c st (post st.who st.who (body.Recovered e) ∷ [])
+pub recovered_post_keeps : (c : Script) (st : Entities) (e : List ℕ) → IsEntities c st → is_brought c e ≡ true → KeepsEntities c st (post st.who st.who (body.Recovered e) ∷ [])
 recovered_post_keeps c st e is brought = still_keeps c st (post st.who st.who (body.Recovered e)) is refl (own_post c st.who st.who (body.Recovered e) is.who_is is.who_is brought) refl
 
-pub stop_post_keeps : (c : Script) (st : Entities) (e : List ℕ) → IsEntities c st → is_brought c e ≡ true → Keeps c st (post st.who st.who (body.StopEntity e) ∷ [])
+pub stop_post_keeps : (c : Script) (st : Entities) (e : List ℕ) → IsEntities c st → is_brought c e ≡ true → KeepsEntities c st (post st.who st.who (body.StopEntity e) ∷ [])
 stop_post_keeps c st e is brought = cell_keeps c st (post st.who st.who (body.StopEntity e)) e is brought refl refl (own_post c st.who st.who (body.StopEntity e) is.who_is is.who_is brought) refl
     (there (cell st e).phase) (stash (cell st e).phase)
   where
@@ -95,7 +95,7 @@ stop_post_keeps c st e is brought = cell_keeps c st (post st.who st.who (body.St
     stash phase.Stopping = refl
 
 pub request_post_keeps : (c : Script) (st : Entities) (to : Incarnation) (p : ℕ) (e : List ℕ) (n u : ℕ) → IsEntities c st → is_brought c e ≡ true → is_node c to ≡ true → is_genuine_body c (body.Request p e n u) ≡ true
-    → Keeps c st (post st.who to (body.Request p e n u) ∷ [])
+    → KeepsEntities c st (post st.who to (body.Request p e n u) ∷ [])
 request_post_keeps c st to p e n u is brought there genuine = cell_keeps c st (post st.who to (body.Request p e n u)) e is brought refl refl (own_post c st.who to (body.Request p e n u) is.who_is there genuine) refl
     (same (cell st e).phase) (stash (cell st e).phase)
   where
@@ -111,7 +111,7 @@ request_post_keeps c st to p e n u is brought there genuine = cell_keeps c st (p
     stash phase.Active = refl
     stash phase.Stopping = refl
 
-pub passivates_keeps : (c : Script) (st : Entities) (e : List ℕ) → IsEntities c st → is_brought c e ≡ true → Keeps c st (passivates e ∷ [])
+pub passivates_keeps : (c : Script) (st : Entities) (e : List ℕ) → IsEntities c st → is_brought c e ≡ true → KeepsEntities c st (passivates e ∷ [])
 passivates_keeps c st e is brought = cell_keeps c st (passivates e) e is brought refl refl refl refl refl (stash (cell st e).phase)
   where
     stash : (q : Phase) → stash_step q (cell st e).stash (passivates e) ≡ (cell st e).stash
@@ -122,20 +122,21 @@ passivates_keeps c st e is brought = cell_keeps c st (passivates e) e is brought
 
 -- Entries.
 
-may_of : (c : Script) (s : Slot) (list : List Fact) (f : Fact) → own c s (list ++ f ∷ []) ≡ true → may_follow c s list f ≡ true
-may_of c s list f o = (and_both (own c s list) (may_follow c s list f) (sym (follows_more (may_follow c s) [] list f) ∙ o)).1
+may_of : (c : Script) (s : Slot) (list : List Fact) (f : Fact) → begins f ≡ false → own c s (list ++ f ∷ []) ≡ true → may_follow c s list f ≡ true
+may_of c s list f within o = (and_both (own c s list) (may_follow c s list f) (sym (own_grows c s list f within) ∙ o)).1
 
 pub entry_keeps : (c : Script) (st : Entities) (f : Fact) (e : List ℕ) → IsEntities c st → is_brought c e ≡ true → is_hosted st (shard_of st.set e) ≡ true
     → hosted_step st.set st.hosted (told f) ≡ entered (shard_of st.set e) f st.hosted → entity_of (told f) ≡ None → slot_of (setting c) f ≡ Some (slot.Shard (shard_of (setting c) e))
-    → own c (slot.Shard (shard_of (setting c) e)) (entries st e ++ f ∷ []) ≡ true
+    → begins f ≡ false → own c (slot.Shard (shard_of (setting c) e)) (entries st e ++ f ∷ []) ≡ true
     → ((o : Option Incarnation) → holder_step o f ≡ o)
     → ((v : List ℕ → ℕ → ℕ → Bool) (h : Hand) → InHand c h st → lives_in_hand c v st.who h f ≡ true)
     → ((live : List (List ℕ)) → live_after live f ≡ live) → is_entity_fact st.who f ≡ true
-    → Keeps c st (told f ∷ [])
-entry_keeps c st f e is brought there shards none of own_is still guard live ours = record {
+    → KeepsEntities c st (told f ∷ [])
+entry_keeps c st f e is brought there shards none of within own_is still guard live ours = record {
   stands = record {
     who_is = is.who_is;
     set_is = is.set_is;
+    version_is = is.version_is;
     shards_there = ap length shards_now ∙ (length-set st.hosted s (Some now) ∙ is.shards_there);
     cells_there = cells_count st (told f) ∙ is.cells_there;
     hosted_are = λ t k e. at_shard t k (sym (ap (λ l. at l t) shards_now) ∙ e);
@@ -144,13 +145,13 @@ entry_keeps c st f e is brought there shards none of own_is still guard live our
   };
   posts_are = refl;
   facts_are = both (is_entity_fact st.who f) true ours refl;
-  held_are = λ h i. both (is_grant f || is_slot_held st.who h (slot_told (setting c) f)) true (or_this (is_grant f) (is_slot_held st.who h (slot_told (setting c) f))
+  held_are = λ h i. both (is_grant f || is_slot_held st.who h (slot_told (setting c) f)) true (right_of (is_grant f) (is_slot_held st.who h (slot_told (setting c) f))
       (ap (is_slot_held st.who h) (entry_told (setting c) f (slot.Shard (shard_of (setting c) e)) of) ∙ (ap (is_at st.who) (holder_in_hand c st e h is there i) ∙ itself_is st.who st.who refl))) refl;
   guarded_are = λ v h i. both (guard_in_hand c v st.who h f) true (both (follows_in_hand c h.lists f (slot_of (setting c) f)) (lives_in_hand c v st.who h f)
       (ap (follows_in_hand c h.lists f) of ∙ both (is_shard c (shard_of (setting c) e)) (may_follow c (slot.Shard (shard_of (setting c) e)) (shard_list h.lists (shard_of (setting c) e)) f) shard_is
-      (ap (λ l. may_follow c (slot.Shard (shard_of (setting c) e)) l f) (list_in_hand c st e h is there i) ∙ may_of c (slot.Shard (shard_of (setting c) e)) (entries st e) f own_is)) (guard v h i)) refl;
-  goes_along = λ h i. subst (λ l. InHand c (record { lists = l; live = live_after h.live f }) (entities_after st (told f))) (sym (ap (with_entry f h.lists) of))
-      (subst (λ l. InHand c (record { lists = with_entry f h.lists (Some (slot.Shard (shard_of (setting c) e))); live = l }) (entities_after st (told f))) (sym (live h.live)) (along h i));
+      (ap (λ l. may_follow c (slot.Shard (shard_of (setting c) e)) l f) (list_in_hand c st e h is there i) ∙ may_of c (slot.Shard (shard_of (setting c) e)) (entries st e) f within own_is)) (guard v h i)) refl;
+  goes_along = λ h i. subst (λ l. InHand c (record { lists = l; live = live_after h.live f; version = h.version }) (entities_after st (told f))) (sym (ap (with_entry f h.lists) of))
+      (subst (λ l. InHand c (record { lists = with_entry f h.lists (Some (slot.Shard (shard_of (setting c) e))); live = l; version = h.version }) (entities_after st (told f))) (sym (live h.live)) (along h i));
 }
   where
     s : ℕ
@@ -202,10 +203,11 @@ entry_keeps c st f e is brought there shards none of own_is still guard live our
         (subst (IsHeldShard c st.who s) (some_is now k (sym (get_or-set_same st.hosted s (Some now) None inside_is) ∙ (ap (at (slice_set st.hosted s (Some now))) (sym same) ∙ e))) now_held))
         (λ ne. is.hosted_are t k (sym (get_or-set_other st.hosted s t (Some now) None ne) ∙ e))
 
-    along : (h : Hand) → InHand c h st → InHand c (record { lists = with_entry f h.lists (Some (slot.Shard (shard_of (setting c) e))); live = h.live }) (entities_after st (told f))
+    along : (h : Hand) → InHand c h st → InHand c (record { lists = with_entry f h.lists (Some (slot.Shard (shard_of (setting c) e))); live = h.live; version = h.version }) (entities_after st (told f))
     along h i = record {
       there = length-set h.lists.shards (shard_of (setting c) e) (shard_list h.lists (shard_of (setting c) e) ++ f ∷ []) ∙ i.there;
       lists_are = λ t k e. listed t k (sym (ap (λ l. at l t) shards_now) ∙ e);
+      version_is = i.version_is;
       live_are = λ g hg. i.live_are g hg ∙ ap not (sym (same_phase g));
     }
       where

@@ -15,7 +15,6 @@ use Rattle.yard_model.specs.declared.incarnation.Incarnation.{Incarnation}
 use Rattle.yard_model.specs.declared.incarnation.Keep.{Keep}
 use Rattle.yard_model.specs.declared.incarnation.Slot.{Slot}
 use Rattle.yard_model.specs.declared.state.State.{State}
-use Rattle.std.specs.Cmp.Lexicographic.{nat_list_eq_equiv}
 use Rattle.yard_model.specs.Entities.{Cell, Entities, Hosted, is_phase, stash_step, cell_after, cell, hosted, entries_in, entries, is_hosted, is_in_phase, entity_of, hosted_step, entities_after}
 use Rattle.yard_model.specs.Safe.{is_journal_state}
 use Rattle.yard_model.specs.Genuine.{is_brought}
@@ -26,14 +25,14 @@ use Rattle.yard_model.specs.SlotLists.{shard_list}
 use Rattle.yard_model.specs.SlotReads.{holder, journal}
 use Rattle.yard_model.specs.Trace.{slot_of, with_entry}
 use Rattle.yard_model.specs.Words.{is_at, is_same, at}
-use Rattle.yard_laws.proofs.Booleans.{and_both, both, same_name}
-use Rattle.world_laws.specs.Owes.{Hand, has_name, without_name, live_after, hand_after, follows_in_hand, lives_in_hand, guard_in_hand, guarded_in_hand, facts_in}
-use Rattle.world_laws.proofs.Members.{itself_is}
-use Rattle.world_laws.proofs.Place.{none_is_not_some}
-use Rattle.world_laws.proofs.Rules.{all_join}
+use Rattle.plain_laws.proofs.Booleans.{and_both, both, same_name, right_of}
+use Rattle.plain_laws.proofs.Members.{itself_is}
+use Rattle.plain_laws.proofs.Lists.{none_is_not_some, all_join}
+use Rattle.plain_laws.proofs.Names.{name_itself}
+use Rattle.actor_laws.specs.Owes.{Hand, has_name, without_name, live_after, hand_after, follows_in_hand, lives_in_hand, guard_in_hand, guarded_in_hand, facts_in}
 use Rattle.actor_laws.specs.Held.{slot_told, is_grant, is_slot_held, held_in_hand}
 use Rattle.actor_laws.specs.Moves.{is_own_move, facts_of}
-use Rattle.actor_laws.specs.EntitiesStand.{IsHeldShard, is_for, is_entity_fact, IsEntities, InHand, Keeps}
+use Rattle.actor_laws.specs.EntitiesStand.{IsHeldShard, is_for, is_entity_fact, IsEntities, InHand, KeepsEntities}
 use Rattle.actor_laws.proofs.EntitiesCells.{own_cell, other_cell, cells_count}
 
 -- Moves in turn.
@@ -58,11 +57,6 @@ held_both c who h (x ∷ xs) ys f g =
     let m : ((is_grant x || is_slot_held who h (slot_told (setting c) x)) ≡ true) × (held_in_hand c who (hand_after c h x) xs ≡ true) = and_both (is_grant x || is_slot_held who h (slot_told (setting c) x)) (held_in_hand c who (hand_after c h x) xs) f in
     both (is_grant x || is_slot_held who h (slot_told (setting c) x)) (held_in_hand c who (hand_after c h x) (xs ++ ys)) m.0 (held_both c who (hand_after c h x) xs ys m.1 g)
 
--- one of two
-pub or_this : (a b : Bool) → b ≡ true → (a || b) ≡ true
-or_this true b h = refl
-or_this false b h = h
-
 pub who_stays : (st : Entities) (ms : List Move) → (fold entities_after st ms).who ≡ st.who
 who_stays st [] = refl
 who_stays st (m ∷ ms) = who_stays (entities_after st m) ms
@@ -71,10 +65,10 @@ pub set_stays : (st : Entities) (ms : List Move) → (fold entities_after st ms)
 set_stays st [] = refl
 set_stays st (m ∷ ms) = set_stays (entities_after st m) ms
 
-pub keeps_none : (c : Script) (st : Entities) → IsEntities c st → Keeps c st []
+pub keeps_none : (c : Script) (st : Entities) → IsEntities c st → KeepsEntities c st []
 keeps_none c st is = record { stands = is; posts_are = refl; facts_are = refl; held_are = λ h i. refl; guarded_are = λ v h i. refl; goes_along = λ h i. i }
 
-pub keeps_both : (c : Script) (st : Entities) (xs ys : List Move) → Keeps c st xs → Keeps c (fold entities_after st xs) ys → Keeps c st (xs ++ ys)
+pub keeps_both : (c : Script) (st : Entities) (xs ys : List Move) → KeepsEntities c st xs → KeepsEntities c (fold entities_after st xs) ys → KeepsEntities c st (xs ++ ys)
 keeps_both c st xs ys f g =
     let mid : Entities = fold entities_after st xs in
     record {
@@ -115,6 +109,7 @@ pub stands_cell : (c : Script) (st : Entities) (m : Move) (e : List ℕ) → IsE
 stands_cell c st m e is brought of shards home stash = record {
   who_is = is.who_is;
   set_is = is.set_is;
+  version_is = is.version_is;
   shards_there = ap length shards ∙ is.shards_there;
   cells_there = cells_count st m ∙ is.cells_there;
   hosted_are = λ s h k. is.hosted_are s h (sym (ap (λ l. at l s) shards) ∙ k);
@@ -131,22 +126,20 @@ stands_cell c st m e is brought of shards home stash = record {
 
 -- what is in hand goes along, where the live names do
 pub along_cell : (c : Script) (st : Entities) (m : Move) (e : List ℕ) (h g : Hand) → IsEntities c st → is_brought c e ≡ true → entity_of m ≡ Some e → hosted_step st.set st.hosted m ≡ st.hosted
-    → InHand c h st → g.lists ≡ h.lists
+    → InHand c h st → g.lists ≡ h.lists → g.version ≡ h.version
     → has_name e g.live ≡ not (is_phase phase.Absent (cell_after (cell st e) m).phase)
     → ((f : List ℕ) → is_name e f ≡ false → has_name f g.live ≡ has_name f h.live)
     → InHand c g (entities_after st m)
-along_cell c st m e h g is brought of shards i lists live others = record {
+along_cell c st m e h g is brought of shards i lists version live others = record {
   there = ap (λ l. length l.shards) lists ∙ i.there;
   lists_are = λ s x k. ap (λ l. shard_list l s) lists ∙ i.lists_are s x (sym (ap (λ l. at l s) shards) ∙ k);
+  version_is = version ∙ i.version_is;
   live_are = λ f hf. by_name (has_name f g.live ≡ not (is_in_phase phase.Absent (entities_after st m) f)) e f
       (λ same. subst (λ x. has_name x g.live ≡ not (is_in_phase phase.Absent (entities_after st m) x)) same (live ∙ ap not (sym (own_phase c st m e is brought of))))
       (λ other. others f other ∙ (i.live_are f hf ∙ ap not (sym (other_phase c st m e f is brought hf of other))));
 }
 
 -- Live names.
-
-pub name_itself : (e : List ℕ) → is_name e e ≡ true
-name_itself e = nat_list_eq_equiv.refl e
 
 turned : (e f : List ℕ) → is_name e f ≡ false → is_name f e ≡ false
 turned e f other = by (is_name f e) refl
@@ -216,14 +209,14 @@ keeps_told : (c : Script) (st : Entities) (f : Fact) (e : List ℕ) → IsEntiti
     → ((v : List ℕ → ℕ → ℕ → Bool) (h : Hand) → InHand c h st → lives_in_hand c v st.who h f ≡ true)
     → ((h : Hand) → InHand c h st → has_name e (live_after h.live f) ≡ not (is_phase phase.Absent (cell_after (cell st e) (told f)).phase))
     → ((h : Hand) (g : List ℕ) → is_name e g ≡ false → has_name g (live_after h.live f) ≡ has_name g h.live)
-    → Keeps c st (told f ∷ [])
+    → KeepsEntities c st (told f ∷ [])
 keeps_told c st f e is brought of shards none ours home stash guard live others = record {
   stands = stands_cell c st (told f) e is brought of shards home stash;
   posts_are = refl;
   facts_are = both (is_entity_fact st.who f) true ours refl;
-  held_are = λ h i. both (is_grant f || is_slot_held st.who h (slot_told (setting c) f)) true (or_this (is_grant f) (is_slot_held st.who h (slot_told (setting c) f)) (ap (is_slot_held st.who h) (entity_told (setting c) st.who f ours ∙ none))) refl;
+  held_are = λ h i. both (is_grant f || is_slot_held st.who h (slot_told (setting c) f)) true (right_of (is_grant f) (is_slot_held st.who h (slot_told (setting c) f)) (ap (is_slot_held st.who h) (entity_told (setting c) st.who f ours ∙ none))) refl;
   guarded_are = λ v h i. both (guard_in_hand c v st.who h f) true (both (follows_in_hand c h.lists f (slot_of (setting c) f)) (lives_in_hand c v st.who h f) (ap (follows_in_hand c h.lists f) none) (guard v h i)) refl;
-  goes_along = λ h i. along_cell c st (told f) e h (hand_after c h f) is brought of shards i (ap (with_entry f h.lists) none) (live h i) (others h);
+  goes_along = λ h i. along_cell c st (told f) e h (hand_after c h f) is brought of shards i (ap (with_entry f h.lists) none) refl (live h i) (others h);
 }
 
 pub some_of : {A : Type 0} (o : Option A) → not (is_none o) ≡ true → (x : A) × (o ≡ Some x)
@@ -243,7 +236,7 @@ list_in_hand c st e h is there i =
     let x : (x : Hosted) × (hosted st (shard_of st.set e) ≡ Some x) = some_of (hosted st (shard_of st.set e)) there in
     ap (λ (s : Setting). shard_list h.lists (shard_of s e)) (sym is.set_is) ∙ (i.lists_are (shard_of st.set e) x.0 x.1 ∙ sym (ap entries_in x.1))
 
-pub start_keeps : (c : Script) (st : Entities) (e : List ℕ) → IsEntities c st → is_brought c e ≡ true → is_hosted st (shard_of st.set e) ≡ true → is_in_phase phase.Absent st e ≡ true → Keeps c st (told (fact.Start st.who e) ∷ [])
+pub start_keeps : (c : Script) (st : Entities) (e : List ℕ) → IsEntities c st → is_brought c e ≡ true → is_hosted st (shard_of st.set e) ≡ true → is_in_phase phase.Absent st e ≡ true → KeepsEntities c st (told (fact.Start st.who e) ∷ [])
 start_keeps c st e is brought there absent = keeps_told c st (fact.Start st.who e) e is brought refl refl refl (itself_is st.who st.who refl) (λ k. there) (is.stashed e brought)
     (λ v h i. both (is_brought c e && is_same st.who st.who && is_at st.who (holder (shard_list h.lists (shard_of (setting c) e)))) (not (has_name e h.live))
     (both (is_brought c e && is_same st.who st.who) (is_at st.who (holder (shard_list h.lists (shard_of (setting c) e))))
@@ -252,15 +245,15 @@ start_keeps c st e is brought there absent = keeps_told c st (fact.Start st.who 
     (ap not (i.live_are e brought ∙ ap not absent)))
     (λ h i. name_added e h.live) (λ h g other. name_beside e g h.live other)
 
-pub stop_keeps : (c : Script) (st : Entities) (e : List ℕ) → IsEntities c st → is_brought c e ≡ true → Keeps c st (told (fact.Stop st.who e) ∷ [])
+pub stop_keeps : (c : Script) (st : Entities) (e : List ℕ) → IsEntities c st → is_brought c e ≡ true → KeepsEntities c st (told (fact.Stop st.who e) ∷ [])
 stop_keeps c st e is brought = keeps_told c st (fact.Stop st.who e) e is brought refl refl refl (itself_is st.who st.who refl) (λ k. absurd (true≢false k)) (is.stashed e brought) (λ v h i. refl)
     (λ h i. name_gone e h.live) (λ h g other. name_stays e g h.live other)
 
-pub failed_keeps : (c : Script) (st : Entities) (e : List ℕ) → IsEntities c st → is_brought c e ≡ true → Keeps c st (told (fact.WriteFailed st.who e) ∷ [])
+pub failed_keeps : (c : Script) (st : Entities) (e : List ℕ) → IsEntities c st → is_brought c e ≡ true → KeepsEntities c st (told (fact.WriteFailed st.who e) ∷ [])
 failed_keeps c st e is brought = keeps_told c st (fact.WriteFailed st.who e) e is brought refl refl refl (itself_is st.who st.who refl) (λ k. absurd (true≢false k)) (is.stashed e brought) (λ v h i. refl)
     (λ h i. name_gone e h.live) (λ h g other. name_stays e g h.live other)
 
-pub stashed_keeps : (c : Script) (st : Entities) (m : Message) → IsEntities c st → is_brought c m.entity ≡ true → is_for c m.entity m ≡ true → Keeps c st (told (fact.Stashed st.who m) ∷ [])
+pub stashed_keeps : (c : Script) (st : Entities) (m : Message) → IsEntities c st → is_brought c m.entity ≡ true → is_for c m.entity m ≡ true → KeepsEntities c st (told (fact.Stashed st.who m) ∷ [])
 stashed_keeps c st m is brought good = keeps_told c st (fact.Stashed st.who m) m.entity is brought refl refl refl (itself_is st.who st.who refl) (is.at_home m.entity brought)
     (all_join (is_for c m.entity) (cell st m.entity).stash (m ∷ []) (is.stashed m.entity brought) (both (is_for c m.entity m) true good refl))
     (λ v h i. refl) (λ h i. i.live_are m.entity brought) (λ h g other. refl)
@@ -269,7 +262,7 @@ drop_all : {A : Type 0} (p : A → Bool) (xs : List A) → list_all p xs ≡ tru
 drop_all p [] h = refl
 drop_all p (x ∷ xs) h = (and_both (p x) (list_all p xs) h).1
 
-pub dropped_keeps : (c : Script) (st : Entities) (m : Message) → IsEntities c st → is_brought c m.entity ≡ true → Keeps c st (told (fact.Dropped st.who m) ∷ [])
+pub dropped_keeps : (c : Script) (st : Entities) (m : Message) → IsEntities c st → is_brought c m.entity ≡ true → KeepsEntities c st (told (fact.Dropped st.who m) ∷ [])
 dropped_keeps c st m is brought = keeps_told c st (fact.Dropped st.who m) m.entity is brought refl refl refl (itself_is st.who st.who refl) (is.at_home m.entity brought)
     (stash (cell st m.entity).phase (cell st m.entity).stash (is.stashed m.entity brought)) (λ v h i. refl) (λ h i. i.live_are m.entity brought) (λ h g other. refl)
   where
@@ -280,10 +273,10 @@ dropped_keeps c st m is brought = keeps_told c st (fact.Dropped st.who m) m.enti
     stash phase.Stopping xs h = h
 
 pub active_keeps : (c : Script) (st : Entities) (e : List ℕ) (n : ℕ) (s : State) → IsEntities c st → is_brought c e ≡ true → is_in_phase phase.Absent st e ≡ false
-    → is_journal_state c n s (journal e (entries st e)) ≡ true → Keeps c st (told (fact.Active st.who e n s) ∷ [])
+    → is_journal_state c n s (journal e (entries st e)) ≡ true → KeepsEntities c st (told (fact.Active st.who e n s) ∷ [])
 active_keeps c st e n s is brought there shows = keeps_told c st (fact.Active st.who e n s) e is brought refl refl refl (itself_is st.who st.who refl) (λ k. is.at_home e brought there) refl
     (λ v h i. ap (λ l. is_journal_state c n s (journal e l)) (list_in_hand c st e h is (is.at_home e brought there) i) ∙ shows)
     (λ h i. i.live_are e brought ∙ ap not there) (λ h g other. refl)
 
-pub armed_keeps : (c : Script) (st : Entities) (e : List ℕ) (k : Keep) → IsEntities c st → is_brought c e ≡ true → Keeps c st (told (fact.Armed e k) ∷ [])
+pub armed_keeps : (c : Script) (st : Entities) (e : List ℕ) (k : Keep) → IsEntities c st → is_brought c e ≡ true → KeepsEntities c st (told (fact.Armed e k) ∷ [])
 armed_keeps c st e k is brought = keeps_told c st (fact.Armed e k) e is brought refl refl refl refl (is.at_home e brought) (is.stashed e brought) (λ v h i. refl) (λ h i. i.live_are e brought) (λ h g other. refl)

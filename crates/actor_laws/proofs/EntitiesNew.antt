@@ -15,9 +15,10 @@ same_at a (suc n) zero = refl
 same_at a (suc n) (suc i) = same_at a n i
 
 pub new_entities_stand : NewEntitiesStand
-new_entities_stand c who here = record {
+new_entities_stand c version who here admitted = record {
   who_is = here;
   set_is = refl;
+  version_is = admitted;
   shards_there = length-replicate c.config.shards None;
   cells_there = length-replicate (length (names_in c.orders)) (new_cell (setting c));
   hosted_are = λ s h e. absurd (true≢false (ap is_none (sym (same_at None c.config.shards s) ∙ e)));

@@ -1,6 +1,6 @@
 -- What stands of entities as they stop: shards that are handed off and freed, and the tick.
 use Rattle.std.proofs.Common.{◌≡◌, ℕ, ◌<◌, List, [], ◌∷◌, ◌++◌, length, map, sym, ap, subst, ◌∙◌, refl, true, false, true≢false, arith}
-use Rattle.std.specs.Prelude.{Bool, ◌&&◌, ◌||◌, ◌==◌, not, nat_lt, filter, fold, Option, Some, None, is_none, is_some, slice_set, slice_index_or, IfSome, if◌then◌else◌}
+use Rattle.std.specs.Prelude.{Bool, ◌&&◌, ◌||◌, ◌==◌, not, filter, fold, Option, Some, None, is_none, is_some, slice_set, slice_index_or, IfSome, if◌then◌else◌}
 use Rattle.std.specs.List.{list_all, list_any, flat_map}
 use Rattle.std.specs.Option.{option_map, option_and_then}
 use Rattle.std.proofs.lemmas.Bool.Decides.{nat_tests}
@@ -16,7 +16,7 @@ use Rattle.yard_model.specs.declared.incarnation.Stamp.{Stamp}
 use Rattle.yard_model.specs.declared.incarnation.Cause.TheVariants as cause
 use Rattle.yard_model.specs.declared.incarnation.Slot.TheVariants as slot
 use Rattle.yard_model.specs.Entities as entities
-use Rattle.yard_model.specs.Entities.{Entities, Cell, Hosted, Stopping, is_phase, cell, cell_in, hosted, entries_in, entries, is_hosted, is_in_phase, entities_of, entities_after}
+use Rattle.yard_model.specs.Entities.{Entities, Cell, Hosted, Stopping, is_phase, cell, hosted, entries_in, entries, is_hosted, is_in_phase, entities_of, entities_after}
 use Rattle.yard_model.specs.Equal.{is_slot}
 use Rattle.yard_model.specs.Genuine.{is_node, is_shard, is_brought}
 use Rattle.yard_model.specs.Lawful.{is_held, may_follow}
@@ -27,30 +27,31 @@ use Rattle.yard_model.specs.SlotLists.{shard_list}
 use Rattle.yard_model.specs.SlotReads.{holder, epoch, is_remembered}
 use Rattle.yard_model.specs.Turns.{in_turn, where_some}
 use Rattle.yard_model.specs.Words.{at, is_at, is_empty}
+use Rattle.plain_laws.proofs.Booleans.{and_both, both, number_itself, same_name, is_below}
+use Rattle.plain_laws.proofs.Members.{itself_is}
+use Rattle.plain_laws.proofs.Lists.{some_is, inside, by_place}
+use Rattle.plain_laws.proofs.Names.{all_names, any_more}
 use Rattle.yard_laws.specs.Entries.{EntityFollows, EntitiesFollow}
-use Rattle.yard_laws.proofs.Booleans.{and_both, both, number_itself, same_name}
-use Rattle.world_laws.specs.Owes.{has_name, guard_in_hand}
-use Rattle.world_laws.proofs.Members.{itself_is}
-use Rattle.world_laws.proofs.Place.{some_is, inside, by_place}
-use Rattle.actor_laws.specs.EntitiesStand.{IsHeldShard, is_for, IsEntities, IsMessage, Keeps}
+use Rattle.actor_laws.specs.Owes.{has_name, guard_in_hand}
+use Rattle.actor_laws.specs.EntitiesStand.{IsHeldShard, is_for, IsEntities, IsMessage, KeepsEntities}
 use Rattle.actor_laws.proofs.EntitiesCells.{own_cell}
-use Rattle.actor_laws.proofs.EntitiesMoves.{some_of, name_itself, keeps_none, keeps_both, stop_keeps, dropped_keeps}
+use Rattle.actor_laws.proofs.EntitiesMoves.{some_of, keeps_none, keeps_both, stop_keeps, dropped_keeps}
 use Rattle.actor_laws.proofs.EntitiesEntries.{still_keeps, own_post, recovered_post_keeps, stop_post_keeps, entry_keeps}
 use Rattle.actor_laws.proofs.EntitiesRules.{keeps_if, start_entity_keeps, messages_of, hosted_of}
 
 -- Moves that may stand in any order.
 
 abbrev Kept : Script → Incarnation → Move → Type 0
-Kept c who m = (st : Entities) → IsEntities c st → st.who ≡ who → Keeps c st (m ∷ [])
+Kept c who m = (st : Entities) → IsEntities c st → st.who ≡ who → KeepsEntities c st (m ∷ [])
 
 abbrev AllKept : Script → Incarnation → List Move → Type 0
 AllKept c who [] = Unit {0}
 AllKept c who (m ∷ ms) = Kept c who m × AllKept c who ms
 
-all_keep : (c : Script) (who : Incarnation) (ms : List Move) (st : Entities) → AllKept c who ms → IsEntities c st → st.who ≡ who → Keeps c st ms
+all_keep : (c : Script) (who : Incarnation) (ms : List Move) (st : Entities) → AllKept c who ms → IsEntities c st → st.who ≡ who → KeepsEntities c st ms
 all_keep c who [] st a is same = keeps_none c st is
 all_keep c who (m ∷ ms) st a is same =
-    let first : Keeps c st (m ∷ []) = a.0 st is same in
+    let first : KeepsEntities c st (m ∷ []) = a.0 st is same in
     keeps_both c st (m ∷ []) ms first (all_keep c who ms (entities_after st m) a.1 first.stands same)
 
 kept_both : (c : Script) (who : Incarnation) (xs ys : List Move) → AllKept c who xs → AllKept c who ys → AllKept c who (xs ++ ys)
@@ -58,29 +59,15 @@ kept_both c who [] ys a b = b
 kept_both c who (x ∷ xs) ys a b = (a.0, kept_both c who xs ys a.1 b)
 
 stop_post_kept : (c : Script) (who : Incarnation) (e : List ℕ) → is_brought c e ≡ true → Kept c who (post who who (body.StopEntity e))
-stop_post_kept c who e brought = λ st is same. subst (λ w. Keeps c st (post w w (body.StopEntity e) ∷ [])) same (stop_post_keeps c st e is brought)
+stop_post_kept c who e brought = λ st is same. subst (λ w. KeepsEntities c st (post w w (body.StopEntity e) ∷ [])) same (stop_post_keeps c st e is brought)
 
 recovered_post_kept : (c : Script) (who : Incarnation) (e : List ℕ) → is_brought c e ≡ true → Kept c who (post who who (body.Recovered e))
-recovered_post_kept c who e brought = λ st is same. subst (λ w. Keeps c st (post w w (body.Recovered e) ∷ [])) same (recovered_post_keeps c st e is brought)
+recovered_post_kept c who e brought = λ st is same. subst (λ w. KeepsEntities c st (post w w (body.Recovered e) ∷ [])) same (recovered_post_keeps c st e is brought)
 
 dropped_kept : (c : Script) (who : Incarnation) (m : Message) → is_brought c m.entity ≡ true → Kept c who (told (fact.Dropped who m))
-dropped_kept c who m brought = λ st is same. subst (λ w. Keeps c st (told (fact.Dropped w m) ∷ [])) same (dropped_keeps c st m is brought)
+dropped_kept c who m brought = λ st is same. subst (λ w. KeepsEntities c st (told (fact.Dropped w m) ∷ [])) same (dropped_keeps c st m is brought)
 
 -- Names.
-
-any_more : (e x : List ℕ) (xs : List (List ℕ)) → list_any (is_name e) xs ≡ true → list_any (is_name e) (x ∷ xs) ≡ true
-any_more e x xs h = by (is_name e x)
-  where
-    by : (b : Bool) → (b || list_any (is_name e) xs) ≡ true
-    by true = refl
-    by false = h
-
-any_first : (x : List ℕ) (xs : List (List ℕ)) → list_any (is_name x) (x ∷ xs) ≡ true
-any_first x xs = ap (λ b. b || list_any (is_name x) xs) (name_itself x)
-
-all_names : (p : List ℕ → Bool) (xs : List (List ℕ)) → ((e : List ℕ) → list_any (is_name e) xs ≡ true → p e ≡ true) → list_all p xs ≡ true
-all_names p [] h = refl
-all_names p (x ∷ xs) h = both (p x) (list_all p xs) (h x (any_first x xs)) (all_names p xs (λ e k. h e (any_more e x xs k)))
 
 -- what is left of names was among them, and passes
 left_names : (q : List ℕ → Bool) (xs : List (List ℕ)) (e : List ℕ) → list_any (is_name e) (filter q xs) ≡ true → (list_any (is_name e) xs ≡ true) × (q e ≡ true)
@@ -144,14 +131,12 @@ none_there c st s e is none brought of = from_not (is_in_phase phase.Absent st e
 shard_itself : (s : ℕ) → is_slot (slot.Shard s) (slot.Shard s) ≡ true
 shard_itself s = number_itself s s refl
 
-lt_is : (a b : ℕ) → a < b → nat_lt a b ≡ true
-lt_is a b h = grind (arith, nat_tests)
-
-free_keeps : (c : Script) (st : Entities) (s : ℕ) (x : Hosted) → IsEntities c st → hosted st s ≡ Some x → is_empty (entities_of st s) ≡ true → Keeps c st (told (fact.Freed (slot.Shard s) (epoch (entries_in (hosted st s))) cause.Released) ∷ [])
+free_keeps : (c : Script) (st : Entities) (s : ℕ) (x : Hosted) → IsEntities c st → hosted st s ≡ Some x → is_empty (entities_of st s) ≡ true → KeepsEntities c st (told (fact.Freed (slot.Shard s) (epoch (entries_in (hosted st s))) cause.Released) ∷ [])
 free_keeps c st s x is at_s none = record {
   stands = record {
     who_is = is.who_is;
     set_is = is.set_is;
+    version_is = is.version_is;
     shards_there = length-set st.hosted s None ∙ is.shards_there;
     cells_there = is.cells_there;
     hosted_are = λ t k e. by_place (IsHeldShard c st.who t k) t s
@@ -178,6 +163,7 @@ free_keeps c st s x is at_s none = record {
     lists_are = λ t k e. by_place (slice_index_or (slice_set h.lists.shards s (shard_list h.lists s ++ f ∷ [])) t [] ≡ k.entries) t s
         (λ same. absurd (none_some k (sym gone ∙ (ap (at (slice_set st.hosted s None)) (sym same) ∙ e))))
         (λ ne. get_or-set_other h.lists.shards s t (shard_list h.lists s ++ f ∷ []) [] ne ∙ i.lists_are t k (sym (get_or-set_other st.hosted s t None None ne) ∙ e));
+    version_is = i.version_is;
     live_are = i.live_are;
   };
 }
@@ -195,7 +181,7 @@ free_keeps c st s x is at_s none = record {
     inside_is = inside st.hosted s x at_s
 
     shard_is : is_shard c s ≡ true
-    shard_is = lt_is s c.config.shards (subst (λ n. s < n) is.shards_there inside_is)
+    shard_is = is_below s c.config.shards (subst (λ n. s < n) is.shards_there inside_is)
 
     gone : at (slice_set st.hosted s None) s ≡ None
     gone = get_or-set_same st.hosted s None None inside_is
@@ -210,33 +196,34 @@ free_keeps c st s x is at_s none = record {
     follows = both (is_held x.entries && (epoch (entries_in (hosted st s)) == epoch x.entries)) (is_slot (slot.Shard s) (slot.Shard s))
         (both (is_held x.entries) (epoch (entries_in (hosted st s)) == epoch x.entries) (ap is_some held.held_is) (number_itself (epoch (entries_in (hosted st s))) (epoch x.entries) (ap (λ o. epoch (entries_in o)) at_s))) (shard_itself s)
 
-pub free_if_left_keeps : (c : Script) (st : Entities) (s : ℕ) → IsEntities c st → Keeps c st (entities.free_if_left s st)
+pub free_if_left_keeps : (c : Script) (st : Entities) (s : ℕ) → IsEntities c st → KeepsEntities c st (entities.free_if_left s st)
 free_if_left_keeps c st s is = by (hosted st s) refl
   where
     frees : Stopping → List Move
     frees k = if is_empty (entities_of st s) then told (fact.Freed (slot.Shard s) (epoch (entries_in (hosted st s))) cause.Released) ∷ post st.who k.to (body.ShardStopped s k.stamp) ∷ [] else []
 
-    stopping : (x : Hosted) → hosted st s ≡ Some x → (o : Option Stopping) → IfSome o (λ k. is_node c k.to ≡ true) → Keeps c st (where_some frees o)
+    stopping : (x : Hosted) → hosted st s ≡ Some x → (o : Option Stopping) → IfSome o (λ k. is_node c k.to ≡ true) → KeepsEntities c st (where_some frees o)
     stopping x e None h = keeps_none c st is
     stopping x e (Some k) h = keeps_if c st (is_empty (entities_of st s)) (told (fact.Freed (slot.Shard s) (epoch (entries_in (hosted st s))) cause.Released) ∷ post st.who k.to (body.ShardStopped s k.stamp) ∷ []) []
         (λ none.
-        let first : Keeps c st (told (fact.Freed (slot.Shard s) (epoch (entries_in (hosted st s))) cause.Released) ∷ []) = free_keeps c st s x is e none in
+        let first : KeepsEntities c st (told (fact.Freed (slot.Shard s) (epoch (entries_in (hosted st s))) cause.Released) ∷ []) = free_keeps c st s x is e none in
         keeps_both c st (told (fact.Freed (slot.Shard s) (epoch (entries_in (hosted st s))) cause.Released) ∷ []) (post st.who k.to (body.ShardStopped s k.stamp) ∷ []) first
         (still_keeps c (entities_after st (told (fact.Freed (slot.Shard s) (epoch (entries_in (hosted st s))) cause.Released))) (post st.who k.to (body.ShardStopped s k.stamp)) first.stands refl
-        (own_post c st.who k.to (body.ShardStopped s k.stamp) is.who_is h (lt_is s c.config.shards (subst (λ n. s < n) is.shards_there (inside st.hosted s x e)))) refl))
+        (own_post c st.who k.to (body.ShardStopped s k.stamp) is.who_is h (is_below s c.config.shards (subst (λ n. s < n) is.shards_there (inside st.hosted s x e)))) refl))
         (λ some. keeps_none c st is)
 
-    by : (o : Option Hosted) → hosted st s ≡ o → Keeps c st (where_some frees (option_and_then (λ (h : Hosted). h.stopping) o))
+    by : (o : Option Hosted) → hosted st s ≡ o → KeepsEntities c st (where_some frees (option_and_then (λ (h : Hosted). h.stopping) o))
     by None e = keeps_none c st is
     by (Some x) e = let k : IsHeldShard c st.who s x = is.hosted_are s x e in stopping x e x.stopping k.told_is
 
 -- Handing off.
 
-handed_keeps : (c : Script) (st : Entities) (s : ℕ) (stamp : Stamp) (to : Incarnation) (x : Hosted) → IsEntities c st → hosted st s ≡ Some x → is_node c to ≡ true → Keeps c st (handed_off s stamp to ∷ [])
+handed_keeps : (c : Script) (st : Entities) (s : ℕ) (stamp : Stamp) (to : Incarnation) (x : Hosted) → IsEntities c st → hosted st s ≡ Some x → is_node c to ≡ true → KeepsEntities c st (handed_off s stamp to ∷ [])
 handed_keeps c st s stamp to x is at_s there = record {
   stands = record {
     who_is = is.who_is;
     set_is = is.set_is;
+    version_is = is.version_is;
     shards_there = ap length now_is ∙ (length-set st.hosted s (Some now) ∙ is.shards_there);
     cells_there = is.cells_there;
     hosted_are = λ t k e. by_place (IsHeldShard c st.who t k) t s
@@ -257,6 +244,7 @@ handed_keeps c st s stamp to x is at_s there = record {
     lists_are = λ t k e. by_place (shard_list h.lists t ≡ k.entries) t s
         (λ same. ap (shard_list h.lists) same ∙ (i.lists_are s x at_s ∙ ap (λ (y : Hosted). y.entries) (at_same t k same (sym (ap (λ l. at l t) now_is) ∙ e))))
         (λ ne. i.lists_are t k (sym (get_or-set_other st.hosted s t (Some now) None ne) ∙ (sym (ap (λ l. at l t) now_is) ∙ e)));
+    version_is = i.version_is;
     live_are = i.live_are;
   };
 }
@@ -282,13 +270,13 @@ stop_posts_kept c who (e ∷ es) h =
     let m : (is_brought c e ≡ true) × (list_all (is_brought c) es ≡ true) = and_both (is_brought c e) (list_all (is_brought c) es) h in
     (stop_post_kept c who e m.0, stop_posts_kept c who es m.1)
 
-pub hand_off_keeps : (c : Script) (st : Entities) (s : ℕ) (stamp : Stamp) (from : Incarnation) → IsEntities c st → is_hosted st s ≡ true → is_node c from ≡ true → Keeps c st (entities.hand_off s stamp from st)
+pub hand_off_keeps : (c : Script) (st : Entities) (s : ℕ) (stamp : Stamp) (from : Incarnation) → IsEntities c st → is_hosted st s ≡ true → is_node c from ≡ true → KeepsEntities c st (entities.hand_off s stamp from st)
 hand_off_keeps c st s stamp from is there node =
     let x : (x : Hosted) × (hosted st s ≡ Some x) = some_of (hosted st s) there in
-    let first : Keeps c st (handed_off s stamp from ∷ []) = handed_keeps c st s stamp from x.0 is x.1 node in
+    let first : KeepsEntities c st (handed_off s stamp from ∷ []) = handed_keeps c st s stamp from x.0 is x.1 node in
     let mid : Entities = entities_after st (handed_off s stamp from) in
     let posts : List Move = map (λ e. post st.who st.who (body.StopEntity e)) (entities_of st s) in
-    let stops : Keeps c st (handed_off s stamp from ∷ posts) = keeps_both c st (handed_off s stamp from ∷ []) posts first (all_keep c st.who posts mid (stop_posts_kept c st.who (entities_of st s) (entities_brought c st s is)) first.stands refl) in
+    let stops : KeepsEntities c st (handed_off s stamp from ∷ posts) = keeps_both c st (handed_off s stamp from ∷ []) posts first (all_keep c st.who posts mid (stop_posts_kept c st.who (entities_of st s) (entities_brought c st s is)) first.stands refl) in
     keeps_both c st (handed_off s stamp from ∷ posts) (entities.free_if_left s (fold entities_after mid posts)) stops (free_if_left_keeps c (fold entities_after mid posts) s stops.stands)
 
 -- After the stop.
@@ -300,35 +288,35 @@ drops_kept c who e brought (m ∷ ms) h =
     let g : (m.entity ≡ e) × IsMessage c m = messages_of c e m brought n.0 in
     (dropped_kept c who m (ap (is_brought c) g.0 ∙ brought), drops_kept c who e brought ms n.1)
 
-running_hosted : (o : Option Hosted) → entities.is_running_in o ≡ true → not (is_none o) ≡ true
+pub running_hosted : (o : Option Hosted) → entities.is_running_in o ≡ true → not (is_none o) ≡ true
 running_hosted None h = absurd (true≢false (sym h))
 running_hosted (Some x) h = refl
 
-after_stop_keeps : (c : Script) (st : Entities) (e : List ℕ) → IsEntities c st → is_brought c e ≡ true → is_in_phase phase.Absent st e ≡ true → Keeps c st (entities.after_stop e st)
+after_stop_keeps : (c : Script) (st : Entities) (e : List ℕ) → IsEntities c st → is_brought c e ≡ true → is_in_phase phase.Absent st e ≡ true → KeepsEntities c st (entities.after_stop e st)
 after_stop_keeps c st e is brought absent =
     let s : ℕ = shard_of st.set e in
     keeps_if c st (entities.is_running st s) (if is_empty (cell st e).stash then [] else entities.start_entity e st) (in_turn entities_after (entities.drop_stash e) (entities.free_if_left s) st)
     (λ runs. keeps_if c st (is_empty (cell st e).stash) [] (entities.start_entity e st) (λ b. keeps_none c st is) (λ b. start_entity_keeps c st e is brought (running_hosted (hosted st s) runs) absent))
     (λ stops.
     let drops : List Move = entities.drop_stash e st in
-    let first : Keeps c st drops = all_keep c st.who drops st (drops_kept c st.who e brought (cell st e).stash (is.stashed e brought)) is refl in
+    let first : KeepsEntities c st drops = all_keep c st.who drops st (drops_kept c st.who e brought (cell st e).stash (is.stashed e brought)) is refl in
     keeps_both c st drops (entities.free_if_left s (fold entities_after st drops)) first (free_if_left_keeps c (fold entities_after st drops) s first.stands))
 
-pub stop_rule_keeps : (c : Script) (st : Entities) (e : List ℕ) → EntitiesFollow → IsEntities c st → is_brought c e ≡ true → Keeps c st (entities.stop e st)
+pub stop_rule_keeps : (c : Script) (st : Entities) (e : List ℕ) → EntitiesFollow → IsEntities c st → is_brought c e ≡ true → KeepsEntities c st (entities.stop e st)
 stop_rule_keeps c st e law is brought = keeps_if c st (is_in_phase phase.Stopping st e) (in_turn entities_after (λ st. told (fact.Stop st.who e) ∷ entities.forget_passivated e st) (entities.after_stop e) st) []
     (λ b.
     let live : is_in_phase phase.Absent st e ≡ false = stopping (cell st e).phase b in
     let there : is_hosted st (shard_of st.set e) ≡ true = is.at_home e brought live in
-    let first : Keeps c st (told (fact.Stop st.who e) ∷ []) = stop_keeps c st e is brought in
+    let first : KeepsEntities c st (told (fact.Stop st.who e) ∷ []) = stop_keeps c st e is brought in
     let mid : Entities = entities_after st (told (fact.Stop st.who e)) in
     let gone : is_in_phase phase.Absent mid e ≡ true = ap (λ (x : Cell). is_phase phase.Absent x.phase) (own_cell c st (told (fact.Stop st.who e)) e is brought refl) in
     let follows : EntityFollows c st e = law c st e (hosted_of c st e is brought there) in
     let forgets : List Move = entities.forget_passivated e st in
-    let second : Keeps c mid forgets = keeps_if c mid ((cell st e).passivating && is_remembered e (entries st e)) (told (fact.Forgotten e) ∷ []) []
-    (λ k. entry_keeps c mid (fact.Forgotten e) e first.stands brought there refl refl refl (follows.forgotten (and_both (cell st e).passivating (is_remembered e (entries st e)) k).1) (λ o. refl) (λ v h i. refl) (λ l. refl) refl)
+    let second : KeepsEntities c mid forgets = keeps_if c mid ((cell st e).passivating && is_remembered e (entries st e)) (told (fact.Forgotten e) ∷ []) []
+    (λ k. entry_keeps c mid (fact.Forgotten e) e first.stands brought there refl refl refl refl (follows.forgotten (and_both (cell st e).passivating (is_remembered e (entries st e)) k).1) (λ o. refl) (λ v h i. refl) (λ l. refl) refl)
     (λ k. keeps_none c mid first.stands) in
     let all : List Move = told (fact.Stop st.who e) ∷ forgets in
-    let both_are : Keeps c st all = keeps_both c st (told (fact.Stop st.who e) ∷ []) forgets first second in
+    let both_are : KeepsEntities c st all = keeps_both c st (told (fact.Stop st.who e) ∷ []) forgets first second in
     let later : Entities = fold entities_after st all in
     let still_gone : is_in_phase phase.Absent later e ≡ true = forgotten_same mid ((cell st e).passivating && is_remembered e (entries st e)) ∙ gone in
     keeps_both c st all (entities.after_stop e later) both_are (after_stop_keeps c later e both_are.stands brought still_gone))
@@ -361,5 +349,5 @@ ticks_kept c st is [] = tt
 ticks_kept c st is (s ∷ ss) = kept_both c st.who (flat_map (λ e. entities.remind_by e st (cell st e).phase) (entities_of st s)) (flat_map (λ s. flat_map (λ e. entities.remind_by e st (cell st e).phase) (entities_of st s)) ss)
     (reminds_kept c st (entities_of st s) (entities_brought c st s is)) (ticks_kept c st is ss)
 
-pub tick_keeps : (c : Script) (st : Entities) → IsEntities c st → Keeps c st (entities.tick_entities st)
+pub tick_keeps : (c : Script) (st : Entities) → IsEntities c st → KeepsEntities c st (entities.tick_entities st)
 tick_keeps c st is = all_keep c st.who (entities.tick_entities st) st (ticks_kept c st is (shards st.set)) is refl

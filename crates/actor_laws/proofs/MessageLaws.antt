@@ -3,11 +3,11 @@ use Rattle.std.proofs.Common.{◌≡◌, ℕ, List, [], ◌∷◌, ◌++◌, map
 use Rattle.std.specs.Prelude.{Bool, ◌||◌, ◌==◌, ◌-◌, nat_lt, filter, fold, if◌then◌else◌}
 use Rattle.std.specs.List.{list_all, list_any, slice_get}
 use Rattle.std.specs.Option.{option_map_or}
-use Rattle.std.specs.Ordering.{nat_cmp, match_ordering, is_eq}
+use Rattle.std.specs.Ordering.{match_ordering, is_eq}
 use Rattle.std.specs.BTreeSet.{insert_key}
 use Rattle.std.specs.declared.cmp.Ordering.{Ordering}
 use Rattle.std.specs.declared.cmp.Ordering.TheVariants.{Less, Equal, Greater}
-use Rattle.std.specs.Cmp.Lexicographic.{slice_cmp, texts_ties}
+use Rattle.std.specs.Cmp.Lexicographic.{texts_ties}
 use Rattle.yard_model.specs.declared.charter.Line.{Line}
 use Rattle.yard_model.specs.declared.charter.Order.{Order}
 use Rattle.yard_model.specs.declared.charter.Order.TheVariants as order
@@ -17,13 +17,9 @@ use Rattle.yard_model.specs.Behaviour.{is_of_kind}
 use Rattle.yard_model.specs.Equal.{is_command}
 use Rattle.yard_model.specs.Genuine.{is_node, is_producer, is_planned}
 use Rattle.yard_model.specs.Script.{Script, is_name, brought, with_brought, with_name_of, names_in, with_send, with_order, with_send_of, sends, plan, is_order}
-use Rattle.yard_laws.proofs.Booleans.{and_both, left_of, right_of, same_name, same_number}
+use Rattle.plain_laws.proofs.Booleans.{and_both, left_of, right_of, same_name, same_number}
+use Rattle.plain_laws.proofs.Names.{name_itself, name_cmp}
 use Rattle.actor_laws.specs.Messages.{GenuineIsMessage}
-use Rattle.actor_laws.proofs.EntitiesMoves.{name_itself}
-
--- the order of names
-abbrev pub name_cmp : List ℕ → List ℕ → Ordering
-name_cmp = slice_cmp nat_cmp
 
 -- Names that are inserted.
 
@@ -102,6 +98,9 @@ sent_by c p e (order.Deliver k) xs names fits old h = old h
 sent_by c p e (order.Pump k) xs names fits old h = old h
 sent_by c p e (order.Rebalance l) xs names fits old h = old h
 sent_by c p e order.Settle xs names fits old h = old h
+sent_by c p e (order.Reshard n) xs names fits old h = old h
+sent_by c p e order.Upgrade xs names fits old h = old h
+sent_by c p e (order.Ping q) xs names fits old h = old h
 
 -- after all orders
 sent_in : (c : Script) (p : ℕ) (e : List ℕ) (ls : List Line) (xs : List Sending) (names : List (List ℕ)) → list_all (λ (l : Line). is_order c.config l.order) ls ≡ true

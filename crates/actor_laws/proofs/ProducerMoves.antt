@@ -1,4 +1,5 @@
 -- Moves of a producer that keep what stands of it, and that what it routes is genuine.
+use Rattle.yard_model.specs.Opening.{begins}
 use Rattle.std.proofs.Common.{◌≡◌, ◌<◌, ◌≤◌, ℕ, zero, suc, ◌+◌, ◌-◌, sym, ap, ◌∙◌, refl, subst, arith, length}
 use Rattle.std.specs.Prelude.{Bool, true, false, ◌==◌, ◌&&◌, ◌↔◌, not, cond, min, max, nat_lt, nat_le, List, [], ◌∷◌, ◌++◌, drop, take, filter, fold, map, replicate, slice_index_or, Option, Some, None, is_some, if◌then◌else◌, IsTrue}
 use Rattle.std.specs.List.{list_all, slice_get}
@@ -27,22 +28,16 @@ use Rattle.yard_model.specs.Script.{Script, setting, is_name, sends, plan}
 use Rattle.yard_model.specs.Setting.{place}
 use Rattle.yard_model.specs.SlotReads.{holder, epoch, commands, commands_step, queued, confirmed, queued_in_all, queued_in_all_step}
 use Rattle.yard_model.specs.Words.{numbers, from_to}
-use Rattle.yard_model.proofs.FollowLaws.{follows_more, own_more}
+use Rattle.yard_model.proofs.FollowLaws.{own_grows, own_more}
+use Rattle.plain_laws.proofs.Booleans.{true_is_not_false, and_both, both, number_itself, all_map, is_below, within}
+use Rattle.plain_laws.proofs.Lists.{all_join}
 use Rattle.yard_laws.specs.Queues.{KeepsQueue, ProducerKeepsQueue}
-use Rattle.yard_laws.proofs.Booleans.{true_is_not_false, and_both, both, number_itself, all_map}
-use Rattle.yard_laws.proofs.Follows.{follows_to}
+use Rattle.yard_laws.proofs.Owned.{queue_to}
 use Rattle.yard_laws.proofs.Live.{holder_more}
-use Rattle.world_laws.proofs.Rules.{all_join}
 use Rattle.actor_laws.specs.Moves.{is_own_move}
-use Rattle.actor_laws.specs.ProducerStands.{IsProducer, Keeps, is_queued_number, is_sent_well, ProducerKeeps, ProducerRoutes, ProducerJoins, ProducerBegins, ProducerIsGranted}
+use Rattle.actor_laws.specs.ProducerStands.{IsProducer, KeepsProducer, is_queued_number, is_sent_well, ProducerKeeps, ProducerRoutes, ProducerJoins, ProducerBegins, ProducerIsGranted}
 
 -- Numbers.
-
-is_less : (a b : ℕ) → a < b → nat_lt a b ≡ true
-is_less a b h = grind (arith, nat_tests)
-
-within : (a b : ℕ) → a ≤ b → nat_le a b ≡ true
-within a b h = grind (arith, nat_tests)
 
 all_between : (a k q : ℕ) → 0 < a → k ≤ (q + 1) - a → list_all (λ n. nat_lt 0 n && nat_le n q) (numbers a k) ≡ true
 all_between a zero q above h = refl
@@ -50,7 +45,7 @@ all_between a (suc k) q above h =
     let here : a ≤ q = grind (arith) in
     let next : k ≤ (q + 1) - (a + 1) = grind (arith) in
     let up : 0 < a + 1 = grind (arith) in
-    both (nat_lt 0 a && nat_le a q) (list_all (λ n. nat_lt 0 n && nat_le n q) (numbers (a + 1) k)) (both (nat_lt 0 a) (nat_le a q) (is_less 0 a above) (within a q here)) (all_between (a + 1) k q up next)
+    both (nat_lt 0 a && nat_le a q) (list_all (λ n. nat_lt 0 n && nat_le n q) (numbers (a + 1) k)) (both (nat_lt 0 a) (nat_le a q) (is_below 0 a above) (within a q here)) (all_between (a + 1) k q up next)
 
 all_from_to : (a b q : ℕ) → 0 < a → b ≤ q → list_all (λ n. nat_lt 0 n && nat_le n q) (from_to a b) ≡ true
 all_from_to a b q above h =
@@ -85,10 +80,10 @@ one_stands c st m r own_is = record {
   pairs_full = pairs_length st m ∙ r.pairs_full;
 }
 
-kept_none : (c : Script) (st : Producer) → IsProducer c st → Keeps c st []
+kept_none : (c : Script) (st : Producer) → IsProducer c st → KeepsProducer c st []
 kept_none c st r = record { stands = r; posts_are = refl }
 
-kept_one : (c : Script) (st : Producer) (m : Move) → IsProducer c st → own c (slot.Queue st.number) (queue_step st.entries m) ≡ true → is_own_move c st.who m ≡ true → Keeps c st (m ∷ [])
+kept_one : (c : Script) (st : Producer) (m : Move) → IsProducer c st → own c (slot.Queue st.number) (queue_step st.entries m) ≡ true → is_own_move c st.who m ≡ true → KeepsProducer c st (m ∷ [])
 kept_one c st m r own_is ours = record { stands = one_stands c st m r own_is; posts_are = both (is_own_move c st.who m) true ours refl }
 
 -- who it is and its number stay
@@ -109,12 +104,12 @@ producer_joins c st xs ys f g = record {
 -- Rules.
 
 -- of a lawful list the last entry may follow those before it
-last_follows : (c : Script) (s : Slot) (list : List Fact) (f : Fact) → own c s (list ++ f ∷ []) ≡ true → may_follow c s list f ≡ true
-last_follows c s list f e = (and_both (own c s list) (may_follow c s list f) (sym (follows_more (may_follow c s) [] list f) ∙ e)).1
+last_follows : (c : Script) (s : Slot) (list : List Fact) (f : Fact) → begins f ≡ false → own c s (list ++ f ∷ []) ≡ true → may_follow c s list f ≡ true
+last_follows c s list f within e = (and_both (own c s list) (may_follow c s list f) (sym (own_grows c s list f within) ∙ e)).1
 
 kept_confirm : (c : Script) (st : Producer) (e : List ℕ) (n : ℕ) → IsProducer c st → (b : Bool)
     → own c (slot.Queue st.number) (fold queue_step st.entries (if b then told (fact.Confirmed st.number e n) ∷ [] else [])) ≡ true
-    → Keeps c st (if b then told (fact.Confirmed st.number e n) ∷ [] else [])
+    → KeepsProducer c st (if b then told (fact.Confirmed st.number e n) ∷ [] else [])
 kept_confirm c st e n r false own_is = kept_none c st r
 kept_confirm c st e n r true own_is = kept_one c st (told (fact.Confirmed st.number e n)) r own_is refl
 
@@ -122,9 +117,9 @@ confirm_follows : (c : Script) (st : Producer) (e : List ℕ) (n : ℕ) (b : Boo
     → own c (slot.Queue st.number) (fold queue_step st.entries (if b then told (fact.Confirmed st.number e n) ∷ [] else [])) ≡ true
     → may_follow c (slot.Queue st.number) st.entries (fact.Confirmed st.number e n) ≡ true
 confirm_follows c st e n false rises own_is = absurd (true_is_not_false (sym rises))
-confirm_follows c st e n true rises own_is = last_follows c (slot.Queue st.number) st.entries (fact.Confirmed st.number e n) own_is
+confirm_follows c st e n true rises own_is = last_follows c (slot.Queue st.number) st.entries (fact.Confirmed st.number e n) refl own_is
 
-kept_repeat : (c : Script) (st : Producer) (e : List ℕ) (n : ℕ) → IsProducer c st → (b : Bool) → Keeps c st (map (pushed e) (if b then n ∷ [] else []))
+kept_repeat : (c : Script) (st : Producer) (e : List ℕ) (n : ℕ) → IsProducer c st → (b : Bool) → KeepsProducer c st (map (pushed e) (if b then n ∷ [] else []))
 kept_repeat c st e n r false = kept_none c st r
 kept_repeat c st e n r true = kept_one c st (pushed e n) r r.own_is refl
 
@@ -135,9 +130,9 @@ producer_keeps keeps c st r = record {
   pushes = λ e. kept_one c st (pushed e (max (confirmed e st.entries) (producer.allowed e st))) r r.own_is refl;
   demands = λ e u. kept_one c st (demanded e u) r r.own_is refl;
   repeats = λ e. kept_repeat c st e (confirmed e st.entries + 1) r (nat_lt (confirmed e st.entries) (queued e st.entries));
-  queued_follows = λ x next. last_follows c (slot.Queue st.number) st.entries (fact.Queued st.number x.entity x.number x.command) (k.queues x next);
-  confirmed_follows = λ e n rises there. confirm_follows c st e n (nat_lt (confirmed e st.entries) n) (is_less (confirmed e st.entries) n rises) (k.confirms e n there);
-  freed_follows = λ why. last_follows c (slot.Queue st.number) st.entries (fact.Freed (slot.Queue st.number) (epoch st.entries) cause.Released) k.gives_back;
+  queued_follows = λ x next. last_follows c (slot.Queue st.number) st.entries (fact.Queued st.number x.entity x.number x.command) refl (k.queues x next);
+  confirmed_follows = λ e n rises there. confirm_follows c st e n (nat_lt (confirmed e st.entries) n) (is_below (confirmed e st.entries) n rises) (k.confirms e n there);
+  freed_follows = λ why. last_follows c (slot.Queue st.number) st.entries (fact.Freed (slot.Queue st.number) (epoch st.entries) cause.Released) refl k.gives_back;
 }
   where
     k : KeepsQueue c st
@@ -189,7 +184,7 @@ begun_step same c p e list f h may =
     ∙ ap (λ i. plan_of e (take i (sends c p))) (sym (fold-append queued_in_all_step 0 list (f ∷ []))))
 
 begun : ((a b : Sending) → IsTrue (is_sending a b) ↔ (a ≡ b)) → (c : Script) (p : ℕ) (e : List ℕ) (list : List Fact) → own c (slot.Queue p) list ≡ true → IsBegun c p e list
-begun same c p e list own_is = follows_to (may_follow c (slot.Queue p)) (IsBegun c p e) (λ before f. begun_step same c p e before f) [] list refl own_is
+begun same c p e list own_is = queue_to c p (IsBegun c p e) refl (λ before f. begun_step same c p e before f) list own_is
 
 front_get : {X : Type 0} (xs ys : List X) (i : ℕ) (d : X) → i < length xs → slice_get (xs ++ ys) i ≡ Some (slice_index_or xs i d)
 front_get [] ys i d h = absurd (omega (arith))
@@ -206,7 +201,7 @@ planned same alike c p e list n own_is above there =
     let whole : plan c p e ≡ commands e list ++ rest =
     sym (ap (plan_of e) (take-append-drop i (sends c p))) ∙ (plan_join e (take i (sends c p)) (drop i (sends c p)) ∙ ap (λ l. l ++ rest) (sym (begun same c p e list own_is))) in
     let found : slice_get (plan c p e) (n - 1) ≡ Some k = ap (λ l. slice_get l (n - 1)) whole ∙ front_get (commands e list) rest (n - 1) command.Read less in
-    both (nat_lt 0 n) (option_map_or (is_command k) (slice_get (plan c p e) (n - 1)) false) (is_less 0 n above)
+    both (nat_lt 0 n) (option_map_or (is_command k) (slice_get (plan c p e) (n - 1)) false) (is_below 0 n above)
     (ap (λ o. option_map_or (is_command k) o false) found ∙ (alike k k).1 refl)
 
 -- What is routed.
@@ -223,7 +218,7 @@ repeat_queued a q false e = refl
 repeat_queued a q true e =
     let up : 0 < a + 1 = grind (arith) in
     let top : a + 1 ≤ q = grind (arith, nat_tests) in
-    both (nat_lt 0 (a + 1) && nat_le (a + 1) q) true (both (nat_lt 0 (a + 1)) (nat_le (a + 1) q) (is_less 0 (a + 1) up) (within (a + 1) q top)) refl
+    both (nat_lt 0 (a + 1) && nat_le (a + 1) q) true (both (nat_lt 0 (a + 1)) (nat_le (a + 1) q) (is_below 0 (a + 1) up) (within (a + 1) q top)) refl
 
 pub producer_routes : ((a b : Sending) → IsTrue (is_sending a b) ↔ (a ≡ b)) → ((a b : Command) → IsTrue (is_command a b) ↔ (a ≡ b)) → ProducerRoutes
 producer_routes same alike c st r = record {

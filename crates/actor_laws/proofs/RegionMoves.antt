@@ -17,29 +17,22 @@ use Rattle.yard_model.specs.Genuine.{is_node, is_shard, is_genuine, is_genuine_b
 use Rattle.yard_model.specs.Move.{Move, made, viewed, registered_with, leaves, marked, released, told, post}
 use Rattle.yard_model.specs.Region as region
 use Rattle.yard_model.specs.Region.{Region, region_after}
-use Rattle.yard_model.specs.Script.{Script, Setting, setting}
+use Rattle.yard_model.specs.Script.{Script, Setting}
 use Rattle.yard_model.specs.Setting.{shards, shard_of}
 use Rattle.yard_model.specs.Words.{numbers, is_same, is_at, is_among, is_empty, is_below}
 use Rattle.yard_model.specs.Turns.{where_some}
+use Rattle.plain_laws.proofs.Booleans.{true_is_not_false, and_both, both, same_number, number_itself, all_map}
+use Rattle.plain_laws.proofs.Members.{itself_is}
+use Rattle.plain_laws.proofs.Lists.{none_is_not_some, some_is, all_join, all_if, all_each_of, of_write}
 use Rattle.yard_laws.specs.Free.{is_free_move}
-use Rattle.yard_laws.proofs.Booleans.{true_is_not_false, and_both, both, same_number, number_itself, all_map}
-use Rattle.world_laws.specs.Owes.{is_own_post}
-use Rattle.world_laws.proofs.Members.{itself_is}
-use Rattle.world_laws.proofs.Place.{none_is_not_some, some_is}
-use Rattle.world_laws.proofs.Rules.{all_join, all_if}
+use Rattle.actor_laws.specs.Owes.{is_own_post}
 use Rattle.actor_laws.specs.Moves.{is_own_move, facts_of}
 use Rattle.actor_laws.proofs.EntitiesMoves.{facts_both}
-use Rattle.actor_laws.specs.RegionStands.{is_kept_well, is_region_fact, IsRegion, Keeps, RegionKeeps, RegionJoins, ShardsAreThere}
+use Rattle.actor_laws.specs.RegionStands.{is_kept_well, is_region_fact, IsRegion, KeepsRegion, RegionKeeps, RegionJoins, ShardsAreThere}
+use Rattle.actor_laws.proofs.Rules.{region_who}
+use Rattle.actor_laws.proofs.CoordinatorRules.{all_shards}
 
 -- Tables.
-
--- what holds of what is written and of what was there holds after the write
-pub of_write : {X : Type 0} (P : X → Type 0) (xs : List X) (i j : ℕ) (v d : X) → (j ≡ i → P v) → P (slice_index_or xs j d) → P (slice_index_or (slice_set xs i v) j d)
-of_write P [] i j v d new old = old
-of_write P (x ∷ xs) zero zero v d new old = new refl
-of_write P (x ∷ xs) zero (suc j) v d new old = old
-of_write P (x ∷ xs) (suc i) zero v d new old = old
-of_write P (x ∷ xs) (suc i) (suc j) v d new old = of_write P xs i j v d (λ e. new (ap suc e)) old
 
 -- what a test that each of a list passes tells of a part of it
 pub all_drop : {X : Type 0} (p : X → Bool) (n : ℕ) (xs : List X) → list_all p xs ≡ true → list_all p (drop n xs) ≡ true
@@ -50,12 +43,6 @@ all_drop p (suc n) (x ∷ xs) e = all_drop p n xs (and_both (p x) (list_all p xs
 pub all_where_some : {A X : Type 0} (p : A → Bool) (f : X → List A) (o : Option X) → ((x : X) → o ≡ Some x → list_all p (f x) ≡ true) → list_all p (where_some f o) ≡ true
 all_where_some p f None h = refl
 all_where_some p f (Some x) h = h x refl
-
-pub all_each_of : {A X : Type 0} (p : A → Bool) (q : X → Bool) (f : X → List A) (xs : List X) → list_all q xs ≡ true → ((x : X) → q x ≡ true → list_all p (f x) ≡ true) → list_all p (flat_map f xs) ≡ true
-all_each_of p q f [] e h = refl
-all_each_of p q f (x ∷ xs) e h =
-    let m : (q x ≡ true) × (list_all q xs ≡ true) = and_both (q x) (list_all q xs) e in
-    all_join p (f x) (flat_map f xs) (h x m.0) (all_each_of p q f xs m.1 h)
 
 is_less : (a b : ℕ) → a < b → nat_lt a b ≡ true
 is_less a b h = grind (arith, nat_tests)
@@ -293,7 +280,7 @@ all_stand c st (m ∷ ms) h r =
     let n : (is_fit c st.who m ≡ true) × (list_all (is_fit c st.who) ms ≡ true) = and_both (is_fit c st.who m) (list_all (is_fit c st.who) ms) h in
     all_stand c (region_after st m) ms n.1 (one_stands c st m n.0 r)
 
-pub kept_by_fit : (c : Script) (st : Region) (ms : List Move) → IsRegion c st → AreFit c st.who ms → Keeps c st ms
+pub kept_by_fit : (c : Script) (st : Region) (ms : List Move) → IsRegion c st → AreFit c st.who ms → KeepsRegion c st ms
 kept_by_fit c st ms r h = record {
   stands = all_stand c st ms h r;
   posts_are = all_map (is_fit c st.who) (is_own_move c st.who) (fit_own c st.who) ms h;
@@ -301,16 +288,12 @@ kept_by_fit c st ms r h = record {
   facts_are = fit_facts c st.who ms h;
 }
 
-who_stays : (st : Region) (ms : List Move) → (fold region_after st ms).who ≡ st.who
-who_stays st [] = refl
-who_stays st (m ∷ ms) = who_stays (region_after st m) ms
-
 pub region_joins : RegionJoins
 region_joins c st xs ys f g = record {
   stands = subst (IsRegion c) (sym (fold-append region_after st xs ys)) g.stands;
-  posts_are = all_join (is_own_move c st.who) xs ys f.posts_are (subst (λ w. list_all (is_own_move c w) ys ≡ true) (who_stays st xs) g.posts_are);
+  posts_are = all_join (is_own_move c st.who) xs ys f.posts_are (subst (λ w. list_all (is_own_move c w) ys ≡ true) (region_who st xs) g.posts_are);
   free_are = all_join is_free_move xs ys f.free_are g.free_are;
-  facts_are = ap (list_all (is_region_fact st.who)) (facts_both xs ys) ∙ all_join (is_region_fact st.who) (facts_of xs) (facts_of ys) f.facts_are (subst (λ w. list_all (is_region_fact w) (facts_of ys) ≡ true) (who_stays st xs) g.facts_are);
+  facts_are = ap (list_all (is_region_fact st.who)) (facts_both xs ys) ∙ all_join (is_region_fact st.who) (facts_of xs) (facts_of ys) f.facts_are (subst (λ w. list_all (is_region_fact w) (facts_of ys) ≡ true) (region_who st xs) g.facts_are);
 }
 
 -- Rules.
@@ -378,11 +361,6 @@ fit_route c m st r genuine shard (Some h) known = all_if (is_fit c st.who) (is_s
 fit_again : (c : Script) (st : Region) (s : ℕ) → IsRegion c st → is_shard c s ≡ true → AreFit c st.who (region.ask_again st s)
 fit_again c st s r shard = all_if (is_fit c st.who) (is_none (region.home st s) && not (is_empty (region.kept_of st.kept s))) (region.post_oldest (body.GetShardHome s) st) []
     (fit_oldest c st (body.GetShardHome s) r shard) refl
-
-all_shards : (c : Script) (set : Setting) → set ≡ setting c → list_all (is_shard c) (shards set) ≡ true
-all_shards c set e =
-    let n : 0 + c.config.shards ≤ c.config.shards = grind (arith) in
-    ap (λ (s : Setting). list_all (is_shard c) (shards s)) e ∙ all_numbers 0 c.config.shards c.config.shards n
 
 fit_tick : (c : Script) (st : Region) → IsRegion c st → AreFit c st.who (region.tick_region st)
 fit_tick c st r =

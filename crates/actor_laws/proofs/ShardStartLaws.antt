@@ -1,7 +1,7 @@
 -- What stands of entities, at the start of a shard.
 use Rattle.std.proofs.Common.{◌≡◌, ℕ, ◌+◌, ◌<◌, List, [], ◌∷◌, ◌++◌, length, sym, ap, subst, ◌∙◌, refl, true, false, true≢false}
-use Rattle.std.specs.Prelude.{Bool, ◌&&◌, ◌||◌, ◌==◌, not, filter, fold, Option, Some, None, is_none, is_some, slice_set, slice_index_or, if◌then◌else◌}
-use Rattle.std.specs.List.{list_all, list_any, flat_map}
+use Rattle.std.specs.Prelude.{Bool, ◌&&◌, ◌==◌, not, filter, fold, Option, Some, None, is_none, is_some, slice_set, slice_index_or, if◌then◌else◌}
+use Rattle.std.specs.List.{list_all, flat_map}
 use Rattle.std.proofs.lemmas.List.{get_or-set_same, get_or-set_other, length-set}
 use Rattle.std.proofs.lemmas.List.Sums.{fold-append}
 use Rattle.yard_model.specs.declared.fact.Fact.{Fact}
@@ -25,24 +25,25 @@ use Rattle.yard_model.specs.Trace.{slot_of}
 use Rattle.yard_model.specs.Turns.{in_turn}
 use Rattle.yard_model.specs.Words.{at, is_same}
 use Rattle.yard_model.proofs.FollowLaws.{own_more}
-use Rattle.yard_laws.proofs.Booleans.{and_both, both, below, number_itself, of_not, same_number}
-use Rattle.world_laws.specs.Owes.{hand_after, follows_in_hand, lives_in_hand, guard_in_hand, guarded_in_hand}
-use Rattle.world_laws.proofs.Members.{itself_is}
-use Rattle.world_laws.proofs.Place.{some_is, by_place}
-use Rattle.world_laws.proofs.Rules.{all_join}
+use Rattle.plain_laws.proofs.Booleans.{and_both, both, below, number_itself, of_not, same_number}
+use Rattle.plain_laws.proofs.Members.{itself_is}
+use Rattle.plain_laws.proofs.Lists.{some_is, by_place, all_join}
+use Rattle.plain_laws.proofs.Names.{left_differ, all_names}
+use Rattle.plain_laws.specs.Names.{AllDiffer}
+use Rattle.actor_laws.specs.Owes.{hand_after, follows_in_hand, lives_in_hand, guard_in_hand, guarded_in_hand}
 use Rattle.actor_laws.specs.Held.{held_in_hand}
 use Rattle.actor_laws.specs.Moves.{is_own_move, facts_of}
-use Rattle.actor_laws.specs.EntitiesStand.{IsHeldShard, IsEntities, InHand, is_entity_fact, Keeps}
+use Rattle.actor_laws.specs.EntitiesStand.{IsHeldShard, IsEntities, InHand, is_entity_fact, KeepsEntities}
 use Rattle.actor_laws.specs.ShardStart.{KeepsFound, ShardStarts}
 use Rattle.actor_laws.proofs.EntitiesCells.{other_cell}
-use Rattle.actor_laws.proofs.EntitiesMoves.{held_both, facts_both, guarded_both, name_itself, keeps_none, keeps_both, who_stays}
+use Rattle.actor_laws.proofs.EntitiesMoves.{held_both, facts_both, guarded_both, keeps_none, keeps_both, who_stays}
 use Rattle.actor_laws.proofs.EntitiesRules.{keeps_if, start_entity_keeps}
-use Rattle.actor_laws.proofs.NameLaws.{AllDiffer, names_differ, left_differ}
+use Rattle.actor_laws.proofs.NameLaws.{names_differ}
 
 -- Moves in turn, the first by the list that was found.
 
 -- and then moves that need no list
-found_then : (c : Script) (s : ℕ) (list : List Fact) (st : Entities) (xs ys : List Move) → KeepsFound c s list st xs → Keeps c (fold entities_after st xs) ys → KeepsFound c s list st (xs ++ ys)
+found_then : (c : Script) (s : ℕ) (list : List Fact) (st : Entities) (xs ys : List Move) → KeepsFound c s list st xs → KeepsEntities c (fold entities_after st xs) ys → KeepsFound c s list st (xs ++ ys)
 found_then c s list st xs ys f g =
     let mid : Entities = fold entities_after st xs in
     record {
@@ -73,6 +74,7 @@ granted_keeps c st s list is shard own_is free = record {
   stands = record {
     who_is = is.who_is;
     set_is = is.set_is;
+    version_is = is.version_is;
     shards_there = length-set st.hosted s (Some now) ∙ is.shards_there;
     cells_there = is.cells_there;
     hosted_are = λ t k e. by_place (IsHeldShard c st.who t k) t s
@@ -96,6 +98,7 @@ granted_keeps c st s list is shard own_is free = record {
         ∙ (get_or-set_same h.lists.shards s (shard_list h.lists s ++ f ∷ []) [] (subst (λ n. s < n) (sym i.there) below_is)
         ∙ (ap (λ l. l ++ f ∷ []) found ∙ ap (λ (y : Hosted). y.entries) (at_same t k same e))))
         (λ ne. get_or-set_other h.lists.shards s t (shard_list h.lists s ++ f ∷ []) [] ne ∙ i.lists_are t k (sym (get_or-set_other st.hosted s t (Some now) None ne) ∙ e));
+    version_is = i.version_is;
     live_are = i.live_are;
   };
 }
@@ -145,27 +148,18 @@ still_ready c st who e is brought (f ∷ fs) others ready =
     (still_ready c st who e is brought fs other.1 both_are.1)
 
 -- different names that may start now, each started in turn
-starts_keep : (c : Script) (first now : Entities) (es : List (List ℕ)) → IsEntities c now → now.who ≡ first.who → AllDiffer es → list_all (is_ready c now) es ≡ true → Keeps c now (flat_map (λ e. entities.start_entity e first) es)
+starts_keep : (c : Script) (first now : Entities) (es : List (List ℕ)) → IsEntities c now → now.who ≡ first.who → AllDiffer es → list_all (is_ready c now) es ≡ true → KeepsEntities c now (flat_map (λ e. entities.start_entity e first) es)
 starts_keep c first now [] is who differ ready = keeps_none c now is
 starts_keep c first now (e ∷ es) is who differ ready =
     let starts : List Move = entities.start_entity e first in
     let both_are : (is_ready c now e ≡ true) × (list_all (is_ready c now) es ≡ true) = and_both (is_ready c now e) (list_all (is_ready c now) es) ready in
     let one : ((is_brought c e && is_hosted now (shard_of now.set e)) ≡ true) × (is_in_phase phase.Absent now e ≡ true) = and_both (is_brought c e && is_hosted now (shard_of now.set e)) (is_in_phase phase.Absent now e) both_are.0 in
     let there : (is_brought c e ≡ true) × (is_hosted now (shard_of now.set e) ≡ true) = and_both (is_brought c e) (is_hosted now (shard_of now.set e)) one.0 in
-    let started : Keeps c now starts = subst (λ w. Keeps c now (told (fact.Start w e) ∷ post w w (body.Recovered e) ∷ [])) who (start_entity_keeps c now e is there.0 there.1 one.1) in
+    let started : KeepsEntities c now starts = subst (λ w. KeepsEntities c now (told (fact.Start w e) ∷ post w w (body.Recovered e) ∷ [])) who (start_entity_keeps c now e is there.0 there.1 one.1) in
     keeps_both c now starts (flat_map (λ e. entities.start_entity e first) es) started
     (starts_keep c first (fold entities_after now starts) es started.stands who differ.1 (still_ready c now first.who e is there.0 es differ.0 both_are.1))
 
 -- Names of a shard.
-
--- what holds of each that is among the names holds of all
-all_names : (p : List ℕ → Bool) (xs : List (List ℕ)) → ((e : List ℕ) → list_any (is_name e) xs ≡ true → p e ≡ true) → list_all p xs ≡ true
-all_names p [] h = refl
-all_names p (x ∷ xs) h = both (p x) (list_all p xs) (h x (ap (λ b. b || list_any (is_name x) xs) (name_itself x))) (all_names p xs (λ e k. h e (more (is_name e x) (list_any (is_name e) xs) k)))
-  where
-    more : (a b : Bool) → b ≡ true → (a || b) ≡ true
-    more true b k = refl
-    more false b k = k
 
 -- what holds of those that are left, by what holds of all
 all_passed : (p q z : List ℕ → Bool) → ((x : List ℕ) → p x ≡ true → q x ≡ true → z x ≡ true) → (xs : List (List ℕ)) → list_all p xs ≡ true → list_all z (filter q xs) ≡ true
@@ -190,17 +184,17 @@ none_passes q r h (x ∷ xs) = by (q x) refl (none_passes q r h xs)
 -- The remembered names.
 
 -- of a shard that isn't hosted none starts
-none_start : (c : Script) (st : Entities) (s : ℕ) → IsEntities c st → hosted st s ≡ None → Keeps c st (entities.start_remembered s st)
+none_start : (c : Script) (st : Entities) (s : ℕ) → IsEntities c st → hosted st s ≡ None → KeepsEntities c st (entities.start_remembered s st)
 none_start c st s is away =
     let r : List ℕ → Bool = λ e. is_remembered e (entries st e) in
     let q : List ℕ → Bool = λ e. shard_of st.set e == s in
     let none : filter r (filter q st.set.names) ≡ [] = none_passes q r (λ e of. ap (λ n. is_remembered e (entries_in (hosted st n))) (same_number (shard_of st.set e) s of) ∙ ap (λ o. is_remembered e (entries_in o)) away) st.set.names in
     keeps_if c st st.set.config.remember (flat_map (λ e. entities.start_entity e st) (filter r (names_of st.set s))) []
-    (λ b. subst (λ l. Keeps c st (flat_map (λ e. entities.start_entity e st) l)) (sym none) (keeps_none c st is))
+    (λ b. subst (λ l. KeepsEntities c st (flat_map (λ e. entities.start_entity e st) l)) (sym none) (keeps_none c st is))
     (λ b. keeps_none c st is)
 
 -- of a shard that is hosted now, and of which no name exists
-remembered_start : (c : Script) (st : Entities) (s : ℕ) → IsEntities c st → is_hosted st s ≡ true → ((e : List ℕ) → is_brought c e ≡ true → shard_of st.set e ≡ s → is_in_phase phase.Absent st e ≡ true) → Keeps c st (entities.start_remembered s st)
+remembered_start : (c : Script) (st : Entities) (s : ℕ) → IsEntities c st → is_hosted st s ≡ true → ((e : List ℕ) → is_brought c e ≡ true → shard_of st.set e ≡ s → is_in_phase phase.Absent st e ≡ true) → KeepsEntities c st (entities.start_remembered s st)
 remembered_start c st s is there absent =
     let r : List ℕ → Bool = λ e. is_remembered e (entries st e) in
     let q : List ℕ → Bool = λ e. shard_of st.set e == s in

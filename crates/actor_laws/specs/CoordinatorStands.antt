@@ -27,7 +27,7 @@ abbrev pub is_sound_moving : Script → List Fact → Moving → Bool
 is_sound_moving c list x = is_shard c x.shard && is_owned x.owner (allocation x.shard list) && list_all (is_node c) x.awaited
 
 -- what stands of a coordinator between its rules: it is a node of the script and holds its slot, its list is lawful by itself, each shard that moves has its owner for its home, and those that leave are the script's nodes
-pub record IsSound (c : Script) (st : Coordinator) : Type 0 where
+pub record IsGoodCoordinator (c : Script) (st : Coordinator) : Type 0 where
   pub who_is : IsTrue (is_node c st.who)
   pub set_is : st.set ≡ setting c
   pub own_is : IsTrue (own c slot.Coordinator st.entries)
@@ -54,33 +54,33 @@ entered old (fact.Deallocated s) = old ++ fact.Deallocated s ∷ []
 entered old f = old
 
 -- moves of a coordinator keep it sound, post from it what is made of the script, and tell its facts alone; its list is then the list before with the entries told
-pub record Keeps (c : Script) (st : Coordinator) (ms : List Move) : Type 0 where
-  pub sound : IsSound c (fold coordinator_after st ms)
+pub record KeepsCoordinator (c : Script) (st : Coordinator) (ms : List Move) : Type 0 where
+  pub sound : IsGoodCoordinator c (fold coordinator_after st ms)
   pub posts_are : IsTrue (list_all (is_own_move c st.who) ms)
   pub facts_are : IsTrue (list_all is_coordinator_fact (facts_of ms))
   pub list_is : (fold coordinator_after st ms).entries ≡ fold entered st.entries (facts_of ms)
 
 -- what the rules keep: a region of the view is registered already or there is room; the shard that is asked for is the script's
 pub record KeepsRules (c : Script) (st : Coordinator) : Type 0 where
-  pub terminates : (view : List Incarnation) → Keeps c st (coordinator.terminate_lost view st)
-  pub registers : (from : Incarnation) (view : List Incarnation) → IsTrue (is_node c from) → (is_among from view ≡ true → is_among from (regions st.entries) ≡ false → length (regions st.entries) < 16) → Keeps c st (coordinator.register_from from view st)
-  pub gets : (from : Incarnation) (s : ℕ) → IsTrue (is_shard c s) → Keeps c st (coordinator.get_home from s st)
-  pub starts : (from : Incarnation) (s : ℕ) → Keeps c st (coordinator.shard_started from s st)
-  pub quits : (from : Incarnation) → Keeps c st (coordinator.quit from st)
-  pub acknowledges : (from : Incarnation) (s : ℕ) (stamp : Stamp) → Keeps c st (coordinator.acknowledge from s stamp st)
-  pub stops : (from : Incarnation) (s : ℕ) (stamp : Stamp) → Keeps c st (coordinator.shard_stopped from s stamp st)
-  pub rebalances : (limit : ℕ) → Keeps c st (coordinator.rebalance limit st)
-  pub ticks : Keeps c st (coordinator.tick_coordinator st)
+  pub terminates : (view : List Incarnation) → KeepsCoordinator c st (coordinator.terminate_lost view st)
+  pub registers : (from : Incarnation) (view : List Incarnation) → IsTrue (is_node c from) → (is_among from view ≡ true → is_among from (regions st.entries) ≡ false → length (regions st.entries) < 16) → KeepsCoordinator c st (coordinator.register_from from view st)
+  pub gets : (from : Incarnation) (s : ℕ) → IsTrue (is_shard c s) → KeepsCoordinator c st (coordinator.get_home from s st)
+  pub starts : (from : Incarnation) (s : ℕ) → KeepsCoordinator c st (coordinator.shard_started from s st)
+  pub quits : (from : Incarnation) → KeepsCoordinator c st (coordinator.quit from st)
+  pub acknowledges : (from : Incarnation) (s : ℕ) (stamp : Stamp) → KeepsCoordinator c st (coordinator.acknowledge from s stamp st)
+  pub stops : (from : Incarnation) (s : ℕ) (stamp : Stamp) → KeepsCoordinator c st (coordinator.shard_stopped from s stamp st)
+  pub rebalances : (limit : ℕ) → KeepsCoordinator c st (coordinator.rebalance limit st)
+  pub ticks : KeepsCoordinator c st (coordinator.tick_coordinator st)
 
 -- each rule keeps what stands of a coordinator
 abbrev pub CoordinatorKeeps : Type 0
-CoordinatorKeeps = (c : Script) (st : Coordinator) → IsSound c st → KeepsRules c st
+CoordinatorKeeps = (c : Script) (st : Coordinator) → IsGoodCoordinator c st → KeepsRules c st
 
 -- and so does any packet for it that is made of the script
 abbrev pub CoordinatorTakes : Type 0
-CoordinatorTakes = (c : Script) (st : Coordinator) (from : Incarnation) (b : Body) (view : List Incarnation) → IsSound c st → IsTrue (is_node c from) → IsTrue (is_genuine_body c b)
-    → (is_among from view ≡ true → is_among from (regions st.entries) ≡ false → length (regions st.entries) < 16) → Keeps c st (coordinator.coordinate from b view st)
+CoordinatorTakes = (c : Script) (st : Coordinator) (from : Incarnation) (b : Body) (view : List Incarnation) → IsGoodCoordinator c st → IsTrue (is_node c from) → IsTrue (is_genuine_body c b)
+    → (is_among from view ≡ true → is_among from (regions st.entries) ≡ false → length (regions st.entries) < 16) → KeepsCoordinator c st (coordinator.coordinate from b view st)
 
 -- it stands once the slot is granted to a node of the script
 abbrev pub CoordinatorBegins : Type 0
-CoordinatorBegins = (c : Script) (who : Incarnation) (list : List Fact) → IsTrue (is_node c who) → IsTrue (own c slot.Coordinator list) → holder list ≡ Some who → IsSound c (coordinator.new_coordinator (setting c) who list)
+CoordinatorBegins = (c : Script) (who : Incarnation) (list : List Fact) → IsTrue (is_node c who) → IsTrue (own c slot.Coordinator list) → holder list ≡ Some who → IsGoodCoordinator c (coordinator.new_coordinator (setting c) who list)

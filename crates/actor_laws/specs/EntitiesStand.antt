@@ -14,12 +14,12 @@ use Rattle.yard_model.specs.Entities.{Entities, Hosted, new_entities, cell, host
 use Rattle.yard_model.specs.Genuine.{is_node, is_brought, is_producer, is_genuine}
 use Rattle.yard_model.specs.Lawful.{own}
 use Rattle.yard_model.specs.Move.{Move, told}
-use Rattle.yard_model.specs.Script.{Script, is_name, names_in, setting}
+use Rattle.yard_model.specs.Script.{Script, is_name, names_in, setting, is_version}
 use Rattle.yard_model.specs.Setting.{shard_of}
 use Rattle.yard_model.specs.SlotLists.{shard_list}
 use Rattle.yard_model.specs.SlotReads.{holder}
 use Rattle.yard_model.specs.Words.{is_same}
-use Rattle.world_laws.specs.Owes.{Hand, has_name, hand_after, guarded_in_hand}
+use Rattle.actor_laws.specs.Owes.{Hand, has_name, hand_after, guarded_in_hand}
 use Rattle.actor_laws.specs.Held.{held_in_hand}
 use Rattle.actor_laws.specs.Moves.{is_own_move, facts_of}
 
@@ -37,6 +37,7 @@ is_for c e m = is_genuine c m && is_producer c m.producer && is_name m.entity e
 pub record IsEntities (c : Script) (st : Entities) : Type 0 where
   pub who_is : is_node c st.who ≡ true
   pub set_is : st.set ≡ setting c
+  pub version_is : is_version c st.version ≡ true
   pub shards_there : length st.hosted ≡ c.config.shards
   pub cells_there : length st.cells ≡ length (names_in c.orders)
   pub hosted_are : (s : ℕ) (h : Hosted) → hosted st s ≡ Some h → IsHeldShard c st.who s h
@@ -53,6 +54,7 @@ pub record IsMessage (c : Script) (m : Message) : Type 0 where
 pub record InHand (c : Script) (h : Hand) (st : Entities) : Type 0 where
   pub there : length h.lists.shards ≡ c.config.shards
   pub lists_are : (s : ℕ) (x : Hosted) → hosted st s ≡ Some x → shard_list h.lists s ≡ x.entries
+  pub version_is : h.version ≡ st.version
   pub live_are : (e : List ℕ) → is_brought c e ≡ true → has_name e h.live ≡ not (is_in_phase phase.Absent st e)
 
 -- the facts that entities tell: of entities, whose incarnation is this node, and entries of shards
@@ -74,7 +76,7 @@ is_entity_fact who (fact.Forgotten e) = true
 is_entity_fact who f = false
 
 -- after these moves the same stands; what they post is the node's own; they tell of entities and shards alone; and each fact is guarded by what the node has in hand, which goes along
-pub record Keeps (c : Script) (st : Entities) (ms : List Move) : Type 0 where
+pub record KeepsEntities (c : Script) (st : Entities) (ms : List Move) : Type 0 where
   pub stands : IsEntities c (fold entities_after st ms)
   pub posts_are : list_all (is_own_move c st.who) ms ≡ true
   pub facts_are : list_all (is_entity_fact st.who) (facts_of ms) ≡ true
@@ -84,13 +86,13 @@ pub record Keeps (c : Script) (st : Entities) (ms : List Move) : Type 0 where
 
 -- what each rule keeps and tells, where what it is about is the script's
 pub record EntityRules (c : Script) (st : Entities) : Type 0 where
-  pub delivers : (m : Message) → IsMessage c m → is_hosted st (shard_of st.set m.entity) ≡ true → Keeps c st (entities.deliver m st)
-  pub recovers : (e : List ℕ) → is_brought c e ≡ true → Keeps c st (entities.recovered e st)
-  pub passivates : (e : List ℕ) → is_brought c e ≡ true → Keeps c st (entities.passivate e st)
-  pub arms : (e : List ℕ) (k : Keep) → is_brought c e ≡ true → Keeps c st (told (fact.Armed e k) ∷ [])
-  pub hands_off : (s : ℕ) (stamp : Stamp) (from : Incarnation) → is_hosted st s ≡ true → is_node c from ≡ true → Keeps c st (entities.hand_off s stamp from st)
-  pub stops : (e : List ℕ) → is_brought c e ≡ true → Keeps c st (entities.stop e st)
-  pub ticks : Keeps c st (entities.tick_entities st)
+  pub delivers : (m : Message) → IsMessage c m → is_hosted st (shard_of st.set m.entity) ≡ true → KeepsEntities c st (entities.deliver m st)
+  pub recovers : (e : List ℕ) → is_brought c e ≡ true → KeepsEntities c st (entities.recovered e st)
+  pub passivates : (e : List ℕ) → is_brought c e ≡ true → KeepsEntities c st (entities.passivate e st)
+  pub arms : (e : List ℕ) (k : Keep) → is_brought c e ≡ true → KeepsEntities c st (told (fact.Armed e k) ∷ [])
+  pub hands_off : (s : ℕ) (stamp : Stamp) (from : Incarnation) → is_hosted st s ≡ true → is_node c from ≡ true → KeepsEntities c st (entities.hand_off s stamp from st)
+  pub stops : (e : List ℕ) → is_brought c e ≡ true → KeepsEntities c st (entities.stop e st)
+  pub ticks : KeepsEntities c st (entities.tick_entities st)
 
 -- of entities that stand by themselves
 abbrev pub EntitiesStandLaw : Type 0
@@ -98,4 +100,4 @@ EntitiesStandLaw = (c : Script) (st : Entities) → IsEntities c st → EntityRu
 
 -- those of a node that comes up do
 abbrev pub NewEntitiesStand : Type 0
-NewEntitiesStand = (c : Script) (who : Incarnation) → is_node c who ≡ true → IsEntities c (new_entities (setting c) who)
+NewEntitiesStand = (c : Script) (version : ℕ) (who : Incarnation) → is_node c who ≡ true → is_version c version ≡ true → IsEntities c (new_entities (setting c) version who)

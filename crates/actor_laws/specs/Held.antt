@@ -9,7 +9,7 @@ use Rattle.yard_model.specs.Script.{Script, Setting, setting}
 use Rattle.yard_model.specs.SlotReads.{holder}
 use Rattle.yard_model.specs.Trace.{slot_of, list_at}
 use Rattle.yard_model.specs.Words.{is_at}
-use Rattle.world_laws.specs.Owes.{Hand, hand_after}
+use Rattle.actor_laws.specs.Owes.{Hand, hand_after}
 
 abbrev pub is_grant : Fact → Bool
 is_grant (fact.Granted s n x) = true

@@ -5,7 +5,7 @@ use Rattle.yard_model.specs.declared.fact.Fact.{Fact}
 use Rattle.yard_model.specs.declared.incarnation.Incarnation.{Incarnation}
 use Rattle.yard_model.specs.Move.{Move, item_of}
 use Rattle.yard_model.specs.Script.{Script}
-use Rattle.world_laws.specs.Owes.{facts_in, is_own_post}
+use Rattle.actor_laws.specs.Owes.{facts_in, is_own_post}
 
 -- what a move posts comes from this incarnation, and is made of the script's nodes, shards and sends
 abbrev pub is_own_move : Script → Incarnation → Move → Bool

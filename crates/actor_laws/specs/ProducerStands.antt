@@ -26,7 +26,7 @@ pub record IsProducer (c : Script) (st : Producer) : Type 0 where
   pub pairs_full : length st.pairs ≡ length st.set.names
 
 -- after these moves it stands, and they post only what is its own
-pub record Keeps (c : Script) (st : Producer) (ms : List Move) : Type 0 where
+pub record KeepsProducer (c : Script) (st : Producer) (ms : List Move) : Type 0 where
   pub stands : IsProducer c (fold producer_after st ms)
   pub posts_are : IsTrue (list_all (is_own_move c st.who) ms)
 
@@ -40,11 +40,11 @@ is_sent_well c e st n = is_genuine c (producer.message_of e st n)
 
 -- its rules, each under what its input promises
 pub record Rules (c : Script) (st : Producer) : Type 0 where
-  pub queues : (x : Sending) → producer.next_sending (sends c st.number) st ≡ Some x → Keeps c st (producer.queue x st)
-  pub confirms : (e : List ℕ) (n : ℕ) → n ≤ queued e st.entries → Keeps c st (producer.confirm e n st)
-  pub pushes : (e : List ℕ) → Keeps c st (producer.push_marks e st)
-  pub demands : (e : List ℕ) (u : ℕ) → Keeps c st (demanded e u ∷ [])
-  pub repeats : (e : List ℕ) → Keeps c st (map (pushed e) (producer.to_repeat e st))
+  pub queues : (x : Sending) → producer.next_sending (sends c st.number) st ≡ Some x → KeepsProducer c st (producer.queue x st)
+  pub confirms : (e : List ℕ) (n : ℕ) → n ≤ queued e st.entries → KeepsProducer c st (producer.confirm e n st)
+  pub pushes : (e : List ℕ) → KeepsProducer c st (producer.push_marks e st)
+  pub demands : (e : List ℕ) (u : ℕ) → KeepsProducer c st (demanded e u ∷ [])
+  pub repeats : (e : List ℕ) → KeepsProducer c st (map (pushed e) (producer.to_repeat e st))
   -- the entries that it tells may follow in its list
   pub queued_follows : (x : Sending) → producer.next_sending (sends c st.number) st ≡ Some x → IsTrue (may_follow c (slot.Queue st.number) st.entries (fact.Queued st.number x.entity x.number x.command))
   pub confirmed_follows : (e : List ℕ) (n : ℕ) → confirmed e st.entries < n → n ≤ queued e st.entries → IsTrue (may_follow c (slot.Queue st.number) st.entries (fact.Confirmed st.number e n))
@@ -71,7 +71,7 @@ ProducerRoutes = (c : Script) (st : Producer) → IsProducer c st → Routes c s
 
 -- moves that are kept one list after another are kept together
 abbrev pub ProducerJoins : Type 0
-ProducerJoins = (c : Script) (st : Producer) (xs ys : List Move) → Keeps c st xs → Keeps c (fold producer_after st xs) ys → Keeps c st (xs ++ ys)
+ProducerJoins = (c : Script) (st : Producer) (xs ys : List Move) → KeepsProducer c st xs → KeepsProducer c (fold producer_after st xs) ys → KeepsProducer c st (xs ++ ys)
 
 -- once the queue is granted, its list being lawful
 abbrev pub ProducerBegins : Type 0

@@ -47,7 +47,7 @@ is_region_fact who (fact.Dropped x m) = is_same x who
 is_region_fact who f = false
 
 -- after these moves it stands, and they post only what is its own and tell only free facts, of its own incarnation
-pub record Keeps (c : Script) (st : Region) (ms : List Move) : Type 0 where
+pub record KeepsRegion (c : Script) (st : Region) (ms : List Move) : Type 0 where
   pub stands : IsRegion c (fold region_after st ms)
   pub posts_are : IsTrue (list_all (is_own_move c st.who) ms)
   pub free_are : IsTrue (list_all is_free_move ms)
@@ -55,26 +55,26 @@ pub record Keeps (c : Script) (st : Region) (ms : List Move) : Type 0 where
 
 -- its rules, each under what its input promises
 pub record Rules (c : Script) (st : Region) : Type 0 where
-  pub views : (v : ℕ) (xs : List Incarnation) → IsTrue (list_all (is_node c) xs) → Keeps c st (region.take_view v xs st)
-  pub registers : Keeps c st (region.register st)
-  pub registered : (from : Incarnation) → is_node c from ≡ true → Keeps c st (region.registered_by from st)
-  pub learns : (s : ℕ) (h : Incarnation) (stamp : Stamp) → is_shard c s ≡ true → is_node c h ≡ true → Keeps c st (region.learn s h stamp st)
-  pub hands_off : (s : ℕ) (stamp : Stamp) (from : Incarnation) → is_shard c s ≡ true → is_node c from ≡ true → Keeps c st (region.begin_hand_off s stamp from st)
-  pub leaves : Keeps c st (region.leave st)
-  pub ticks : Keeps c st (region.tick_region st)
-  pub routes : (m : Message) → is_genuine c m ≡ true → Keeps c st (region.route_away m st)
+  pub views : (v : ℕ) (xs : List Incarnation) → IsTrue (list_all (is_node c) xs) → KeepsRegion c st (region.take_view v xs st)
+  pub registers : KeepsRegion c st (region.register st)
+  pub registered : (from : Incarnation) → is_node c from ≡ true → KeepsRegion c st (region.registered_by from st)
+  pub learns : (s : ℕ) (h : Incarnation) (stamp : Stamp) → is_shard c s ≡ true → is_node c h ≡ true → KeepsRegion c st (region.learn s h stamp st)
+  pub hands_off : (s : ℕ) (stamp : Stamp) (from : Incarnation) → is_shard c s ≡ true → is_node c from ≡ true → KeepsRegion c st (region.begin_hand_off s stamp from st)
+  pub leaves : KeepsRegion c st (region.leave st)
+  pub ticks : KeepsRegion c st (region.tick_region st)
+  pub routes : (m : Message) → is_genuine c m ≡ true → KeepsRegion c st (region.route_away m st)
   -- the oldest kept message of a shard is taken out, and it is genuine and of that shard
-  pub releases : (s : ℕ) → Keeps c st (released s ∷ [])
+  pub releases : (s : ℕ) → KeepsRegion c st (released s ∷ [])
   pub oldest_kept : (s : ℕ) → IfSome (slice_get (region.kept_of st.kept s) 0) (λ m. (is_genuine c m ≡ true) × (shard_of st.set m.entity ≡ s))
   -- what the node has it answer
-  pub answers : (to : Incarnation) (b : Body) → is_node c to ≡ true → is_genuine_body c b ≡ true → Keeps c st (post st.who to b ∷ [])
+  pub answers : (to : Incarnation) (b : Body) → is_node c to ≡ true → is_genuine_body c b ≡ true → KeepsRegion c st (post st.who to b ∷ [])
 
 abbrev pub RegionKeeps : Type 0
 RegionKeeps = (c : Script) (st : Region) → IsScript c → IsRegion c st → Rules c st
 
 -- moves that are kept one list after another are kept together
 abbrev pub RegionJoins : Type 0
-RegionJoins = (c : Script) (st : Region) (xs ys : List Move) → Keeps c st xs → Keeps c (fold region_after st xs) ys → Keeps c st (xs ++ ys)
+RegionJoins = (c : Script) (st : Region) (xs ys : List Move) → KeepsRegion c st xs → KeepsRegion c (fold region_after st xs) ys → KeepsRegion c st (xs ++ ys)
 
 -- a node that comes up
 abbrev pub RegionBegins : Type 0

@@ -12,7 +12,7 @@ use Rattle.yard_model.specs.Node.{acquire}
 use Rattle.yard_model.specs.Script.{Script}
 use Rattle.yard_model.specs.SlotLists.{shard_list}
 use Rattle.yard_model.specs.Turns.{in_turn}
-use Rattle.world_laws.specs.Owes.{Hand, hand_after, guarded_in_hand}
+use Rattle.actor_laws.specs.Owes.{Hand, hand_after, guarded_in_hand}
 use Rattle.actor_laws.specs.Held.{held_in_hand}
 use Rattle.actor_laws.specs.Moves.{is_own_move, facts_of}
 use Rattle.actor_laws.specs.EntitiesStand.{IsEntities, InHand, is_entity_fact}

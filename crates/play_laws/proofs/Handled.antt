@@ -1,4 +1,9 @@
 -- An input at a node of a sound world.
+use Rattle.actor_laws.specs.RegionStands.{ShardsAreThere}
+use Rattle.era_laws.specs.Reshapes.{ReshapedIsLawful, ReshapedKeepsJournals}
+use Rattle.era_laws.specs.Openings.{OpeningGivesLists, OpeningIsQuiet, EraOpens}
+use Rattle.node_laws.proofs.TraceOthers.{all_own_open}
+use Rattle.yard_model.specs.Era.{upgrade_step, version_in}
 use Rattle.std.proofs.Common.{◌≡◌, ◌<◌, ◌≤◌, ◌⊎◌, inl, inr, ℕ, ◌+◌, ◌-◌, List, [], ◌∷◌, ◌++◌, length, sym, ap, ap₂, subst, ◌∙◌, refl, true, false, true≢false, arith}
 use Rattle.std.specs.Prelude.{Bool, not, fold, Some, slice_index_or, slice_set, if◌then◌else◌}
 use Rattle.std.specs.List.{list_all}
@@ -12,30 +17,33 @@ use Rattle.yard_model.specs.Entities.{cell}
 use Rattle.yard_model.specs.Members.{are_of_different_nodes}
 use Rattle.yard_model.specs.Node.{Node, Act, after, items_of, turn}
 use Rattle.yard_model.specs.Region.{kept_of}
-use Rattle.yard_model.specs.Safe.{live_step, live_at, guarded}
-use Rattle.yard_model.specs.Script.{Script, setting, is_name}
+use Rattle.yard_model.specs.Safe.{live_step, live_at}
+use Rattle.yard_model.specs.Guards.{guarded}
+use Rattle.yard_model.specs.Script.{Script, setting, is_name, is_version}
 use Rattle.yard_model.specs.SlotLists.{SlotLists, shard_list, queue_list}
 use Rattle.yard_model.specs.Trace.{no_lists, lists_step, lists_of}
 use Rattle.yard_model.specs.Words.{is_same, is_among, without, at}
 use Rattle.yard_model.specs.World.{World, Made, world_after, all_sends, input_facts, with_node, handle}
-use Rattle.yard_laws.proofs.Booleans.{and_both, all_map}
+use Rattle.plain_laws.proofs.Booleans.{and_both, all_map}
+use Rattle.plain_laws.proofs.Members.{same_is, by_last, among_kept}
+use Rattle.plain_laws.proofs.Lists.{some_is, inside, placed_at, placed_beside, by_place}
 use Rattle.yard_laws.specs.Guarded.{Owns}
-use Rattle.yard_laws.proofs.Owns.{guarded_is_own, producer_above}
-use Rattle.world_laws.specs.Owes.{Hand, facts_in, hand_after}
-use Rattle.world_laws.specs.Standing.{IsThere}
-use Rattle.world_laws.proofs.Members.{same_is, by_last, among_kept}
-use Rattle.world_laws.proofs.Place.{some_is, inside, placed_at, placed_beside, by_place}
-use Rattle.actor_laws.specs.Carried.{is_queued_in, Carries, IsBrought, CarriesOn, TurnCarries}
-use Rattle.actor_laws.specs.Cluster.{IsMember, IsCluster, ClusterTurns, ClusterLoses, ClusterHears, ClusterGains, ClusterBegins}
-use Rattle.actor_laws.specs.NodeFound.{Finds, AreLawful}
-use Rattle.actor_laws.specs.NodeStands.{is_own_fact}
-use Rattle.actor_laws.specs.NodeTurns.{MayTake}
-use Rattle.actor_laws.specs.Traces.{recorded, RecordedStays, TurnGoesOn, TurnIsGuarded}
+use Rattle.yard_laws.proofs.Owns.{producer_above}
+use Rattle.yard_laws.proofs.SafetyLaws.{guarded_is_own}
+use Rattle.actor_laws.specs.Owes.{Hand, facts_in, hand_after}
+use Rattle.node_laws.specs.Members.{IsThere}
+use Rattle.node_laws.specs.Carried.{is_queued_in, Carries, IsBrought, CarriesOn, TurnCarries}
+use Rattle.node_laws.specs.Cluster.{IsMember, IsCluster, ClusterTurns, ClusterLoses, ClusterHears, ClusterGains, ClusterBegins, ClusterUpgrades, ClusterIsSafe}
+use Rattle.node_laws.specs.NodeFound.{Finds, AreLawful}
+use Rattle.node_laws.specs.NodeStands.{is_own_fact}
+use Rattle.node_laws.specs.NodeTurns.{MayTake}
+use Rattle.node_laws.specs.Traces.{recorded, RecordedStays, TurnGoesOn, TurnIsGuarded}
 use Rattle.play_laws.specs.Sound.{Sound, AreNumbered, AreQueued}
 use Rattle.play_laws.proofs.Queued.{all_queued_on}
 use Rattle.play_laws.proofs.Same.{IsSameTrace, input_same, cluster_same}
 use Rattle.play_laws.proofs.Tells.{turn_still}
 use Rattle.play_laws.proofs.Turned.{AreWell, WentOn, went_input}
+use Rattle.node_laws.proofs.NodeParts.{who_stays}
 
 -- what is known of nodes by themselves, and of all together
 pub record Laws : Type 0 where
@@ -47,6 +55,14 @@ pub record Laws : Type 0 where
   pub hears : ClusterHears
   pub gains : ClusterGains
   pub begins : ClusterBegins
+  pub upgrades : ClusterUpgrades
+  pub safes : ClusterIsSafe
+  pub opening_gives : OpeningGivesLists
+  pub opening_quiet : OpeningIsQuiet
+  pub opens : EraOpens
+  pub reshaped_lawful : ReshapedIsLawful
+  pub reshaped_keeps : ReshapedKeepsJournals
+  pub there : ShardsAreThere
 
 -- Who is live.
 
@@ -88,6 +104,20 @@ numbered_on who ups t fs own given n e x h = by (all_live who x e fs (live_at e 
     by (inl before) = n e x before
     by (inr same) = subst (λ (y : Incarnation). y.number ≤ slice_index_or ups (y.node - 1) 0) (sym same) given
 
+-- a node's own facts leave the version
+pub version_own : (who : Incarnation) (t fs : List Fact) → list_all (is_own_fact who) fs ≡ true → version_in (t ++ fs) ≡ version_in t
+version_own who t fs own = fold-append upgrade_step 1 t fs ∙ all (version_in t) fs own
+  where
+    one : (v : ℕ) (f : Fact) → is_own_fact who f ≡ true → upgrade_step v f ≡ v
+    one v (fact.Upgrade w) h = absurd (true≢false (sym h))
+    one v f h = refl
+
+    all : (v : ℕ) (fs : List Fact) → list_all (is_own_fact who) fs ≡ true → fold upgrade_step v fs ≡ v
+    all v [] h = refl
+    all v (f ∷ fs) h =
+        let m : (is_own_fact who f ≡ true) × (list_all (is_own_fact who) fs ≡ true) = and_both (is_own_fact who f) (list_all (is_own_fact who) fs) h in
+        ap (λ x. fold upgrade_step x fs) (one v f m.0) ∙ all v fs m.1
+
 -- What nodes carry.
 
 pub carries_on : (c : Script) (lists : SlotLists) (fs : List Fact) (st : Node) → Carries lists st → Carries (fold (lists_step (setting c)) lists fs) st
@@ -110,10 +140,6 @@ lawful_lists c trace g =
     let o : Owns c (lists_of (setting c) trace) = guarded_is_own c trace g in
     record { coordinator = o.coordinator; shards = λ s k. o.shard s; queues = λ p k. o.queue p (producer_above c p k) }
 
-who_stays : (st : Node) (acts : List Act) → (fold after st acts).who ≡ st.who
-who_stays st [] = refl
-who_stays st (a ∷ acts) = who_stays (after st a) acts
-
 -- A turn.
 
 abbrev Turned : Script → List Fact → World → Node → List Act → Type 0
@@ -124,6 +150,8 @@ turned : Laws → (c : Script) (trace : List Fact) (w : World) (k : ℕ) (st : N
 turned laws c trace w k st i here may brought s = record {
   script_is = s.script_is;
   set_is = went.set_is ∙ s.set_is;
+  behaviour_is = went.version_is ∙ (s.behaviour_is ∙ sym (same.version_are ∙ version_own st.who trace pure go.own_are));
+  admitted = ap (is_version c) went.version_is ∙ s.admitted;
   sends_are = went.sends_are ∙ s.sends_are;
   nodes_there = length-set v.nodes (now.who.node - 1) (Some now) ∙ (ap length went.nodes_are ∙ s.nodes_there);
   ups_there = ap length went.ups_are ∙ s.ups_there;
@@ -145,7 +173,7 @@ turned laws c trace w k st i here may brought s = record {
   carries = λ j y e. subst (λ l. Carries l y) (sym went.lists_are) (placed_all (λ j y. Carries (lists_of (setting c) (trace ++ pure)) y) j y (ap (λ l. at l j) (sym nodes_is) ∙ e)
       (subst (λ l. Carries l now) (hand_lists c me.hand pure ∙ (ap (λ l. fold (lists_step (setting c)) l pure) me.has.of_trace.lists_are ∙ lists_on c trace pure)) on.carries)
       (λ f. subst (λ l. Carries l y) (lists_on c trace pure) (carries_on c (lists_of (setting c) trace) pure y (subst (λ l. Carries l y) s.lists_are (s.carries j y f)))));
-  wire_is = subst (λ l. AreWell c l v.wire) (sym went.lists_are) went.wire_is;
+  wire_is = subst (λ n. AreWell c v.lists n v.wire) (sym went.past_is) (subst (λ l. AreWell c l w.past v.wire) (sym went.lists_are) went.wire_is);
 }
   where
     lists : SlotLists
@@ -195,10 +223,10 @@ turned laws c trace w k st i here may brought s = record {
     went : WentOn c w (lists_of (setting c) (trace ++ pure)) v
     went = went_input c st.who (items_of acts) trace me.hand w me.has.of_trace.lists_are s.set_is s.lists_are next.guarded_are go.posts_are
         (turn_still (all_sends c) lists i st) on.carried_are
-        (subst (AreQueued c) s.lists_are s.queued_are) (subst (λ l. AreWell c l w.wire) s.lists_are s.wire_is)
+        (subst (AreQueued c) s.lists_are s.queued_are) (subst (λ l. AreWell c l w.past w.wire) s.lists_are s.wire_is)
 
     same : IsSameTrace c (trace ++ fs) (trace ++ pure)
-    same = input_same c w (items_of acts) trace trace (record { guarded_are = refl; lists_are = refl; live_are = λ e. refl })
+    same = input_same c w (items_of acts) trace trace (all_own_open st.who pure go.own_are) (record { guarded_are = refl; lists_are = refl; live_are = λ e. refl; version_are = refl })
 
     stays : now.who ≡ st.who
     stays = who_stays st acts

@@ -1,3 +1,4 @@
+pub mod Lines
 pub mod Handled
 pub mod Orders
 pub mod Queued
@@ -5,3 +6,4 @@ pub mod Same
 pub mod Steps
 pub mod Tells
 pub mod Turned
+pub mod Within

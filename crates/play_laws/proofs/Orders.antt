@@ -1,10 +1,10 @@
 -- Inputs, deliveries, orders and scripts: each leads from a sound world to a sound one.
-use Rattle.std.proofs.Common.{◌≡◌, ◌≤◌, ℕ, zero, suc, ◌+◌, ◌-◌, List, [], ◌∷◌, ◌++◌, length, map, sym, ap, subst, ◌∙◌, refl, true, false, true≢false, arith}
-use Rattle.std.specs.Prelude.{Bool, ◌==◌, ◌&&◌, ◌||◌, nat_le, nat_lt, filter, fold, take, Option, Some, None, is_none, slice_set, if◌then◌else◌}
+use Rattle.play_laws.specs.Played.{is_named}
+use Rattle.std.proofs.Common.{◌≡◌, ◌≤◌, ℕ, zero, suc, ◌+◌, ◌-◌, List, [], ◌∷◌, ◌++◌, length, map, sym, ap, subst, ◌∙◌, refl, true, false, true≢false, arith, ◌<◌}
+use Rattle.std.specs.Prelude.{Bool, ◌==◌, ◌&&◌, ◌||◌, nat_le, nat_lt, filter, fold, Option, Some, None, is_none, slice_set, if◌then◌else◌}
 use Rattle.std.specs.List.{list_all, list_any, slice_get}
 use Rattle.std.specs.Option.{option_map_or}
 use Rattle.std.proofs.lemmas.Bool.Decides.{nat_tests}
-use Rattle.std.proofs.lemmas.List.{length-replicate}
 use Rattle.yard_model.specs.declared.fact.Fact.{Fact}
 use Rattle.yard_model.specs.declared.fact.Fact.TheVariants as fact
 use Rattle.yard_model.specs.declared.input.Input.{Input}
@@ -20,28 +20,25 @@ use Rattle.yard_model.specs.declared.incarnation.Incarnation.{Incarnation}
 use Rattle.yard_model.specs.Behaviour.{is_in, is_of_kind}
 use Rattle.yard_model.specs.Genuine.{is_node, is_producer, is_brought, is_genuine_body}
 use Rattle.yard_model.specs.Node.{Node, crash}
-use Rattle.yard_model.specs.Safe.{guarded}
-use Rattle.yard_model.specs.Script.{Script, IsScript, setting, is_name, brought, with_brought, with_name_of, names_in, is_order}
+use Rattle.yard_model.specs.Script.{Script, IsScript, setting, is_name, brought, with_brought, with_name_of, is_order}
 use Rattle.yard_model.specs.Setting.{shard_of, producers}
 use Rattle.yard_model.specs.SlotLists.{SlotLists, shard_list, queue_list}
 use Rattle.yard_model.specs.SlotReads.{holder, journal, position, queued, queued_in_all}
 use Rattle.yard_model.specs.Words.{numbers, is_among, is_empty, at}
 use Rattle.yard_model.specs.World as world
-use Rattle.yard_model.specs.World.{World, Made, Step, world_after, nodes_step, tell, then_step, in_order, handle, give_or, give, node_at, node_of, queue_holder, is_of_node, ordered_of, is_active_at, active_node, with_order, new_world, play_line, played, settle_bound, is_left}
-use Rattle.yard_laws.specs.Guarded.{GuardedIsSafe}
-use Rattle.yard_laws.proofs.Booleans.{and_both, both, at_most, get_replicate}
+use Rattle.yard_model.specs.World.{World, Made, Step, world_after, tell, then_step, in_order, give_or, give, node_at, node_of, queue_holder, is_of_node, ordered_of, is_active_at, active_node, settle_bound, is_left}
+use Rattle.plain_laws.proofs.Booleans.{and_both, both, at_most, below}
+use Rattle.plain_laws.proofs.Lists.{none_is_not_some}
 use Rattle.yard_laws.proofs.Owns.{producer_above}
-use Rattle.world_laws.specs.Standing.{is_different_body}
-use Rattle.world_laws.proofs.Place.{none_is_not_some}
+use Rattle.node_laws.specs.Members.{is_different_body}
 use Rattle.actor_laws.proofs.MessageLaws.{insert_stays, insert_there}
-use Rattle.actor_laws.specs.Carried.{is_carried_body, IsBrought}
-use Rattle.actor_laws.specs.Cluster.{IsMember}
-use Rattle.actor_laws.specs.NodeTurns.{MayConfirm, Promised, MayTake}
-use Rattle.actor_laws.specs.Traces.{recorded}
+use Rattle.node_laws.specs.Carried.{is_carried_body, IsBrought}
+use Rattle.node_laws.specs.Cluster.{IsMember}
+use Rattle.node_laws.specs.NodeTurns.{MayConfirm, Promised, MayTake}
+use Rattle.node_laws.specs.Traces.{recorded}
 use Rattle.play_laws.specs.Sound.{Sound, IsWell}
-use Rattle.play_laws.specs.Played.{PlayedIsSound, PlayedIsSafe}
 use Rattle.play_laws.proofs.Handled.{Laws, handle_goes}
-use Rattle.play_laws.proofs.Steps.{Leads, none_leads, then_leads, if_leads, heard, nothing_leads, ordered_sound, come_up_leads, go_down_leads, up_order_leads, crash_order_leads, is_freed, AreFreed, freed_still, crash_frees}
+use Rattle.play_laws.proofs.Steps.{Leads, none_leads, then_leads, if_leads, heard, nothing_leads, come_up_leads, go_down_leads, up_order_leads, crash_order_leads, is_freed, AreFreed, freed_still, crash_frees}
 use Rattle.play_laws.proofs.Turned.{nodes_still}
 
 -- A node that is up stands at some place.
@@ -113,18 +110,20 @@ well_may c w p well trace s st k here =
     let m : ((is_node c p.from && is_node c p.to) ≡ true) × (is_genuine_body c p.body ≡ true) = and_both (is_node c p.from && is_node c p.to) (is_genuine_body c p.body) well.genuine in
     record { from_is = (and_both (is_node c p.from) (is_node c p.to) m.0).0; genuine = m.1; promised = promised c trace w k st p.body s here m.1 well.different well.carried }
 
-over_leads : Laws → (c : Script) (w : World) (p : Packet) → IsWell c w.lists p → Leads c w (world.hand_over p w)
-over_leads laws c w p well = if_leads c w (is_among p.to w.members) (give (input.Packet p) (node_at w p.to.node) w) (tell [] w)
-    (λ e. give_leads laws c w (input.Packet p) (node_at w p.to.node) (at_place w p.to.node) (well_may c w p well) well.carried) (λ e. none_leads c w)
+over_leads : Laws → (c : Script) (w : World) (k : ℕ) (p : Packet) → (w.past < k → IsWell c w.lists p) → Leads c w (world.hand_over k p w)
+over_leads laws c w k p well = if_leads c w (nat_lt w.past k && is_among p.to w.members) (give (input.Packet p) (node_at w p.to.node) w) (tell [] w)
+    (λ e. let one : IsWell c w.lists p = well (below w.past k (and_both (nat_lt w.past k) (is_among p.to w.members) e).0) in give_leads laws c w (input.Packet p) (node_at w p.to.node) (at_place w p.to.node) (well_may c w p one) one.carried) (λ e. none_leads c w)
 
 deliver_by_leads : Laws → (c : Script) (w : World) (i : ℕ) (o : Option Packet) → slice_get w.wire i ≡ o → Leads c w (world.deliver_by (suc i) o w)
 deliver_by_leads laws c w i None e = nothing_leads laws c w
 deliver_by_leads laws c w i (Some p) e = λ trace s.
     let got : Fact = fact.Got (suc i) in
     let v : World = world_after w got in
-    let well : IsWell c w.lists p = s.wire_is i p e in
-    then_leads c w (tell (got ∷ []) w) (world.hand_over p) (heard laws c w got refl refl)
-    (λ f. over_leads laws c v p (record { genuine = well.genuine; different = well.different; carried = well.carried })) trace s
+    then_leads c w (tell (got ∷ []) w) (world.hand_over (suc i) p) (heard laws c w got refl refl)
+    (λ f. over_leads laws c v (suc i) p (λ past. let well : IsWell c w.lists p = s.wire_is i p (before w.past i past) e in record { genuine = well.genuine; different = well.different; carried = well.carried })) trace s
+  where
+    before : (a b : ℕ) → a < suc b → a ≤ b
+    before a b h = omega (arith, h)
 
 pub deliver_leads : Laws → (c : Script) (w : World) (i : ℕ) → Leads c w (world.deliver i w)
 deliver_leads laws c w zero = nothing_leads laws c w
@@ -208,7 +207,7 @@ pub nodes_freed : (fs : List Fact) (w : World) → AreFreed fs → (fold world_a
 nodes_freed [] w h = refl
 nodes_freed (f ∷ fs) w h =
     let m : (is_freed f ≡ true) × AreFreed fs = and_both (is_freed f) (list_all is_freed fs) h in
-    nodes_freed fs (world_after w f) m.1 ∙ nodes_still w.set w.nodes f (freed_still f m.0)
+    nodes_freed fs (world_after w f) m.1 ∙ nodes_still w.set w.behaviour w.nodes f (freed_still f m.0)
 
 pub down_stays : (n j : ℕ) (w : World) → at w.nodes j ≡ None → at (world.go_down n w).world.nodes j ≡ None
 down_stays n j w e = by (node_at w n)
@@ -296,6 +295,11 @@ first_node c script = (and_both (nat_le 1 c.config.nodes) (nat_le c.config.nodes
     nodes : is_in 1 16 k.nodes ≡ true
     nodes = (and_both (is_in 1 16 k.nodes) (is_in 1 128 k.shards) (and_both (is_in 1 16 k.nodes && is_in 1 128 k.shards) (is_in 1 32 k.producers) (and_both (is_in 1 16 k.nodes && is_in 1 128 k.shards && is_in 1 32 k.producers) (is_in 1 1000 k.buffer) two).0).0).0
 
+pub end_leads : Laws → (c : Script) (from : ℕ) (w : World) → Leads c w (world.settle_end from w)
+end_leads laws c from w =
+    let qs : List Step = world.go_down 1 ∷ tell (fact.Settled ∷ []) ∷ [] in
+    if_leads c w (world.is_unsettled from w) (tell [] w) (in_order qs w) (λ e. none_leads c w) (λ e. all_lead c qs w ((λ v. go_down_leads laws c v 1), ((λ v. heard laws c v fact.Settled refl refl), tt)))
+
 settle_leads : Laws → (c : Script) (w : World) → Leads c w (world.settle w)
 settle_leads laws c w trace s =
     then_leads c w m (in_order (world.come_up 1 ∷ rest)) (all_lead c (map world.go_down (numbers 1 w.set.config.nodes)) w (downs_lead laws c (numbers 1 w.set.config.nodes)))
@@ -304,7 +308,7 @@ settle_leads laws c w trace s =
       drain_leads laws c from bound,
       (
         (λ v. all_lead c (map (λ p. world.produce p 1) (producers w.set)) v (produces_lead laws c 1 (producers w.set) (ap (λ x. list_all (is_producer c) (producers x)) s.set_is ∙ producers_are c))),
-        (drain_leads laws c from bound, (ticks_lead laws c from bound bound, ((λ v. go_down_leads laws c v 1), ((λ v. heard laws c v fact.Settled refl refl), tt)))),
+        (drain_leads laws c from bound, (ticks_lead laws c from bound bound, (end_leads laws c from, tt))),
       ),
     ))) trace s
   where
@@ -318,7 +322,7 @@ settle_leads laws c w trace s =
     m = in_order (map world.go_down (numbers 1 w.set.config.nodes)) w
 
     rest : List Step
-    rest = world.drain from bound ∷ in_order (map (λ p. world.produce p 1) (producers w.set)) ∷ world.drain from bound ∷ world.tick_while_left from bound bound ∷ world.go_down 1 ∷ tell (fact.Settled ∷ []) ∷ []
+    rest = world.drain from bound ∷ in_order (map (λ p. world.produce p 1) (producers w.set)) ∷ world.drain from bound ∷ world.tick_while_left from bound bound ∷ world.settle_end from ∷ []
 
     empty : at m.world.nodes 0 ≡ None
     empty = downs_empty w.set.config.nodes w (subst (λ (x : _). 1 ≤ x.config.nodes) (sym s.set_is) (at_most 1 c.config.nodes (and_both (nat_le 1 1) (nat_le 1 c.config.nodes) (first_node c s.script_is)).1))
@@ -326,39 +330,31 @@ settle_leads laws c w trace s =
 
 -- Orders.
 
--- the name that an order brings is the script's
-abbrev pub is_named : Script → Order → Bool
-is_named c o = option_map_or (is_brought c) (brought o) true
+-- an order that leaves the number of shards and the version
+abbrev pub is_steady : Order → Bool
+is_steady (order.Reshard n) = false
+is_steady order.Upgrade = false
+is_steady o = true
 
-play_leads : Laws → (c : Script) (o : Order) (w : World) → is_order c.config o ≡ true → is_named c o ≡ true → Leads c w (world.play o w)
-play_leads laws c (order.Up n) w fits named = up_order_leads laws c w n fits
-play_leads laws c (order.Crash n) w fits named = crash_order_leads laws c w n
-play_leads laws c (order.Leave n) w fits named = give_or_leads laws c w input.Leave (node_at w n) world.nothing (at_place w n) (λ trace s st k e. tt) tt (nothing_leads laws c w)
-play_leads laws c (order.Tick n) w fits named = give_or_leads laws c w input.Tick (node_at w n) world.nothing (at_place w n) (λ trace s st k e. tt) tt (nothing_leads laws c w)
-play_leads laws c (order.Produce p n) w fits named = produce_leads laws c p n w (and_both (is_producer c p) (is_in 1 c.config.nodes n) fits).0
-play_leads laws c (order.Rest p) w fits named = give_or_leads laws c w (input.Rest p) (node_of w (queue_holder w p)) world.nothing (of_placed w (queue_holder w p)) (λ trace s st k e. fits) tt (nothing_leads laws c w)
-play_leads laws c (order.Send p e k) w fits named =
+pub play_leads : Laws → (c : Script) (o : Order) (w : World) → is_steady o ≡ true → is_order c.config o ≡ true → is_named c o ≡ true → Leads c w (world.play o w)
+play_leads laws c (order.Up n) w steady fits named = up_order_leads laws c w n fits
+play_leads laws c (order.Crash n) w steady fits named = crash_order_leads laws c w n
+play_leads laws c (order.Leave n) w steady fits named = give_or_leads laws c w input.Leave (node_at w n) world.nothing (at_place w n) (λ trace s st k e. tt) tt (nothing_leads laws c w)
+play_leads laws c (order.Tick n) w steady fits named = give_or_leads laws c w input.Tick (node_at w n) world.nothing (at_place w n) (λ trace s st k e. tt) tt (nothing_leads laws c w)
+play_leads laws c (order.Produce p n) w steady fits named = produce_leads laws c p n w (and_both (is_producer c p) (is_in 1 c.config.nodes n) fits).0
+play_leads laws c (order.Rest p) w steady fits named = give_or_leads laws c w (input.Rest p) (node_of w (queue_holder w p)) world.nothing (of_placed w (queue_holder w p)) (λ trace s st k e. fits) tt (nothing_leads laws c w)
+play_leads laws c (order.Send p e k) w steady fits named =
     give_or_leads laws c w (input.Send p) (node_of w (queue_holder w p)) (tell (fact.Waits p e k ∷ [])) (of_placed w (queue_holder w p)) (λ trace s st j f. (and_both (is_producer c p) (is_of_kind c.config.kind k) fits).0) tt (heard laws c w (fact.Waits p e k) refl refl)
-play_leads laws c (order.Passivate e) w fits named = give_or_leads laws c w (input.Passivate e) (active_node e w) world.nothing (active_placed e w) (λ trace s st k f. named) tt (nothing_leads laws c w)
-play_leads laws c (order.FailWrite e k) w fits named = give_or_leads laws c w (input.FailWrite e k) (active_node e w) world.nothing (active_placed e w) (λ trace s st j f. named) tt (nothing_leads laws c w)
-play_leads laws c (order.Deliver k) w fits named = deliver_leads laws c w k
-play_leads laws c (order.Pump n) w fits named = if_leads c w (is_empty w.fresh) (world.nothing w) (world.drain 0 n w) (λ e. nothing_leads laws c w) (λ e. drain_leads laws c 0 n w)
-play_leads laws c (order.Rebalance n) w fits named =
+play_leads laws c (order.Passivate e) w steady fits named = give_or_leads laws c w (input.Passivate e) (active_node e w) world.nothing (active_placed e w) (λ trace s st k f. named) tt (nothing_leads laws c w)
+play_leads laws c (order.FailWrite e k) w steady fits named = give_or_leads laws c w (input.FailWrite e k) (active_node e w) world.nothing (active_placed e w) (λ trace s st j f. named) tt (nothing_leads laws c w)
+play_leads laws c (order.Deliver k) w steady fits named = deliver_leads laws c w k
+play_leads laws c (order.Pump n) w steady fits named = if_leads c w (is_empty w.fresh) (world.nothing w) (world.drain 0 n w) (λ e. nothing_leads laws c w) (λ e. drain_leads laws c 0 n w)
+play_leads laws c (order.Rebalance n) w steady fits named =
     give_or_leads laws c w (input.Rebalance n) (node_of w (holder w.lists.coordinator)) world.nothing (of_placed w (holder w.lists.coordinator)) (λ trace s st k e. tt) tt (nothing_leads laws c w)
-play_leads laws c order.Settle w fits named = settle_leads laws c w
-
-pub line_leads : Laws → (c : Script) (l : Line) (w : World) → is_order c.config l.order ≡ true → is_named c l.order ≡ true → Leads c w (play_line l w)
-line_leads laws c l w fits named trace s =
-    let v : World = with_order (Some l.order) w in
-    let m : Made = tell (fact.At l.number ∷ []) v in
-    then_leads c v m (world.play l.order) (heard laws c v (fact.At l.number) refl refl) (λ e. play_leads laws c l.order m.world fits named) trace (ordered_sound c trace (Some l.order) w s)
-
-lines_lead : Laws → (c : Script) (ls : List Line) (w : World) → list_all (λ (l : Line). is_order c.config l.order) ls ≡ true → list_all (λ (l : Line). is_named c l.order) ls ≡ true → Leads c w (in_order (map play_line ls) w)
-lines_lead laws c [] w fits named = none_leads c w
-lines_lead laws c (l ∷ ls) w fits named =
-    let f : (is_order c.config l.order ≡ true) × (list_all (λ (l : Line). is_order c.config l.order) ls ≡ true) = and_both (is_order c.config l.order) (list_all (λ (l : Line). is_order c.config l.order) ls) fits in
-    let n : (is_named c l.order ≡ true) × (list_all (λ (l : Line). is_named c l.order) ls ≡ true) = and_both (is_named c l.order) (list_all (λ (l : Line). is_named c l.order) ls) named in
-    then_leads c w (play_line l w) (in_order (map play_line ls)) (line_leads laws c l w f.0 n.0) (λ e. lines_lead laws c ls (play_line l w).world f.1 n.1)
+play_leads laws c order.Settle w steady fits named = settle_leads laws c w
+play_leads laws c (order.Reshard n) w steady fits named = absurd (true≢false (sym steady))
+play_leads laws c order.Upgrade w steady fits named = absurd (true≢false (sym steady))
+play_leads laws c (order.Ping p) w steady fits named = nothing_leads laws c w
 
 -- Scripts.
 
@@ -378,54 +374,3 @@ names_are all (l ∷ ls) names h = both (option_map_or (λ e. list_any (is_name 
     by : (o : Option (List ℕ)) → brought l.order ≡ o → option_map_or (λ e. list_any (is_name e) all) o true ≡ true
     by None e = refl
     by (Some x) e = subst (λ a. list_any (is_name x) a ≡ true) h (named_stays x ls (with_name_of names l) (subst (λ o. list_any (is_name x) (with_brought names o) ≡ true) (sym e) (insert_there x names)))
-
-pub all_take : {A : Type 0} (p : A → Bool) (n : ℕ) (xs : List A) → list_all p xs ≡ true → list_all p (take n xs) ≡ true
-all_take p zero xs e = refl
-all_take p (suc n) [] e = refl
-all_take p (suc n) (x ∷ xs) e =
-    let m : (p x ≡ true) × (list_all p xs ≡ true) = and_both (p x) (list_all p xs) e in
-    both (p x) (list_all p (take n xs)) m.0 (all_take p n xs m.1)
-
-pub begins_sound : Laws → (c : Script) (limit : ℕ) → IsScript c → Sound c [] (new_world c limit)
-begins_sound laws c limit script = record {
-  script_is = script;
-  set_is = refl;
-  sends_are = refl;
-  nodes_there = length-replicate c.config.nodes None;
-  ups_there = length-replicate c.config.nodes 0;
-  lists_are = refl;
-  cluster = laws.begins c c.config.nodes;
-  members_are = λ x m. absurd (true≢false (sym m));
-  members_different = refl;
-  are_members = λ k st e. absurd (none_is_not_some st (sym (get_replicate c.config.nodes k None) ∙ e));
-  given_are = λ k st e. absurd (none_is_not_some st (sym (get_replicate c.config.nodes k None) ∙ e));
-  numbered_are = λ e x m. absurd (true≢false (sym m));
-  queued_are = λ p e. subst (λ l. position p (journal e l) ≤ queued e (queue_list (new_world c limit).lists p)) (sym (get_replicate c.config.shards (shard_of (setting c) e) [])) (least (queued e (queue_list (new_world c limit).lists p)));
-  carries = λ k st e. absurd (none_is_not_some st (sym (get_replicate c.config.nodes k None) ∙ e));
-  wire_is = λ j p e. absurd (none_is_not_some p (sym (none_got j) ∙ e));
-}
-  where
-    least : (n : ℕ) → 0 ≤ n
-    least n = omega (arith)
-
-    no_packets : List Packet
-    no_packets = []
-
-    none_got : (j : ℕ) → slice_get no_packets j ≡ None
-    none_got zero = refl
-    none_got (suc j) = refl
-
-pub played_is_sound : Laws → PlayedIsSound
-played_is_sound laws c limit n script =
-    lines_lead laws c (take n c.orders) (new_world c limit) (all_take (λ (l : Line). is_order c.config l.order) n c.orders script.orders)
-    (all_take (λ (l : Line). is_named c l.order) n c.orders (names_are (names_in c.orders) c.orders [] refl)) [] (begins_sound laws c limit script)
-
--- all orders
-take_all : {A : Type 0} (xs : List A) → take (length xs) xs ≡ xs
-take_all [] = refl
-take_all (x ∷ xs) = ap (λ l. x ∷ l) (take_all xs)
-
-pub played_is_safe : GuardedIsSafe → PlayedIsSound → PlayedIsSafe
-played_is_safe safes sound c limit script =
-    let s : Sound c (in_order (map play_line (take (length c.orders) c.orders)) (new_world c limit)).facts (in_order (map play_line (take (length c.orders) c.orders)) (new_world c limit)).world = sound c limit (length c.orders) script in
-    safes c (played c limit).facts (subst (λ ls. guarded c (in_order (map play_line ls) (new_world c limit)).facts ≡ true) (take_all c.orders) s.cluster.guarded_are)

@@ -13,17 +13,17 @@ use Rattle.yard_model.specs.declared.incarnation.Slot.{Slot}
 use Rattle.yard_model.specs.declared.incarnation.Slot.TheVariants as slot
 use Rattle.yard_model.specs.Genuine.{is_slot_of, is_producer, is_planned}
 use Rattle.yard_model.specs.Lawful.{may_follow, is_leased, is_entry, is_of_shard, is_folded_after, is_merged_after}
-use Rattle.yard_model.specs.Safe.{own_guard, cross_guard, guard}
+use Rattle.yard_model.specs.Guards.{own_guard, cross_guard, guard}
 use Rattle.yard_model.specs.Script.{Script, Setting, setting, is_name}
 use Rattle.yard_model.specs.Setting.{shard_of}
 use Rattle.yard_model.specs.SlotLists.{SlotLists, shard_list, queue_list}
 use Rattle.yard_model.specs.SlotReads.{journal, journal_step, position, queued}
 use Rattle.yard_model.specs.Trace.{slot_of, with_entry, lists_step, lists_of}
-use Rattle.yard_laws.proofs.Booleans.{and_both, same_number, same_name}
+use Rattle.plain_laws.proofs.Booleans.{and_both, same_number, same_name}
 use Rattle.yard_laws.proofs.Owns.{lists_more}
-use Rattle.world_laws.proofs.Place.{by_place}
-use Rattle.actor_laws.proofs.CarriedLists.{queue_grows, queued_on, body_on}
-use Rattle.actor_laws.specs.Carried.{is_queued_in, is_carried_body, is_carried_fact}
+use Rattle.plain_laws.proofs.Lists.{by_place}
+use Rattle.node_laws.proofs.CarriedLists.{queue_grows, queued_on, body_on}
+use Rattle.node_laws.specs.Carried.{is_queued_in, is_carried_body, is_carried_fact}
 use Rattle.play_laws.specs.Sound.{AreQueued}
 
 -- One list more.

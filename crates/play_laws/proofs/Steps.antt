@@ -1,4 +1,5 @@
 -- Steps of the world that are no input: facts that all hear, packets that are posted, nodes that come up and go down.
+use Rattle.yard_model.specs.Era.{upgrade_step, version_in}
 use Rattle.std.proofs.Common.{◌≡◌, ◌<◌, ◌≤◌, ℕ, ◌+◌, ◌-◌, List, [], ◌∷◌, ◌++◌, length, map, sym, ap, subst, ◌∙◌, refl, true, false, true≢false, arith}
 use Rattle.std.specs.Prelude.{Bool, ◌&&◌, nat_le, nat_lt, not, fold, Option, Some, None, is_none, slice_index_or, slice_set, if◌then◌else◌}
 use Rattle.std.specs.List.{list_all, flat_map}
@@ -20,30 +21,30 @@ use Rattle.yard_model.specs.Entities.{new_cell}
 use Rattle.yard_model.specs.Genuine.{is_node}
 use Rattle.yard_model.specs.Members.{has_node, are_of_different_nodes}
 use Rattle.yard_model.specs.Node.{Node, new_node, freed_stopped, crash}
-use Rattle.yard_model.specs.Safe.{live_step, live_at, guarded}
-use Rattle.yard_model.specs.Script.{Script, setting}
+use Rattle.yard_model.specs.Safe.{live_step, live_at}
+use Rattle.yard_model.specs.Guards.{guarded}
+use Rattle.yard_model.specs.Script.{Script, setting, is_version}
 use Rattle.yard_model.specs.Setting.{shards, producers, place}
 use Rattle.yard_model.specs.SlotLists.{SlotLists}
 use Rattle.yard_model.specs.Trace.{lists_step, lists_of}
 use Rattle.yard_model.specs.Turns.{where_some}
 use Rattle.yard_model.specs.Words.{is_same, is_among, without, at}
 use Rattle.yard_model.specs.World as world
-use Rattle.yard_model.specs.World.{World, Made, Step, world_after, tell, then_step, in_order, numbered, count_posts, input_facts, node_at, with_order}
-use Rattle.yard_laws.proofs.Booleans.{and_both, both, at_most, get_replicate, all_map}
-use Rattle.yard_laws.proofs.FreeLaws.{free_leaves_lists, free_leaves_live}
+use Rattle.yard_model.specs.World.{World, Made, Step, world_after, tell, then_step, numbered, count_posts, node_at, with_order}
+use Rattle.plain_laws.proofs.Booleans.{and_both, both, at_most, get_replicate, all_map}
+use Rattle.plain_laws.proofs.Members.{same_is, all_among, among_front, last_among, by_last, different_last, node_of_some, among_kept, gone_from, different_filter, among_fewer}
+use Rattle.plain_laws.proofs.Lists.{none_is_not_some, some_is, inside, placed_at, placed_beside, by_place, none_of}
+use Rattle.yard_laws.proofs.FreeLaws.{free_leaves_lists, free_leaves_live, free_leaves_version}
 use Rattle.yard_laws.proofs.Owns.{lists_more}
-use Rattle.yard_laws.proofs.LocalLaws.{among_fewer}
 use Rattle.yard_laws.specs.Free.{is_free}
-use Rattle.world_laws.specs.Owes.{Hand, facts_in, hand_after, is_own_post}
-use Rattle.world_laws.specs.Standing.{IsThere}
-use Rattle.world_laws.proofs.Members.{same_is, all_among, among_front, last_among, by_last, different_last, node_of_some, among_kept, gone_from, different_filter}
-use Rattle.world_laws.proofs.Place.{none_is_not_some, some_is, inside, placed_at, placed_beside, by_place}
-use Rattle.actor_laws.specs.Carried.{is_queued_in, Carries, is_carried_fact, carried_in_hand}
-use Rattle.actor_laws.specs.Cluster.{IsMember, IsCluster}
-use Rattle.actor_laws.specs.NodeStands.{is_own_fact}
+use Rattle.actor_laws.specs.Owes.{Hand, facts_in, hand_after, is_own_post}
+use Rattle.node_laws.specs.Members.{IsThere}
+use Rattle.node_laws.specs.Carried.{is_queued_in, Carries, is_carried_fact, carried_in_hand}
+use Rattle.node_laws.specs.Cluster.{IsMember, IsCluster}
+use Rattle.node_laws.specs.NodeStands.{is_own_fact}
 use Rattle.play_laws.specs.Sound.{Sound, IsWell, AreNumbered, AreQueued}
-use Rattle.play_laws.proofs.Handled.{Laws, numbered_on, carries_on, lists_on}
-use Rattle.play_laws.proofs.Turned.{is_still, members_still, ups_still, nodes_still, wire_still, AreWell, well_more, WentOn, went_items}
+use Rattle.play_laws.proofs.Handled.{Laws, numbered_on, carries_on, lists_on, version_own}
+use Rattle.play_laws.proofs.Turned.{is_still, members_still, ups_still, nodes_still, wire_still, AreWell, well_more, WentOn, went_items, set_still, version_still, past_still, lists_still}
 
 -- what is made leads from a sound world to a sound one, and its facts go on with the trace
 abbrev pub Leads : Script → World → Made → Type 0
@@ -75,18 +76,20 @@ tell_both c w fs gs f g trace s =
 
 -- Facts that all hear.
 
-lists_after : (c : Script) (trace : List Fact) (w : World) (f : Fact) → Sound c trace w → lists_step w.set w.lists f ≡ lists_of (setting c) (trace ++ f ∷ [])
-lists_after c trace w f s = ap (λ x. lists_step x w.lists f) s.set_is ∙ (ap (λ l. lists_step (setting c) l f) s.lists_are ∙ sym (lists_more c trace f))
+pub lists_next : (c : Script) (trace : List Fact) (w : World) (f : Fact) → Sound c trace w → lists_step w.set w.lists f ≡ lists_of (setting c) (trace ++ f ∷ [])
+lists_next c trace w f s = ap (λ x. lists_step x w.lists f) s.set_is ∙ (ap (λ l. lists_step (setting c) l f) s.lists_are ∙ sym (lists_more c trace f))
 
 -- a fact of no slot, that tells nothing of nodes and packets
 pub heard : Laws → (c : Script) (w : World) (f : Fact) → is_free f ≡ true → is_still f ≡ true → Leads c w (tell (f ∷ []) w)
 heard laws c w f free still trace s = record {
   script_is = s.script_is;
-  set_is = s.set_is;
+  set_is = set_still w.set f still ∙ s.set_is;
+  behaviour_is = version_still w.behaviour f still ∙ (s.behaviour_is ∙ sym (free_leaves_version trace f free));
+  admitted = ap (is_version c) (version_still w.behaviour f still) ∙ s.admitted;
   sends_are = s.sends_are;
   nodes_there = ap length nodes ∙ s.nodes_there;
   ups_there = ap length ups ∙ s.ups_there;
-  lists_are = lists_after c trace w f s;
+  lists_are = lists_still w.set w.lists f still ∙ lists_next c trace w f s;
   cluster = subst (IsCluster c (trace ++ f ∷ [])) (sym nodes) (laws.hears c trace w.nodes (f ∷ []) (both (is_free f) true free refl) s.cluster);
   members_are = λ x m.
       let t : IsThere w x = s.members_are x (ap (is_among x) (sym members) ∙ m) in
@@ -97,11 +100,12 @@ heard laws c w f free still trace s = record {
   numbered_are = λ e x m. subst (λ l. x.number ≤ slice_index_or l (x.node - 1) 0) (sym ups) (s.numbered_are e x (ap (is_among x) (sym (free_leaves_live e trace f free)) ∙ m));
   queued_are = subst (AreQueued c) (sym lists) s.queued_are;
   carries = λ k st e. subst (λ l. Carries l st) (sym lists) (s.carries k st (ap (λ l. at l k) (sym nodes) ∙ e));
-  wire_is = subst (λ l. AreWell c l (world_after w f).wire) (sym lists) (subst (AreWell c w.lists) (sym (wire_still w.wire f still)) s.wire_is);
+  wire_is = subst (λ n. AreWell c (world_after w f).lists n (world_after w f).wire) (sym (past_still w.wire w.past f still))
+      (subst (λ l. AreWell c l w.past (world_after w f).wire) (sym lists) (subst (AreWell c w.lists w.past) (sym (wire_still w.wire f still)) s.wire_is));
 }
   where
     nodes : (world_after w f).nodes ≡ w.nodes
-    nodes = nodes_still w.set w.nodes f still
+    nodes = nodes_still w.set w.behaviour w.nodes f still
 
     ups : (world_after w f).ups ≡ w.ups
     ups = ups_still w.ups f still
@@ -110,7 +114,7 @@ heard laws c w f free still trace s = record {
     members = members_still w.members f still
 
     lists : (world_after w f).lists ≡ w.lists
-    lists = lists_after c trace w f s ∙ (free_leaves_lists c trace f free ∙ sym s.lists_are)
+    lists = lists_still w.set w.lists f still ∙ lists_next c trace w f s ∙ (free_leaves_lists c trace f free ∙ sym s.lists_are)
 
 pub nothing_leads : Laws → (c : Script) (w : World) → Leads c w (world.nothing w)
 nothing_leads laws c w = heard laws c w fact.Nothing refl refl
@@ -120,6 +124,8 @@ pub ordered_sound : (c : Script) (trace : List Fact) (o : Option Order) (w : Wor
 ordered_sound c trace (Some (order.Send p e k)) w s = record {
   script_is = s.script_is;
   set_is = s.set_is;
+  behaviour_is = s.behaviour_is;
+  admitted = s.admitted;
   sends_are = s.sends_are;
   nodes_there = s.nodes_there;
   ups_there = s.ups_there;
@@ -144,10 +150,12 @@ sent : Laws → (c : Script) (w : World) (n : ℕ) (p : Packet) → ((trace : Li
 sent laws c w n p well trace s = record {
   script_is = s.script_is;
   set_is = s.set_is;
+  behaviour_is = s.behaviour_is ∙ sym (free_leaves_version trace (fact.Sent n p) refl);
+  admitted = s.admitted;
   sends_are = s.sends_are;
   nodes_there = s.nodes_there;
   ups_there = s.ups_there;
-  lists_are = lists_after c trace w (fact.Sent n p) s;
+  lists_are = lists_next c trace w (fact.Sent n p) s;
   cluster = laws.hears c trace w.nodes (fact.Sent n p ∷ []) refl s.cluster;
   members_are = λ x m. let t : IsThere w x = s.members_are x m in record { node = t.node; is_up = t.is_up; who_is = t.who_is };
   members_different = s.members_different;
@@ -156,7 +164,7 @@ sent laws c w n p well trace s = record {
   numbered_are = λ e x m. s.numbered_are e x (ap (is_among x) (sym (free_leaves_live e trace (fact.Sent n p) refl)) ∙ m);
   queued_are = s.queued_are;
   carries = s.carries;
-  wire_is = well_more c w.lists w.wire p (well trace s) s.wire_is;
+  wire_is = well_more c w.lists w.past w.wire p (well trace s) s.wire_is;
 }
 
 abbrev view_to : ℕ → List Incarnation → Incarnation → Packet
@@ -220,8 +228,8 @@ raised ups i j n m less up h = by_place (m ≤ slice_index_or (slice_set ups i n
     most : (a b d : ℕ) → a ≤ b → b ≤ d → a ≤ d
     most a b d e f = omega (arith, e, f)
 
-new_carries : (c : Script) (lists : SlotLists) (x : Incarnation) → Carries lists (new_node (setting c) x)
-new_carries c lists x = record {
+new_carries : (c : Script) (lists : SlotLists) (version : ℕ) (x : Incarnation) → Carries lists (new_node (setting c) version x)
+new_carries c lists version x = record {
   kept = λ s. ap (list_all (is_queued_in lists)) (get_replicate c.config.shards s []);
   stashed = λ e. ap (λ (l : entities.Cell). list_all (is_queued_in lists) l.stash) (get_replicate (length (setting c).names) (place (setting c) e) (new_cell (setting c)));
 }
@@ -230,29 +238,32 @@ pub up_leads : Laws → (c : Script) (w : World) (n : ℕ) → is_in 1 c.config.
 up_leads laws c w n node empty trace s = record {
   script_is = s.script_is;
   set_is = s.set_is;
+  behaviour_is = s.behaviour_is ∙ sym (free_leaves_version trace (fact.Up x) refl);
+  admitted = s.admitted;
   sends_are = s.sends_are;
-  nodes_there = length-set w.nodes (n - 1) (Some (new_node w.set x)) ∙ s.nodes_there;
+  nodes_there = length-set w.nodes (n - 1) (Some (new_node w.set w.behaviour x)) ∙ s.nodes_there;
   ups_there = length-set w.ups (n - 1) x.number ∙ s.ups_there;
-  lists_are = lists_after c trace w (fact.Up x) s;
-  cluster = laws.hears c trace v.nodes (fact.Up x ∷ []) refl (subst (λ y. IsCluster c trace (slice_set w.nodes (n - 1) (Some (new_node y x)))) (sym s.set_is) (laws.gains c trace w.nodes (n - 1) x node before less fresh s.cluster));
+  lists_are = lists_next c trace w (fact.Up x) s;
+  cluster = laws.hears c trace v.nodes (fact.Up x ∷ []) refl (subst (λ y. IsCluster c trace (slice_set w.nodes (n - 1) (Some (new_node y w.behaviour x)))) (sym s.set_is) (subst (λ v. IsCluster c trace (slice_set w.nodes (n - 1) (Some (new_node (setting c) v x)))) (sym s.behaviour_is)
+      (laws.gains c trace w.nodes (n - 1) x node before less empty fresh (ap (is_version c) (sym s.behaviour_is) ∙ s.admitted) s.cluster)));
   members_are = λ y m. by_last (IsThere v y) y x w.members m (λ f. stays y (s.members_are y f))
-      (λ same. record { node = new_node w.set x; is_up = ap (λ (z : Incarnation). at v.nodes (z.node - 1)) same ∙ placed_at w.nodes (n - 1) (Some (new_node w.set x)) less; who_is = sym same });
+      (λ same. record { node = new_node w.set w.behaviour x; is_up = ap (λ (z : Incarnation). at v.nodes (z.node - 1)) same ∙ placed_at w.nodes (n - 1) (Some (new_node w.set w.behaviour x)) less; who_is = sym same });
   members_different = different_last w.members x s.members_different (no_member (has_node n w.members) refl);
   are_members = λ k st e. by_place (is_among st.who (w.members ++ x ∷ []) ≡ true) k (n - 1)
       (λ same.
-      let it : new_node w.set x ≡ st = some_is (new_node w.set x) st (sym (placed_at w.nodes (n - 1) (Some (new_node w.set x)) less) ∙ (ap (at v.nodes) (sym same) ∙ e)) in
+      let it : new_node w.set w.behaviour x ≡ st = some_is (new_node w.set w.behaviour x) st (sym (placed_at w.nodes (n - 1) (Some (new_node w.set w.behaviour x)) less) ∙ (ap (at v.nodes) (sym same) ∙ e)) in
       subst (λ (y : Node). is_among y.who (w.members ++ x ∷ []) ≡ true) it (last_among x w.members))
-      (λ other. among_front st.who x w.members (s.are_members k st (sym (placed_beside w.nodes (n - 1) k (Some (new_node w.set x)) other) ∙ e)));
+      (λ other. among_front st.who x w.members (s.are_members k st (sym (placed_beside w.nodes (n - 1) k (Some (new_node w.set w.behaviour x)) other) ∙ e)));
   given_are = λ k st e. by_place (st.who.number ≤ slice_index_or v.ups (st.who.node - 1) 0) k (n - 1)
       (λ same.
-      let it : new_node w.set x ≡ st = some_is (new_node w.set x) st (sym (placed_at w.nodes (n - 1) (Some (new_node w.set x)) less) ∙ (ap (at v.nodes) (sym same) ∙ e)) in
+      let it : new_node w.set w.behaviour x ≡ st = some_is (new_node w.set w.behaviour x) st (sym (placed_at w.nodes (n - 1) (Some (new_node w.set w.behaviour x)) less) ∙ (ap (at v.nodes) (sym same) ∙ e)) in
       subst (λ (y : Node). y.who.number ≤ slice_index_or v.ups (y.who.node - 1) 0) it (subst (λ l. x.number ≤ l) (sym (get_or-set_same w.ups (n - 1) x.number 0 inside_ups)) (itself x.number)))
-      (λ other. raised w.ups (n - 1) (st.who.node - 1) x.number st.who.number inside_ups one_more (s.given_are k st (sym (placed_beside w.nodes (n - 1) k (Some (new_node w.set x)) other) ∙ e)));
+      (λ other. raised w.ups (n - 1) (st.who.node - 1) x.number st.who.number inside_ups one_more (s.given_are k st (sym (placed_beside w.nodes (n - 1) k (Some (new_node w.set w.behaviour x)) other) ∙ e)));
   numbered_are = λ e y m. raised w.ups (n - 1) (y.node - 1) x.number y.number inside_ups one_more (s.numbered_are e y (ap (is_among y) (sym (free_leaves_live e trace (fact.Up x) refl)) ∙ m));
   queued_are = s.queued_are;
   carries = λ k st e. by_place (Carries w.lists st) k (n - 1)
-      (λ same. subst (Carries w.lists) (some_is (new_node w.set x) st (sym (placed_at w.nodes (n - 1) (Some (new_node w.set x)) less) ∙ (ap (at v.nodes) (sym same) ∙ e))) (subst (λ y. Carries w.lists (new_node y x)) (sym s.set_is) (new_carries c w.lists x)))
-      (λ other. s.carries k st (sym (placed_beside w.nodes (n - 1) k (Some (new_node w.set x)) other) ∙ e));
+      (λ same. subst (Carries w.lists) (some_is (new_node w.set w.behaviour x) st (sym (placed_at w.nodes (n - 1) (Some (new_node w.set w.behaviour x)) less) ∙ (ap (at v.nodes) (sym same) ∙ e))) (subst (λ y. Carries w.lists (new_node y w.behaviour x)) (sym s.set_is) (new_carries c w.lists w.behaviour x)))
+      (λ other. s.carries k st (sym (placed_beside w.nodes (n - 1) k (Some (new_node w.set w.behaviour x)) other) ∙ e));
   wire_is = s.wire_is;
 }
   where
@@ -305,7 +316,7 @@ up_leads laws c w n node empty trace s = record {
     stays : (y : Incarnation) → IsThere w y → IsThere v y
     stays y t = record {
       node = t.node;
-      is_up = placed_beside w.nodes (n - 1) (y.node - 1) (Some (new_node w.set x)) (λ same. none_is_not_some t.node (sym empty ∙ (ap (at w.nodes) (sym same) ∙ t.is_up))) ∙ t.is_up;
+      is_up = placed_beside w.nodes (n - 1) (y.node - 1) (Some (new_node w.set w.behaviour x)) (λ same. none_is_not_some t.node (sym empty ∙ (ap (at w.nodes) (sym same) ∙ t.is_up))) ∙ t.is_up;
       who_is = t.who_is;
     }
 
@@ -386,7 +397,7 @@ freed_carried c h (f ∷ fs) all =
 
 -- the words after slots are freed
 freed_went : (c : Script) (who : Incarnation) (fs u : List Fact) (w : World) → AreFreed fs → w.set ≡ setting c → w.lists ≡ lists_of (setting c) u → guarded c (u ++ fs) ≡ true
-    → AreQueued c (lists_of (setting c) u) → AreWell c (lists_of (setting c) u) w.wire → WentOn c w (lists_of (setting c) (u ++ fs)) (fold world_after w fs)
+    → AreQueued c (lists_of (setting c) u) → AreWell c (lists_of (setting c) u) w.past w.wire → WentOn c w (lists_of (setting c) (u ++ fs)) (fold world_after w fs)
 freed_went c who fs u w freed set_is lists_are g q wire =
     subst (λ xs. WentOn c w (lists_of (setting c) (u ++ xs)) (fold world_after w fs)) (facts_are fs)
     (subst (λ xs. WentOn c w (lists_of (setting c) (u ++ facts_in is)) (fold world_after w xs)) (numbered_is 0 0 fs)
@@ -397,12 +408,14 @@ freed_went c who fs u w freed set_is lists_are g q wire =
     is = map item.Fact fs
 
     h : Hand
-    h = record { lists = lists_of (setting c) u; live = [] }
+    h = record { lists = lists_of (setting c) u; live = []; version = 1 }
 
 down_leads : Laws → (c : Script) (w : World) (k : ℕ) (st : Node) → at w.nodes k ≡ Some st → Leads c w (tell (fact.Gone st.who ∷ crash st) w)
 down_leads laws c w k st here trace s = record {
   script_is = s.script_is;
   set_is = went.set_is ∙ s.set_is;
+  behaviour_is = went.version_is ∙ (s.behaviour_is ∙ sym (ap version_in (sym joined) ∙ (version_own st.who first fs (all_map is_freed (is_own_fact st.who) (freed_own st.who) fs (crash_frees st)) ∙ fold-append upgrade_step 1 trace (gone ∷ []))));
+  admitted = ap (is_version c) went.version_is ∙ s.admitted;
   sends_are = went.sends_are ∙ s.sends_are;
   nodes_there = ap length nodes ∙ (length-set w.nodes k None ∙ s.nodes_there);
   ups_there = ap length went.ups_are ∙ s.ups_there;
@@ -419,7 +432,7 @@ down_leads laws c w k st here trace s = record {
       (numbered_on st.who w.ups first fs (all_map is_freed (is_own_fact st.who) (freed_own st.who) fs (crash_frees st)) (s.given_are k st here) gone_numbered e x (ap (λ t. is_among x (live_at e t)) joined ∙ m));
   queued_are = subst (AreQueued c) (sym went.lists_are) went.queued_are;
   carries = λ j y e. subst (λ l. Carries l y) (lists_on c first fs ∙ sym went.lists_are) (carries_on c (lists_of (setting c) first) fs y (subst (λ l. Carries l y) (s.lists_are ∙ sym first_lists) (s.carries j y (old j y e))));
-  wire_is = subst (λ l. AreWell c l v.wire) (sym went.lists_are) went.wire_is;
+  wire_is = subst (λ n. AreWell c v.lists n v.wire) (sym went.past_is) (subst (λ l. AreWell c l w.past v.wire) (sym went.lists_are) went.wire_is);
 }
   where
     gone : Fact
@@ -448,7 +461,7 @@ down_leads laws c w k st here trace s = record {
 
     went : WentOn c v1 (lists_of (setting c) (first ++ fs)) v
     went = freed_went c st.who fs first v1 (crash_frees st) s.set_is (s.lists_are ∙ sym first_lists) (ap (guarded c) joined ∙ next.guarded_are)
-        (subst (AreQueued c) (s.lists_are ∙ sym first_lists) s.queued_are) (subst (λ l. AreWell c l w.wire) (s.lists_are ∙ sym first_lists) s.wire_is)
+        (subst (AreQueued c) (s.lists_are ∙ sym first_lists) s.queued_are) (subst (λ l. AreWell c l w.past w.wire) (s.lists_are ∙ sym first_lists) s.wire_is)
 
     me : IsMember c trace k st
     me = s.cluster.members k st here
@@ -495,10 +508,6 @@ go_down_leads laws c w n = by (node_at w n) refl
     by : (o : Option Node) → at w.nodes (n - 1) ≡ o → Leads c w (world.go_down_by o w)
     by None e = none_leads c w
     by (Some st) e = down_leads laws c w (n - 1) st e
-
-pub none_of : {A : Type 0} (o : Option A) → is_none o ≡ true → o ≡ None
-none_of None e = refl
-none_of (Some x) e = absurd (true≢false (sym e))
 
 pub up_order_leads : Laws → (c : Script) (w : World) (n : ℕ) → is_in 1 c.config.nodes n ≡ true → Leads c w (world.up n w)
 up_order_leads laws c w n node = if_leads c w (is_none (node_at w n)) (world.come_up n w) (world.nothing w) (λ e. come_up_leads laws c w n node (none_of (node_at w n) e)) (λ e. nothing_leads laws c w)

@@ -25,7 +25,7 @@ use Rattle.yard_model.specs.declared.charter.Sending.{Sending}
 use Rattle.yard_model.specs.Setting.{shards, producers, shard_of, names_of}
 use Rattle.yard_model.specs.SlotLists.{SlotLists, shard_list, queue_list}
 use Rattle.yard_model.specs.SlotReads.{holder, is_remembered}
-use Rattle.yard_model.specs.Turns.{in_turn, for_each, where_some}
+use Rattle.yard_model.specs.Turns.{in_turn, for_each}
 use Rattle.yard_model.specs.Words.{is_at, is_among, is_same, is_empty, without, is_below, at}
 use Rattle.yard_model.specs.Move.{Move, made, marked, released, handed_off, passivates, demanded, pushed, quits, started, acknowledged, told, post, item_of}
 use Rattle.yard_model.specs.Region as region
@@ -38,27 +38,12 @@ use Rattle.yard_model.specs.Coordinator as coordinator
 use Rattle.yard_model.specs.Coordinator.{Coordinator, Moving, Share, coordinator_after}
 use Rattle.yard_model.specs.Node as node
 use Rattle.yard_model.specs.Node.{Node, Act, Rule, by_region, by_entities, by_producer, by_coordinator, move_of, after, items_of, of_region, of_entities, of_producer, of_coordinator, all_in_turn}
-use Rattle.yard_laws.proofs.Booleans.{and_both, both}
-use Rattle.world_laws.specs.Owes.{facts_in}
-use Rattle.actor_laws.specs.Carried.{is_view}
+use Rattle.plain_laws.proofs.Booleans.{and_both, both}
+use Rattle.plain_laws.proofs.Lists.{all_join, all_if, all_some, all_each}
+use Rattle.actor_laws.specs.Owes.{facts_in}
+use Rattle.node_laws.specs.Carried.{is_view}
 use Rattle.play_laws.proofs.Turned.{is_still}
-
--- a fact that actors tell, but that a write is to fail
-abbrev pub is_turn_fact : Fact → Bool
-is_turn_fact (fact.At n) = false
-is_turn_fact fact.WireFull = false
-is_turn_fact fact.Settled = false
-is_turn_fact (fact.Up x) = false
-is_turn_fact (fact.Gone x) = false
-is_turn_fact (fact.Sent k p) = false
-is_turn_fact (fact.Got k) = false
-is_turn_fact (fact.Waits p e k) = false
-is_turn_fact (fact.Armed e k) = false
-is_turn_fact f = true
-
-abbrev pub is_turn_item : Item → Bool
-is_turn_item (item.Fact f) = is_turn_fact f
-is_turn_item (item.Post p) = not (is_view p.body)
+use Rattle.play_laws.specs.TurnItems.{is_turn_fact, is_turn_item}
 
 abbrev is_turn_move : Move → Bool
 is_turn_move (made i) = is_turn_item i
@@ -74,22 +59,6 @@ abbrev Act_ : List Act → Type 0
 Act_ acts = list_all is_turn_act acts ≡ true
 
 -- How rules are put together.
-
-all_join : {X : Type 0} (q : X → Bool) (xs ys : List X) → list_all q xs ≡ true → list_all q ys ≡ true → list_all q (xs ++ ys) ≡ true
-all_join q [] ys f g = g
-all_join q (x ∷ xs) ys f g = let m : (q x ≡ true) × (list_all q xs ≡ true) = and_both (q x) (list_all q xs) f in both (q x) (list_all q (xs ++ ys)) m.0 (all_join q xs ys m.1 g)
-
-all_if : {X : Type 0} (q : X → Bool) (b : Bool) (xs ys : List X) → list_all q xs ≡ true → list_all q ys ≡ true → list_all q (if b then xs else ys) ≡ true
-all_if q true xs ys f g = f
-all_if q false xs ys f g = g
-
-all_some : {X Y : Type 0} (q : X → Bool) (p : Y → List X) (o : Option Y) → ((y : Y) → list_all q (p y) ≡ true) → list_all q (where_some p o) ≡ true
-all_some q p None h = refl
-all_some q p (Some y) h = h y
-
-all_each : {X Y : Type 0} (q : X → Bool) (p : Y → List X) (ys : List Y) → ((y : Y) → list_all q (p y) ≡ true) → list_all q (flat_map p ys) ≡ true
-all_each q p [] h = refl
-all_each q p (y ∷ ys) h = all_join q (p y) (flat_map p ys) (h y) (all_each q p ys h)
 
 all_mapped : {X Y : Type 0} (q : X → Bool) (p : Y → X) (ys : List Y) → ((y : Y) → q (p y) ≡ true) → list_all q (map p ys) ≡ true
 all_mapped q p [] h = refl
@@ -426,10 +395,12 @@ turn_tells sends lists i st h = items_tell (node.turn sends lists i st) (turn_ac
 
 -- Facts by which no node comes up or is gone, and no packet is sent.
 
-turn_is_still : (f : Fact) → is_turn_fact f ≡ true → is_still f ≡ true
+pub turn_is_still : (f : Fact) → is_turn_fact f ≡ true → is_still f ≡ true
 turn_is_still (fact.Up x) h = h
 turn_is_still (fact.Gone x) h = h
 turn_is_still (fact.Sent k p) h = h
+turn_is_still (fact.Reshard n k) h = h
+turn_is_still (fact.Upgrade v) h = h
 turn_is_still f h = refl
 
 items_still : (is : List Item) → list_all is_turn_item is ≡ true → list_all is_still (facts_in is) ≡ true

@@ -1,5 +1,7 @@
 -- The world along the items of one turn: its lists go on with the facts, its wire with the packets.
-use Rattle.std.proofs.Common.{◌≡◌, ◌⊎◌, inl, inr, ℕ, zero, suc, ◌+◌, List, [], ◌∷◌, ◌++◌, length, sym, ap, subst, ◌∙◌, refl, true, false, true≢false}
+use Rattle.yard_model.specs.Era.{upgrade_step}
+use Rattle.yard_laws.proofs.Guarding.{guarded_more, guarded_was}
+use Rattle.std.proofs.Common.{◌≡◌, ◌⊎◌, inl, inr, ℕ, ◌+◌, List, [], ◌∷◌, ◌++◌, length, sym, ap, subst, ◌∙◌, refl, true, false, true≢false, ◌≤◌}
 use Rattle.std.specs.Prelude.{Bool, ◌&&◌, nat_lt, not, fold, Option, Some, if◌then◌else◌}
 use Rattle.std.specs.List.{list_all, slice_get}
 use Rattle.std.proofs.lemmas.List.{append-nil, append_assoc}
@@ -15,30 +17,30 @@ use Rattle.yard_model.specs.declared.incarnation.Incarnation.{Incarnation}
 use Rattle.yard_model.specs.declared.charter.Sending.{Sending}
 use Rattle.yard_model.specs.Genuine.{is_genuine_packet}
 use Rattle.yard_model.specs.Node.{Node}
-use Rattle.yard_model.specs.Safe.{guard, guarded}
+use Rattle.yard_model.specs.Guards.{guard, guarded, opens}
 use Rattle.yard_model.specs.Script.{Script, Setting, setting}
 use Rattle.yard_model.specs.SlotLists.{SlotLists}
 use Rattle.yard_model.specs.Trace.{lists_step, lists_of}
 use Rattle.yard_model.specs.Words.{is_same}
-use Rattle.yard_model.specs.World.{World, world_after, members_step, ups_step, wire_step, nodes_step, numbered, count_posts, input_facts}
-use Rattle.yard_model.proofs.FollowLaws.{follows_more}
-use Rattle.yard_laws.proofs.Booleans.{and_both}
-use Rattle.yard_laws.proofs.Before.{guarded_before}
+use Rattle.yard_model.specs.World.{World, world_after, members_step, ups_step, wire_step, nodes_step, numbered, count_posts, input_facts, set_step, past_step, lists_after}
+use Rattle.plain_laws.proofs.Booleans.{and_both, all_map}
+use Rattle.plain_laws.proofs.Lists.{last_or_before}
 use Rattle.yard_laws.proofs.Owns.{lists_more}
-use Rattle.world_laws.specs.Owes.{Hand, facts_in, hand_after, is_own_post}
-use Rattle.world_laws.specs.Standing.{is_different_body}
-use Rattle.world_laws.proofs.Place.{none_is_not_some, some_is}
-use Rattle.actor_laws.specs.Carried.{is_view, is_carried_body, is_carried_fact, carried_in_hand}
+use Rattle.actor_laws.specs.Owes.{Hand, facts_in, hand_after, is_own_post}
+use Rattle.node_laws.specs.Members.{is_different_body}
+use Rattle.node_laws.specs.Carried.{is_view, is_carried_body, is_carried_fact, carried_in_hand}
 use Rattle.play_laws.specs.Sound.{IsWell, AreQueued}
 use Rattle.play_laws.proofs.Queued.{all_carried_on, fact_queued}
 
 -- Words that a fact leaves.
 
--- no node comes up or is gone by it, and no packet is sent
+-- no node comes up or is gone by it, no packet is sent, and shards and versions stay
 abbrev pub is_still : Fact → Bool
 is_still (fact.Up x) = false
 is_still (fact.Gone x) = false
 is_still (fact.Sent k p) = false
+is_still (fact.Reshard n k) = false
+is_still (fact.Upgrade v) = false
 is_still f = true
 
 pub members_still : (old : List Incarnation) (f : Fact) → is_still f ≡ true → members_step old f ≡ old
@@ -50,54 +52,72 @@ pub ups_still : (old : List ℕ) (f : Fact) → is_still f ≡ true → ups_step
 ups_still old (fact.Up x) h = absurd (true≢false (sym h))
 ups_still old f h = refl
 
-pub nodes_still : (set : Setting) (old : List (Option Node)) (f : Fact) → is_still f ≡ true → nodes_step set old f ≡ old
-nodes_still set old (fact.Up x) h = absurd (true≢false (sym h))
-nodes_still set old (fact.Gone x) h = absurd (true≢false (sym h))
-nodes_still set old f h = refl
+pub nodes_still : (set : Setting) (version : ℕ) (old : List (Option Node)) (f : Fact) → is_still f ≡ true → nodes_step set version old f ≡ old
+nodes_still set version old (fact.Up x) h = absurd (true≢false (sym h))
+nodes_still set version old (fact.Gone x) h = absurd (true≢false (sym h))
+nodes_still set version old f h = refl
+
+pub set_still : (old : Setting) (f : Fact) → is_still f ≡ true → set_step old f ≡ old
+set_still old (fact.Reshard n k) h = absurd (true≢false (sym h))
+set_still old f h = refl
+
+pub version_still : (old : ℕ) (f : Fact) → is_still f ≡ true → upgrade_step old f ≡ old
+version_still old (fact.Upgrade v) h = absurd (true≢false (sym h))
+version_still old f h = refl
+
+pub past_still : (wire : List Packet) (old : ℕ) (f : Fact) → is_still f ≡ true → past_step wire old f ≡ old
+past_still wire old (fact.Reshard n k) h = absurd (true≢false (sym h))
+past_still wire old f h = refl
+
+pub lists_still : (set : Setting) (old : SlotLists) (f : Fact) → is_still f ≡ true → lists_after set old f ≡ lists_step set old f
+lists_still set old (fact.Reshard n k) h = absurd (true≢false (sym h))
+lists_still set old f h = refl
 
 pub wire_still : (old : List Packet) (f : Fact) → is_still f ≡ true → wire_step old f ≡ old
 wire_still old (fact.Sent k p) h = absurd (true≢false (sym h))
 wire_still old f h = refl
 
+-- it brings no other version
+pub still_opens : (f : Fact) → is_still f ≡ true → opens f ≡ false
+still_opens (fact.Upgrade v) h = absurd (true≢false (sym h))
+still_opens f h = refl
+
 -- The wire.
 
-abbrev pub AreWell : Script → SlotLists → List Packet → Type 0
-AreWell c lists wire = (j : ℕ) (p : Packet) → slice_get wire j ≡ Some p → IsWell c lists p
+-- each packet since so many were posted
+abbrev pub AreWell : Script → SlotLists → ℕ → List Packet → Type 0
+AreWell c lists past wire = (j : ℕ) (p : Packet) → past ≤ j → slice_get wire j ≡ Some p → IsWell c lists p
 
-last_or_before : (wire : List Packet) (p q : Packet) (j : ℕ) → slice_get (wire ++ p ∷ []) j ≡ Some q → (slice_get wire j ≡ Some q) ⊎ (p ≡ q)
-last_or_before [] p q zero e = inr (some_is p q e)
-last_or_before [] p q (suc j) e = absurd (none_is_not_some q e)
-last_or_before (x ∷ xs) p q zero e = inl e
-last_or_before (x ∷ xs) p q (suc j) e = last_or_before xs p q j e
-
-pub well_more : (c : Script) (lists : SlotLists) (wire : List Packet) (p : Packet) → IsWell c lists p → AreWell c lists wire → AreWell c lists (wire ++ p ∷ [])
-well_more c lists wire p one all j q e = by (last_or_before wire p q j e)
+pub well_more : (c : Script) (lists : SlotLists) (past : ℕ) (wire : List Packet) (p : Packet) → IsWell c lists p → AreWell c lists past wire → AreWell c lists past (wire ++ p ∷ [])
+well_more c lists past wire p one all j q after e = by (last_or_before wire p q j e)
   where
     by : (slice_get wire j ≡ Some q) ⊎ (p ≡ q) → IsWell c lists q
-    by (inl before) = all j q before
+    by (inl before) = all j q after before
     by (inr same) = subst (IsWell c lists) same one
 
 -- with the lists after more facts
-pub well_on : (c : Script) (lists : SlotLists) (fs : List Fact) (wire : List Packet) → AreWell c lists wire → AreWell c (fold (lists_step (setting c)) lists fs) wire
-well_on c lists fs wire all j p e =
-    let one : IsWell c lists p = all j p e in
+pub well_on : (c : Script) (lists : SlotLists) (fs : List Fact) (past : ℕ) (wire : List Packet) → AreWell c lists past wire → AreWell c (fold (lists_step (setting c)) lists fs) past wire
+well_on c lists fs past wire all j p after e =
+    let one : IsWell c lists p = all j p after e in
     record { genuine = one.genuine; different = one.different; carried = all_carried_on c fs lists p.body one.carried }
 
 -- Along.
 
 -- the world after the items: these words are as they were, and the lists are these
-pub record Went (c : Script) (set : Setting) (sends : List (List Sending)) (ups : List ℕ) (members : List Incarnation) (nodes : List (Option Node)) (lists : SlotLists) (v : World) : Type 0 where
+pub record Went (c : Script) (set : Setting) (version past : ℕ) (sends : List (List Sending)) (ups : List ℕ) (members : List Incarnation) (nodes : List (Option Node)) (lists : SlotLists) (v : World) : Type 0 where
   pub set_is : v.set ≡ set
+  pub version_is : v.behaviour ≡ version
+  pub past_is : v.past ≡ past
   pub sends_are : v.sends ≡ sends
   pub ups_are : v.ups ≡ ups
   pub members_are : v.members ≡ members
   pub nodes_are : v.nodes ≡ nodes
   pub lists_are : v.lists ≡ lists
   pub queued_are : AreQueued c lists
-  pub wire_is : AreWell c lists v.wire
+  pub wire_is : AreWell c lists past v.wire
 
 abbrev pub WentOn : Script → World → SlotLists → World → Type 0
-WentOn c w lists v = Went c w.set w.sends w.ups w.members w.nodes lists v
+WentOn c w lists v = Went c w.set w.behaviour w.past w.sends w.ups w.members w.nodes lists v
 
 no_view : (b : Body) → not (is_view b) ≡ true → is_different_body b ≡ true
 no_view (body.View v xs) h = absurd (true≢false (sym h))
@@ -105,10 +125,12 @@ no_view b h = refl
 
 pub went_items : (c : Script) (who : Incarnation) (limit k : ℕ) (is : List Item) (u : List Fact) (h : Hand) (w : World) → h.lists ≡ lists_of (setting c) u → w.set ≡ setting c → w.lists ≡ lists_of (setting c) u
     → guarded c (u ++ facts_in is) ≡ true → list_all (is_own_post c who) is ≡ true → list_all is_still (facts_in is) ≡ true → carried_in_hand c h is ≡ true
-    → AreQueued c (lists_of (setting c) u) → AreWell c (lists_of (setting c) u) w.wire
+    → AreQueued c (lists_of (setting c) u) → AreWell c (lists_of (setting c) u) w.past w.wire
     → WentOn c w (lists_of (setting c) (u ++ facts_in is)) (fold world_after w (numbered limit k is))
 went_items c who limit k [] u h w hand set_is lists_are g posts still carried q wire = subst (λ t. WentOn c w (lists_of (setting c) t) w) (sym (append-nil u)) (record {
   set_is = refl;
+  version_is = refl;
+  past_is = refl;
   sends_are = refl;
   ups_are = refl;
   members_are = refl;
@@ -139,36 +161,39 @@ went_items c who limit k (item.Post p ∷ is) u h w hand set_is lists_are g post
     lists : SlotLists
     lists = lists_of (setting c) (u ++ facts_in is)
 
-    by : (b : Bool) → ((v : World) → v.set ≡ setting c → v.lists ≡ lists_of (setting c) u → AreWell c (lists_of (setting c) u) v.wire → WentOn c v lists (fold world_after v more))
+    by : (b : Bool) → ((v : World) → v.set ≡ setting c → v.lists ≡ lists_of (setting c) u → AreWell c (lists_of (setting c) u) v.past v.wire → WentOn c v lists (fold world_after v more))
         → WentOn c w lists (fold world_after w ((if b then fact.Sent (k + 1) p ∷ [] else []) ++ more))
-    by true rest = rest (world_after w (fact.Sent (k + 1) p)) set_is lists_are (well_more c (lists_of (setting c) u) w.wire p well wire)
+    by true rest = rest (world_after w (fact.Sent (k + 1) p)) set_is lists_are (well_more c (lists_of (setting c) u) w.past w.wire p well wire)
     by false rest = rest w set_is lists_are wire
 went_items c who limit k (item.Fact f ∷ is) u h w hand set_is lists_are g posts still carried q wire =
     let m : (is_carried_fact h.lists f ≡ true) × (carried_in_hand c (hand_after c h f) is ≡ true) = and_both (is_carried_fact h.lists f) (carried_in_hand c (hand_after c h f) is) carried in
     let s : (is_still f ≡ true) × (list_all is_still (facts_in is) ≡ true) = and_both (is_still f) (list_all is_still (facts_in is)) still in
     let longer : (u ++ f ∷ []) ++ facts_in is ≡ u ++ (f ∷ facts_in is) = append_assoc u (f ∷ []) (facts_in is) in
     let all : guarded c ((u ++ f ∷ []) ++ facts_in is) ≡ true = ap (guarded c) longer ∙ g in
-    let one : (guarded c u ≡ true) × (guard c u f ≡ true) = and_both (guarded c u) (guard c u f) (sym (follows_more (guard c) [] u f) ∙ guarded_before c (u ++ f ∷ []) (facts_in is) all) in
+    let one : (guarded c u ≡ true) × (guard c u f ≡ true) = and_both (guarded c u) (guard c u f) (sym (guarded_more c u f (still_opens f s.0)) ∙ guarded_was c (u ++ f ∷ []) (facts_in is) (all_map is_still (λ f. not (opens f)) (λ f k. ap not (still_opens f k)) (facts_in is) s.1) all) in
     let next : lists_step (setting c) (lists_of (setting c) u) f ≡ lists_of (setting c) (u ++ f ∷ []) = sym (lists_more c u f) in
     let rest : WentOn c (world_after w f) (lists_of (setting c) ((u ++ f ∷ []) ++ facts_in is)) (fold world_after (world_after w f) (numbered limit k is)) =
-    went_items c who limit k is (u ++ f ∷ []) (hand_after c h f) (world_after w f) (ap (λ l. lists_step (setting c) l f) hand ∙ next) set_is
-    (ap (λ t. lists_step t w.lists f) set_is ∙ (ap (λ l. lists_step (setting c) l f) lists_are ∙ next)) all
+    went_items c who limit k is (u ++ f ∷ []) (hand_after c h f) (world_after w f) (ap (λ l. lists_step (setting c) l f) hand ∙ next) (set_still w.set f s.0 ∙ set_is)
+    (lists_still w.set w.lists f s.0 ∙ (ap (λ t. lists_step t w.lists f) set_is ∙ (ap (λ l. lists_step (setting c) l f) lists_are ∙ next))) all
     posts s.1 m.1 (fact_queued c u f one.1 (subst (λ l. is_carried_fact l f ≡ true) hand m.0) q)
-    (subst (AreWell c (lists_of (setting c) (u ++ f ∷ []))) (sym (wire_still w.wire f s.0)) (subst (λ l. AreWell c l w.wire) next (well_on c (lists_of (setting c) u) (f ∷ []) w.wire wire))) in
+    (subst (λ n. AreWell c (lists_of (setting c) (u ++ f ∷ [])) n (world_after w f).wire) (sym (past_still w.wire w.past f s.0))
+    (subst (AreWell c (lists_of (setting c) (u ++ f ∷ [])) w.past) (sym (wire_still w.wire f s.0)) (subst (λ l. AreWell c l w.past w.wire) next (well_on c (lists_of (setting c) u) (f ∷ []) w.past w.wire wire)))) in
     subst (λ t. WentOn c w (lists_of (setting c) t) (fold world_after (world_after w f) (numbered limit k is))) longer (record {
-      set_is = rest.set_is;
+      set_is = rest.set_is ∙ set_still w.set f s.0;
+      version_is = rest.version_is ∙ version_still w.behaviour f s.0;
+      past_is = rest.past_is ∙ past_still w.wire w.past f s.0;
       sends_are = rest.sends_are;
       ups_are = rest.ups_are ∙ ups_still w.ups f s.0;
       members_are = rest.members_are ∙ members_still w.members f s.0;
-      nodes_are = rest.nodes_are ∙ nodes_still w.set w.nodes f s.0;
+      nodes_are = rest.nodes_are ∙ nodes_still w.set w.behaviour w.nodes f s.0;
       lists_are = rest.lists_are;
       queued_are = rest.queued_are;
-      wire_is = rest.wire_is;
+      wire_is = subst (λ n. AreWell c (lists_of (setting c) ((u ++ f ∷ []) ++ facts_in is)) n (fold world_after (world_after w f) (numbered limit k is)).wire) (past_still w.wire w.past f s.0) rest.wire_is;
     })
 
 pub went_input : (c : Script) (who : Incarnation) (is : List Item) (u : List Fact) (h : Hand) (w : World) → h.lists ≡ lists_of (setting c) u → w.set ≡ setting c → w.lists ≡ lists_of (setting c) u
     → guarded c (u ++ facts_in is) ≡ true → list_all (is_own_post c who) is ≡ true → list_all is_still (facts_in is) ≡ true → carried_in_hand c h is ≡ true
-    → AreQueued c (lists_of (setting c) u) → AreWell c (lists_of (setting c) u) w.wire
+    → AreQueued c (lists_of (setting c) u) → AreWell c (lists_of (setting c) u) w.past w.wire
     → WentOn c w (lists_of (setting c) (u ++ facts_in is)) (fold world_after w (input_facts w is))
 went_input c who is u h w hand set_is lists_are g posts still carried q wire =
     subst (WentOn c w (lists_of (setting c) (u ++ facts_in is))) (sym (fold-append world_after w fs (full b)))
@@ -186,6 +211,8 @@ went_input c who is u h w hand set_is lists_are g posts still carried q wire =
     last : (b : Bool) → let v : World = fold world_after w fs in WentOn c w (lists_of (setting c) (u ++ facts_in is)) v → WentOn c w (lists_of (setting c) (u ++ facts_in is)) (fold world_after v (full b))
     last true m = record {
       set_is = m.set_is;
+      version_is = m.version_is;
+      past_is = m.past_is;
       sends_are = m.sends_are;
       ups_are = m.ups_are;
       members_are = m.members_are;

@@ -1,13 +1,40 @@
 -- What the orders of a script lead to.
-use Rattle.std.specs.Prelude.{◌≡◌, ℕ, true, map, take}
+use Rattle.std.specs.Prelude.{◌≡◌, ℕ, Bool, true, ◌&&◌, ◌||◌, not, map, take, None}
+use Rattle.std.specs.Option.{option_map_or}
+use Rattle.yard_model.specs.declared.charter.Line.{Line}
+use Rattle.yard_model.specs.declared.charter.Order.{Order}
+use Rattle.yard_model.specs.declared.incarnation.Slot.{Slot}
+use Rattle.yard_model.specs.Era.{Era, first_era, era_of, lists_in, opening_of}
+use Rattle.yard_model.specs.Genuine.{is_brought, is_slot_of}
+use Rattle.yard_model.specs.Lawful.{lawful}
 use Rattle.yard_model.specs.Safe.{safe}
-use Rattle.yard_model.specs.Script.{Script, IsScript}
-use Rattle.yard_model.specs.World.{Made, new_world, play_line, in_order, played, trace_of}
-use Rattle.play_laws.specs.Sound.{Sound}
+use Rattle.yard_model.specs.Script.{Script, IsScript, brought, is_order, is_upgrade, is_version, setting}
+use Rattle.yard_model.specs.SlotLists.{SlotLists}
+use Rattle.yard_model.specs.SlotReads.{holder}
+use Rattle.yard_model.specs.Trace.{list_at}
+use Rattle.yard_model.specs.World.{World, new_world, given_world, play_line, in_order, played, trace_of}
+use Rattle.play_laws.specs.Sound.{Sound, AreQueued, LeadsOn}
 
--- after any number of the orders, with any limit of packets, the world is sound
+-- the name that an order brings is the script's
+abbrev pub is_named : Script → Order → Bool
+is_named c o = option_map_or (is_brought c) (brought o) true
+
+-- an order of the script
+abbrev pub is_played : Script → Order → Bool
+is_played c o = is_order c.config o && is_named c o && (not (is_upgrade o) || is_version c 2)
+
+-- a line with such an order, from any sound world
+abbrev pub LineLeadsOn : Type 0
+LineLeadsOn = (l : Line) (w : World) (era : Era) → is_played era.script l.order ≡ true → Sound era.script era.trace w → LeadsOn era (play_line l w)
+
+-- after any number of the orders, with any limit of packets, the world is sound in the era where they end
 abbrev pub PlayedIsSound : Type 0
-PlayedIsSound = (c : Script) (limit n : ℕ) → IsScript c → let m : Made = in_order (map play_line (take n c.orders)) (new_world c limit) in Sound c m.facts m.world
+PlayedIsSound = (c : Script) (limit n : ℕ) → IsScript c → LeadsOn (first_era c) (in_order (map play_line (take n c.orders)) (new_world c limit))
+
+-- a world that begins with given lists is sound: they are lawful, no slot is held, and no more is recorded than is queued
+abbrev pub GivenIsSound : Type 0
+GivenIsSound = (c : Script) (version : ℕ) (lists : SlotLists) → IsScript c → is_version c version ≡ true → lawful c lists ≡ true → ((s : Slot) → is_slot_of c s ≡ true → holder (list_at lists s) ≡ None) → AreQueued c lists
+    → Sound c (opening_of version lists) (given_world c version lists)
 
 -- so the trace of every script is safe at each prefix, also one that stops at the limit
 abbrev pub PlayedIsSafe : Type 0
@@ -15,3 +42,7 @@ PlayedIsSafe = (c : Script) (limit : ℕ) → IsScript c → safe c (played c li
 
 abbrev pub TraceIsSafe : Type 0
 TraceIsSafe = (c : Script) → IsScript c → safe c (trace_of c) ≡ true
+
+-- the lists of the world at the end are those of its trace, and they are lawful for the number of shards in force
+abbrev pub PlayedLists : Type 0
+PlayedLists = (c : Script) (limit : ℕ) → IsScript c → let era : Era = era_of c (played c limit).facts in let w : World = (played c limit).world in (lists_in era ≡ w.lists) × (setting era.script ≡ w.set) × (lawful era.script w.lists ≡ true)

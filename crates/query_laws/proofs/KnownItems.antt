@@ -18,34 +18,30 @@ use Rattle.yard_model.specs.Genuine.{is_genuine_packet}
 use Rattle.yard_model.specs.Move.{told}
 use Rattle.yard_model.specs.Node.{Node, after}
 use Rattle.yard_model.specs.Queries.{Known, know, know_world, ordered_by, views_step, packet_step, actor, show}
-use Rattle.yard_model.specs.Script.{Script, Setting, setting}
+use Rattle.yard_model.specs.Script.{Script, setting}
 use Rattle.yard_model.specs.Setting.{shard_of}
 use Rattle.yard_model.specs.SlotReads.{holder}
 use Rattle.yard_model.specs.Trace.{list_at, lists_step}
 use Rattle.yard_model.specs.Words.{is_at, is_same}
-use Rattle.yard_model.specs.World.{World, world_after, version_step, nodes_step, numbered, count_posts}
-use Rattle.yard_laws.proofs.Booleans.{and_both}
-use Rattle.world_laws.specs.Owes.{Hand, facts_in, hand_after, is_own_post}
-use Rattle.world_laws.proofs.Members.{same_is}
-use Rattle.actor_laws.specs.Carried.{is_view}
+use Rattle.yard_model.specs.World.{World, world_after, version_step, numbered, count_posts}
+use Rattle.plain_laws.proofs.Booleans.{and_both}
+use Rattle.plain_laws.proofs.Members.{same_is}
+use Rattle.actor_laws.specs.Owes.{Hand, facts_in, hand_after, is_own_post}
+use Rattle.node_laws.specs.Carried.{is_view}
 use Rattle.actor_laws.specs.Held.{is_grant, is_slot_held, slot_told, held_in_hand}
-use Rattle.actor_laws.specs.NodeStands.{is_own_fact}
-use Rattle.play_laws.proofs.Tells.{is_turn_fact, is_turn_item}
-use Rattle.play_laws.proofs.Turned.{is_still, members_still, wire_still}
+use Rattle.node_laws.specs.NodeStands.{is_own_fact}
+use Rattle.play_laws.specs.TurnItems.{is_turn_fact, is_turn_item}
+use Rattle.play_laws.proofs.Turned.{is_still, members_still, nodes_still, set_still, lists_still, wire_still}
 use Rattle.query_laws.specs.Shown.{fact_of, known_after, shown}
 use Rattle.query_laws.proofs.ShowBase.{same_some}
 use Rattle.query_laws.proofs.Along.{IsPlain, IsViewOf, KnowsViews, Along, plain, along_shown, along_free, knows_sent}
+use Rattle.play_laws.proofs.Tells.{turn_is_still}
 
 -- Facts of a turn.
 
-ordered_turn : (k : Known) (f : Fact) → is_turn_fact f ≡ true → (v : World) → ordered_by k f v ≡ v
+pub ordered_turn : (k : Known) (f : Fact) → is_turn_fact f ≡ true → (v : World) → ordered_by k f v ≡ v
 ordered_turn k (fact.At n) h v = absurd (true≢false (sym h))
 ordered_turn k f h v = refl
-
-pub still_turn : (set : Setting) (old : List (Option Node)) (f : Fact) → is_turn_fact f ≡ true → nodes_step set old f ≡ old
-still_turn set old (fact.Up x) h = absurd (true≢false (sym h))
-still_turn set old (fact.Gone x) h = absurd (true≢false (sym h))
-still_turn set old f h = refl
 
 unseen_turn : (w : World) (old : List (List Incarnation)) (f : Fact) → is_turn_fact f ≡ true → views_step w old f ≡ old
 unseen_turn w old (fact.Up x) h = absurd (true≢false (sym h))
@@ -62,18 +58,12 @@ version_turn old (fact.Up x) h = absurd (true≢false (sym h))
 version_turn old (fact.Gone x) h = absurd (true≢false (sym h))
 version_turn old f h = refl
 
-pub turn_still : (f : Fact) → is_turn_fact f ≡ true → is_still f ≡ true
-turn_still (fact.Up x) h = h
-turn_still (fact.Gone x) h = h
-turn_still (fact.Sent k p) h = h
-turn_still f h = refl
-
 turn_plain : (k : Known) (f : Fact) → is_turn_fact f ≡ true → IsPlain k f
-turn_plain k f h = plain k f (ordered_turn k f h) (λ set old. still_turn set old f h) (λ w old. unseen_turn w old f h)
+turn_plain k f h = plain k f (ordered_turn k f h) (λ set version old. nodes_still set version old f (turn_is_still f h)) (λ w old. unseen_turn w old f h)
 
 views_still : (views : List (List Incarnation)) (w : World) (f : Fact) → is_turn_fact f ≡ true → KnowsViews views w → KnowsViews views (world_after w f)
 views_still views w f h k =
-    let still : is_still f ≡ true = turn_still f h in
+    let still : is_still f ≡ true = turn_is_still f h in
     record {
       count = k.count ∙ ap (λ n. n + 1) (sym (version_turn w.version f h));
       now = ap (λ n. slice_index_or views n []) (version_turn w.version f h) ∙ (k.now ∙ sym (members_still w.members f still));
@@ -114,10 +104,11 @@ shown_alike k j (i ∷ is) st a h =
 
 know_alike : (k : Known) (f : Fact) → is_turn_fact f ≡ true → IsAlike (known_after k (item.Fact f)) (know k f)
 know_alike k f h =
+    let still : is_still f ≡ true = turn_is_still f h in
     let world_is : (know k f).world ≡ world_after (know_world k f) f = ap (λ v. world_after v f) (ordered_turn k f h (know_world k f)) in
     record {
-      set_is = sym (ap (λ (v : World). v.set) world_is);
-      lists_are = sym (ap (λ (v : World). v.lists) world_is);
+      set_is = sym (ap (λ (v : World). v.set) world_is ∙ set_still k.world.set f still);
+      lists_are = sym (ap (λ (v : World). v.lists) world_is ∙ lists_still k.world.set k.world.lists f still);
       views_are = sym (unseen_turn (know k f).world k.views f h);
       packet_is = sym (packet_turn k.world k.packet f h);
     }
@@ -174,12 +165,6 @@ acts c k who h f set lists turn own held = absurd (true≢false (sym turn))
 
 -- Along.
 
--- the lists, the packet and the setting that the queries know
-pub record Sees (c : Script) (k : Known) (w : World) (h : Hand) (o : Option Packet) : Type 0 where
-  pub set_is : k.world.set ≡ setting c
-  pub lists_are : k.world.lists ≡ h.lists
-  pub packet_is : k.packet ≡ o
-
 along_fact : (orders : List Line) (views : List (List Incarnation)) (who : Incarnation) (i : ℕ) (k : Known) (w : World) (st : Node) (f : Fact) → is_turn_fact f ≡ true → Along orders views who i k w st → Acts k who f
     → Along orders views who i (know k f) (world_after w f) (fold after st (show k f st))
 along_fact orders views who i k w st f turn a (inl mine) = along_shown orders views who i k w st f (turn_plain k f turn) a mine (views_still views w f turn a.knows)
@@ -191,7 +176,7 @@ no_view_of views b h = tt
 
 along_post : (orders : List Line) (views : List (List Incarnation)) (who : Incarnation) (i : ℕ) (k : Known) (w : World) (st : Node) (n : ℕ) (p : Packet) → not (is_view p.body) ≡ true → is_same p.from who ≡ true → Along orders views who i k w st
     → Along orders views who i (know k (fact.Sent n p)) (world_after w (fact.Sent n p)) (fold after st (show k (fact.Sent n p) st))
-along_post orders views who i k w st n p view from a = along_shown orders views who i k w st (fact.Sent n p) (plain k (fact.Sent n p) (λ v. refl) (λ s o. refl) (λ w o. refl)) a (ap Some (same_is p.from who from)) (knows_sent views w n p a.knows (no_view_of views p.body view))
+along_post orders views who i k w st n p view from a = along_shown orders views who i k w st (fact.Sent n p) (plain k (fact.Sent n p) (λ v. refl) (λ s n o. refl) (λ w o. refl)) a (ap Some (same_is p.from who from)) (knows_sent views w n p a.knows (no_view_of views p.body view))
 
 count_rises : (is : List Item) (n : ℕ) → n ≤ fold count_posts n is
 count_rises [] n = itself n

@@ -26,10 +26,10 @@ use Rattle.yard_model.specs.SlotLists.{queue_list}
 use Rattle.yard_model.specs.SlotReads.{queued_in_all}
 use Rattle.yard_model.specs.Words.{at}
 use Rattle.yard_model.specs.World as world
-use Rattle.yard_model.specs.World.{World, Made, Step, world_after, tell, then_step, input_facts, with_node, handle, give_or, give, node_at, node_of, queue_holder, is_of_node, ordered_of, active_node, with_order, play_line}
-use Rattle.yard_laws.proofs.Booleans.{and_both, number_itself, of_not}
-use Rattle.actor_laws.specs.Cluster.{IsMember}
-use Rattle.actor_laws.specs.Traces.{recorded}
+use Rattle.yard_model.specs.World.{World, Made, Step, world_after, tell, then_step, input_facts, with_node, handle, give_or, give, node_at, queue_holder, is_of_node, ordered_of, active_node, with_order, play_line}
+use Rattle.plain_laws.proofs.Booleans.{and_both, number_itself, of_not}
+use Rattle.node_laws.specs.Cluster.{IsMember}
+use Rattle.node_laws.specs.Traces.{recorded}
 use Rattle.play_laws.specs.Sound.{Sound}
 use Rattle.play_laws.proofs.Handled.{Laws}
 use Rattle.play_laws.proofs.Orders.{IsPlaced, Place, May, at_place, active_placed, give_leads}
@@ -84,7 +84,7 @@ fail_knows shows c orders w e a named = by (active_node e w) refl
         let mine : actor k armed ≡ Some st.who = ap (λ v. option_map (λ (st : Node). st.who) (active_node e v)) fit.agree.world_is ∙ ap (option_map (λ (st : Node). st.who)) active in
         let along : Along orders k.views st.who at_k.place (know k armed) (world_after w armed) now =
         subst (Along orders k.views st.who at_k.place (know k armed) (world_after w armed)) lead.shown_is
-        (along_shown orders k.views st.who at_k.place k w st armed (plain k armed (λ v. refl) (λ x o. refl) (λ v o. refl)) (along_start c orders trace w at_k.place st k fit.agree at_k.here s) mine
+        (along_shown orders k.views st.who at_k.place k w st armed (plain k armed (λ v. refl) (λ x n o. refl) (λ v o. refl)) (along_start c orders trace w at_k.place st k fit.agree at_k.here s) mine
         (record { count = fit.agree.knows.count; now = fit.agree.knows.now; posted = fit.agree.knows.posted })) in (
           subst (λ fs. Fits orders (fold know k fs) (with_node now (fold world_after w fs))) (sym all_of) (record {
             agree = along_last orders k.views st.who at_k.place (know k armed) (world_after w armed) now along;
@@ -172,11 +172,11 @@ line_opened k st n o e =
     idle : fold after st first ≡ st
     idle = ap (λ o. record st { coordinator = o }) (same_some (told (fact.At n)) st.coordinator (λ x. refl))
 
-ordered_views : (views : List (List Incarnation)) (w : World) (n : ℕ) (o : Order) → KnowsViews views w → KnowsViews views (world_after (with_order (Some o) w) (fact.At n))
+pub ordered_views : (views : List (List Incarnation)) (w : World) (n : ℕ) (o : Order) → KnowsViews views w → KnowsViews views (world_after (with_order (Some o) w) (fact.At n))
 ordered_views views w n (order.Send p e d) k = record { count = k.count; now = k.now; posted = k.posted }
 ordered_views views w n o k = record { count = k.count; now = k.now; posted = k.posted }
 
-ordered_nodes : (w : World) (o : Order) → (with_order (Some o) w).nodes ≡ w.nodes
+pub ordered_nodes : (w : World) (o : Order) → (with_order (Some o) w).nodes ≡ w.nodes
 ordered_nodes w (order.Send p e d) = refl
 ordered_nodes w o = refl
 
@@ -198,17 +198,18 @@ line_agrees orders w l k e none a =
     }
 
 -- an order to a node that isn't there, or any but `leave` and `tick`
-pub line_knows : (P : Known → Type 0) → ((k : Known) → NoPacket k → P k) → (c : Script) (orders : List Line) (w : World) (l : Line) → Laws → order_at orders l.number ≡ Some l.order → option_and_then (told_by w) (Some l.order) ≡ None → w.full ≡ false
+pub line_knows : (P : Known → Type 0) (c : Script) (orders : List Line) (w : World) (l : Line) → ((k : Known) → NoPacket k → P k) → Laws → order_at orders l.number ≡ Some l.order → option_and_then (told_by w) (Some l.order) ≡ None → w.full ≡ false
     → let v : World = world_after (with_order (Some l.order) w) (fact.At l.number) in Knows P c orders v (world.play l.order v) → Knows Any c orders w (play_line l w)
-line_knows P weak c orders w l laws e none going rest trace s k fit any =
+line_knows P c orders w l first laws e none going rest trace s k fit any =
     let u : World = with_order (Some l.order) w in
     let m : Made = tell (fact.At l.number ∷ []) u in
     subst (λ (x : Made). x.world.full ≡ false → Fits orders (fold know k x.facts) x.world × Unit {0}) (sym (then_is m (world.play l.order) (ordered_full w l.order ∙ going)))
     (λ full.
+    let agree : Agree orders (know k (fact.At l.number)) m.world = line_agrees orders w l k e none fit.agree in
     let after_line : Sound c (trace ++ fact.At l.number ∷ []) m.world = heard laws c u (fact.At l.number) refl refl trace (ordered_sound c trace (Some l.order) w s) in
     let done : Fits orders (fold know (know k (fact.At l.number)) (world.play l.order m.world).facts) (world.play l.order m.world).world × P (fold know (know k (fact.At l.number)) (world.play l.order m.world).facts) =
     rest (trace ++ fact.At l.number ∷ []) after_line (know k (fact.At l.number))
-    (record { agree = line_agrees orders w l k e none fit.agree; tidy = λ j st h. fit.tidy j st (ap (λ x. at x j) (sym (ordered_nodes w l.order)) ∙ h) }) (weak (know k (fact.At l.number)) refl) full in
+    (record { agree = agree; tidy = λ j st h. fit.tidy j st (ap (λ x. at x j) (sym (ordered_nodes w l.order)) ∙ h) }) (first (know k (fact.At l.number)) refl) full in
     (done.0, tt))
 
 -- an order that gives a node an input and shows something of it
@@ -225,7 +226,7 @@ given_line shows c orders w l n i e still tells plays opens packet told_is no_fa
 
     by : (o : Option Node) → node_at w n ≡ o → Knows Any c orders w (play_line l w)
     by None none =
-        line_knows NoPacket (λ k p. p) c orders w l shows.laws e (tells w ∙ ap (option_map (λ (st : Node). st.who)) none) going
+        line_knows NoPacket c orders w l (λ k p. p) shows.laws e (tells w ∙ ap (option_map (λ (st : Node). st.who)) none) going
         (subst (λ (u : World). Knows NoPacket c orders (world_after u f) (world.play l.order (world_after u f))) (sym (still w))
         (subst (Knows NoPacket c orders v) (sym (plays v ∙ ap (λ o. give_or i o world.nothing v) none)) (silent_knows c orders v)))
     by (Some st) up = λ trace s k fit any.
@@ -234,7 +235,7 @@ given_line shows c orders w l n i e still tells plays opens packet told_is no_fa
         let mine : actor k f ≡ Some st.who = ap (option_and_then (told_by k.world)) there ∙ (ap (λ x. told_by x l.order) fit.agree.world_is ∙ (tells w ∙ ap (option_map (λ (st : Node). st.who)) up)) in
         let a : Along orders k.views st.who (n - 1) (know k f) v (opened i st) =
         subst (Along orders k.views st.who (n - 1) (know k f) v) (line_opened k st l.number l.order there ∙ sym (opens st))
-        (along_shown orders k.views st.who (n - 1) k w st f (plain k f (λ x. ap (λ o. with_order o x) there ∙ still x) (λ x o. refl) (λ x o. refl)) (along_start c orders trace w (n - 1) st k fit.agree up s) mine
+        (along_shown orders k.views st.who (n - 1) k w st f (plain k f (λ x. ap (λ o. with_order o x) there ∙ still x) (λ x n o. refl) (λ x o. refl)) (along_start c orders trace w (n - 1) st k fit.agree up s) mine
         (record { count = fit.agree.knows.count; now = fit.agree.knows.now; posted = fit.agree.knows.posted })) in
         let done : let m : Made = handle i st v in m.world.full ≡ false → Fits orders (fold know (know k f) m.facts) m.world × ((fold know (know k f) m.facts).packet ≡ (know k f).packet) =
         handle_known shows c orders k.views (trace ++ f ∷ []) v (n - 1) st i (know k f) up (may v (trace ++ f ∷ []) after_line st (n - 1) up) after_line fit.tidy no_fail a (sym packet) (told_is k.views) in

@@ -1,8 +1,9 @@
 -- The queries after the steps of the world that are no input, and after deliveries.
-use Rattle.std.proofs.Common.{◌≡◌, ◌<◌, ℕ, zero, suc, ◌+◌, ◌-◌, List, [], ◌∷◌, ◌++◌, length, map, sym, ap, subst, ◌∙◌, refl, true, false, true≢false, arith}
-use Rattle.std.specs.Prelude.{Bool, nat_lt, filter, fold, Option, Some, None, slice_index_or, slice_set, if◌then◌else◌}
+use Rattle.std.proofs.Common.{◌≡◌, ◌<◌, ◌≤◌, ℕ, zero, suc, ◌+◌, ◌-◌, List, [], ◌∷◌, ◌++◌, length, map, sym, ap, subst, ◌∙◌, refl, true, false, true≢false, arith}
+use Rattle.std.specs.Prelude.{Bool, ◌&&◌, nat_lt, filter, fold, Option, Some, None, slice_index_or, slice_set, if◌then◌else◌}
 use Rattle.std.specs.List.{list_all, slice_get}
 use Rattle.std.specs.Option.{option_map}
+use Rattle.std.proofs.lemmas.Bool.Decides.{nat_tests}
 use Rattle.std.proofs.lemmas.List.Sums.{fold-append}
 use Rattle.yard_model.specs.declared.fact.Fact.{Fact}
 use Rattle.yard_model.specs.declared.fact.Fact.TheVariants as fact
@@ -25,15 +26,15 @@ use Rattle.yard_model.specs.Trace.{list_at, lists_step}
 use Rattle.yard_model.specs.Turns.{where_some}
 use Rattle.yard_model.specs.Words.{at, is_at, is_same, is_among}
 use Rattle.yard_model.specs.World as world
-use Rattle.yard_model.specs.World.{World, Made, Step, world_after, tell, then_step, numbered, count_posts, input_facts, with_node, handle, give, node_at}
-use Rattle.yard_laws.proofs.Booleans.{and_both, get_replicate}
-use Rattle.world_laws.specs.Owes.{Hand, hand_after}
-use Rattle.world_laws.specs.Standing.{IsThere}
-use Rattle.world_laws.proofs.Members.{same_is}
-use Rattle.world_laws.proofs.Place.{none_is_not_some, some_is, inside, placed_at, placed_beside, by_place}
-use Rattle.actor_laws.specs.Cluster.{IsMember}
+use Rattle.yard_model.specs.World.{World, Made, Step, world_after, tell, then_step, numbered, count_posts, handle, give, node_at}
+use Rattle.plain_laws.proofs.Booleans.{and_both, get_replicate}
+use Rattle.actor_laws.specs.Owes.{Hand, hand_after}
+use Rattle.node_laws.specs.Members.{IsThere}
+use Rattle.plain_laws.proofs.Members.{same_is}
+use Rattle.plain_laws.proofs.Lists.{none_is_not_some, some_is, inside, placed_at, placed_beside, by_place}
+use Rattle.node_laws.specs.Cluster.{IsMember}
 use Rattle.actor_laws.specs.Held.{held_in_hand}
-use Rattle.actor_laws.specs.NodeTurns.{CrashIs, CrashStands}
+use Rattle.node_laws.specs.NodeTurns.{CrashIs, CrashStands}
 use Rattle.play_laws.specs.Sound.{Sound, IsWell}
 use Rattle.play_laws.proofs.Orders.{well_may, nodes_freed, deliver_leads}
 use Rattle.play_laws.proofs.Steps.{Leads, heard, is_freed, AreFreed, crash_frees}
@@ -42,7 +43,7 @@ use Rattle.query_laws.proofs.Along.{without_nodes, IsViewOf, Along, plain, along
 use Rattle.query_laws.proofs.KnownItems.{at_is}
 use Rattle.query_laws.proofs.KnownTurn.{Shows, Fits, handle_known}
 use Rattle.query_laws.proofs.ShowBase.{same_some}
-use Rattle.query_laws.proofs.Steps.{Agree, IsKnown, agree_still, still_known, nobody_acts, up_known, gone_known, views_known, posted_is}
+use Rattle.query_laws.proofs.Steps.{Agree, IsKnown, agree_still, still_known, nobody_acts, up_known, gone_known, views_known, posted_is, posted_before}
 
 -- what is made is known, where the wire isn't full after it; and what is so of the queries' other words stays so
 abbrev pub Knows : (Known → Type 0) → Script → List Line → World → Made → Type 0
@@ -132,8 +133,8 @@ views_knows c orders w = by_known c orders w (world.views w) (views_known orders
 
 -- A node that comes up.
 
-new_tidy : (set : Setting) (x : Incarnation) → IsTidy (new_node set x)
-new_tidy set x = record {
+new_tidy : (set : Setting) (version : ℕ) (x : Incarnation) → IsTidy (new_node set version x)
+new_tidy set version x = record {
   routed = λ s h. get_replicate set.config.shards s [];
   started = λ e h. ap (λ l. l.stash) (get_replicate (length set.names) (place set e) (new_cell set));
 }
@@ -141,20 +142,20 @@ new_tidy set x = record {
 up_knows : (c : Script) (orders : List Line) (w : World) (x : Incarnation) → Knows Any c orders w (tell (fact.Up x ∷ []) w)
 up_knows c orders w x trace s k fit p full = (record { agree = up_known orders w x k fit.agree; tidy = tidy }, tt)
   where
-    tidy : (j : ℕ) (st : Node) → at (slice_set w.nodes (x.node - 1) (Some (new_node w.set x))) j ≡ Some st → IsTidy st
+    tidy : (j : ℕ) (st : Node) → at (slice_set w.nodes (x.node - 1) (Some (new_node w.set w.behaviour x))) j ≡ Some st → IsTidy st
     tidy j st e = by_place (IsTidy st) j (x.node - 1)
         (λ same. here (nat_lt (x.node - 1) (length w.nodes)) refl same)
-        (λ other. fit.tidy j st (sym (placed_beside w.nodes (x.node - 1) j (Some (new_node w.set x)) other) ∙ e))
+        (λ other. fit.tidy j st (sym (placed_beside w.nodes (x.node - 1) j (Some (new_node w.set w.behaviour x)) other) ∙ e))
       where
         here : (b : Bool) → nat_lt (x.node - 1) (length w.nodes) ≡ b → j ≡ x.node - 1 → IsTidy st
         here b h same = one_of w.nodes (x.node - 1) j same e (λ old. fit.tidy j st old)
           where
-            one_of : (xs : List (Option Node)) (i j : ℕ) → j ≡ i → at (slice_set xs i (Some (new_node w.set x))) j ≡ Some st → (at xs j ≡ Some st → IsTidy st) → IsTidy st
-            one_of xs i j same e old = by_index xs i (subst (λ n. at (slice_set xs i (Some (new_node w.set x))) n ≡ Some st) same e)
+            one_of : (xs : List (Option Node)) (i j : ℕ) → j ≡ i → at (slice_set xs i (Some (new_node w.set w.behaviour x))) j ≡ Some st → (at xs j ≡ Some st → IsTidy st) → IsTidy st
+            one_of xs i j same e old = by_index xs i (subst (λ n. at (slice_set xs i (Some (new_node w.set w.behaviour x))) n ≡ Some st) same e)
               where
-                by_index : (xs : List (Option Node)) (i : ℕ) → at (slice_set xs i (Some (new_node w.set x))) i ≡ Some st → IsTidy st
+                by_index : (xs : List (Option Node)) (i : ℕ) → at (slice_set xs i (Some (new_node w.set w.behaviour x))) i ≡ Some st → IsTidy st
                 by_index [] i g = absurd (none_is_not_some st g)
-                by_index (y ∷ ys) zero g = subst IsTidy (some_is (new_node w.set x) st g) (new_tidy w.set x)
+                by_index (y ∷ ys) zero g = subst IsTidy (some_is (new_node w.set w.behaviour x) st g) (new_tidy w.set w.behaviour x)
                 by_index (y ∷ ys) (suc i) g = by_index ys i g
 
 pub come_up_knows : Shows → (c : Script) (orders : List Line) (w : World) (n : ℕ) → let x : Incarnation = record { node = n; number = slice_index_or w.ups (n - 1) 0 + 1 } in Leads c w (tell (fact.Up x ∷ []) w) → Knows Any c orders w (world.come_up n w)
@@ -210,7 +211,7 @@ down_knows crashes c orders w i st here trace s k fit p full = (
     nobody e p n = false
 
     left : Hand
-    left = record { lists = me.hand.lists; live = [] }
+    left = record { lists = me.hand.lists; live = []; version = me.hand.version }
 
     frees : CrashIs c nobody st left (crash st)
     frees = crashes c nobody st me.hand me.sound me.has.holds
@@ -283,17 +284,23 @@ got_opened k st n p e =
     idle : fold after st first ≡ st
     idle = ap (λ o. record st { coordinator = o }) (same_some (told (fact.Got n)) st.coordinator (λ x. refl))
 
-got_nobody : (c : Script) (orders : List Line) (trace : List Fact) (w : World) (j : ℕ) (p : Packet) (k : Known) → Agree orders k w → slice_get w.wire j ≡ Some p → is_among p.to w.members ≡ false → Sound c trace w
+got_nobody : (c : Script) (orders : List Line) (trace : List Fact) (w : World) (j : ℕ) (p : Packet) (k : Known) → Agree orders k w → posted k.world (suc j) ≡ Some p → is_among p.to w.members ≡ false → Sound c trace w
     → Agree orders (know k (fact.Got (suc j))) (world_after w (fact.Got (suc j)))
-got_nobody c orders trace w j p k a e nobody s =
+got_nobody c orders trace w j p k a there nobody s =
     let f : Fact = fact.Got (suc j) in
-    let acts : actor k f ≡ Some p.to = ap (option_map (λ (q : Packet). q.to)) (posted_is orders k w j p a e) in
+    let acts : actor k f ≡ Some p.to = ap (option_map (λ (q : Packet). q.to)) there in
     agree_still orders k w f a (still_known k f (λ i y h. know_other k f p.to y acts (other i y (ap (λ (v : World). at v.nodes i) (sym a.world_is) ∙ h) (is_same y.who p.to) refl))) refl
     (record { count = a.knows.count; now = a.knows.now; posted = a.knows.posted })
   where
     other : (i : ℕ) (y : Node) → at w.nodes i ≡ Some y → (b : Bool) → is_same y.who p.to ≡ b → is_same y.who p.to ≡ false
     other i y h false e = e
     other i y h true e = absurd (true≢false (sym (s.are_members i y h) ∙ (ap (λ x. is_among x w.members) (same_is y.who p.to e) ∙ nobody)))
+
+-- a packet from before the number of shards last changed
+got_before : (orders : List Line) (w : World) (j : ℕ) (k : Known) → Agree orders k w → nat_lt w.past (suc j) ≡ false → Agree orders (know k (fact.Got (suc j))) (world_after w (fact.Got (suc j)))
+got_before orders w j k a before =
+    let f : Fact = fact.Got (suc j) in
+    agree_still orders k w f a (nobody_acts k f (ap (option_map (λ (q : Packet). q.to)) (posted_before orders k w j a before))) refl (record { count = a.knows.count; now = a.knows.now; posted = a.knows.posted })
 
 told_view : (views : List (List Incarnation)) (p : Packet) → IsViewOf views p.body → IsTold views (input.Packet p)
 told_view views p h = by p.body h
@@ -304,8 +311,8 @@ told_view views p h = by p.body h
 
 -- a packet that is got, at its addressee
 over_known : Shows → (c : Script) (orders : List Line) (trace : List Fact) (w : World) (j : ℕ) (p : Packet) (k : Known) → Fits orders k w → slice_get w.wire j ≡ Some p → Sound c trace w
-    → let got : Fact = fact.Got (suc j) in let m : Made = world.hand_over p (world_after w got) in m.world.full ≡ false → Fits orders (fold know (know k got) m.facts) m.world
-over_known shows c orders trace w j p k fit e s = here (is_among p.to w.members) refl
+    → let got : Fact = fact.Got (suc j) in let m : Made = world.hand_over (suc j) p (world_after w got) in m.world.full ≡ false → Fits orders (fold know (know k got) m.facts) m.world
+over_known shows c orders trace w j p k fit e s = by (nat_lt w.past (suc j)) refl
   where
     got : Fact
     got = fact.Got (suc j)
@@ -313,31 +320,37 @@ over_known shows c orders trace w j p k fit e s = here (is_among p.to w.members)
     v : World
     v = world_after w got
 
-    there : posted k.world (suc j) ≡ Some p
-    there = posted_is orders k w j p fit.agree e
-
     after_got : Sound c (trace ++ got ∷ []) v
     after_got = heard shows.laws c w got refl refl trace s
 
-    well : IsWell c w.lists p
-    well = s.wire_is j p e
+    IsOver : Made → Type 0
+    IsOver m = m.world.full ≡ false → Fits orders (fold know (know k got) m.facts) m.world
 
-    at_node : (st : Node) → at w.nodes (p.to.node - 1) ≡ Some st → st.who ≡ p.to → let m : Made = handle (input.Packet p) st v in m.world.full ≡ false → Fits orders (fold know (know k got) m.facts) m.world
-    at_node st up who full =
+    under : (a j : ℕ) → nat_lt a (suc j) ≡ true → a ≤ j
+    under a j h = grind (arith, nat_tests)
+
+    at_node : nat_lt w.past (suc j) ≡ true → (st : Node) → at w.nodes (p.to.node - 1) ≡ Some st → st.who ≡ p.to → IsOver (handle (input.Packet p) st v)
+    at_node since st up who full =
         let i : ℕ = p.to.node - 1 in
+        let there : posted k.world (suc j) ≡ Some p = posted_is orders k w j p fit.agree since e in
+        let well : IsWell c w.lists p = s.wire_is j p (under w.past j since) e in
         let a : Along orders k.views st.who i (know k got) v (opened (input.Packet p) st) =
         subst (Along orders k.views st.who i (know k got) v) (got_opened k st (suc j) p there)
-        (along_shown orders k.views st.who i k w st got (plain k got (λ u. refl) (λ x o. refl) (λ u o. refl)) (along_start c orders trace w i st k fit.agree up s)
+        (along_shown orders k.views st.who i k w st got (plain k got (λ u. refl) (λ x n o. refl) (λ u o. refl)) (along_start c orders trace w i st k fit.agree up s)
         (ap (option_map (λ (q : Packet). q.to)) there ∙ ap Some (sym who)) (record { count = fit.agree.knows.count; now = fit.agree.knows.now; posted = fit.agree.knows.posted })) in
         (handle_known shows c orders k.views (trace ++ got ∷ []) v i st (input.Packet p) (know k got) up
         (well_may c v p (record { genuine = well.genuine; different = well.different; carried = well.carried }) (trace ++ got ∷ []) after_got st i up) after_got fit.tidy refl a there
         (told_view k.views p (fit.agree.knows.posted j p e)) full).0
 
-    here : (b : Bool) → is_among p.to w.members ≡ b → let m : Made = if b then give (input.Packet p) (node_at v p.to.node) v else tell [] v in m.world.full ≡ false → Fits orders (fold know (know k got) m.facts) m.world
-    here false h = λ full. record { agree = got_nobody c orders trace w j p k fit.agree e h s; tidy = fit.tidy }
-    here true h =
+    here : nat_lt w.past (suc j) ≡ true → (b : Bool) → is_among p.to w.members ≡ b → IsOver (if b then give (input.Packet p) (node_at v p.to.node) v else tell [] v)
+    here since false h = λ full. record { agree = got_nobody c orders trace w j p k fit.agree (posted_is orders k w j p fit.agree since e) h s; tidy = fit.tidy }
+    here since true h =
         let t : IsThere w p.to = s.members_are p.to h in
-        subst (λ o. let m : Made = give (input.Packet p) o v in m.world.full ≡ false → Fits orders (fold know (know k got) m.facts) m.world) (sym t.is_up) (at_node t.node t.is_up t.who_is)
+        subst (λ o. IsOver (give (input.Packet p) o v)) (sym t.is_up) (at_node since t.node t.is_up t.who_is)
+
+    by : (b : Bool) → nat_lt w.past (suc j) ≡ b → IsOver (if b && is_among p.to w.members then give (input.Packet p) (node_at v p.to.node) v else tell [] v)
+    by true since = here since (is_among p.to w.members) refl
+    by false before = λ full. record { agree = got_before orders w j k fit.agree before; tidy = fit.tidy }
 
 -- one step and then another, where the wire isn't full after the first
 pub then_is : (m : Made) (q : Step) → m.world.full ≡ false → then_step m q ≡ record { facts = m.facts ++ (q m.world).facts; world = (q m.world).world }
@@ -351,7 +364,7 @@ deliver_by_knows : Shows → (c : Script) (orders : List Line) (w : World) (j : 
 deliver_by_knows shows c orders w j None e going = nothing_knows Any (λ k p. tt) c orders w
 deliver_by_knows shows c orders w j (Some p) e going =
     let m : Made = tell (fact.Got (suc j) ∷ []) w in
-    subst (Knows Any c orders w) (sym (then_is m (world.hand_over p) going)) (λ trace s k fit any full. (over_known shows c orders trace w j p k fit e s full, tt))
+    subst (Knows Any c orders w) (sym (then_is m (world.hand_over (suc j) p) going)) (λ trace s k fit any full. (over_known shows c orders trace w j p k fit e s full, tt))
 
 pub deliver_knows : Shows → (c : Script) (orders : List Line) (w : World) (n : ℕ) → w.full ≡ false → Knows Any c orders w (world.deliver n w)
 deliver_knows shows c orders w zero going = nothing_knows Any (λ k p. tt) c orders w

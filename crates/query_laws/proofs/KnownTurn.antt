@@ -1,8 +1,7 @@
 -- The queries after one input at a node.
-use Rattle.std.proofs.Common.{◌≡◌, ◌≤◌, ℕ, ◌+◌, ◌-◌, List, [], ◌∷◌, ◌++◌, length, sym, ap, ap₂, subst, ◌∙◌, refl, true, false, true≢false, arith}
+use Rattle.std.proofs.Common.{◌≡◌, ℕ, ◌+◌, ◌-◌, List, [], ◌∷◌, ◌++◌, length, sym, ap, ap₂, subst, ◌∙◌, refl, true, false, true≢false, arith}
 use Rattle.std.specs.Prelude.{Bool, nat_lt, fold, Some, slice_set, if◌then◌else◌}
 use Rattle.std.specs.List.{list_all}
-use Rattle.std.proofs.lemmas.Bool.Decides.{nat_tests}
 use Rattle.std.proofs.lemmas.List.{append-nil}
 use Rattle.std.proofs.lemmas.List.Sums.{fold-append}
 use Rattle.yard_model.specs.declared.fact.Fact.{Fact}
@@ -18,17 +17,21 @@ use Rattle.yard_model.specs.Script.{Script, setting}
 use Rattle.yard_model.specs.Trace.{lists_of}
 use Rattle.yard_model.specs.Words.{at}
 use Rattle.yard_model.specs.World.{World, Made, world_after, all_sends, numbered, count_posts, input_facts, with_node, handle}
-use Rattle.yard_laws.proofs.Booleans.{and_both}
-use Rattle.world_laws.proofs.Place.{some_is, inside, placed_at, placed_beside, by_place}
-use Rattle.actor_laws.specs.Cluster.{IsMember}
-use Rattle.actor_laws.specs.NodeTurns.{MayTake}
-use Rattle.actor_laws.specs.Traces.{recorded, TurnGoesOn}
+use Rattle.plain_laws.proofs.Booleans.{and_both, not_below}
+use Rattle.plain_laws.proofs.Lists.{some_is, inside, placed_at, placed_beside, by_place}
+use Rattle.actor_laws.specs.Owes.{facts_in}
+use Rattle.node_laws.specs.Cluster.{IsMember}
+use Rattle.node_laws.specs.NodeTurns.{MayTake}
+use Rattle.node_laws.specs.Traces.{recorded, TurnGoesOn}
 use Rattle.play_laws.specs.Sound.{Sound}
 use Rattle.play_laws.proofs.Handled.{Laws}
-use Rattle.play_laws.proofs.Tells.{is_turn_fact, is_turn_item, is_no_fail, turn_tells}
+use Rattle.play_laws.proofs.Tells.{is_no_fail, turn_still, turn_tells}
+use Rattle.play_laws.proofs.Turned.{is_still, nodes_still}
+use Rattle.play_laws.specs.TurnItems.{is_turn_fact, is_turn_item}
 use Rattle.query_laws.specs.Shown.{shown, opened, packet_of, IsTold, IsTidy, IsShown, TurnShown}
-use Rattle.query_laws.proofs.Along.{Along, who_stays}
-use Rattle.query_laws.proofs.KnownItems.{along_items, packet_turn, still_turn}
+use Rattle.query_laws.proofs.Along.{Along}
+use Rattle.node_laws.proofs.NodeParts.{who_stays}
+use Rattle.query_laws.proofs.KnownItems.{along_items, packet_turn}
 use Rattle.query_laws.proofs.Steps.{Agree, along_last}
 
 -- what is known of nodes by themselves, of all together, and of what items show
@@ -44,8 +47,9 @@ pub record Fits (orders : List Line) (k : Known) (w : World) : Type 0 where
   pub agree : Agree orders k w
   pub tidy : AreTidy w
 
--- The packet that was got last.
+-- What the facts of an input leave.
 
+-- of the packet that was got last
 packet_on : (limit : ℕ) (is : List Item) (n : ℕ) (k : Known) → list_all is_turn_item is ≡ true → (fold know k (numbered limit n is)).packet ≡ k.packet
 packet_on limit [] n k turn = refl
 packet_on limit (item.Fact f ∷ is) n k turn =
@@ -60,12 +64,12 @@ packet_on limit (item.Post p ∷ is) n k turn = by (nat_lt n limit) (λ j. packe
     by true rest = rest (know k (fact.Sent (n + 1) p))
     by false rest = rest k
 
-pub nodes_on : (limit : ℕ) (is : List Item) (n : ℕ) (w : World) → list_all is_turn_item is ≡ true → (fold world_after w (numbered limit n is)).nodes ≡ w.nodes
-nodes_on limit [] n w turn = refl
-nodes_on limit (item.Fact f ∷ is) n w turn =
-    let t : (is_turn_fact f ≡ true) × (list_all is_turn_item is ≡ true) = and_both (is_turn_fact f) (list_all is_turn_item is) turn in
-    nodes_on limit is n (world_after w f) t.1 ∙ still_turn w.set w.nodes f t.0
-nodes_on limit (item.Post p ∷ is) n w turn = by (nat_lt n limit) (λ v. nodes_on limit is (n + 1) v (and_both (is_turn_item (item.Post p)) (list_all is_turn_item is) turn).1)
+pub nodes_on : (limit : ℕ) (is : List Item) (n : ℕ) (w : World) → list_all is_still (facts_in is) ≡ true → (fold world_after w (numbered limit n is)).nodes ≡ w.nodes
+nodes_on limit [] n w still = refl
+nodes_on limit (item.Fact f ∷ is) n w still =
+    let t : (is_still f ≡ true) × (list_all is_still (facts_in is) ≡ true) = and_both (is_still f) (list_all is_still (facts_in is)) still in
+    nodes_on limit is n (world_after w f) t.1 ∙ nodes_still w.set w.behaviour w.nodes f t.0
+nodes_on limit (item.Post p ∷ is) n w still = by (nat_lt n limit) (λ v. nodes_on limit is (n + 1) v still)
   where
     more : List Fact
     more = numbered limit (n + 1) is
@@ -75,9 +79,6 @@ nodes_on limit (item.Post p ∷ is) n w turn = by (nat_lt n limit) (λ v. nodes_
     by false rest = rest w
 
 -- Where the wire isn't full.
-
-full_facts : (w : World) (is : List Item) → Bool → List Fact
-full_facts w is b = numbered w.limit (length w.wire) is ++ (if b then fact.WireFull ∷ [] else [])
 
 full_ends : (w : World) (fs : List Fact) → (fold world_after w (fs ++ fact.WireFull ∷ [])).full ≡ true
 full_ends w fs = ap (λ (v : World). v.full) (fold-append world_after w fs (fact.WireFull ∷ []))
@@ -94,9 +95,6 @@ not_full w is e = by (nat_lt w.limit (fold count_posts (length w.wire) is)) refl
 
 pub all_numbered : (w : World) (is : List Item) → nat_lt w.limit (fold count_posts (length w.wire) is) ≡ false → input_facts w is ≡ numbered w.limit (length w.wire) is
 all_numbered w is e = ap (λ b. numbered w.limit (length w.wire) is ++ (if b then fact.WireFull ∷ [] else [])) e ∙ append-nil (numbered w.limit (length w.wire) is)
-
-at_most_limit : (a b : ℕ) → nat_lt a b ≡ false → b ≤ a
-at_most_limit a b e = grind (arith, nat_tests)
 
 -- A turn.
 
@@ -158,10 +156,10 @@ turn_known shows c orders views trace w i st given k here may s tidy no_fail a p
     turns = turn_tells (all_sends c) (lists_of (setting c) trace) given st no_fail
 
     along : Along orders views st.who i (fold know k fs) (fold world_after w fs) (shown k (opened given st) is)
-    along = along_items c orders views st.who i w.limit is (length w.wire) k w (opened given st) me.hand set_is lists_are turns go.posts_are go.own_are go.held_are (at_most_limit w.limit (fold count_posts (length w.wire) is) past) a
+    along = along_items c orders views st.who i w.limit is (length w.wire) k w (opened given st) me.hand set_is lists_are turns go.posts_are go.own_are go.held_are (not_below w.limit (fold count_posts (length w.wire) is) past) a
 
     nodes : (with_node now (fold world_after w fs)).nodes ≡ slice_set w.nodes i (Some now)
-    nodes = ap₂ (λ l n. slice_set l n (Some now)) (nodes_on w.limit is (length w.wire) w turns) (back now.who.node i (ap (λ (x : Incarnation). x.node) (who_stays st acts) ∙ me.node_is))
+    nodes = ap₂ (λ l n. slice_set l n (Some now)) (nodes_on w.limit is (length w.wire) w (turn_still (all_sends c) (lists_of (setting c) trace) given st)) (back now.who.node i (ap (λ (x : Incarnation). x.node) (who_stays st acts) ∙ me.node_is))
       where
         back : (a b : ℕ) → a ≡ b + 1 → a - 1 ≡ b
         back a b e = omega (arith, e)

@@ -2,7 +2,7 @@ pub mod Along
 pub mod KnownItems
 pub mod KnownOrders
 pub mod KnownPlay
-pub mod KnownSettle
+pub mod KnownNear
 pub mod KnownSteps
 pub mod KnownTurn
 pub mod Nodes
@@ -17,5 +17,4 @@ pub mod ShowRegion
 pub mod ShowShards
 pub mod ShowTick
 pub mod ShowTurns
-pub mod Showing
 pub mod Steps

@@ -16,8 +16,8 @@ use Rattle.yard_model.specs.Region as region
 use Rattle.yard_model.specs.Setting.{shard_of}
 use Rattle.yard_model.specs.SlotLists.{SlotLists, shard_list}
 use Rattle.yard_model.specs.Turns.{in_turn, for_each}
-use Rattle.yard_laws.proofs.Booleans.{and_both}
-use Rattle.world_laws.proofs.Rules.{all_join, all_if}
+use Rattle.plain_laws.proofs.Booleans.{and_both}
+use Rattle.plain_laws.proofs.Lists.{all_join, all_if}
 use Rattle.query_laws.specs.Shown.{shown}
 use Rattle.query_laws.proofs.ShowBase.{AreShownFrom, with_producers}
 

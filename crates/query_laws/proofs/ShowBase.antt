@@ -9,13 +9,12 @@ use Rattle.yard_model.specs.declared.out.Item.TheVariants as item
 use Rattle.yard_model.specs.declared.packet.Packet.{Packet}
 use Rattle.yard_model.specs.Move.{Move, item_of}
 use Rattle.yard_model.specs.Coordinator.{Coordinator, coordinator_after}
-use Rattle.yard_model.specs.Node.{Node, Act, Rule, move_of, after, items_of}
+use Rattle.yard_model.specs.Node.{Node, Act, move_of, after, items_of}
 use Rattle.yard_model.specs.Producer.{Producer}
 use Rattle.yard_model.specs.Queries.{Known, show}
 use Rattle.yard_model.specs.Script.{Script, setting}
 use Rattle.yard_model.specs.Trace.{lists_step}
-use Rattle.yard_model.specs.Turns.{in_turn}
-use Rattle.world_laws.specs.Owes.{Hand, facts_in, hand_after}
+use Rattle.actor_laws.specs.Owes.{Hand, facts_in, hand_after}
 use Rattle.query_laws.specs.Shown.{fact_of, known_after, shown}
 
 -- the queries know the lists that the node has in hand, and this packet
@@ -37,11 +36,6 @@ knows_on c k h o (item.Fact f ∷ is) n = knows_on c (known_after k (item.Fact f
   packet_is = n.packet_is;
 })
 
--- the views stay
-pub views_on : (k : Known) (is : List Item) → (known_on k is).views ≡ k.views
-views_on k [] = refl
-views_on k (i ∷ is) = views_on (known_after k i) is
-
 pub shown_append : (k : Known) (st : Node) (xs ys : List Item) → shown k st (xs ++ ys) ≡ shown (known_on k xs) (shown k st xs) ys
 shown_append k st [] ys = refl
 shown_append k st (x ∷ xs) ys = shown_append (known_after k x) (fold after st (show k (fact_of x) st)) xs ys
@@ -53,15 +47,6 @@ AreShown k st acts = shown k st (items_of acts) ≡ fold after st acts
 -- from a node that was shown more than its acts have done so far
 abbrev pub AreShownFrom : Known → Node → Node → List Act → Type 0
 AreShownFrom k now st acts = shown k now (items_of acts) ≡ fold after st acts
-
-pub both_shown : (k : Known) (now st : Node) (xs ys : List Act) → (mid : Node) → shown k now (items_of xs) ≡ mid → AreShownFrom (known_on k (items_of xs)) mid (fold after st xs) ys → AreShownFrom k now st (xs ++ ys)
-both_shown k now st xs ys mid f g =
-    ap (shown k now) (flat_map-append (λ a. item_of (move_of a)) xs ys)
-    ∙ (shown_append k now (items_of xs) (items_of ys)
-    ∙ (ap (λ n. shown (known_on k (items_of xs)) n (items_of ys)) f ∙ (g ∙ sym (fold-append after st xs ys))))
-
-pub in_turn_shown : (k : Known) (st : Node) (p q : Rule) → AreShown k st (p st) → AreShown (known_on k (items_of (p st))) (fold after st (p st)) (q (fold after st (p st))) → AreShown k st (in_turn after p q st)
-in_turn_shown k st p q f g = both_shown k st st (p st) (q (fold after st (p st))) (fold after st (p st)) f g
 
 -- Acts of the region, the entities and the coordinator leave the producers as they are; a tick, a Request and an Ack show what was sent before their acts say so, so the producers may be ahead meanwhile.
 
@@ -77,9 +62,6 @@ beside_both k st xs ys f g ps =
     ap (shown k (with_producers ps st)) (flat_map-append (λ a. item_of (move_of a)) xs ys)
     ∙ (shown_append k (with_producers ps st) (items_of xs) (items_of ys)
     ∙ (ap (λ n. shown (known_on k (items_of xs)) n (items_of ys)) (f ps) ∙ (g ps ∙ ap (with_producers ps) (sym (fold-append after st xs ys)))))
-
-pub beside_turn : (k : Known) (st : Node) (p q : Rule) → AreShownBeside k st (p st) → AreShownBeside (known_on k (items_of (p st))) (fold after st (p st)) (q (fold after st (p st))) → AreShownBeside k st (in_turn after p q st)
-beside_turn k st p q f g = beside_both k st (p st) (q (fold after st (p st))) f g
 
 -- a coordinator that a move leaves as it is
 pub same_some : (m : Move) (o : Option Coordinator) → ((k : Coordinator) → coordinator_after k m ≡ k) → option_map (λ k. coordinator_after k m) o ≡ o

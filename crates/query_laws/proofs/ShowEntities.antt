@@ -33,9 +33,9 @@ use Rattle.yard_model.specs.Producer.{Producer}
 use Rattle.yard_model.specs.Queries.{Known, is_passivate, show_item}
 use Rattle.yard_model.specs.SlotReads.{epoch, journal, position, is_remembered}
 use Rattle.yard_model.specs.Turns.{in_turn, for_each, where_some}
-use Rattle.yard_laws.proofs.Booleans.{and_both, both, of_not, all_map, same_name}
+use Rattle.plain_laws.proofs.Booleans.{and_both, both, of_not, all_map, same_name}
 use Rattle.yard_laws.proofs.PartsLaws.{entities_alone}
-use Rattle.world_laws.proofs.Rules.{all_join, all_if, all_some, all_each}
+use Rattle.plain_laws.proofs.Lists.{all_join, all_if, all_some, all_each}
 use Rattle.actor_laws.specs.EntitiesStand.{IsEntities, is_for}
 use Rattle.actor_laws.proofs.EntitiesCells.{place_below}
 use Rattle.query_laws.specs.Shown.{IsCalm, AreCalm, IsTidy, is_calm, known_after, shown}

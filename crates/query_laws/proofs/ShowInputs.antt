@@ -30,10 +30,10 @@ use Rattle.yard_model.specs.Setting.{producers, shards}
 use Rattle.yard_model.specs.SlotLists.{SlotLists, shard_list}
 use Rattle.yard_model.specs.Turns.{for_each}
 use Rattle.yard_model.specs.Words.{at, is_below}
-use Rattle.yard_laws.proofs.Booleans.{all_map}
-use Rattle.world_laws.proofs.Rules.{all_join, all_if, all_some, all_each}
-use Rattle.actor_laws.specs.NodeStands.{IsSoundNode}
-use Rattle.actor_laws.specs.NodeTurns.{IsPromised}
+use Rattle.plain_laws.proofs.Booleans.{all_map}
+use Rattle.plain_laws.proofs.Lists.{all_join, all_if, all_some, all_each}
+use Rattle.node_laws.specs.NodeStands.{IsSoundNode}
+use Rattle.node_laws.specs.NodeTurns.{IsPromised}
 use Rattle.query_laws.specs.Shown.{IsTidy, IsShown, IsToldBody, opened, shown}
 use Rattle.query_laws.proofs.ShowApart.{is_apart, producers_stay, own_shown, region_apart, entities_apart, agains_apart, route_apart, shard_home_apart, host_shard_apart, hand_off_apart}
 use Rattle.query_laws.proofs.ShowBase.{AreShownBeside, with_producers, known_on, beside_both}

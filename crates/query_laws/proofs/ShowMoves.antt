@@ -20,8 +20,10 @@ use Rattle.yard_model.specs.Script.{Setting}
 use Rattle.yard_model.specs.Setting.{place, shard_of}
 use Rattle.yard_model.specs.Words.{at}
 use Rattle.yard_model.specs.Region.{Region, home, is_home}
-use Rattle.yard_laws.proofs.Booleans.{and_both}
+use Rattle.plain_laws.proofs.Booleans.{and_both}
+use Rattle.plain_laws.proofs.Lists.{of_write}
 use Rattle.query_laws.specs.Shown.{IsCalm, AreCalm, IsRouted, is_calm}
+use Rattle.actor_laws.proofs.EntitiesMoves.{set_stays}
 
 -- Tables.
 
@@ -42,14 +44,6 @@ pub set_made : {A : Type 0} (f : A → A) (xs : List A) (i : ℕ) (v d : A) → 
 set_made f [] i v d = refl
 set_made f (x ∷ xs) zero v d = refl
 set_made f (x ∷ xs) (suc i) v d = ap (λ ys. x ∷ ys) (set_made f xs i v d)
-
--- what is so of the new one, and was so of what stood at a place, is so of what stands there
-pub set_keeps : {A : Type 0} (P : A → Type 0) (xs : List A) (i j : ℕ) (v d : A) → (j ≡ i → P v) → P (slice_index_or xs j d) → P (slice_index_or (slice_set xs i v) j d)
-set_keeps P [] i j v d f g = g
-set_keeps P (x ∷ xs) zero zero v d f g = f refl
-set_keeps P (x ∷ xs) zero (suc j) v d f g = g
-set_keeps P (x ∷ xs) (suc i) zero v d f g = g
-set_keeps P (x ∷ xs) (suc i) (suc j) v d f g = set_keeps P xs i j v d (λ e. f (ap (λ n. suc n) e)) g
 
 -- what is made of what stood there
 pub set_reads : {A : Type 0} (f : A → A) (xs : List A) (i : ℕ) (d : A) → f d ≡ d → slice_index_or (slice_set xs i (f (slice_index_or xs i d))) i d ≡ f (slice_index_or xs i d)
@@ -96,16 +90,12 @@ pub cells_of : (st : Entities) (e : List ℕ) (ms : List Move) → AreOf e ms �
 cells_of st e [] h = sym (set_itself st.cells (place st.set e) (new_cell st.set))
 cells_of st e (m ∷ ms) h = cells_of (entities_after st m) e ms h.1 ∙ one_cell st.set st.cells m e (entity_of m) (λ x. fold cell_on x ms) h.0
 
-pub set_stays : (st : Entities) (ms : List Move) → (fold entities_after st ms).set ≡ st.set
-set_stays st [] = refl
-set_stays st (m ∷ ms) = set_stays (entities_after st m) ms
-
 -- where the entity's own cell is calm after moves of it, all are
 pub calm_of : (st : Entities) (e : List ℕ) (ms : List Move) → AreOf e ms → AreCalm st → IsCalm (fold cell_on (cell st e) ms) → AreCalm (fold entities_after st ms)
 calm_of st e ms of calm own x =
     subst (λ set. IsCalm (cell_in set (fold entities_after st ms).cells x)) (sym (set_stays st ms))
     (subst (λ cells. IsCalm (cell_in st.set cells x)) (sym (cells_of st e ms of))
-    (set_keeps IsCalm st.cells (place st.set e) (place st.set x) (fold cell_on (cell st e) ms) (new_cell st.set) (λ same. own) (calm x)))
+    (of_write IsCalm st.cells (place st.set e) (place st.set x) (fold cell_on (cell st e) ms) (new_cell st.set) (λ same. own) (calm x)))
 
 -- Which shards are Running.
 
@@ -115,7 +105,7 @@ is_untaking (took s list) = false
 is_untaking m = true
 
 running_set : (old : List (Option Hosted)) (t s : ℕ) (v : Option Hosted) → (s ≡ t → is_running_in v ≡ true → is_running_in (at old s) ≡ true) → is_running_in (at (slice_set old t v) s) ≡ true → is_running_in (at old s) ≡ true
-running_set old t s v f = set_keeps (λ o. is_running_in o ≡ true → is_running_in (at old s) ≡ true) old t s v None f (λ h. h)
+running_set old t s v f = of_write (λ o. is_running_in o ≡ true → is_running_in (at old s) ≡ true) old t s v None f (λ h. h)
 
 -- one entry more
 running_entered : (f : Fact) (old : List (Option Hosted)) (t s : ℕ) → s ≡ t → is_running_in (option_map (λ (h : Hosted). record { entries = h.entries ++ f ∷ []; stopping = h.stopping }) (at old t)) ≡ true → is_running_in (at old s) ≡ true
@@ -218,7 +208,7 @@ calm_one st m k calm x = by (entity_of m)
   where
     by : (o : Option (List ℕ)) → IsCalm (cell_in st.set (cells_by st.set st.cells m o) x)
     by None = calm x
-    by (Some e) = set_keeps IsCalm st.cells (place st.set e) (place st.set x) (cell_after (cell st e) m) (new_cell st.set) (λ same. calm_after (cell st e) m k (calm e)) (calm x)
+    by (Some e) = of_write IsCalm st.cells (place st.set e) (place st.set x) (cell_after (cell st e) m) (new_cell st.set) (λ same. calm_after (cell st e) m k (calm e)) (calm x)
 
 pub calm_all : (st : Entities) (ms : List Move) → list_all is_calming ms ≡ true → AreCalm st → AreCalm (fold entities_after st ms)
 calm_all st [] h calm = calm
@@ -245,7 +235,7 @@ is_staying (made (item.Fact f)) = stays_by_fact f
 is_staying m = true
 
 same_entered : (f : Fact) (old : List (Option Hosted)) (t s : ℕ) → is_running_in (at (slice_set old t (option_map (λ (h : Hosted). record { entries = h.entries ++ f ∷ []; stopping = h.stopping }) (at old t))) s) ≡ is_running_in (at old s)
-same_entered f old t s = set_keeps (λ o. is_running_in o ≡ is_running_in (at old s)) old t s (option_map (λ (h : Hosted). record { entries = h.entries ++ f ∷ []; stopping = h.stopping }) (at old t)) None
+same_entered f old t s = of_write (λ o. is_running_in o ≡ is_running_in (at old s)) old t s (option_map (λ (h : Hosted). record { entries = h.entries ++ f ∷ []; stopping = h.stopping }) (at old t)) None
     (λ same. by (at old t) ∙ ap (λ n. is_running_in (at old n)) (sym same)) refl
   where
     by : (o : Option Hosted) → is_running_in (option_map (λ (h : Hosted). record { entries = h.entries ++ f ∷ []; stopping = h.stopping }) o) ≡ is_running_in o

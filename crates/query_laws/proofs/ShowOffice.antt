@@ -30,13 +30,13 @@ use Rattle.yard_model.specs.SlotLists.{SlotLists}
 use Rattle.yard_model.specs.SlotReads.{holder, epoch}
 use Rattle.yard_model.specs.Turns.{for_each, where_some}
 use Rattle.yard_model.specs.Words.{is_at, is_among, is_empty, without}
-use Rattle.yard_laws.proofs.Booleans.{and_both, both}
+use Rattle.plain_laws.proofs.Booleans.{and_both, both}
 use Rattle.yard_laws.proofs.PartsLaws.{coordinator_items, region_items}
 use Rattle.yard_laws.proofs.FreeLaws.{region_is_free}
-use Rattle.world_laws.specs.Owes.{Hand, facts_in, hand_after}
-use Rattle.world_laws.proofs.Rules.{all_join, all_if, all_some, all_each}
+use Rattle.actor_laws.specs.Owes.{Hand, facts_in, hand_after}
+use Rattle.plain_laws.proofs.Lists.{all_join, all_if, all_some, all_each}
 use Rattle.actor_laws.specs.CoordinatorStands.{is_coordinator_fact}
-use Rattle.actor_laws.proofs.NodeParts.{free_facts, free_hands}
+use Rattle.node_laws.proofs.NodeParts.{free_facts, free_hands}
 use Rattle.query_laws.specs.Shown.{IsTidy, IsShown, known_after, opened, shown}
 use Rattle.query_laws.proofs.ShowApart.{is_apart, producers_stay, own_shown, coordinator_apart}
 use Rattle.query_laws.proofs.ShowBase.{AreShownBeside, Knows, with_producers, known_on, knows_on, beside_both, shown_append}
@@ -321,7 +321,7 @@ pub view_lists : (c : Script) (k : Known) (st : Node) (v : ℕ) (xs : List Incar
 view_lists c k st v xs set =
     let ms : List Move = region.take_view v xs st.region in
     let is : List Item = items_of (map by_region ms) in
-    let h : Hand = record { lists = k.world.lists; live = [] } in
+    let h : Hand = record { lists = k.world.lists; live = []; version = 1 } in
     let n : Knows c (known_on k is) (fold (hand_after c) h (facts_in is)) k.packet = knows_on c k h k.packet is (record { set_is = set; lists_are = refl; packet_is = refl }) in
     n.lists_are ∙ ap (λ (g : Hand). g.lists) (ap (λ js. fold (hand_after c) h (facts_in js)) (region_items ms) ∙ free_hands c h (facts_in (flat_map item_of ms)) (free_facts ms ((region_is_free st.region).viewed v xs)))
 

@@ -22,7 +22,7 @@ use Rattle.yard_model.specs.declared.incarnation.Cause.TheVariants as cause
 use Rattle.yard_model.specs.Move.{Move, took, demanded, pushed, told, item_of}
 use Rattle.yard_model.specs.Node.{Node, Act, by_producer, move_of, producers_part, after, items_of, of_producer, all_in_turn, acquire_by, acquire, route, route_numbers, push, send_by, produce, send_again, request, ack, packet, turn}
 use Rattle.yard_model.specs.Producer as producer
-use Rattle.yard_model.specs.Producer.{Producer, Progress, producer_after, new_producer}
+use Rattle.yard_model.specs.Producer.{Producer, Progress, producer_after}
 use Rattle.yard_model.specs.Queries.{Known, show_item, show_push}
 use Rattle.yard_model.specs.Script.{Script, Setting, is_name}
 use Rattle.yard_model.specs.Setting.{place, producers}
@@ -30,18 +30,17 @@ use Rattle.yard_model.specs.SlotLists.{SlotLists, queue_list}
 use Rattle.yard_model.specs.SlotReads.{holder, epoch, commands_step, confirmed, confirmed_step, queued}
 use Rattle.yard_model.specs.Turns.{in_turn, for_each, where_some}
 use Rattle.yard_model.specs.Words.{at}
-use Rattle.yard_laws.proofs.Booleans.{and_both}
+use Rattle.plain_laws.proofs.Booleans.{and_both}
+use Rattle.plain_laws.proofs.Lists.{none_is_not_some, inside, placed_at, all_join, all_some, all_each, none_of, of_write}
 use Rattle.yard_laws.proofs.PartsLaws.{producer_alone, producer_items, parts_are_folds}
-use Rattle.world_laws.proofs.Place.{none_is_not_some, inside, placed_at}
-use Rattle.world_laws.proofs.Rules.{all_join, all_some, all_each}
-use Rattle.actor_laws.specs.NodeStands.{IsSoundNode}
-use Rattle.actor_laws.proofs.NodeParts.{set_stays, who_stays}
-use Rattle.actor_laws.proofs.NodeProducers.{put, is_producing, producer_move}
+use Rattle.node_laws.specs.NodeStands.{IsSoundNode}
+use Rattle.node_laws.proofs.NodeParts.{set_stays, who_stays}
+use Rattle.node_laws.proofs.NodeProducers.{put, is_producing, producer_move}
 use Rattle.query_laws.specs.Shown.{IsTidy, IsShown, known_after, opened, shown}
 use Rattle.query_laws.proofs.ShowApart.{is_apart, producers_stay, own_shown, route_apart}
 use Rattle.query_laws.proofs.ShowBase.{AreShown, AreShownBeside, with_producers, known_on, beside_both, same_some}
 use Rattle.query_laws.proofs.ShowInputs.{packet_for, queues_again}
-use Rattle.query_laws.proofs.ShowMoves.{set_itself, set_again, set_made, set_keeps}
+use Rattle.query_laws.proofs.ShowMoves.{set_itself, set_again, set_made}
 use Rattle.query_laws.proofs.ShowRegion.{route_shown, route_tidy, same_sets}
 use Rattle.query_laws.proofs.ShowTick.{sound_well}
 
@@ -418,15 +417,11 @@ takes_shown k st p list (Some h) none known =
     ap₂ (λ ps o. record st { producers = ps; coordinator = o })
     (sym (ap (slice_set st.producers (p - 1)) (no_producer m (at st.producers (p - 1)) none) ∙ set_itself st.producers (p - 1) None)) (same_some m st.coordinator (λ x. refl))
 
-is_there_none : (o : Option Producer) → is_none o ≡ true → o ≡ None
-is_there_none None h = refl
-is_there_none (Some j) h = absurd (true≢false (sym h))
-
 pub produce_shown : (k : Known) (lists : SlotLists) (st : Node) (p : ℕ) → queue_list k.world.lists p ≡ queue_list lists p → AreShown k st (produce lists p st)
 produce_shown k lists st p known = by (is_none (at st.producers (p - 1))) refl
   where
     by : (b : Bool) → is_none (at st.producers (p - 1)) ≡ b → AreShown k st (if b then map (by_producer p) (acquire (slot.Queue p) st.who (queue_list lists p)) else [])
-    by true e = takes_shown k st p (queue_list lists p) (holder (queue_list lists p)) (is_there_none (at st.producers (p - 1)) e) known
+    by true e = takes_shown k st p (queue_list lists p) (holder (queue_list lists p)) (none_of (at st.producers (p - 1)) e) known
     by false e = refl
 
 pub produce_tidy : (lists : SlotLists) (st : Node) (p : ℕ) → IsTidy st → IsTidy (fold after st (produce lists p st))
@@ -494,7 +489,7 @@ entries_stay set who p q [] ps h = refl
 entries_stay set who p q (pushed e n ∷ ms) ps h =
     let o : Option Producer = option_map (λ j. producer_after j (pushed e n)) (at ps (p - 1)) in
     entries_stay set who p q ms (slice_set ps (p - 1) o) h
-    ∙ set_keeps (λ x. option_map (λ (j : Producer). j.entries) x ≡ entries_at ps q) ps (p - 1) (q - 1) o None
+    ∙ of_write (λ x. option_map (λ (j : Producer). j.entries) x ≡ entries_at ps q) ps (p - 1) (q - 1) o None
     (λ same. entries_kept e n (at ps (p - 1)) ∙ ap (λ i. option_map (λ (j : Producer). j.entries) (at ps i)) (sym same)) refl
 entries_stay set who p q (m ∷ ms) ps h = absurd (true≢false (sym (and_both (is_pushed m) (list_all is_pushed ms) h).0))
 

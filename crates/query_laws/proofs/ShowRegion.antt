@@ -26,16 +26,15 @@ use Rattle.yard_model.specs.Region.{Region, region_after, is_routable, is_home, 
 use Rattle.yard_model.specs.Script.{Setting}
 use Rattle.yard_model.specs.Setting.{place, shard_of, shards}
 use Rattle.yard_model.specs.Words.{is_at, is_same, is_among, is_below, is_empty, at}
-use Rattle.yard_laws.proofs.Booleans.{and_both, both}
+use Rattle.plain_laws.proofs.Booleans.{and_both, both}
+use Rattle.plain_laws.proofs.Members.{same_is, same_itself}
+use Rattle.plain_laws.proofs.Lists.{none_is_not_some, all_join, all_if, all_some, all_each, of_write}
 use Rattle.yard_laws.proofs.PartsLaws.{region_alone}
-use Rattle.yard_laws.proofs.HomeLaws.{same_itself}
-use Rattle.world_laws.proofs.Members.{same_is}
-use Rattle.world_laws.proofs.Place.{none_is_not_some}
-use Rattle.world_laws.proofs.Rules.{all_join, all_if, all_some, all_each}
 use Rattle.query_laws.specs.Shown.{AreCalm, IsRouted, IsTidy, is_calm, known_after, shown}
 use Rattle.query_laws.proofs.ShowBase.{AreShownBeside, with_producers, beside_both, same_some}
 use Rattle.query_laws.proofs.ShowEntities.{stays, deliver_shown, deliver_tidy, hands_off_shown, hands_off_tidy}
-use Rattle.query_laws.proofs.ShowMoves.{set_itself, set_keeps}
+use Rattle.query_laws.proofs.ShowMoves.{set_itself}
+use Rattle.node_laws.proofs.NodeStarts.{not_hosted}
 
 -- A message that the region drops changes no cell that is calm.
 
@@ -115,16 +114,16 @@ abbrev routable_at : Incarnation → Bool → Option Incarnation → Bool
 routable_at who running o = if is_none o then false else not (is_at who o) || running
 
 forgot_routed : (r : Region) (st : Entities) (x : Incarnation) (t : ℕ) → IsRouted r st → IsRouted (region_after r (told (fact.Forget x t))) st
-forgot_routed r st x t routed s = set_keeps (λ o. routable_at r.who (is_running st s) o ≡ true → kept_of r.kept s ≡ []) r.homes t s None None (λ same h. absurd (true≢false (sym h))) (routed s)
+forgot_routed r st x t routed s = of_write (λ o. routable_at r.who (is_running st s) o ≡ true → kept_of r.kept s ≡ []) r.homes t s None None (λ same h. absurd (true≢false (sym h))) (routed s)
 
 released_routed : (r : Region) (st : Entities) (t : ℕ) → IsRouted r st → IsRouted (region_after r (released t)) st
-released_routed r st t routed s h = set_keeps (λ l. l ≡ []) r.kept t s (drop 1 (kept_of r.kept t)) [] (λ same. ap (drop 1) (subst (λ n. kept_of r.kept n ≡ []) same (routed s h))) (routed s h)
+released_routed r st t routed s h = of_write (λ l. l ≡ []) r.kept t s (drop 1 (kept_of r.kept t)) [] (λ same. ap (drop 1) (subst (λ n. kept_of r.kept n ≡ []) same (routed s h))) (routed s h)
 
 -- a message is kept of a shard that isn't routable
 kept_routed : (r : Region) (st : Entities) (x : Incarnation) (m : Message) → is_routable r (shard_of r.set m.entity) (is_running st (shard_of r.set m.entity)) ≡ false → IsRouted r st → IsRouted (region_after r (told (fact.Kept x m))) st
 kept_routed r st x m away routed s h =
     let t : ℕ = shard_of r.set m.entity in
-    set_keeps (λ l. l ≡ []) r.kept t s (kept_of r.kept t ++ m ∷ []) [] (λ same. absurd (true≢false (sym h ∙ (ap (λ n. is_routable r n (is_running st n)) same ∙ away)))) (routed s h)
+    of_write (λ l. l ≡ []) r.kept t s (kept_of r.kept t ++ m ∷ []) [] (λ same. absurd (true≢false (sym h ∙ (ap (λ n. is_routable r n (is_running st n)) same ∙ away)))) (routed s h)
 
 one_routed : (r : Region) (st : Entities) (m : Move) → is_keeping m ≡ true → IsRouted r st → IsRouted (region_after r m) st
 one_routed r st (made (item.Fact (fact.Home x s h))) k routed = absurd (true≢false (sym k))
@@ -292,10 +291,6 @@ begin_hand_off_tidy st s stamp from tidy =
     (all_join is_keeping first ack (all_if is_keeping (is_below (region.mark st.region s) stamp) (marked s stamp ∷ region.forget s st.region) [] (forget_all is_keeping s st.region refl) refl) refl)) tidy.routed) tidy
 
 -- HandOff: the delivery shows that a shard is handed off, where it is taken.
-
-not_hosted : (o : Option Hosted) → not (is_none o) ≡ false → o ≡ None
-not_hosted None h = refl
-not_hosted (Some x) h = absurd (true≢false h)
 
 pub hand_off_shown : (k : Known) (st : Node) (s : ℕ) (stamp : Stamp) (from : Incarnation) → is_passivate k.packet ≡ false → AreCalm st.entities → (ps : List (Option Producer))
     → shown k (with_producers ps (fold after st (show_got from (body.HandOff s stamp) st))) (items_of (hand_off s stamp from st)) ≡ with_producers ps (fold after st (hand_off s stamp from st))

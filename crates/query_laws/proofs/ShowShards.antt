@@ -29,18 +29,17 @@ use Rattle.yard_model.specs.SlotLists.{SlotLists, shard_list}
 use Rattle.yard_model.specs.SlotReads.{holder, epoch, is_remembered}
 use Rattle.yard_model.specs.Turns.{in_turn, for_each}
 use Rattle.yard_model.specs.Words.{is_at, is_same, at}
-use Rattle.yard_laws.proofs.Booleans.{and_both, both, same_number}
-use Rattle.yard_laws.proofs.HomeLaws.{same_itself}
+use Rattle.plain_laws.proofs.Booleans.{and_both, both, same_number}
+use Rattle.plain_laws.proofs.Members.{same_is, same_itself}
+use Rattle.plain_laws.proofs.Lists.{by_place, all_if, all_each, of_write}
 use Rattle.yard_laws.proofs.PartsLaws.{region_alone, entities_alone}
-use Rattle.world_laws.proofs.Members.{same_is}
-use Rattle.world_laws.proofs.Place.{by_place}
-use Rattle.world_laws.proofs.Rules.{all_if, all_each}
 use Rattle.query_laws.specs.Shown.{AreCalm, IsTidy, shown}
 use Rattle.query_laws.proofs.ShowBase.{AreShownBeside, with_producers, known_on, shown_append, same_some}
 use Rattle.query_laws.proofs.ShowEntities as showing
 use Rattle.query_laws.proofs.ShowEntities.{entities_shown}
 use Rattle.query_laws.proofs.ShowRegion.{region_shown}
-use Rattle.query_laws.proofs.ShowMoves.{set_itself, set_again, set_keeps, set_reads, calm_all, is_calming, is_staying, runs_same}
+use Rattle.query_laws.proofs.ShowMoves.{set_itself, set_again, set_reads, calm_all, is_calming, is_staying, runs_same}
+use Rattle.node_laws.proofs.NodeStarts.{not_hosted}
 
 -- The node with the kept messages of a shard taken out, where it is routable.
 
@@ -137,7 +136,7 @@ abbrev grant_of : ℕ → Incarnation → List Fact → Fact
 grant_of s who list = fact.Granted (slot.Shard s) (epoch list + 1) who
 
 taken_others : (s t : ℕ) (old : List (Option Hosted)) (list : List Fact) → (t ≡ s → ⊥) → is_running_in (at (slice_set old s (Some (record { entries = list; stopping = None }))) t) ≡ is_running_in (at old t)
-taken_others s t old list other = set_keeps (λ o. is_running_in o ≡ is_running_in (at old t)) old s t (Some (record { entries = list; stopping = None })) None (λ same. absurd (other same)) refl
+taken_others s t old list other = of_write (λ o. is_running_in o ≡ is_running_in (at old t)) old s t (Some (record { entries = list; stopping = None })) None (λ same. absurd (other same)) refl
 
 -- a shard that is routable while it isn't Running is so once it runs
 routable_more : (none at_home now later : Bool) → now ≡ false → (if none then false else not at_home || now) ≡ true → (if none then false else not at_home || later) ≡ true
@@ -195,10 +194,6 @@ remembered_all p s st starts recovers =
     all_if p st.set.config.remember (flat_map (λ e. entities.start_entity e st) names) []
     (all_each p (λ e. entities.start_entity e st) names (λ e. both (p (told (fact.Start st.who e))) (p (post st.who st.who (body.Recovered e)) && true) (starts e) (both (p (post st.who st.who (body.Recovered e))) true (recovers e) refl))) refl
 
-not_hosted : (o : Option Hosted) → not (is_none o) ≡ false → o ≡ None
-not_hosted None h = refl
-not_hosted (Some x) h = absurd (true≢false h)
-
 goes_start : (k : Known) (s : ℕ) (st : Node) (lists : SlotLists) → IsTidyBeside s st → (hosted st.entities s ≡ None → shard_list k.world.lists s ≡ shard_list lists s) → Goes k s st (start lists s st)
 goes_start k s st lists tidy known = by (entities.is_hosted st.entities s) refl
   where
@@ -235,9 +230,9 @@ goes_released k s st tidy opens =
       ahead = λ ps. ap (λ kept. with_producers ps (record st { region = record st.region { kept = kept } })) (twice (is_open s st) opens left);
       tidy = record {
         set_is = tidy.set_is;
-        routed = λ t other now. set_keeps (λ l. l ≡ []) st.region.kept s t left [] (λ same. absurd (other same)) (tidy.routed t other now);
+        routed = λ t other now. of_write (λ l. l ≡ []) st.region.kept s t left [] (λ same. absurd (other same)) (tidy.routed t other now);
         started = tidy.started;
-        kept = λ t. set_keeps (λ l. list_all (is_of st.set t) l ≡ true) st.region.kept s t left [] (λ same. fewer t (kept_of st.region.kept s) (subst (λ n. list_all (is_of st.set t) (kept_of st.region.kept n) ≡ true) same (tidy.kept t))) (tidy.kept t);
+        kept = λ t. of_write (λ l. list_all (is_of st.set t) l ≡ true) st.region.kept s t left [] (λ same. fewer t (kept_of st.region.kept s) (subst (λ n. list_all (is_of st.set t) (kept_of st.region.kept n) ≡ true) same (tidy.kept t))) (tidy.kept t);
       };
     }
   where
@@ -396,7 +391,7 @@ goes_home k s st h tidy well =
           ∙ ap (λ o. record (with_producers ps (emptied s mid)) { coordinator = o }) (same_some (told f) st.coordinator (λ x. refl)));
       tidy = record {
         set_is = well.set_is;
-        routed = λ t other. set_keeps (λ o. routable_at st.region.who (entities.is_running st.entities t) o ≡ true → kept_of st.region.kept t ≡ []) st.region.homes s t (Some h) None (λ same. absurd (other same)) (tidy.routed t);
+        routed = λ t other. of_write (λ o. routable_at st.region.who (entities.is_running st.entities t) o ≡ true → kept_of st.region.kept t ≡ []) st.region.homes s t (Some h) None (λ same. absurd (other same)) (tidy.routed t);
         started = tidy.started;
         kept = well.kept;
       };

@@ -2,7 +2,6 @@
 use Rattle.std.proofs.Common.{◌≡◌, ℕ, zero, suc, ◌+◌, ◌≤◌, List, [], ◌∷◌, ◌++◌, map, sym, ap, subst, ◌∙◌, refl, true, false, true≢false, arith}
 use Rattle.std.specs.Prelude.{Bool, ◌==◌, ◌&&◌, ◌||◌, not, filter, find, unwrap_or, slice_index_or, fold, Option, Some, None, is_none, if◌then◌else◌}
 use Rattle.std.specs.List.{list_all, flat_map}
-use Rattle.std.proofs.lemmas.Bool.Decides.{nat_tests}
 use Rattle.std.proofs.lemmas.Grind.{flat_map-append}
 use Rattle.std.proofs.lemmas.List.Sums.{fold-append}
 use Rattle.yard_model.specs.declared.fact.Fact.{Fact}
@@ -33,16 +32,17 @@ use Rattle.yard_model.specs.SlotLists.{SlotLists, shard_list}
 use Rattle.yard_model.specs.SlotReads.{holder}
 use Rattle.yard_model.specs.Turns.{in_turn, for_each, where_some}
 use Rattle.yard_model.specs.Words.{numbers, is_at, is_among, is_empty, without}
-use Rattle.yard_laws.proofs.Booleans.{and_both, same_number, all_map}
+use Rattle.plain_laws.proofs.Booleans.{and_both, same_number, all_map, not_same}
+use Rattle.plain_laws.proofs.Lists.{all_join, all_if, all_some, all_each}
 use Rattle.yard_laws.proofs.FreeLaws.{region_is_free}
 use Rattle.yard_laws.proofs.PartsLaws.{region_alone, entities_alone, coordinator_items}
-use Rattle.world_laws.specs.Owes.{Hand, facts_in, hand_after}
-use Rattle.world_laws.proofs.Rules.{all_join, all_if, all_some, all_each, region_set}
+use Rattle.actor_laws.specs.Owes.{Hand, facts_in, hand_after}
+use Rattle.actor_laws.proofs.Rules.{region_set}
 use Rattle.actor_laws.specs.EntitiesStand.{IsEntities}
 use Rattle.actor_laws.specs.RegionStands.{IsRegion, is_kept_well}
-use Rattle.actor_laws.specs.NodeStands.{IsSoundNode}
-use Rattle.actor_laws.proofs.NodeBeside.{Beside, beside_none, beside_both, beside_if, region_beside, entities_beside, acquire_beside, remembered_beside, deliver_beside}
-use Rattle.actor_laws.proofs.NodeParts.{set_stays}
+use Rattle.node_laws.specs.NodeStands.{IsSoundNode}
+use Rattle.node_laws.proofs.NodeBeside.{Beside, beside_none, beside_both, beside_if, region_beside, entities_beside, acquire_beside, remembered_beside, deliver_beside}
+use Rattle.node_laws.proofs.NodeParts.{set_stays}
 use Rattle.query_laws.specs.Shown.{AreCalm, IsRouted, IsTidy, known_after, shown}
 use Rattle.query_laws.proofs.ShowBase.{AreShownBeside, Knows, with_producers, shown_append, beside_both as shown_both, known_on, knows_on}
 use Rattle.query_laws.proofs.ShowEntities.{tick_entities_shown, tick_entities_tidy}
@@ -139,7 +139,7 @@ known_packet k (i ∷ is) = known_packet (known_after k i) is
 
 pub lists_beside : (c : Script) (k : Known) (s : ℕ) (st : Node) (acts : List Act) → k.world.set ≡ setting c → Beside c s st acts → shard_list (known_on k (items_of acts)).world.lists s ≡ shard_list k.world.lists s
 lists_beside c k s st acts set b =
-    let h : Hand = record { lists = k.world.lists; live = [] } in
+    let h : Hand = record { lists = k.world.lists; live = []; version = 1 } in
     let n : Knows c (known_on k (items_of acts)) (fold (hand_after c) h (facts_in (items_of acts))) k.packet = knows_on c k h k.packet (items_of acts) (record { set_is = set; lists_are = refl; packet_is = refl }) in
     ap (λ l. shard_list l s) n.lists_are ∙ b.hand_is h
 
@@ -160,9 +160,6 @@ shows_both k st xs ys f g = record {
   tidy = subst IsTidy (sym (fold-append after st xs ys)) g.tidy;
   well = subst IsKeptWell (sym (fold-append after st xs ys)) g.well;
 }
-
-not_same : (x y : ℕ) → x + 1 ≤ y → not (x == y) ≡ true
-not_same x y less = grind (arith, nat_tests)
 
 pub agains_shown : (c : Script) (k : Known) (lists : SlotLists) (a n : ℕ) (st : Node) → k.world.set ≡ setting c → IsSet c st → IsTidy st → IsKeptWell st → AreFound k lists a st → ShowsWell k st (for_each after (start_again lists) (numbers a n) st)
 agains_shown c k lists a zero st set is tidy well found = record { shows = λ ps. refl; tidy = tidy; well = well }
@@ -291,6 +288,7 @@ is_unsharded_fact (fact.Wrote e r) = false
 is_unsharded_fact (fact.Snapshot e n) = false
 is_unsharded_fact (fact.Remembered e) = false
 is_unsharded_fact (fact.Forgotten e) = false
+is_unsharded_fact (fact.Resharded s n k) = false
 is_unsharded_fact f = true
 
 abbrev pub is_unsharded : Move → Bool
@@ -308,6 +306,7 @@ one_list set lists (fact.Wrote e r) h = absurd (true≢false (sym h))
 one_list set lists (fact.Snapshot e n) h = absurd (true≢false (sym h))
 one_list set lists (fact.Remembered e) h = absurd (true≢false (sym h))
 one_list set lists (fact.Forgotten e) h = absurd (true≢false (sym h))
+one_list set lists (fact.Resharded s n k) h = absurd (true≢false (sym h))
 one_list set lists f h = refl
 
 same_lists : (k : Known) (ms : List Move) → list_all is_unsharded ms ≡ true → (known_on k (flat_map item_of ms)).world.lists.shards ≡ k.world.lists.shards

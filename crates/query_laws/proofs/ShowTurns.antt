@@ -1,7 +1,6 @@
 -- Every input as a whole: what its items show of the node is what the turn does to it.
-use Rattle.std.proofs.Common.{◌≡◌, ℕ, ◌+◌, ◌<◌, List, sym, ap, true, true≢false, arith}
-use Rattle.std.specs.Prelude.{Bool, ◌&&◌, ◌==◌, nat_le, fold, None}
-use Rattle.std.proofs.lemmas.Bool.Decides.{nat_tests}
+use Rattle.std.proofs.Common.{◌≡◌, ℕ, ◌+◌, List, sym, ap, true, true≢false}
+use Rattle.std.specs.Prelude.{Bool, ◌&&◌, ◌==◌, fold, None}
 use Rattle.yard_model.specs.declared.input.Input.TheVariants as input
 use Rattle.yard_model.specs.declared.packet.Body.{Body}
 use Rattle.yard_model.specs.declared.packet.Body.TheVariants as body
@@ -13,9 +12,10 @@ use Rattle.yard_model.specs.Queries.{Known}
 use Rattle.yard_model.specs.Script.{Script, setting}
 use Rattle.yard_model.specs.SlotLists.{SlotLists}
 use Rattle.yard_model.specs.World.{all_sends}
-use Rattle.yard_laws.proofs.Booleans.{and_both}
-use Rattle.actor_laws.specs.NodeStands.{IsSoundNode}
-use Rattle.actor_laws.specs.NodeTurns.{IsPromised}
+use Rattle.plain_laws.proofs.Booleans.{and_both}
+use Rattle.yard_laws.proofs.Owns.{producer_above}
+use Rattle.node_laws.specs.NodeStands.{IsSoundNode}
+use Rattle.node_laws.specs.NodeTurns.{IsPromised}
 use Rattle.query_laws.specs.Shown.{IsTidy, IsShown, TurnShown}
 use Rattle.query_laws.proofs.ShowApart.{producers_stay}
 use Rattle.query_laws.proofs.ShowBase.{known_on}
@@ -24,13 +24,7 @@ use Rattle.query_laws.proofs.ShowOffice.{lead_shown, view_lead_shown, tick_coord
 use Rattle.query_laws.proofs.ShowQueues.{IsReady, sound_ready, queues_shown, request_whole, ack_whole, resend_whole, produce_whole, rest_whole, send_whole}
 use Rattle.query_laws.proofs.ShowRegion.{same_sets}
 use Rattle.query_laws.proofs.ShowTick.{front}
-use Rattle.actor_laws.proofs.NodeParts.{set_stays, who_stays}
-
--- a producer's number is above zero
-above_zero : (c : Script) (p : ℕ) → is_producer c p ≡ true → 0 < p
-above_zero c p h =
-    let low : nat_le 1 p ≡ true = (and_both (nat_le 1 p) (nat_le p c.config.producers) h).0 in
-    grind (arith, nat_tests)
+use Rattle.node_laws.proofs.NodeParts.{set_stays, who_stays}
 
 -- The packets of the coordinator and of the producers.
 pub elsewhere_shown : (c : Script) (vouches : List ℕ → ℕ → ℕ → Bool) (k : Known) (lists : SlotLists) (st : Node) (from to : Incarnation) (b : Body) → IsSoundNode c st → IsTidy st → IsPromised c vouches st from b → is_elsewhere b ≡ true
@@ -43,8 +37,8 @@ elsewhere_shown c vouches k lists st from to (body.BeginHandOffAck s stamp) is t
 elsewhere_shown c vouches k lists st from to (body.ShardStopped s stamp) is tidy may h = shard_stopped_whole k lists st from to s stamp tidy
 elsewhere_shown c vouches k lists st from to (body.Request p e n u) is tidy may h =
     let both_are : ((is_producer c p && is_brought c e) ≡ true) × ((u == n + c.config.window) ≡ true) = and_both (is_producer c p && is_brought c e) (u == n + c.config.window) may.genuine in
-    request_whole c k lists st from to p e n u is tidy (above_zero c p (and_both (is_producer c p) (is_brought c e) both_are.0).0)
-elsewhere_shown c vouches k lists st from to (body.Ack p e n) is tidy may h = ack_whole c k lists st from to p e n is tidy (above_zero c p (and_both (is_producer c p) (is_brought c e) may.genuine).0)
+    request_whole c k lists st from to p e n u is tidy (producer_above c p (and_both (is_producer c p) (is_brought c e) both_are.0).0)
+elsewhere_shown c vouches k lists st from to (body.Ack p e n) is tidy may h = ack_whole c k lists st from to p e n is tidy (producer_above c p (and_both (is_producer c p) (is_brought c e) may.genuine).0)
 elsewhere_shown c vouches k lists st from to (body.Resend p e f) is tidy may h = resend_whole c k lists st from to p e f is tidy
 elsewhere_shown c vouches k lists st from to b is tidy may h = absurd (true≢false (sym h))
 
@@ -65,7 +59,7 @@ each_turn_shown c vouches k st input.Tick h script is viewed tidy hand may set k
 each_turn_shown c vouches k st input.Leave h script is viewed tidy hand may set known got views = leave_whole k (all_sends c) h.lists st tidy
 each_turn_shown c vouches k st (input.Rebalance n) h script is viewed tidy hand may set known got views = rebalance_whole k (all_sends c) h.lists st n tidy
 each_turn_shown c vouches k st (input.Produce p) h script is viewed tidy hand may set known got views = produce_whole k (all_sends c) h.lists st p tidy known
-each_turn_shown c vouches k st (input.Rest p) h script is viewed tidy hand may set known got views = rest_whole c k (all_sends c) h.lists st p is tidy (above_zero c p may)
-each_turn_shown c vouches k st (input.Send p) h script is viewed tidy hand may set known got views = send_whole c k (all_sends c) h.lists st p is tidy (above_zero c p may)
+each_turn_shown c vouches k st (input.Rest p) h script is viewed tidy hand may set known got views = rest_whole c k (all_sends c) h.lists st p is tidy (producer_above c p may)
+each_turn_shown c vouches k st (input.Send p) h script is viewed tidy hand may set known got views = send_whole c k (all_sends c) h.lists st p is tidy (producer_above c p may)
 each_turn_shown c vouches k st (input.Passivate e) h script is viewed tidy hand may set known got views = asks_passivate_whole k (all_sends c) h.lists st e tidy
 each_turn_shown c vouches k st (input.FailWrite e a) h script is viewed tidy hand may set known got views = armed_whole k (all_sends c) h.lists st e a tidy

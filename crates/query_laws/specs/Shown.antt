@@ -20,9 +20,9 @@ use Rattle.yard_model.specs.Region.{Region, is_routable, kept_of}
 use Rattle.yard_model.specs.Script.{Script, IsScript, setting}
 use Rattle.yard_model.specs.Trace.{lists_step}
 use Rattle.yard_model.specs.World.{all_sends}
-use Rattle.world_laws.specs.Owes.{Hand}
-use Rattle.actor_laws.specs.NodeStands.{IsSoundNode, IsViewed, NodeInHand}
-use Rattle.actor_laws.specs.NodeTurns.{MayTake}
+use Rattle.actor_laws.specs.Owes.{Hand}
+use Rattle.node_laws.specs.NodeStands.{IsSoundNode, IsViewed, NodeInHand}
+use Rattle.node_laws.specs.NodeTurns.{MayTake}
 
 -- the fact of an item, whatever the number of the packet
 abbrev pub fact_of : Item → Fact

@@ -1,21 +1,29 @@
 //! The machine's words are the answers of the queries.
-ghost use Rattle.query_laws.specs.Known.{PlayedIsKnown, OrdersAreKnown};
+ghost use Rattle.query_laws.specs.Known.{OrdersAreKnown};
 
 use crate::shown::turn_shown;
-use actor_laws::carried::turn_carries;
-use actor_laws::cluster::{
-    cluster_begins, cluster_gains, cluster_hears, cluster_loses, cluster_turns,
+use actor_laws::region::shards_are_there;
+use era_laws::opening::{era_opens, opening_gives_lists, opening_is_quiet};
+use era_laws::reshape::{reshaped_is_lawful, reshaped_keeps_journals};
+use node_laws::carried::turn_carries;
+use node_laws::cluster::{
+    cluster_begins, cluster_gains, cluster_hears, cluster_is_safe, cluster_loses, cluster_turns,
+    cluster_upgrades,
 };
-use actor_laws::hand::{recorded_stays, turn_is_guarded};
-use actor_laws::node::crash_stands;
+use node_laws::hand::{recorded_stays, turn_is_guarded};
+use node_laws::node::crash_stands;
+use play_laws::play::{line_leads_on, played_is_sound};
 
-/// After any number of the orders of any script whose lines have different numbers, every word of the world,
-/// and of each node, is what the queries answer of the facts, where the wire isn't full then.
+/// After any number of the orders of any script whose lines have different numbers, every word of the world
+/// but those of nodes is what the queries answer of the facts; and so is every word of each node, where the
+/// wire isn't full then, and no settle was stopped before its end with a node up since.
 pub fn orders_are_known()
     ensures { OrdersAreKnown }
 {
     turn_shown();
     crash_stands();
+    line_leads_on();
+    played_is_sound();
     cluster_turns();
     turn_is_guarded();
     recorded_stays();
@@ -24,10 +32,12 @@ pub fn orders_are_known()
     cluster_hears();
     cluster_gains();
     cluster_begins();
+    cluster_upgrades();
+    cluster_is_safe();
+    opening_gives_lists();
+    opening_is_quiet();
+    era_opens();
+    reshaped_is_lawful();
+    reshaped_keeps_journals();
+    shards_are_there();
 }
-
-/// After any number of the orders of a script of `up`, `crash`, `deliver` and `pump`, every word of the
-/// world, and of each node, is what the queries answer of the facts, whatever the limit of packets.
-pub fn played_is_known()
-    ensures { PlayedIsKnown }
-{}

@@ -1,36 +1,42 @@
 -- Prefixes.
-use Rattle.std.proofs.Common.{◌≡◌, refl}
-use Rattle.std.specs.Prelude.{Bool, true, ◌&&◌, List, [], ◌∷◌, ◌++◌}
+use Rattle.std.proofs.Common.{◌≡◌, sym, ◌∙◌}
+use Rattle.std.specs.Prelude.{Bool, true, ◌&&◌, List, [], ◌∷◌, ◌++◌, fold}
 use Rattle.yard_model.specs.declared.fact.Fact.{Fact}
-use Rattle.yard_model.specs.Follow.{each_follows}
-use Rattle.yard_model.specs.Lawful.{may_follow}
-use Rattle.yard_model.specs.Script.{Script}
-use Rattle.yard_model.specs.Safe.{guard, shows, is_safe_now}
+use Rattle.yard_model.specs.Lawful.{own, may_follow}
+use Rattle.yard_model.specs.Era.{Era, first_era, era_step}
+use Rattle.yard_model.specs.Safe.{shows, is_safe_now, safe_from}
+use Rattle.yard_model.proofs.FollowLaws.{own_grows}
 use Rattle.yard_laws.specs.Prefixes.{OwnBefore, GuardedBefore, SafeBefore, SafeNow}
-use Rattle.yard_laws.proofs.Booleans.{and_both, both}
-use Rattle.yard_laws.proofs.Follows.{follows_to}
-
-follows_before : {A : Type 0} (may : List A → A → Bool) (before xs ys : List A) → each_follows may before (xs ++ ys) ≡ true → each_follows may before xs ≡ true
-follows_before may before [] ys e = refl
-follows_before may before (x ∷ xs) ys e =
-    let m : (may before x ≡ true) × (each_follows may (before ++ x ∷ []) (xs ++ ys) ≡ true) = and_both (may before x) (each_follows may (before ++ x ∷ []) (xs ++ ys)) e in
-    both (may before x) (each_follows may (before ++ x ∷ []) xs) m.0 (follows_before may (before ++ x ∷ []) xs ys m.1)
+use Rattle.plain_laws.proofs.Booleans.{and_both, both}
+use Rattle.yard_laws.proofs.Guarding.{guarded_was}
 
 pub own_before : OwnBefore
-own_before c s list more e = follows_before (may_follow c s) [] list more e
+own_before c s list f within e = (and_both (own c s list) (may_follow c s list f) (sym (own_grows c s list f within) ∙ e)).0
 
 pub guarded_before : GuardedBefore
-guarded_before c trace more e = follows_before (guard c) [] trace more e
+guarded_before c trace more within e = guarded_was c trace more within e
 
-abbrev safe_step : Script → List Fact → Fact → Bool
-safe_step c before f = shows c before f && is_safe_now c (before ++ f ∷ [])
+-- what stands at an era's beginning
+safe_first : (era : Era) (fs : List Fact) → safe_from era fs ≡ true → is_safe_now era.script era.trace ≡ true
+safe_first era [] e = e
+safe_first era (f ∷ fs) e =
+    let a : Bool = is_safe_now era.script era.trace in
+    let b : Bool = shows era.script era.trace f in
+    (and_both a b (and_both (a && b) (safe_from (era_step era f) fs) e).0).0
+
+from_before : (era : Era) (fs more : List Fact) → safe_from era (fs ++ more) ≡ true → safe_from era fs ≡ true
+from_before era [] more e = safe_first era more e
+from_before era (f ∷ fs) more e =
+    let a : Bool = is_safe_now era.script era.trace && shows era.script era.trace f in
+    let m : (a ≡ true) × (safe_from (era_step era f) (fs ++ more) ≡ true) = and_both a (safe_from (era_step era f) (fs ++ more)) e in
+    both a (safe_from (era_step era f) fs) m.0 (from_before (era_step era f) fs more m.1)
 
 pub safe_before : SafeBefore
-safe_before c trace more e =
-    let m : (is_safe_now c [] ≡ true) × (each_follows (safe_step c) [] (trace ++ more) ≡ true) = and_both (is_safe_now c []) (each_follows (safe_step c) [] (trace ++ more)) e in
-    both (is_safe_now c []) (each_follows (safe_step c) [] trace) m.0 (follows_before (safe_step c) [] trace more m.1)
+safe_before c trace more e = from_before (first_era c) trace more e
+
+from_now : (era : Era) (fs : List Fact) → safe_from era fs ≡ true → let end : Era = fold era_step era fs in is_safe_now end.script end.trace ≡ true
+from_now era [] e = e
+from_now era (f ∷ fs) e = from_now (era_step era f) fs (and_both (is_safe_now era.script era.trace && shows era.script era.trace f) (safe_from (era_step era f) fs) e).1
 
 pub safe_now : SafeNow
-safe_now c trace e =
-    let m : (is_safe_now c [] ≡ true) × (each_follows (safe_step c) [] trace ≡ true) = and_both (is_safe_now c []) (each_follows (safe_step c) [] trace) e in
-    follows_to (safe_step c) (λ t. is_safe_now c t ≡ true) (λ t f k s. (and_both (shows c t f) (is_safe_now c (t ++ f ∷ [])) s).1) [] trace m.0 m.1
+safe_now c trace e = from_now (first_era c) trace e

@@ -1,10 +1,9 @@
 -- Lists in which each item may follow those before it.
-use Rattle.std.proofs.Common.{◌≡◌, sym, ap, ◌∙◌, refl, subst}
-use Rattle.std.specs.Prelude.{Bool, true, ◌&&◌, List, [], ◌∷◌, ◌++◌}
-use Rattle.std.proofs.Math.Bool.{and-true, and_assoc}
+use Rattle.std.proofs.Common.{◌≡◌, sym, refl, subst}
+use Rattle.std.specs.Prelude.{Bool, true, List, [], ◌∷◌, ◌++◌}
 use Rattle.std.proofs.lemmas.List.{append-nil, append_assoc}
 use Rattle.yard_model.specs.Follow.{each_follows}
-use Rattle.yard_laws.proofs.Booleans.{and_both, both}
+use Rattle.plain_laws.proofs.Booleans.{and_both, both}
 
 -- what holds at the start and is kept by each item holds at the end
 pub follows_to : {A : Type 0} (may : List A → A → Bool) (P : List A → Type 0) → ((before : List A) (x : A) → P before → may before x ≡ true → P (before ++ x ∷ []))

@@ -16,12 +16,14 @@ use Rattle.yard_model.specs.Words.{is_same, is_at, is_among, is_empty, is_below}
 use Rattle.yard_model.specs.Turns.{where_some}
 use Rattle.yard_model.specs.Trace.{lists_of, lists_step}
 use Rattle.yard_model.specs.SlotLists.{SlotLists}
+use Rattle.yard_model.specs.Era.{upgrade_step, version_in}
 use Rattle.yard_model.specs.Safe.{live_at, live_step}
+use Rattle.std.proofs.lemmas.List.Sums.{fold-append}
 use Rattle.yard_model.specs.Move.{Move, marked, told, post}
 use Rattle.yard_model.specs.Region as region
 use Rattle.yard_model.specs.Region.{Region}
-use Rattle.yard_laws.specs.Free.{is_free, is_free_move, FreeIsGuarded, FreeLeavesLists, FreeLeavesLive, RegionIsFree}
-use Rattle.yard_laws.proofs.Booleans.{true_is_not_false, both}
+use Rattle.yard_laws.specs.Free.{is_free, is_free_move, FreeIsGuarded, FreeLeavesLists, FreeLeavesLive, FreeLeavesVersion, RegionIsFree}
+use Rattle.plain_laws.proofs.Booleans.{true_is_not_false, both}
 use Rattle.yard_laws.proofs.Owns.{lists_more}
 use Rattle.yard_laws.proofs.SafetyLaws.{live_more}
 
@@ -43,6 +45,11 @@ free_is_guarded c trace (fact.Dropped x m) h = refl
 free_is_guarded c trace (fact.Stashed x m) h = refl
 free_is_guarded c trace (fact.Armed e k) h = refl
 free_is_guarded c trace (fact.Waits p e k) h = refl
+free_is_guarded c trace (fact.SentAsk k x) h = refl
+free_is_guarded c trace (fact.SentJob k x e) h = refl
+free_is_guarded c trace (fact.SentDone k x e) h = refl
+free_is_guarded c trace (fact.Given e x) h = refl
+free_is_guarded c trace (fact.Did x e) h = refl
 free_is_guarded c trace f h = absurd (true_is_not_false (sym h))
 
 step_free : (c : Script) (lists : SlotLists) (f : Fact) → is_free f ≡ true → lists_step (setting c) lists f ≡ lists
@@ -63,6 +70,11 @@ step_free c lists (fact.Dropped x m) h = refl
 step_free c lists (fact.Stashed x m) h = refl
 step_free c lists (fact.Armed e k) h = refl
 step_free c lists (fact.Waits p e k) h = refl
+step_free c lists (fact.SentAsk k x) h = refl
+step_free c lists (fact.SentJob k x e) h = refl
+step_free c lists (fact.SentDone k x e) h = refl
+step_free c lists (fact.Given e x) h = refl
+step_free c lists (fact.Did x e) h = refl
 step_free c lists f h = absurd (true_is_not_false (sym h))
 
 live_free : (e : List ℕ) (live : List Incarnation) (f : Fact) → is_free f ≡ true → live_step e live f ≡ live
@@ -77,6 +89,13 @@ free_leaves_lists c trace f h = lists_more c trace f ∙ step_free c (lists_of (
 
 pub free_leaves_live : FreeLeavesLive
 free_leaves_live e trace f h = live_more e trace f ∙ live_free e (live_at e trace) f h
+
+version_free : (v : ℕ) (f : Fact) → is_free f ≡ true → upgrade_step v f ≡ v
+version_free v (fact.Upgrade w) h = absurd (true_is_not_false (sym h))
+version_free v f h = refl
+
+pub free_leaves_version : FreeLeavesVersion
+free_leaves_version trace f h = fold-append upgrade_step 1 trace (f ∷ []) ∙ version_free (version_in trace) f h
 
 -- Moves that are put together.
 

@@ -1,8 +1,7 @@
 -- The coordinator's rules.
-use Rattle.std.proofs.Common.{◌≡◌, ◌<◌, ℕ, ◌+◌, ap, refl, arith}
-use Rattle.std.specs.Prelude.{Bool, true, false, ◌==◌, ◌&&◌, ◌||◌, not, nat_lt, List, [], ◌∷◌, ◌++◌, length, map, filter, find, fold, is_none, unwrap_or, if◌then◌else◌, slice_index_or}
+use Rattle.std.proofs.Common.{◌≡◌, ◌<◌, ℕ, ◌+◌, ap, refl}
+use Rattle.std.specs.Prelude.{Bool, true, false, ◌&&◌, ◌||◌, not, nat_lt, List, [], ◌∷◌, ◌++◌, length, map, filter, find, fold, is_none, unwrap_or, if◌then◌else◌, slice_index_or}
 use Rattle.std.specs.List.{list_all, flat_map}
-use Rattle.std.proofs.lemmas.Bool.Decides.{nat_tests}
 use Rattle.yard_model.specs.declared.fact.Fact.TheVariants as fact
 use Rattle.yard_model.specs.declared.packet.Body.TheVariants as body
 use Rattle.yard_model.specs.declared.incarnation.Incarnation.{Incarnation}
@@ -10,7 +9,7 @@ use Rattle.yard_model.specs.declared.incarnation.Stamp.{Stamp}
 use Rattle.yard_model.specs.declared.incarnation.Slot.TheVariants as slot
 use Rattle.yard_model.specs.Script.{Script}
 use Rattle.yard_model.specs.Setting.{shards}
-use Rattle.yard_model.specs.Words.{is_same, is_at, is_among, is_empty, without}
+use Rattle.yard_model.specs.Words.{is_at, is_among, is_empty, without}
 use Rattle.yard_model.specs.Genuine.{is_node, is_shard}
 use Rattle.yard_model.specs.Lawful.{own, is_held, may_follow}
 use Rattle.yard_model.specs.SlotReads.{regions, allocation}
@@ -18,10 +17,11 @@ use Rattle.yard_model.specs.Turns.{where_some}
 use Rattle.yard_model.specs.Move.{Move, quits, started, acknowledged, told, post}
 use Rattle.yard_model.specs.Coordinator as coordinator
 use Rattle.yard_model.specs.Coordinator.{Coordinator, Moving, Share, coordinator_after, coordinator_step}
+use Rattle.yard_model.proofs.FollowLaws.{own_more}
+use Rattle.plain_laws.proofs.Booleans.{and_both, both, all_filter, is_below}
+use Rattle.plain_laws.proofs.Members.{each_among}
 use Rattle.yard_laws.specs.Free.{is_free_move}
 use Rattle.yard_laws.specs.Homes.{CoordinatorIsFree, IsCoordinatorHeld, CoordinatorKeepsHomes}
-use Rattle.yard_laws.proofs.Booleans.{and_both, both, left_of, right_of, number_itself, all_map, all_filter}
-use Rattle.yard_model.proofs.FollowLaws.{own_more}
 use Rattle.yard_laws.proofs.FreeLaws.{AreFree, join, either, of_some, of_each}
 
 -- Rules that tell free facts alone.
@@ -97,15 +97,12 @@ coordinator_is_free st = record {
 
 -- Registration.
 
-below_is : (a b : ℕ) → a < b → nat_lt a b ≡ true
-below_is a b h = grind (arith, nat_tests)
-
 register_follows : (c : Script) (st : Coordinator) (from : Incarnation) → is_held st.entries ≡ true → is_node c from ≡ true → is_among from (regions st.entries) ≡ false → length (regions st.entries) < 16
     → may_follow c slot.Coordinator st.entries (fact.Registered from) ≡ true
 register_follows c st from held node new room =
     both (is_held st.entries) (is_node c from && not (is_among from (regions st.entries)) && nat_lt (length (regions st.entries)) 16) held
     (both (is_node c from && not (is_among from (regions st.entries))) (nat_lt (length (regions st.entries)) 16)
-    (both (is_node c from) (not (is_among from (regions st.entries))) node (ap not new)) (below_is (length (regions st.entries)) 16 room))
+    (both (is_node c from) (not (is_among from (regions st.entries))) node (ap not new)) (is_below (length (regions st.entries)) 16 room))
 
 registers : (c : Script) (st : Coordinator) (from : Incarnation) → IsCoordinatorHeld c st → is_node c from ≡ true → length (regions st.entries) < 16 → (viewed there : Bool) → is_among from (regions st.entries) ≡ there
     → own c slot.Coordinator (fold coordinator_step st.entries (if viewed then (if there then [] else told (fact.Registered from) ∷ []) ++ post st.who from body.RegisterAck ∷ [] else [])) ≡ true
@@ -114,15 +111,6 @@ registers c st from k node room true true e = k.own_is
 registers c st from k node room true false e = own_more c slot.Coordinator st.entries (fact.Registered from) k.own_is (register_follows c st from k.held_is node e room)
 
 -- Allocation.
-
-pub same_itself : (x : Incarnation) → is_same x x ≡ true
-same_itself x = both (x.node == x.node) (x.number == x.number) (number_itself x.node x.node refl) (number_itself x.number x.number refl)
-
-pub each_among : (xs : List Incarnation) → list_all (λ r. is_among r xs) xs ≡ true
-each_among [] = refl
-each_among (x ∷ xs) =
-    both (is_among x (x ∷ xs)) (list_all (λ r. is_among r (x ∷ xs)) xs) (left_of (is_same x x) (is_among x xs) (same_itself x))
-    (all_map (λ r. is_among r xs) (λ r. is_among r (x ∷ xs)) (λ r e. right_of (is_same r x) (is_among r xs) e) xs (each_among xs))
 
 -- what holds of all shares holds of the best
 best_fold : (p : Share → Bool) (beats : Share → Share → Bool) (x : Share) (xs : List Share) → p x ≡ true → list_all p xs ≡ true → p (fold (λ best y. if beats y best then y else best) x xs) ≡ true

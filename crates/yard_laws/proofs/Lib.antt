@@ -1,12 +1,13 @@
 pub mod Before
-pub mod Booleans
 pub mod EntryLaws
 pub mod Follows
 pub mod FreeLaws
+pub mod Guarding
 pub mod HomeLaws
 pub mod Live
 pub mod LocalLaws
 pub mod LostLaws
+pub mod Owned
 pub mod Owns
 pub mod PartsLaws
 pub mod Places

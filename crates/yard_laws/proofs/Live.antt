@@ -1,9 +1,8 @@
 -- Who is live holds the shard: one guarded fact more.
 use Rattle.std.proofs.Common.{◌≡◌, ◌<◌, ℕ, sym, ap, ◌∙◌, refl, subst}
-use Rattle.std.specs.Prelude.{Bool, true, false, ◌==◌, ◌&&◌, ◌||◌, not, cond, is_some, List, [], ◌∷◌, ◌++◌, length, if◌then◌else◌, Option, Some, None, slice_index_or, slice_set}
+use Rattle.std.specs.Prelude.{Bool, true, false, ◌==◌, not, cond, is_some, List, [], ◌∷◌, ◌++◌, length, if◌then◌else◌, Option, Some, None, slice_index_or, slice_set, ◌&&◌}
 use Rattle.std.specs.List.{list_all}
 use Rattle.std.proofs.lemmas.List.Sums.{fold-append}
-use Rattle.std.proofs.lemmas.List.Folds.{list_all-append}
 use Rattle.std.proofs.lemmas.List.{get_or-set_same, get_or-set_other}
 use Rattle.yard_model.specs.declared.fact.Fact.{Fact}
 use Rattle.yard_model.specs.declared.fact.Fact.TheVariants as fact
@@ -11,25 +10,19 @@ use Rattle.yard_model.specs.declared.incarnation.Incarnation.{Incarnation}
 use Rattle.yard_model.specs.declared.incarnation.Slot.TheVariants as slot
 use Rattle.yard_model.specs.Script.{Script, setting, is_name}
 use Rattle.yard_model.specs.Setting.{shard_of}
-use Rattle.yard_model.specs.Words.{is_same, is_at, is_among, is_empty, without}
-use Rattle.yard_model.specs.Genuine.{is_shard}
+use Rattle.yard_model.specs.Words.{is_same, is_at, is_empty, without}
+use Rattle.yard_model.specs.Genuine.{is_shard, is_brought}
 use Rattle.yard_model.specs.SlotLists.{SlotLists, shard_list}
 use Rattle.yard_model.specs.SlotReads.{holder, holder_step}
 use Rattle.yard_model.specs.Trace.{with_entry, lists_step, lists_of}
 use Rattle.yard_model.specs.Lawful.{may_follow, is_leased, is_held, is_entry}
-use Rattle.yard_model.specs.Safe.{live_at, live_step, at_most_holder, own_guard, cross_guard, guard}
+use Rattle.yard_model.specs.Safe.{live_at, live_step, at_most_holder}
+use Rattle.yard_model.specs.Guards.{own_guard, cross_guard, guard}
+use Rattle.plain_laws.proofs.Booleans.{true_is_not_false, and_both, of_not, same_number, number_itself, other_number, below, same_name, all_map, all_where}
+use Rattle.plain_laws.proofs.Members.{same_both}
 use Rattle.yard_laws.specs.Guarded.{Owns}
-use Rattle.yard_laws.proofs.Booleans.{true_is_not_false, and_both, both, of_not, same_number, number_itself, other_number, below, same_name, all_map, all_where, all_filter}
 
 -- Incarnations that are found the same.
-
-pub same_both : (x y w : Incarnation) → is_same x w ≡ true → is_same y w ≡ true → is_same x y ≡ true
-same_both x y w e f =
-    let a : ((x.node == w.node) ≡ true) × ((x.number == w.number) ≡ true) = and_both (x.node == w.node) (x.number == w.number) e in
-    let b : ((y.node == w.node) ≡ true) × ((y.number == w.number) ≡ true) = and_both (y.node == w.node) (y.number == w.number) f in
-    both (x.node == y.node) (x.number == y.number)
-    (number_itself x.node y.node (same_number x.node w.node a.0 ∙ sym (same_number y.node w.node b.0)))
-    (number_itself x.number y.number (same_number x.number w.number a.1 ∙ sym (same_number y.number w.number b.1)))
 
 pub both_held : (x y : Incarnation) (h : Option Incarnation) → is_at x h ≡ true → is_at y h ≡ true → is_same x y ≡ true
 both_held x y None e f = absurd (true_is_not_false (sym e))
@@ -146,9 +139,10 @@ live_held c trace (fact.Wrote x r) k h g = entry_held c trace (fact.Wrote x r) (
 live_held c trace (fact.Snapshot x m) k h g = entry_held c trace (fact.Snapshot x m) (shard_of (setting c) x) k h (and_both (own_guard c trace (fact.Snapshot x m) (Some (slot.Shard (shard_of (setting c) x)))) _ g).0 (λ o. refl)
 live_held c trace (fact.Remembered x) k h g = entry_held c trace (fact.Remembered x) (shard_of (setting c) x) k h (and_both (own_guard c trace (fact.Remembered x) (Some (slot.Shard (shard_of (setting c) x)))) _ g).0 (λ o. refl)
 live_held c trace (fact.Forgotten x) k h g = entry_held c trace (fact.Forgotten x) (shard_of (setting c) x) k h (and_both (own_guard c trace (fact.Forgotten x) (Some (slot.Shard (shard_of (setting c) x)))) _ g).0 (λ o. refl)
+live_held c trace (fact.Resharded s n j) k h g = entry_held c trace (fact.Resharded s n j) s k h (and_both (own_guard c trace (fact.Resharded s n j) (Some (slot.Shard s))) _ g).0 (λ o. refl)
 live_held c trace (fact.Start x y) k h g =
     let lists : SlotLists = lists_of (setting c) trace in
-    let guards : (is_at x (holder (shard_list lists (shard_of (setting c) y))) ≡ true) × (is_empty (live_at y trace) ≡ true) = and_both _ (is_empty (live_at y trace)) (and_both true (cross_guard c trace (fact.Start x y)) g).1 in
+    let guards : (is_at x (holder (shard_list lists (shard_of (setting c) y))) ≡ true) × (is_empty (live_at y trace) ≡ true) = (let at_holder : Bool = is_at x (holder (shard_list lists (shard_of (setting c) y))) in let none : Bool = is_empty (live_at y trace) in let m : ((is_brought c y && at_holder) ≡ true) × (none ≡ true) = and_both (is_brought c y && at_holder) none (and_both true (is_brought c y && at_holder && none) g).1 in ((and_both (is_brought c y) at_holder m.0).1, m.1)) in
     all_map (held_at c trace) (λ e. held_in c lists e (if is_name y e then live_at e trace ++ x ∷ [] else live_at e trace))
     (λ e old.
     held_if (is_name y e) (holder (shard_list lists (shard_of (setting c) e))) (live_at e trace) (live_at e trace ++ x ∷ []) old (λ it.

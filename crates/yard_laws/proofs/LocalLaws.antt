@@ -5,6 +5,8 @@ use Rattle.std.specs.List.{list_all, list_any}
 use Rattle.std.specs.Option.{option_map_or}
 use Rattle.std.proofs.lemmas.List.{get_or-set_same, get_or-set_other, length-set, length-replicate}
 use Rattle.std.proofs.lemmas.List.Folds.{list_any-append}
+use Rattle.yard_model.specs.Era.{version_in}
+use Rattle.yard_model.specs.Lawful.{is_decided}
 use Rattle.yard_model.specs.declared.fact.Fact.{Fact}
 use Rattle.yard_model.specs.declared.fact.Fact.TheVariants as fact
 use Rattle.yard_model.specs.declared.incarnation.Incarnation.{Incarnation}
@@ -15,13 +17,15 @@ use Rattle.yard_model.specs.Setting.{shard_of, names_of}
 use Rattle.yard_model.specs.Words.{is_same, is_at, is_among, is_empty, without}
 use Rattle.yard_model.specs.Genuine.{is_slot_of, is_brought}
 use Rattle.yard_model.specs.SlotLists.{SlotLists, shard_list, queue_list}
-use Rattle.yard_model.specs.SlotReads.{holder}
+use Rattle.yard_model.specs.SlotReads.{holder, journal}
 use Rattle.yard_model.specs.Trace.{slot_of, list_at, with_entry, lists_step, lists_of, no_lists}
-use Rattle.yard_model.specs.Safe.{live_at, live_step, at_most_holder, one_live, own_guard, cross_guard, guard}
+use Rattle.yard_model.specs.Safe.{live_at, live_step, at_most_holder, one_live, shard_list_of}
+use Rattle.yard_model.specs.Guards.{own_guard, cross_guard}
+use Rattle.plain_laws.proofs.Booleans.{true_is_not_false, and_both, both, of_not, same_number, same_name, below}
+use Rattle.plain_laws.proofs.Members.{among_fewer}
 use Rattle.yard_laws.specs.Local.{ListGrows, OtherListsStay, starter, OthersLiveOn, GuardedByItsActor}
-use Rattle.yard_laws.proofs.Booleans.{true_is_not_false, and_both, both, of_not, same_number, same_name, below}
 use Rattle.yard_laws.proofs.Owns.{lists_more, producer_above, producer_within}
-use Rattle.yard_laws.proofs.Live.{same_both, both_held}
+use Rattle.yard_laws.proofs.Live.{both_held}
 use Rattle.yard_laws.proofs.SafetyLaws.{live_more}
 
 -- There is a list for each slot, whatever the facts.
@@ -89,22 +93,6 @@ among_more x y live other = list_any-append (is_same x) live (y ∷ []) ∙ (ap 
     or_none true = refl
     or_none false = refl
 
--- the same incarnation as one that is the same as another
-same_as : (x y z : Incarnation) → is_same y z ≡ true → is_same x z ≡ true → is_same x y ≡ true
-same_as x y z e f = same_both x y z f e
-
-pub among_fewer : (x y : Incarnation) (live : List Incarnation) → is_same x y ≡ false → is_among x (without y live) ≡ is_among x live
-among_fewer x y [] other = refl
-among_fewer x y (z ∷ zs) other = step (is_same y z) refl (among_fewer x y zs other)
-  where
-    no : (b : Bool) → is_same x z ≡ b → is_same y z ≡ true → is_same x z ≡ false
-    no true e f = absurd (true_is_not_false (sym (same_as x y z f e) ∙ other))
-    no false e f = e
-
-    step : (b : Bool) → is_same y z ≡ b → is_among x (without y zs) ≡ is_among x zs → is_among x (cond (not b) (z ∷ without y zs) (without y zs)) ≡ (is_same x z || is_among x zs)
-    step true e rest = rest ∙ ap (λ b. b || is_among x zs) (sym (no (is_same x z) refl e))
-    step false e rest = ap (λ b. is_same x z || b) rest
-
 among_if : (b : Bool) (x : Incarnation) (new old : List Incarnation) → is_among x new ≡ is_among x old → is_among x (if b then new else old) ≡ is_among x old
 among_if true x new old e = e
 among_if false x new old e = refl
@@ -156,10 +144,12 @@ guarded_by_its_actor x c trace (fact.Start y e) j o g =
     let h : Option Incarnation = holder (shard_list (lists_of (setting c) trace) (shard_of (setting c) e)) in
     let m : ((is_brought c e && is_at y h) ≡ true) × (not (is_among y (live_at e trace)) ≡ true) = and_both (is_brought c e && is_at y h) (not (is_among y (live_at e trace))) g in
     let n : (is_brought c e ≡ true) × (is_at y h ≡ true) = and_both (is_brought c e) (is_at y h) m.0 in
-    both (is_at y h) (is_empty (live_at e trace)) n.1 (none_else y h (live_at e trace) n.1 (of_brought (one_live c trace) e (setting c).names j n.0) m.1)
+    both (is_brought c e && is_at y h) (is_empty (live_at e trace)) m.0 (none_else y h (live_at e trace) n.1 (of_brought (one_live c trace) e (setting c).names j n.0) m.1)
 guarded_by_its_actor x c trace (fact.Wrote e r) j o g =
     let f : Fact = fact.Wrote e r in
-    both (own_guard c trace f (slot_of (setting c) f)) (cross_guard c trace f) o (not_empty x (live_at e trace) g)
+    let decided : Bool = is_decided (version_in trace) c (journal e (shard_list_of c e trace)) r in
+    let m : (is_among x (live_at e trace) ≡ true) × (decided ≡ true) = and_both (is_among x (live_at e trace)) decided g in
+    both (own_guard c trace f (slot_of (setting c) f)) (cross_guard c trace f) o (both (not (is_empty (live_at e trace))) decided (not_empty x (live_at e trace) m.0) m.1)
 guarded_by_its_actor x c trace (fact.Freed (slot.Shard s) n why) j o g =
     let f : Fact = fact.Freed (slot.Shard s) n why in
     let h : Option Incarnation = holder (shard_list (lists_of (setting c) trace) s) in
@@ -174,4 +164,5 @@ guarded_by_its_actor x c trace (fact.Active y e n st) j o g = g
 guarded_by_its_actor x c trace (fact.Confirmed p e n) j o g =
     let f : Fact = fact.Confirmed p e n in
     both (own_guard c trace f (slot_of (setting c) f)) (cross_guard c trace f) o g
+guarded_by_its_actor x c trace (fact.Upgrade v) j o g = absurd (true_is_not_false (sym g))
 guarded_by_its_actor x c trace f j o g = both (own_guard c trace f (slot_of (setting c) f)) true o refl

@@ -1,6 +1,6 @@
 -- The coordinator terminates regions that are lost, and allocates anew a shard that has stopped.
 use Rattle.std.proofs.Common.{◌≡◌, ℕ, sym, ap, ◌∙◌, refl}
-use Rattle.std.specs.Prelude.{Bool, true, false, ◌&&◌, ◌||◌, not, cond, List, [], ◌∷◌, ◌++◌, filter, fold, None, is_some, is_none, if◌then◌else◌}
+use Rattle.std.specs.Prelude.{Bool, true, false, ◌&&◌, not, cond, List, [], ◌∷◌, ◌++◌, filter, fold, None, is_some, is_none, if◌then◌else◌, ◌||◌}
 use Rattle.std.specs.List.{list_all, list_any, flat_map}
 use Rattle.std.proofs.lemmas.List.Sums.{fold-append}
 use Rattle.yard_model.specs.declared.fact.Fact.{Fact}
@@ -8,91 +8,43 @@ use Rattle.yard_model.specs.declared.fact.Fact.TheVariants as fact
 use Rattle.yard_model.specs.declared.out.Item.TheVariants as item
 use Rattle.yard_model.specs.declared.incarnation.Incarnation.{Incarnation}
 use Rattle.yard_model.specs.declared.incarnation.Slot.TheVariants as slot
-use Rattle.yard_model.specs.Script.{Script}
-use Rattle.yard_model.specs.Words.{is_same, is_at, is_among, is_empty, without}
+use Rattle.yard_model.specs.Script.{Script, with_shards}
+use Rattle.yard_model.specs.Words.{is_same, is_at, is_among, is_empty}
 use Rattle.yard_model.specs.Genuine.{is_node, is_shard}
-use Rattle.yard_model.specs.Lawful.{own, is_held, is_leased, is_entry, may_follow}
+use Rattle.yard_model.specs.Lawful.{own, is_held, is_coordinator_entry}
 use Rattle.yard_model.specs.SlotReads.{regions, regions_step, allocation, allocation_step}
 use Rattle.yard_model.specs.Turns.{for_each}
 use Rattle.yard_model.specs.Move.{Move, made, told}
 use Rattle.yard_model.specs.Coordinator as coordinator
 use Rattle.yard_model.specs.Coordinator.{Coordinator, Moving, coordinator_after, coordinator_step}
+use Rattle.yard_model.proofs.FollowLaws.{own_more}
+use Rattle.plain_laws.proofs.Booleans.{true_is_not_false, and_both, both, of_not, number_itself}
+use Rattle.plain_laws.proofs.Members.{each_among, differ, differ_push, differ_filter, left_among}
+use Rattle.plain_laws.proofs.Read.{regions_more}
 use Rattle.yard_laws.specs.Free.{is_free_move}
 use Rattle.yard_laws.specs.Homes.{IsCoordinatorHeld, KeepsHomes, CoordinatorKeepsList}
-use Rattle.yard_laws.proofs.Booleans.{true_is_not_false, and_both, both, of_not, number_itself}
-use Rattle.yard_laws.proofs.Follows.{follows_to}
-use Rattle.yard_model.proofs.FollowLaws.{own_more}
-use Rattle.yard_laws.proofs.Live.{same_both, holder_more}
-use Rattle.yard_laws.proofs.LocalLaws.{among_fewer}
+use Rattle.yard_laws.proofs.Owned.{coordinator_to}
+use Rattle.yard_model.specs.Opening.{begins}
+use Rattle.yard_laws.proofs.Live.{holder_more}
 use Rattle.yard_laws.proofs.FreeLaws.{AreFree, either, of_each}
-use Rattle.yard_laws.proofs.HomeLaws.{last_free, tell_free, same_itself, each_among, coordinator_keeps_homes}
+use Rattle.yard_laws.proofs.HomeLaws.{last_free, tell_free, coordinator_keeps_homes}
 
 -- Regions are registered once.
 
-abbrev differ : List Incarnation → Bool
-differ [] = true
-differ (x ∷ xs) = not (is_among x xs) && differ xs
-
-not_of : (b : Bool) → b ≡ false → not b ≡ true
-not_of b e = ap not e
-
-turned : (x y : Incarnation) → is_same x y ≡ false → is_same y x ≡ false
-turned x y e = at (is_same y x) refl
-  where
-    at : (b : Bool) → is_same y x ≡ b → is_same y x ≡ false
-    at true t = absurd (true_is_not_false (sym (same_both x y x (same_itself x) t) ∙ e))
-    at false t = t
-
-or_both : (a b : Bool) → (a || b) ≡ false → (a ≡ false) × (b ≡ false)
-or_both true b e = absurd (true_is_not_false e)
-or_both false b e = (refl, e)
-
-not_among_push : (x r : Incarnation) (xs : List Incarnation) → is_among x xs ≡ false → is_same x r ≡ false → is_among x (xs ++ r ∷ []) ≡ false
-not_among_push x r [] e f = ap (λ b. b || false) f
-not_among_push x r (y ∷ ys) e f =
-    let m : (is_same x y ≡ false) × (is_among x ys ≡ false) = or_both (is_same x y) (is_among x ys) e in
-    ap (λ b. b || is_among x (ys ++ r ∷ [])) m.0 ∙ not_among_push x r ys m.1 f
-
-differ_push : (xs : List Incarnation) (r : Incarnation) → differ xs ≡ true → is_among r xs ≡ false → differ (xs ++ r ∷ []) ≡ true
-differ_push [] r e new = refl
-differ_push (x ∷ xs) r e new =
-    let m : (not (is_among x xs) ≡ true) × (differ xs ≡ true) = and_both (not (is_among x xs)) (differ xs) e in
-    let n : (is_same r x ≡ false) × (is_among r xs ≡ false) = or_both (is_same r x) (is_among r xs) new in
-    both (not (is_among x (xs ++ r ∷ []))) (differ (xs ++ r ∷ [])) (not_of (is_among x (xs ++ r ∷ [])) (not_among_push x r xs (of_not (is_among x xs) m.0) (turned r x n.0))) (differ_push xs r m.1 n.1)
-
-not_among_filter : (p : Incarnation → Bool) (x : Incarnation) (xs : List Incarnation) → is_among x xs ≡ false → is_among x (filter p xs) ≡ false
-not_among_filter p x [] e = refl
-not_among_filter p x (y ∷ ys) e = step (p y) (not_among_filter p x ys (or_both (is_same x y) (is_among x ys) e).1)
-  where
-    step : (b : Bool) → is_among x (filter p ys) ≡ false → is_among x (cond b (y ∷ filter p ys) (filter p ys)) ≡ false
-    step true h = ap (λ b. b || is_among x (filter p ys)) (or_both (is_same x y) (is_among x ys) e).0 ∙ h
-    step false h = h
-
-differ_filter : (p : Incarnation → Bool) (xs : List Incarnation) → differ xs ≡ true → differ (filter p xs) ≡ true
-differ_filter p [] e = refl
-differ_filter p (x ∷ xs) e = step (p x) (differ_filter p xs (and_both (not (is_among x xs)) (differ xs) e).1)
-  where
-    step : (b : Bool) → differ (filter p xs) ≡ true → differ (cond b (x ∷ filter p xs) (filter p xs)) ≡ true
-    step true h = both (not (is_among x (filter p xs))) (differ (filter p xs)) (not_of (is_among x (filter p xs)) (not_among_filter p x xs (of_not (is_among x xs) (and_both (not (is_among x xs)) (differ xs) e).0))) h
-    step false h = h
-
-regions_more : (list : List Fact) (f : Fact) → regions (list ++ f ∷ []) ≡ regions_step (regions list) f
-regions_more list f = fold-append regions_step [] list (f ∷ [])
-
-differ_step : (c : Script) (list : List Fact) (f : Fact) → differ (regions list) ≡ true → may_follow c slot.Coordinator list f ≡ true → differ (regions_step (regions list) f) ≡ true
+differ_step : (c : Script) (list : List Fact) (f : Fact) → differ (regions list) ≡ true → (begins f || is_coordinator_entry c list f) ≡ true → differ (regions_step (regions list) f) ≡ true
 differ_step c list (fact.Registered r) e may =
-    let entry : (is_node c r && not (is_among r (regions list)) && _) ≡ true = (and_both (is_leased list (fact.Registered r)) (is_entry c slot.Coordinator list (fact.Registered r)) may).1 in
+    let entry : (is_node c r && not (is_among r (regions list)) && _) ≡ true = may in
     let new : not (is_among r (regions list)) ≡ true = (and_both (is_node c r) (not (is_among r (regions list))) (and_both (is_node c r && not (is_among r (regions list))) _ entry).0).1 in
     differ_push (regions list) r e (of_not (is_among r (regions list)) new)
 differ_step c list (fact.Terminated r) e may = differ_filter (λ y. not (is_same r y)) (regions list) e
 differ_step c list f e may = e
 
 pub regions_differ : (c : Script) (list : List Fact) → own c slot.Coordinator list ≡ true → differ (regions list) ≡ true
-regions_differ c list o = follows_to (may_follow c slot.Coordinator) (λ l. differ (regions l) ≡ true) (λ l f e may. ap differ (regions_more l f) ∙ differ_step c l f e may) [] list refl o
+regions_differ c list o = coordinator_to c (λ l. differ (regions l) ≡ true) refl (λ n l f e may. ap differ (regions_more l f) ∙ differ_step (with_shards n c) l f e may) list o
 
 -- Free moves leave the list.
 
-free_keeps : (list : List Fact) (m : Move) → is_free_move m ≡ true → coordinator_step list m ≡ list
+pub free_keeps : (list : List Fact) (m : Move) → is_free_move m ≡ true → coordinator_step list m ≡ list
 free_keeps list (made (item.Fact (fact.Registered r))) e = absurd (true_is_not_false (sym e))
 free_keeps list (made (item.Fact (fact.Terminated r))) e = absurd (true_is_not_false (sym e))
 free_keeps list (made (item.Fact (fact.Allocated s r))) e = absurd (true_is_not_false (sym e))
@@ -105,7 +57,7 @@ all_keep list (m ∷ ms) e =
     let both_free : (is_free_move m ≡ true) × (list_all is_free_move ms ≡ true) = and_both (is_free_move m) (list_all is_free_move ms) e in
     ap (λ l. fold coordinator_step l ms) (free_keeps list m both_free.0) ∙ all_keep list ms both_free.1
 
-entries_after : (st : Coordinator) (ms : List Move) → (fold coordinator_after st ms).entries ≡ fold coordinator_step st.entries ms
+pub entries_after : (st : Coordinator) (ms : List Move) → (fold coordinator_after st ms).entries ≡ fold coordinator_step st.entries ms
 entries_after st [] = refl
 entries_after st (m ∷ ms) = entries_after (coordinator_after st m) ms
 
@@ -116,14 +68,6 @@ rest_free r st = of_each (λ (x : Moving). if is_at r x.owner then [] else coord
 
 terminated_entries : (r : Incarnation) (st : Coordinator) → fold coordinator_step st.entries (coordinator.terminate r st) ≡ st.entries ++ fact.Terminated r ∷ []
 terminated_entries r st = all_keep (st.entries ++ fact.Terminated r ∷ []) (flat_map (λ (x : Moving). if is_at r x.owner then [] else coordinator.hand_off_if_last r st x) st.moving) (rest_free r st)
-
--- those that are left are registered still
-left_among : (r : Incarnation) (regs rs : List Incarnation) → list_all (λ x. is_among x regs) rs ≡ true → is_among r rs ≡ false → list_all (λ x. is_among x (without r regs)) rs ≡ true
-left_among r regs [] e new = refl
-left_among r regs (x ∷ xs) e new =
-    let m : (is_among x regs ≡ true) × (list_all (λ x. is_among x regs) xs ≡ true) = and_both (is_among x regs) (list_all (λ x. is_among x regs) xs) e in
-    let n : (is_same r x ≡ false) × (is_among r xs ≡ false) = or_both (is_same r x) (is_among r xs) new in
-    both (is_among x (without r regs)) (list_all (λ x. is_among x (without r regs)) xs) (among_fewer x r regs (turned r x n.0) ∙ m.0) (left_among r regs xs m.1 n.1)
 
 terminates_each : (c : Script) (st : Coordinator) (rs : List Incarnation) → own c slot.Coordinator st.entries ≡ true → is_held st.entries ≡ true → list_all (λ x. is_among x (regions st.entries)) rs ≡ true → differ rs ≡ true
     → own c slot.Coordinator (fold coordinator_step st.entries (for_each coordinator_after coordinator.terminate rs st)) ≡ true

@@ -11,11 +11,10 @@ use Rattle.yard_model.specs.Genuine.{is_slot_of, is_shard, is_producer}
 use Rattle.yard_model.specs.Lawful.{may_follow, own}
 use Rattle.yard_model.specs.SlotLists.{SlotLists, shard_list, queue_list}
 use Rattle.yard_model.specs.Trace.{slot_of, list_at, with_entry, no_lists, lists_step, lists_of}
-use Rattle.yard_model.specs.Safe.{own_guard, cross_guard, guard}
-use Rattle.yard_laws.specs.Guarded.{Owns, GuardedIsOwn}
-use Rattle.yard_laws.proofs.Booleans.{and_both, both, same_number, other_number, below, at_most, get_replicate}
+use Rattle.yard_model.specs.Guards.{own_guard, cross_guard, guard}
 use Rattle.yard_model.proofs.FollowLaws.{own_more}
-use Rattle.yard_laws.proofs.Follows.{follows_to}
+use Rattle.plain_laws.proofs.Booleans.{and_both, same_number, other_number, below, at_most, get_replicate}
+use Rattle.yard_laws.specs.Guarded.{Owns}
 
 pub no_lists_own : (c : Script) → Owns c (no_lists (setting c))
 no_lists_own c = record {
@@ -99,6 +98,3 @@ pub owns_step : (c : Script) (trace : List Fact) (f : Fact) → Owns c (lists_of
 owns_step c trace f k g =
     let own_is : own_guard c trace f (slot_of (setting c) f) ≡ true = (and_both (own_guard c trace f (slot_of (setting c) f)) (cross_guard c trace f) g).0 in
     subst (Owns c) (sym (lists_more c trace f)) (owns_more c (lists_of (setting c) trace) f (slot_of (setting c) f) k (enters c trace f (slot_of (setting c) f) own_is))
-
-pub guarded_is_own : GuardedIsOwn
-guarded_is_own c trace e = follows_to (guard c) (λ t. Owns c (lists_of (setting c) t)) (owns_step c) [] trace (no_lists_own c) e

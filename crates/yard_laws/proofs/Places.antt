@@ -9,10 +9,12 @@ use Rattle.yard_model.specs.declared.packet.Record.{Record}
 use Rattle.yard_model.specs.declared.incarnation.Slot.TheVariants as slot
 use Rattle.yard_model.specs.Script.{Script, is_name}
 use Rattle.yard_model.specs.Genuine.{is_producer, is_planned}
-use Rattle.yard_model.specs.Lawful.{may_follow, own, has_place, is_leased, is_entry, is_of_shard, is_folded_after, is_merged_after}
+use Rattle.yard_model.specs.Lawful.{own, has_place, is_of_shard, is_folded_after, is_merged_after, is_shard_entry}
 use Rattle.yard_model.specs.SlotReads.{journal, journal_step, position}
-use Rattle.yard_laws.proofs.Booleans.{true_is_not_false, and_both, left_of, right_of, same_number, number_itself, same_name}
-use Rattle.yard_laws.proofs.Follows.{follows_to}
+use Rattle.plain_laws.proofs.Booleans.{true_is_not_false, and_both, left_of, right_of, same_number, number_itself, same_name}
+use Rattle.plain_laws.proofs.Read.{journal_more}
+use Rattle.yard_laws.proofs.Owned.{shard_to}
+use Rattle.yard_model.specs.Opening.{begins}
 
 pub position_more : (p : ℕ) (records : List Record) (r : Record) → position p (records ++ r ∷ []) ≡ position p records + cond (r.producer == p) 1 0
 position_more p records r = fold-append (λ a (x : Record). a + cond (x.producer == p) 1 0) 0 records (r ∷ [])
@@ -39,11 +41,11 @@ places_more records r h next p n above within = place_more p n records r ∙ ste
             left_of (has_place p n records) ((r.place == n) || false) (h p n above less)
 
 -- one entry more of a shard
-places_step : (c : Script) (k : ℕ) (e : List ℕ) (list : List Fact) (f : Fact) → HasPlaces (journal e list) → may_follow c (slot.Shard k) list f ≡ true → HasPlaces (journal_step e (journal e list) f)
+places_step : (c : Script) (k : ℕ) (e : List ℕ) (list : List Fact) (f : Fact) → HasPlaces (journal e list) → (begins f || is_shard_entry c k list f) ≡ true → HasPlaces (journal_step e (journal e list) f)
 places_step c k e list (fact.Wrote x r) h may = step (is_name x e) refl
   where
     entry : (is_of_shard c k x && is_producer c r.producer && is_folded_after c (journal x list) r && is_merged_after c x (journal x list) r) ≡ true
-    entry = (and_both (is_leased list (fact.Wrote x r)) (is_entry c (slot.Shard k) list (fact.Wrote x r)) may).1
+    entry = may
 
     merged : is_merged_after c x (journal x list) r ≡ true
     merged = (and_both (is_of_shard c k x && is_producer c r.producer && is_folded_after c (journal x list) r) (is_merged_after c x (journal x list) r) entry).1
@@ -56,11 +58,8 @@ places_step c k e list (fact.Wrote x r) h may = step (is_name x e) refl
     step true s = places_more (journal e list) r h (subst (λ y. (r.place == position r.producer (journal y list) + 1) ≡ true) (same_name x e s) next)
 places_step c k e list f h may = h
 
-pub journal_more : (e : List ℕ) (list : List Fact) (f : Fact) → journal e (list ++ f ∷ []) ≡ journal_step e (journal e list) f
-journal_more e list f = fold-append (journal_step e) [] list (f ∷ [])
-
 pub places : (c : Script) (k : ℕ) (e : List ℕ) (list : List Fact) → own c (slot.Shard k) list ≡ true → HasPlaces (journal e list)
-places c k e list o = follows_to (may_follow c (slot.Shard k)) (λ l. HasPlaces (journal e l)) (λ l f h may. subst HasPlaces (sym (journal_more e l f)) (places_step c k e l f h may)) [] list none o
+places c k e list o = shard_to c k (λ l. HasPlaces (journal e l)) none (λ l f h may. subst HasPlaces (sym (journal_more e l f)) (places_step c k e l f h may)) list o
   where
     none : HasPlaces []
     none p n above within = absurd (omega arith)

@@ -1,9 +1,8 @@
 -- The entries that a producer's rules give may follow in its queue's list.
-use Rattle.std.proofs.Common.{◌≡◌, ◌≤◌, ℕ, ap, ◌∙◌, refl, arith}
+use Rattle.std.proofs.Common.{◌≡◌, ◌≤◌, ℕ, ap, ◌∙◌, refl}
 use Rattle.std.specs.Prelude.{Bool, true, false, ◌==◌, ◌&&◌, nat_lt, nat_le, ◌↔◌, List, [], ◌∷◌, fold, Some, if◌then◌else◌, IsTrue}
 use Rattle.std.specs.List.{slice_get}
 use Rattle.std.specs.Option.{option_map_or}
-use Rattle.std.proofs.lemmas.Bool.Decides.{nat_tests}
 use Rattle.yard_model.specs.declared.fact.Fact.TheVariants as fact
 use Rattle.yard_model.specs.declared.charter.Sending.{Sending}
 use Rattle.yard_model.specs.declared.incarnation.Slot.{Slot}
@@ -15,12 +14,9 @@ use Rattle.yard_model.specs.Lawful.{own, is_held, may_follow}
 use Rattle.yard_model.specs.Move.{told}
 use Rattle.yard_model.specs.SlotReads.{epoch, queued, confirmed, queued_in_all}
 use Rattle.yard_model.specs.Producer.{Producer, queue_step, next_sending}
-use Rattle.yard_laws.specs.Queues.{ProducerKeepsQueue}
-use Rattle.yard_laws.proofs.Booleans.{both, number_itself}
 use Rattle.yard_model.proofs.FollowLaws.{own_more}
-
-within : (a b : ℕ) → a ≤ b → nat_le a b ≡ true
-within a b h = grind (arith, nat_tests)
+use Rattle.plain_laws.proofs.Booleans.{both, number_itself, within}
+use Rattle.yard_laws.specs.Queues.{ProducerKeepsQueue}
 
 -- a send that is the next in order may be queued
 next_follows : (c : Script) (st : Producer) (x : Sending) → ((a b : Sending) → IsTrue (is_sending a b) ↔ (a ≡ b)) → is_held st.entries ≡ true → next_sending (sends c st.number) st ≡ Some x

@@ -15,10 +15,11 @@ use Rattle.yard_model.specs.SlotLists.{SlotLists, shard_list, queue_list}
 use Rattle.yard_model.specs.SlotReads.{journal, journal_step, position, confirmed, queued}
 use Rattle.yard_model.specs.Trace.{with_entry, lists_of}
 use Rattle.yard_model.specs.Lawful.{may_follow, is_leased, is_entry, has_place, is_recorded, confirmed_there}
-use Rattle.yard_model.specs.Safe.{own_guard, cross_guard, guard}
+use Rattle.yard_model.specs.Guards.{own_guard, cross_guard, guard}
 use Rattle.yard_laws.specs.Guarded.{Owns}
-use Rattle.yard_laws.proofs.Booleans.{and_both, both, left_of, same_number, other_number, below, not_below, at_most, all_map, all_set, all_get}
-use Rattle.yard_laws.proofs.Places.{places, place_more, journal_more}
+use Rattle.plain_laws.proofs.Booleans.{and_both, both, left_of, same_number, other_number, below, not_below, at_most, all_map, all_set, all_get}
+use Rattle.yard_laws.proofs.Places.{places, place_more}
+use Rattle.plain_laws.proofs.Read.{journal_more}
 
 -- A record that is there stays there.
 

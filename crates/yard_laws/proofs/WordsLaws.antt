@@ -1,6 +1,6 @@
 -- Each step of the world tells the facts that lead to its words.
 use Rattle.std.proofs.Common.{◌≡◌, refl, ℕ, zero, suc, ◌+◌, ◌-◌, sym, ap, ◌∙◌}
-use Rattle.std.specs.Prelude.{Bool, true, false, ◌||◌, nat_lt, List, [], ◌∷◌, ◌++◌, length, map, fold, filter, Option, Some, None, is_none, slice_index_or, if◌then◌else◌}
+use Rattle.std.specs.Prelude.{Bool, true, false, ◌||◌, nat_lt, List, [], ◌∷◌, ◌++◌, length, map, fold, filter, Option, Some, None, is_none, slice_index_or, if◌then◌else◌, ◌&&◌, ◌==◌}
 use Rattle.std.specs.List.{slice_get, list_any}
 use Rattle.std.proofs.lemmas.List.Sums.{fold-append}
 use Rattle.yard_model.specs.declared.fact.Fact.{Fact}
@@ -11,116 +11,25 @@ use Rattle.yard_model.specs.declared.out.Item.TheVariants as item
 use Rattle.yard_model.specs.declared.packet.Body.TheVariants as body
 use Rattle.yard_model.specs.declared.packet.Packet.{Packet}
 use Rattle.yard_model.specs.declared.event.Command.{Command}
-use Rattle.yard_model.specs.declared.incarnation.Incarnation.{Incarnation}
 use Rattle.yard_model.specs.declared.charter.Line.{Line}
 use Rattle.yard_model.specs.declared.charter.Order.{Order}
 use Rattle.yard_model.specs.declared.charter.Order.TheVariants as order
-use Rattle.yard_model.specs.declared.charter.Sending.{Sending}
-use Rattle.yard_model.specs.Script.{Script, Setting}
+use Rattle.yard_model.specs.Script.{Script}
 use Rattle.yard_model.specs.Setting.{producers}
-use Rattle.yard_model.specs.SlotLists.{SlotLists, queue_list}
+use Rattle.yard_model.specs.SlotLists.{queue_list}
 use Rattle.yard_model.specs.SlotReads.{holder, queued_in_all}
 use Rattle.yard_model.specs.Words.{numbers, is_among, is_empty}
 use Rattle.yard_model.specs.Node.{Node, turn, items_of, crash}
-use Rattle.yard_model.specs.Trace.{lists_step}
 use Rattle.yard_model.specs.World as world
-use Rattle.yard_model.specs.World.{World, Made, Step, world_after, members_step, version_step, ups_step, wire_step, fresh_step, full_step, new_world, played, wire_limit}
-use Rattle.yard_laws.specs.WorldWords.{AreFolds, PlayedFolds, OrderFolds, LineFolds, TraceLists}
-
--- The words of a world, apart from its nodes and what was ordered.
-
-record Told : Type 0 where
-  set : Setting
-  sends : List (List Sending)
-  limit : ℕ
-  members : List Incarnation
-  version : ℕ
-  ups : List ℕ
-  wire : List Packet
-  fresh : List ℕ
-  lists : SlotLists
-  full : Bool
-
-abbrev told_of : World → Told
-told_of w = record {
-  set = w.set;
-  sends = w.sends;
-  limit = w.limit;
-  members = w.members;
-  version = w.version;
-  ups = w.ups;
-  wire = w.wire;
-  fresh = w.fresh;
-  lists = w.lists;
-  full = w.full;
-}
-
-abbrev told_after : Told → Fact → Told
-told_after t f = record {
-  set = t.set;
-  sends = t.sends;
-  limit = t.limit;
-  members = members_step t.members f;
-  version = version_step t.version f;
-  ups = ups_step t.ups f;
-  wire = wire_step t.wire f;
-  fresh = fresh_step t.fresh f;
-  lists = lists_step t.set t.lists f;
-  full = full_step t.full f;
-}
-
--- each word after the facts is the fold of its own step
-words : (t : Told) (fs : List Fact) → fold told_after t fs ≡ record {
-  set = t.set;
-  sends = t.sends;
-  limit = t.limit;
-  members = fold members_step t.members fs;
-  version = fold version_step t.version fs;
-  ups = fold ups_step t.ups fs;
-  wire = fold wire_step t.wire fs;
-  fresh = fold fresh_step t.fresh fs;
-  lists = fold (lists_step t.set) t.lists fs;
-  full = fold full_step t.full fs;
-}
-words t [] = refl
-words t (f ∷ fs) = words (told_after t f) fs
-
-abbrev IsTold : World → Made → Type 0
-IsTold w m = told_of m.world ≡ fold told_after (told_of w) m.facts
+use Rattle.yard_model.specs.World.{World, Made, Step, world_after, new_world, played}
+use Rattle.yard_laws.specs.WorldWords.{words_of, words_after, AreFolds, PlayedFolds, OrderFolds, LineFolds}
 
 abbrev Tells : Step → Type 0
-Tells q = (w : World) → IsTold w (q w)
+Tells q = (w : World) → AreFolds w (q w)
 
 abbrev AllTell : List Step → Type 0
 AllTell [] = Unit {0}
 AllTell (q ∷ qs) = Tells q × AllTell qs
-
-folds_of : (w : World) (m : Made) → IsTold w m → AreFolds w m
-folds_of w m t =
-    let e : told_of m.world ≡ record {
-      set = w.set;
-      sends = w.sends;
-      limit = w.limit;
-      members = fold members_step w.members m.facts;
-      version = fold version_step w.version m.facts;
-      ups = fold ups_step w.ups m.facts;
-      wire = fold wire_step w.wire m.facts;
-      fresh = fold fresh_step w.fresh m.facts;
-      lists = fold (lists_step w.set) w.lists m.facts;
-      full = fold full_step w.full m.facts;
-    } = t ∙ words (told_of w) m.facts in
-    record {
-      lists = ap (λ x. x.lists) e;
-      members = ap (λ x. x.members) e;
-      version = ap (λ x. x.version) e;
-      ups = ap (λ x. x.ups) e;
-      wire = ap (λ x. x.wire) e;
-      fresh = ap (λ x. x.fresh) e;
-      full = ap (λ x. x.full) e;
-      set = ap (λ x. x.set) e;
-      sends = ap (λ x. x.sends) e;
-      limit = ap (λ x. x.limit) e;
-    }
 
 -- Steps that are put together.
 
@@ -131,14 +40,14 @@ tell_tells (f ∷ fs) w = tell_tells fs (world_after w f)
 nothing_tells : Tells world.nothing
 nothing_tells w = refl
 
-then_tells : (w : World) (m : Made) (q : Step) → IsTold w m → Tells q → IsTold w (world.then_step m q)
+then_tells : (w : World) (m : Made) (q : Step) → AreFolds w m → Tells q → AreFolds w (world.then_step m q)
 then_tells w m q t h = at m.world.full
   where
-    at : (b : Bool) → IsTold w (elim b as (λ b. Made) [ true ↦ m | false ↦ let n : Made = q m.world in record { facts = m.facts ++ n.facts; world = n.world } ])
+    at : (b : Bool) → AreFolds w (elim b as (λ b. Made) [ true ↦ m | false ↦ let n : Made = q m.world in record { facts = m.facts ++ n.facts; world = n.world } ])
     at true = t
-    at false = h m.world ∙ (ap (λ k. fold told_after k (q m.world).facts) t ∙ sym (fold-append told_after (told_of w) m.facts (q m.world).facts))
+    at false = h m.world ∙ (ap (λ k. fold words_after k (q m.world).facts) t ∙ sym (fold-append words_after (words_of w) m.facts (q m.world).facts))
 
-if_tells : (w : World) (b : Bool) (m n : Made) → IsTold w m → IsTold w n → IsTold w (if b then m else n)
+if_tells : (w : World) (b : Bool) (m n : Made) → AreFolds w m → AreFolds w n → AreFolds w (if b then m else n)
 if_tells w true m n t u = t
 if_tells w false m n t u = u
 
@@ -207,18 +116,18 @@ send_tells p e k w = or_tells (input.Send p) (world.node_of w (world.queue_holde
 
 -- Delivery.
 
-over_tells : (p : Packet) → Tells (world.hand_over p)
-over_tells p w = if_tells w (is_among p.to w.members) (world.give (input.Packet p) (world.node_at w p.to.node) w) (world.tell [] w) (give_tells (input.Packet p) (world.node_at w p.to.node) w) (tell_tells [] w)
+over_tells : (k : ℕ) (p : Packet) → Tells (world.hand_over k p)
+over_tells k p w = if_tells w (nat_lt w.past k && is_among p.to w.members) (world.give (input.Packet p) (world.node_at w p.to.node) w) (world.tell [] w) (give_tells (input.Packet p) (world.node_at w p.to.node) w) (tell_tells [] w)
 
 deliver_by_tells : (k : ℕ) (o : Option Packet) → Tells (world.deliver_by k o)
 deliver_by_tells k None w = nothing_tells w
-deliver_by_tells k (Some p) w = then_tells w (world.tell (fact.Got k ∷ []) w) (world.hand_over p) (tell_tells (fact.Got k ∷ []) w) (over_tells p)
+deliver_by_tells k (Some p) w = then_tells w (world.tell (fact.Got k ∷ []) w) (world.hand_over k p) (tell_tells (fact.Got k ∷ []) w) (over_tells k p)
 
 deliver_tells : (k : ℕ) → Tells (world.deliver k)
 deliver_tells zero w = nothing_tells w
 deliver_tells (suc k) w = deliver_by_tells (suc k) (slice_get w.wire k) w
 
-more_tells : (w : World) (q : Step) → Tells q → (ks : List ℕ) → IsTold w (elim ks as (λ x. Made) [ [] ↦ world.tell [] w | k ∷ ks ↦ world.then_step (world.deliver k w) q ])
+more_tells : (w : World) (q : Step) → Tells q → (ks : List ℕ) → AreFolds w (elim ks as (λ x. Made) [ [] ↦ world.tell [] w | k ∷ ks ↦ world.then_step (world.deliver k w) q ])
 more_tells w q h [] = refl
 more_tells w q h (k ∷ ks) = then_tells w (world.deliver k w) q (deliver_tells k w) h
 
@@ -231,7 +140,7 @@ pump_tells n w = if_tells w (is_empty w.fresh) (world.nothing w) (world.drain 0 
 
 -- Settle.
 
-tick_tells : (w : World) (from bound : ℕ) (q : Step) → Tells q → (b : Bool) → IsTold w (elim b as (λ b. Made) [
+tick_tells : (w : World) (from bound : ℕ) (q : Step) → Tells q → (b : Bool) → AreFolds w (elim b as (λ b. Made) [
   | false ↦ world.tell [] w
   | true ↦ world.then_step (world.then_step (world.give input.Tick (world.node_at w 1) w) (world.drain from bound)) q
 ])
@@ -244,6 +153,11 @@ ticks_tell : (from bound n : ℕ) → Tells (world.tick_while_left from bound n)
 ticks_tell from bound zero w = refl
 ticks_tell from bound (suc n) w = tick_tells w from bound (world.tick_while_left from bound n) (ticks_tell from bound n) (list_any (world.is_left w) (producers w.set))
 
+end_tells : (from : ℕ) → Tells (world.settle_end from)
+end_tells from w =
+    let qs : List Step = world.go_down 1 ∷ world.tell (fact.Settled ∷ []) ∷ [] in
+    if_tells w (world.is_unsettled from w) (world.tell [] w) (world.in_order qs w) (tell_tells [] w) (order_tells qs (down_tells 1, (tell_tells (fact.Settled ∷ []), tt)) w)
+
 settle_tells : Tells world.settle
 settle_tells w =
     let from : ℕ = length w.wire in
@@ -251,7 +165,7 @@ settle_tells w =
     let downs : List Step = map world.go_down (numbers 1 w.set.config.nodes) in
     let takes : List Step = map (λ p. world.produce p 1) (producers w.set) in
     order_tells
-    (world.in_order downs ∷ world.come_up 1 ∷ world.drain from bound ∷ world.in_order takes ∷ world.drain from bound ∷ world.tick_while_left from bound bound ∷ world.go_down 1 ∷ world.tell (fact.Settled ∷ []) ∷ []) (
+    (world.in_order downs ∷ world.come_up 1 ∷ world.drain from bound ∷ world.in_order takes ∷ world.drain from bound ∷ world.tick_while_left from bound bound ∷ world.settle_end from ∷ []) (
       order_tells downs (map_tells world.go_down down_tells (numbers 1 w.set.config.nodes)),
       (
         come_up_tells 1,
@@ -259,7 +173,7 @@ settle_tells w =
           drain_tells from bound,
           (
             order_tells takes (map_tells (λ p. world.produce p 1) (λ p. produce_tells p 1) (producers w.set)),
-            (drain_tells from bound, (ticks_tell from bound bound, (down_tells 1, (tell_tells (fact.Settled ∷ []), tt)))),
+            (drain_tells from bound, (ticks_tell from bound bound, (end_tells from, tt))),
           ),
         ),
       ),
@@ -282,8 +196,15 @@ play_tells (order.Deliver k) w = deliver_tells k w
 play_tells (order.Pump n) w = pump_tells n w
 play_tells (order.Rebalance n) w = or_tells (input.Rebalance n) (world.node_of w (holder w.lists.coordinator)) world.nothing nothing_tells w
 play_tells order.Settle w = settle_tells w
+play_tells (order.Reshard n) w =
+    let fs : List Fact = fact.Reshard n (world.greatest_epoch w.lists) ∷ [] in
+    if_tells w (world.is_any_up w || (n == w.set.config.shards)) (world.nothing w) (world.tell fs w) (nothing_tells w) (tell_tells fs w)
+play_tells order.Upgrade w =
+    let fs : List Fact = fact.Upgrade 2 ∷ [] in
+    if_tells w (world.is_any_up w || (w.behaviour == 2)) (world.nothing w) (world.tell fs w) (nothing_tells w) (tell_tells fs w)
+play_tells (order.Ping p) w = nothing_tells w
 
-ordered_same : (o : Order) (w : World) → told_of (world.with_order (Some o) w) ≡ told_of w
+ordered_same : (o : Order) (w : World) → words_of (world.with_order (Some o) w) ≡ words_of w
 ordered_same (order.Send p e k) w = refl
 ordered_same o w = refl
 
@@ -291,19 +212,16 @@ line_tells : (l : Line) → Tells (world.play_line l)
 line_tells l w =
     let v : World = world.with_order (Some l.order) w in
     let fs : List Fact = fact.At l.number ∷ [] in
-    then_tells w (world.tell fs v) (world.play l.order) (tell_tells fs v ∙ ap (λ t. fold told_after t fs) (ordered_same l.order w)) (play_tells l.order)
+    then_tells w (world.tell fs v) (world.play l.order) (tell_tells fs v ∙ ap (λ t. fold words_after t fs) (ordered_same l.order w)) (play_tells l.order)
 
-played_tells : (c : Script) (limit : ℕ) → IsTold (new_world c limit) (played c limit)
+played_tells : (c : Script) (limit : ℕ) → AreFolds (new_world c limit) (played c limit)
 played_tells c limit = order_tells (map world.play_line c.orders) (map_tells world.play_line line_tells c.orders) (new_world c limit)
 
 pub played_folds : PlayedFolds
-played_folds c limit = folds_of (new_world c limit) (played c limit) (played_tells c limit)
+played_folds c limit = played_tells c limit
 
 pub order_folds : OrderFolds
-order_folds o w = folds_of w (world.play o w) (play_tells o w)
+order_folds o w = play_tells o w
 
 pub line_folds : LineFolds
-line_folds l w = folds_of w (world.play_line l w) (line_tells l w)
-
-pub trace_lists : TraceLists
-trace_lists c = let k : AreFolds (new_world c wire_limit) (played c wire_limit) = played_folds c wire_limit in sym k.lists
+line_folds l w = line_tells l w

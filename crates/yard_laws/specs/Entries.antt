@@ -6,11 +6,11 @@ use Rattle.yard_model.specs.declared.packet.Message.{Message}
 use Rattle.yard_model.specs.declared.incarnation.Slot.{Slot}
 use Rattle.yard_model.specs.declared.incarnation.Slot.TheVariants as slot
 use Rattle.yard_model.specs.declared.incarnation.Cause.TheVariants as cause
-use Rattle.yard_model.specs.Script.{Script, setting}
+use Rattle.yard_model.specs.Script.{Script, setting, is_version}
 use Rattle.yard_model.specs.Setting.{shard_of}
 use Rattle.yard_model.specs.Genuine.{is_brought, is_producer, is_planned}
 use Rattle.yard_model.specs.Behaviour.{folded}
-use Rattle.yard_model.specs.Lawful.{own, is_held}
+use Rattle.yard_model.specs.Lawful.{own, is_held, is_decided}
 use Rattle.yard_model.specs.SlotReads.{epoch, journal, position, is_remembered}
 use Rattle.yard_model.specs.Entities.{Entities, entries, record_of}
 use Rattle.yard_model.specs.Safe.{is_journal_state}
@@ -24,14 +24,16 @@ pub record IsHosted (c : Script) (st : Entities) (e : List ℕ) : Type 0 where
   pub brought_is : IsTrue (is_brought c e)
   pub own_is : IsTrue (own c (slot_for c e) (entries st e))
   pub held_is : IsTrue (is_held (entries st e))
+  pub version_is : IsTrue (is_version c st.version)
 
 -- the list with the record that a message gives
 abbrev pub with_record : Entities → Message → List Fact
 with_record st m = entries st m.entity ++ fact.Wrote m.entity (record_of m st (journal m.entity (entries st m.entity))) ∷ []
 
--- the next message of a plan gives a record that may follow, and so may a snapshot after it
+-- the next message of a plan gives a record that may follow, decided in the version of the node's behaviour; and so may a snapshot after it
 pub record MessageFollows (c : Script) (st : Entities) (m : Message) : Type 0 where
   pub written : IsTrue (own c (slot_for c m.entity) (with_record st m))
+  pub decided : IsTrue (is_decided st.version c (journal m.entity (entries st m.entity)) (record_of m st (journal m.entity (entries st m.entity))))
   pub saved : IsTrue (own c (slot_for c m.entity) (with_record st m ++ fact.Snapshot m.entity (length (journal m.entity (entries st m.entity)) + 1) ∷ []))
 
 abbrev pub NextFollows : Type 0

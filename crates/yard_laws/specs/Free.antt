@@ -1,5 +1,5 @@
--- Facts that say nothing of slots, nor of who is live: they are guarded wherever they stand. A region tells no others.
-use Rattle.std.specs.Prelude.{◌≡◌, ℕ, Bool, true, false, ◌&&◌, List, [], ◌∷◌, ◌++◌, IsTrue}
+-- Facts that say nothing of slots, of who is live, nor of the version: they are guarded wherever they stand. A region tells no others.
+use Rattle.std.specs.Prelude.{◌≡◌, ℕ, Bool, true, false, List, [], ◌∷◌, ◌++◌, IsTrue}
 use Rattle.std.specs.List.{list_all}
 use Rattle.yard_model.specs.declared.fact.Fact.{Fact}
 use Rattle.yard_model.specs.declared.fact.Fact.TheVariants as fact
@@ -10,7 +10,9 @@ use Rattle.yard_model.specs.declared.incarnation.Incarnation.{Incarnation}
 use Rattle.yard_model.specs.declared.incarnation.Stamp.{Stamp}
 use Rattle.yard_model.specs.Script.{Script, setting}
 use Rattle.yard_model.specs.Trace.{lists_of}
-use Rattle.yard_model.specs.Safe.{live_at, guard}
+use Rattle.yard_model.specs.Era.{version_in}
+use Rattle.yard_model.specs.Safe.{live_at}
+use Rattle.yard_model.specs.Guards.{guard}
 use Rattle.yard_model.specs.Move.{Move, made}
 use Rattle.yard_model.specs.Region as region
 use Rattle.yard_model.specs.Region.{Region}
@@ -34,6 +36,11 @@ is_free (fact.Dropped x m) = true
 is_free (fact.Stashed x m) = true
 is_free (fact.Armed e k) = true
 is_free (fact.Waits p e k) = true
+is_free (fact.SentAsk k x) = true
+is_free (fact.SentJob k x e) = true
+is_free (fact.SentDone k x e) = true
+is_free (fact.Given e x) = true
+is_free (fact.Did x e) = true
 is_free f = false
 
 abbrev pub is_free_item : Item → Bool
@@ -56,6 +63,10 @@ FreeLeavesLists = (c : Script) (trace : List Fact) (f : Fact) → IsTrue (is_fre
 -- and nothing of who is live
 abbrev pub FreeLeavesLive : Type 0
 FreeLeavesLive = (e : List ℕ) (trace : List Fact) (f : Fact) → IsTrue (is_free f) → live_at e (trace ++ f ∷ []) ≡ live_at e trace
+
+-- nor of the version of behaviours
+abbrev pub FreeLeavesVersion : Type 0
+FreeLeavesVersion = (trace : List Fact) (f : Fact) → IsTrue (is_free f) → version_in (trace ++ f ∷ []) ≡ version_in trace
 
 -- all that a region's rules give is free
 pub record IsRegionFree (st : Region) : Type 0 where

@@ -1,5 +1,5 @@
 //! What one fact changes of what a trace says.
-ghost use Rattle.yard_laws.specs.Free.{FreeIsGuarded, FreeLeavesLists, FreeLeavesLive, RegionIsFree};
+ghost use Rattle.yard_laws.specs.Free.{FreeIsGuarded, FreeLeavesLists, FreeLeavesLive, FreeLeavesVersion, RegionIsFree};
 ghost use Rattle.yard_laws.specs.Local.{ListGrows, OtherListsStay, OthersLiveOn, GuardedByItsActor};
 
 /// An entry stands at the end of its slot's list, and the lists of the other slots stay.
@@ -22,11 +22,12 @@ pub fn guarded_by_its_actor()
 {}
 
 /// A fact that is no entry of a slot's list and no word on a live entity is guarded wherever it
-/// stands, and changes neither the lists nor who is live.
+/// stands, and changes neither the lists nor who is live, nor the version of behaviours.
 pub fn free_facts()
     ensures guarded { FreeIsGuarded }
     ensures lists { FreeLeavesLists }
     ensures live { FreeLeavesLive }
+    ensures version { FreeLeavesVersion }
 {}
 
 /// A region tells such facts alone: no rule of it owes a guard.

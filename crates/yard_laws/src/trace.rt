@@ -1,5 +1,5 @@
 //! What the facts that the world tells say of the world.
-ghost use Rattle.yard_laws.specs.WorldWords.{PlayedFolds, OrderFolds, LineFolds, TraceLists};
+ghost use Rattle.yard_laws.specs.WorldWords.{PlayedFolds, OrderFolds, LineFolds};
 
 /// The words of the world, but for its nodes and what was ordered, are the folds of their steps
 /// over the facts of its trace: lists, members, version, numbers of incarnations, posted packets,
@@ -9,9 +9,4 @@ pub fn words_are_folds()
     ensures played { PlayedFolds }
     ensures line { LineFolds }
     ensures order { OrderFolds }
-{}
-
-/// The lists that the leases tell at the end of a script are those of its trace.
-pub fn lists_are_of_the_trace()
-    ensures { TraceLists }
 {}

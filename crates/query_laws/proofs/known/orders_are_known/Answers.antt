@@ -12,6 +12,14 @@ returns c = play.orders_are_known (record {
     hears = c.cluster_hears.ensures;
     gains = c.cluster_gains.ensures;
     begins = c.cluster_begins.ensures;
+    upgrades = c.cluster_upgrades.ensures;
+    safes = c.cluster_is_safe.ensures;
+    opening_gives = c.opening_gives_lists.ensures;
+    opening_quiet = c.opening_is_quiet.ensures;
+    opens = c.era_opens.ensures;
+    reshaped_lawful = c.reshaped_is_lawful.ensures;
+    reshaped_keeps = c.reshaped_keeps_journals.ensures;
+    there = c.shards_are_there.ensures;
   };
   shown = c.turn_shown.ensures;
-}) c.crash_stands.ensures
+}) c.crash_stands.ensures c.line_leads_on.ensures c.played_is_sound.ensures

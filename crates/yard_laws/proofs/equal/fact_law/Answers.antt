@@ -2,7 +2,7 @@
 use Rattle.std.proofs.Common.{◌≡◌, ◌∙◌, refl, ap, subst, sym}
 use Rattle.std.specs.Prelude.{IsTrue}
 use Rattle.std.proofs.lemmas.Bool.{eqb-true, eq-eqb, and_parts}
-use Rattle.yard_laws.proofs.Booleans.{true_is_not_false, both}
+use Rattle.plain_laws.proofs.Booleans.{true_is_not_false, both}
 use Rattle.yard_model.specs.declared.fact.Fact.{Fact}
 use Rattle.yard_model.specs.declared.fact.Fact.TheVariants as fact
 use Rattle.yard_model.specs.contracts.fact.FactPartialEq.TheImpl as impl
@@ -43,6 +43,14 @@ to c (fact.Forgotten a0) (fact.Forgotten b0) h = ap (λ x. fact.Forgotten x) ((c
 to c (fact.Waits a0 a1 a2) (fact.Waits b0 b1 b2) h = let p0 = and_parts _ _ h in let p1 = and_parts _ _ p0.1 in ap (λ x. fact.Waits x a1 a2) (eqb-true a0 b0 p0.0) ∙ ap (λ x. fact.Waits b0 x a2) ((c.name_law.ensures a1 b1).0 p1.0) ∙ ap (λ x. fact.Waits b0 b1 x) ((c.command_law.ensures a2 b2).0 p1.1)
 to c (fact.Queued a0 a1 a2 a3) (fact.Queued b0 b1 b2 b3) h = let p0 = and_parts _ _ h in let p1 = and_parts _ _ p0.1 in let p2 = and_parts _ _ p1.1 in ap (λ x. fact.Queued x a1 a2 a3) (eqb-true a0 b0 p0.0) ∙ ap (λ x. fact.Queued b0 x a2 a3) ((c.name_law.ensures a1 b1).0 p1.0) ∙ ap (λ x. fact.Queued b0 b1 x a3) (eqb-true a2 b2 p2.0) ∙ ap (λ x. fact.Queued b0 b1 b2 x) ((c.command_law.ensures a3 b3).0 p2.1)
 to c (fact.Confirmed a0 a1 a2) (fact.Confirmed b0 b1 b2) h = let p0 = and_parts _ _ h in let p1 = and_parts _ _ p0.1 in ap (λ x. fact.Confirmed x a1 a2) (eqb-true a0 b0 p0.0) ∙ ap (λ x. fact.Confirmed b0 x a2) ((c.name_law.ensures a1 b1).0 p1.0) ∙ ap (λ x. fact.Confirmed b0 b1 x) (eqb-true a2 b2 p1.1)
+to c (fact.Reshard a0 a1) (fact.Reshard b0 b1) h = let p0 = and_parts _ _ h in ap (λ x. fact.Reshard x a1) (eqb-true a0 b0 p0.0) ∙ ap (λ x. fact.Reshard b0 x) (eqb-true a1 b1 p0.1)
+to c (fact.Resharded a0 a1 a2) (fact.Resharded b0 b1 b2) h = let p0 = and_parts _ _ h in let p1 = and_parts _ _ p0.1 in ap (λ x. fact.Resharded x a1 a2) (eqb-true a0 b0 p0.0) ∙ ap (λ x. fact.Resharded b0 x a2) (eqb-true a1 b1 p1.0) ∙ ap (λ x. fact.Resharded b0 b1 x) (eqb-true a2 b2 p1.1)
+to c (fact.Upgrade a0) (fact.Upgrade b0) h = ap (λ x. fact.Upgrade x) (eqb-true a0 b0 h)
+to c (fact.SentAsk a0 a1) (fact.SentAsk b0 b1) h = let p0 = and_parts _ _ h in ap (λ x. fact.SentAsk x a1) (eqb-true a0 b0 p0.0) ∙ ap (λ x. fact.SentAsk b0 x) ((c.incarnation_law.ensures a1 b1).0 p0.1)
+to c (fact.SentJob a0 a1 a2) (fact.SentJob b0 b1 b2) h = let p0 = and_parts _ _ h in let p1 = and_parts _ _ p0.1 in ap (λ x. fact.SentJob x a1 a2) (eqb-true a0 b0 p0.0) ∙ ap (λ x. fact.SentJob b0 x a2) ((c.incarnation_law.ensures a1 b1).0 p1.0) ∙ ap (λ x. fact.SentJob b0 b1 x) ((c.name_law.ensures a2 b2).0 p1.1)
+to c (fact.SentDone a0 a1 a2) (fact.SentDone b0 b1 b2) h = let p0 = and_parts _ _ h in let p1 = and_parts _ _ p0.1 in ap (λ x. fact.SentDone x a1 a2) (eqb-true a0 b0 p0.0) ∙ ap (λ x. fact.SentDone b0 x a2) ((c.incarnation_law.ensures a1 b1).0 p1.0) ∙ ap (λ x. fact.SentDone b0 b1 x) ((c.name_law.ensures a2 b2).0 p1.1)
+to c (fact.Given a0 a1) (fact.Given b0 b1) h = let p0 = and_parts _ _ h in ap (λ x. fact.Given x a1) ((c.name_law.ensures a0 b0).0 p0.0) ∙ ap (λ x. fact.Given b0 x) ((c.incarnation_law.ensures a1 b1).0 p0.1)
+to c (fact.Did a0 a1) (fact.Did b0 b1) h = let p0 = and_parts _ _ h in ap (λ x. fact.Did x a1) ((c.incarnation_law.ensures a0 b0).0 p0.0) ∙ ap (λ x. fact.Did b0 x) ((c.name_law.ensures a1 b1).0 p0.1)
 to c a b h = absurd (true_is_not_false (sym h))
 
 itself : goal.After-state_law → (a : Fact) → IsTrue (impl.ghosts.eq a a)
@@ -80,6 +88,14 @@ itself c (fact.Forgotten a0) = (c.name_law.ensures a0 a0).1 refl
 itself c (fact.Waits a0 a1 a2) = both _ _ (eq-eqb a0 a0 refl) (both _ _ ((c.name_law.ensures a1 a1).1 refl) ((c.command_law.ensures a2 a2).1 refl))
 itself c (fact.Queued a0 a1 a2 a3) = both _ _ (eq-eqb a0 a0 refl) (both _ _ ((c.name_law.ensures a1 a1).1 refl) (both _ _ (eq-eqb a2 a2 refl) ((c.command_law.ensures a3 a3).1 refl)))
 itself c (fact.Confirmed a0 a1 a2) = both _ _ (eq-eqb a0 a0 refl) (both _ _ ((c.name_law.ensures a1 a1).1 refl) (eq-eqb a2 a2 refl))
+itself c (fact.Reshard a0 a1) = both _ _ (eq-eqb a0 a0 refl) (eq-eqb a1 a1 refl)
+itself c (fact.Resharded a0 a1 a2) = both _ _ (eq-eqb a0 a0 refl) (both _ _ (eq-eqb a1 a1 refl) (eq-eqb a2 a2 refl))
+itself c (fact.Upgrade a0) = eq-eqb a0 a0 refl
+itself c (fact.SentAsk a0 a1) = both _ _ (eq-eqb a0 a0 refl) ((c.incarnation_law.ensures a1 a1).1 refl)
+itself c (fact.SentJob a0 a1 a2) = both _ _ (eq-eqb a0 a0 refl) (both _ _ ((c.incarnation_law.ensures a1 a1).1 refl) ((c.name_law.ensures a2 a2).1 refl))
+itself c (fact.SentDone a0 a1 a2) = both _ _ (eq-eqb a0 a0 refl) (both _ _ ((c.incarnation_law.ensures a1 a1).1 refl) ((c.name_law.ensures a2 a2).1 refl))
+itself c (fact.Given a0 a1) = both _ _ ((c.name_law.ensures a0 a0).1 refl) ((c.incarnation_law.ensures a1 a1).1 refl)
+itself c (fact.Did a0 a1) = both _ _ ((c.incarnation_law.ensures a0 a0).1 refl) ((c.name_law.ensures a1 a1).1 refl)
 
 pub returns : goal.returns
 returns c = λ a b. (to c a b, λ same. subst (λ x. IsTrue (impl.ghosts.eq a x)) same (itself c a))

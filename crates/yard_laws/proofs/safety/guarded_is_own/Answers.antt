@@ -1,4 +1,4 @@
-use Rattle.yard_laws.proofs.Owns.{guarded_is_own}
+use Rattle.yard_laws.proofs.SafetyLaws.{guarded_is_own}
 use Rattle.yard_laws.proofs.safety.guarded_is_own.Goals as goal
 
 pub returns : goal.returns

@@ -1,5 +1,0 @@
-use Rattle.actor_laws.proofs.ClusterMore as more
-use Rattle.actor_laws.proofs.cluster.cluster_hears.Goals as goal
-
-pub returns : goal.returns
-returns c = more.cluster_hears

@@ -1,5 +1,0 @@
-use Rattle.actor_laws.proofs.ClusterLaws as laws
-use Rattle.actor_laws.proofs.cluster.cluster_loses.Goals as goal
-
-pub returns : goal.returns
-returns c = laws.cluster_loses c.crash_stands.ensures c.hand_is_guarded.ensures c.others_hold.ensures

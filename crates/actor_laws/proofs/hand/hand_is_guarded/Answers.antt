@@ -1,5 +1,0 @@
-use Rattle.actor_laws.proofs.TraceLaws as laws
-use Rattle.actor_laws.proofs.hand.hand_is_guarded.Goals as goal
-
-pub returns : goal.returns
-returns c = laws.hand_is_guarded

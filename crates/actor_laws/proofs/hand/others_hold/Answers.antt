@@ -1,5 +1,0 @@
-use Rattle.actor_laws.proofs.TraceOthers as others
-use Rattle.actor_laws.proofs.hand.others_hold.Goals as goal
-
-pub returns : goal.returns
-returns c = others.others_hold

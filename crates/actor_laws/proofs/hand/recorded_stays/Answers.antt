@@ -1,5 +1,0 @@
-use Rattle.actor_laws.proofs.TraceRecords as records
-use Rattle.actor_laws.proofs.hand.recorded_stays.Goals as goal
-
-pub returns : goal.returns
-returns c = records.recorded_stays

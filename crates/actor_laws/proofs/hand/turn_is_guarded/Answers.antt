@@ -1,5 +1,0 @@
-use Rattle.actor_laws.proofs.TraceTurns as turns
-use Rattle.actor_laws.proofs.hand.turn_is_guarded.Goals as goal
-
-pub returns : goal.returns
-returns c = turns.turn_is_guarded c.guarded_is_own.ensures c.turn_stands.ensures c.turn_viewed.ensures c.hand_is_guarded.ensures

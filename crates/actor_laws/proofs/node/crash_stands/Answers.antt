@@ -1,5 +1,0 @@
-use Rattle.actor_laws.proofs.NodeCrash as crash
-use Rattle.actor_laws.proofs.node.crash_stands.Goals as goal
-
-pub returns : goal.returns
-returns c = crash.crash_stands c.producer_keeps.ensures

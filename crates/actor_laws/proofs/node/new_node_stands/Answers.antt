@@ -1,5 +1,0 @@
-use Rattle.actor_laws.proofs.NodeBeginning as beginning
-use Rattle.actor_laws.proofs.node.new_node_stands.Goals as goal
-
-pub returns : goal.returns
-returns c = beginning.node_begins c.region_begins.ensures c.new_entities_stand.ensures

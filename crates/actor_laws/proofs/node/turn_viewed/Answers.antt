@@ -1,5 +1,0 @@
-use Rattle.actor_laws.proofs.NodeViewed as viewed
-use Rattle.actor_laws.proofs.node.turn_viewed.Goals as goal
-
-pub returns : goal.returns
-returns c = viewed.turn_viewed

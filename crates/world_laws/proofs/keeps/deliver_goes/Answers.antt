@@ -1,5 +1,0 @@
-use Rattle.world_laws.proofs.Play as laws
-use Rattle.world_laws.proofs.keeps.deliver_goes.Goals as goal
-
-pub returns : goal.returns
-returns c = laws.deliver_goes

@@ -1,5 +1,0 @@
-pub mod Built
-pub mod Hands
-pub mod Keeps
-pub mod Owes
-pub mod Standing

@@ -1,7 +1,7 @@
 -- Laws of what entities do.
 use Rattle.std.specs.Prelude.{◌≡◌, ℕ, ◌+◌, ◌-◌, ◌≤◌, Bool, true, false, ◌&&◌, ◌==◌, not, nat_lt, nat_le, cond, IsTrue, List, [], ◌∷◌, length, fold, refl}
 use Rattle.std.specs.List.{list_all}
-use Rattle.std.proofs.Common.{arith, lit≤}
+use Rattle.std.proofs.Common.{arith, lit≤, ap}
 use Rattle.yard_model.specs.declared.event.Kind.{Kind}
 use Rattle.yard_model.specs.declared.event.Kind.TheVariants as kind
 use Rattle.yard_model.specs.declared.event.Command.{Command}
@@ -12,7 +12,7 @@ use Rattle.yard_model.specs.declared.event.Decision.{Decision}
 use Rattle.yard_model.specs.declared.state.State.{State}
 use Rattle.yard_model.specs.declared.state.State.TheVariants as state
 use Rattle.yard_model.specs.declared.state.CartItem.{CartItem}
-use Rattle.yard_model.specs.Behaviour.{is_in, is_amount, is_item_number, is_item, is_of_kind, is_valid, is_applicable, are_applicable, are_rising, has_item, item_among, items_without, items_adjusted, empty_state, decide, apply, no, gives, most, most_items}
+use Rattle.yard_model.specs.Behaviour.{is_in, is_amount, is_memo, is_item_number, is_item, is_of_kind, is_valid, is_applicable, are_applicable, are_rising, has_item, item_among, items_without, items_adjusted, empty_state, decide, adapt, in_version, pays_in, takes_out, with_memo, apply, apply_adapted, no, gives, most, most_memo, most_items}
 use Rattle.behaviour_core.specs.Booleans.{both, first, second, false_of_not, not_of_false, le_of_not_lt, le_of_sub, le_of, le_from, le_of_lt, lt_from_nonzero}
 use Rattle.behaviour_core.specs.CartLaws.{all_among, length_among, rising_among, all_filtered, length_filtered, rising_filtered, all_adjusted, length_adjusted, rising_adjusted}
 
@@ -26,6 +26,8 @@ abbrev has_numbers : Command → Bool
 has_numbers (command.Add k) = is_in 1 1000 k
 has_numbers (command.Deposit k) = is_amount k
 has_numbers (command.Withdraw k) = is_amount k
+has_numbers (command.DepositWithMemo k m) = is_amount k && is_memo m
+has_numbers (command.WithdrawWithMemo k m) = is_amount k && is_memo m
 has_numbers (command.AddItem x) = is_item x
 has_numbers (command.RemoveItem i) = is_item_number i
 has_numbers (command.AdjustItem x) = is_item x
@@ -35,6 +37,8 @@ numbers_of_kind : (k : Kind) (c : Command) → IsTrue (is_of_kind k c) → IsTru
 numbers_of_kind kind.Counter (command.Add k) h = h
 numbers_of_kind kind.Account (command.Deposit k) h = h
 numbers_of_kind kind.Account (command.Withdraw k) h = h
+numbers_of_kind kind.Account (command.DepositWithMemo k m) h = h
+numbers_of_kind kind.Account (command.WithdrawWithMemo k m) h = h
 numbers_of_kind kind.Cart (command.AddItem x) h = h
 numbers_of_kind kind.Cart (command.RemoveItem i) h = h
 numbers_of_kind kind.Cart (command.AdjustItem x) h = h
@@ -59,23 +63,82 @@ refused_unless : (b : Bool) (st : State) (e : Event) (v r : ℕ) → (b ≡ true
 refused_unless true st e v r h = one_applies st e (h refl)
 refused_unless false st e v r h = refl
 
-counter_applies : (n : ℕ) (c : Command) → IsTrue (has_numbers c) → IsTrue (are_applicable (state.Counter n) (decide (state.Counter n) c).events)
-counter_applies n (command.Add k) h = refused_if (nat_lt most (n + k)) (state.Counter n) (event.Added k) (n + k) 1 (λ f. both (is_in 1 1000 k) (nat_le (n + k) most) h (le_of_not_lt (n + k) most f))
-counter_applies n c h = refl
+counter_applies : (v n : ℕ) (c : Command) → IsTrue (has_numbers c) → IsTrue (are_applicable (state.Counter n) (decide v (state.Counter n) c).events)
+counter_applies v n (command.Add k) h = refused_if (nat_lt most (n + k)) (state.Counter n) (event.Added k) (n + k) 1 (λ f. both (is_in 1 1000 k) (nat_le (n + k) most) h (le_of_not_lt (n + k) most f))
+counter_applies v n c h = refl
 
-open_applies : (b : ℕ) (c : Command) → IsTrue (has_numbers c) → IsTrue (are_applicable (state.Open b) (decide (state.Open b) c).events)
-open_applies b (command.Deposit k) h = refused_if (nat_lt most (b + k)) (state.Open b) (event.Deposited k) (b + k) 5 (λ f. both (is_amount k) (nat_le (b + k) most) h (le_of_not_lt (b + k) most f))
-open_applies b (command.Withdraw k) h = refused_if (nat_lt b k) (state.Open b) (event.Withdrawn k) (b - k) 3 (λ f. both (is_amount k) (nat_le k b) h (le_of_not_lt k b f))
-open_applies b command.Close h = refused_unless (b == 0) (state.Open b) event.AccountClosed 0 4 (λ f. f)
-open_applies b c h = refl
+-- adapting twice is adapting once
+pub adapted_is_itself : (e : Event) → adapt (adapt e) ≡ adapt e
+adapted_is_itself (event.Deposited k) = refl
+adapted_is_itself (event.Withdrawn k) = refl
+adapted_is_itself e = refl
 
-none_applies : (c : Command) → IsTrue (are_applicable state.NoAccount (decide state.NoAccount c).events)
-none_applies command.Create = refl
-none_applies c = refl
+-- an event and its adapted form lead to the same state
+pub adapted_is_alike : (st : State) (e : Event) → apply st (adapt e) ≡ apply st e
+adapted_is_alike st e = ap (apply_adapted st) (adapted_is_itself e)
 
-closed_applies : (c : Command) → IsTrue (are_applicable state.Closed (decide state.Closed c).events)
-closed_applies command.Create = refl
-closed_applies c = refl
+memo_may : (k m : ℕ) (fits : Bool) → IsTrue (is_amount k) → IsTrue (nat_le m most_memo) → IsTrue fits → IsTrue (is_amount k && nat_le m most_memo && fits)
+memo_may k m fits amount memo f = both (is_amount k && nat_le m most_memo) fits (both (is_amount k) (nat_le m most_memo) amount memo) f
+
+adapted_in_open : (b m : ℕ) (e : Event) → IsTrue (is_applicable (state.Open b m) e) → IsTrue (is_applicable (state.Open b m) (adapt e))
+adapted_in_open b m (event.Deposited k) may = memo_may k 0 (nat_le (b + k) most) (first (is_amount k) (nat_le (b + k) most) may) refl (second (is_amount k) (nat_le (b + k) most) may)
+adapted_in_open b m (event.Withdrawn k) may = memo_may k 0 (nat_le k b) (first (is_amount k) (nat_le k b) may) refl (second (is_amount k) (nat_le k b) may)
+adapted_in_open b m e may = may
+
+-- an applicable event's adapted form is applicable
+pub adapted_may : (st : State) (e : Event) → IsTrue (is_applicable st e) → IsTrue (is_applicable st (adapt e))
+adapted_may (state.Open b m) e may = adapted_in_open b m e may
+adapted_may (state.Cart true items) (event.Deposited k) may = may
+adapted_may (state.Cart true items) (event.Withdrawn k) may = may
+adapted_may (state.Cart false items) (event.Deposited k) may = may
+adapted_may (state.Cart false items) (event.Withdrawn k) may = may
+adapted_may st (event.Deposited k) may = may
+adapted_may st (event.Withdrawn k) may = may
+adapted_may st e may = may
+
+told_applies : (v : ℕ) (st : State) (e : Event) → IsTrue (is_applicable st e) → IsTrue (is_applicable st (in_version v e))
+told_applies v st e may = by (nat_lt v 2)
+  where
+    by : (b : Bool) → IsTrue (is_applicable st (cond b e (adapt e)))
+    by true = may
+    by false = adapted_may st e may
+
+memo_applies : (v : ℕ) (st : State) (d : Decision) → IsTrue (are_applicable st d.events) → IsTrue (are_applicable st (with_memo v d).events)
+memo_applies v st d h = by (nat_lt v 2)
+  where
+    by : (b : Bool) → IsTrue (are_applicable st (cond b (no 6) d).events)
+    by true = refl
+    by false = h
+
+pays_apply : (b m k : ℕ) (e : Event) → (IsTrue (nat_le (b + k) most) → IsTrue (is_applicable (state.Open b m) e)) → IsTrue (are_applicable (state.Open b m) (pays_in b k e).events)
+pays_apply b m k e h = refused_if (nat_lt most (b + k)) (state.Open b m) e (b + k) 5 (λ f. h (le_of_not_lt (b + k) most f))
+
+takes_apply : (b m k : ℕ) (e : Event) → (IsTrue (nat_le k b) → IsTrue (is_applicable (state.Open b m) e)) → IsTrue (are_applicable (state.Open b m) (takes_out b k e).events)
+takes_apply b m k e h = refused_if (nat_lt b k) (state.Open b m) e (b - k) 3 (λ f. h (le_of_not_lt k b f))
+
+-- the memo of a command that is in range
+memo_from : (k m : ℕ) → IsTrue (is_amount k && is_memo m) → IsTrue (nat_le m most_memo)
+memo_from k m h = second (nat_le 1 m) (nat_le m most_memo) (second (is_amount k) (is_memo m) h)
+
+open_applies : (v b m : ℕ) (c : Command) → IsTrue (has_numbers c) → IsTrue (are_applicable (state.Open b m) (decide v (state.Open b m) c).events)
+open_applies v b m (command.Deposit k) h = pays_apply b m k (in_version v (event.Deposited k)) (λ f. told_applies v (state.Open b m) (event.Deposited k) (both (is_amount k) (nat_le (b + k) most) h f))
+open_applies v b m (command.Withdraw k) h = takes_apply b m k (in_version v (event.Withdrawn k)) (λ f. told_applies v (state.Open b m) (event.Withdrawn k) (both (is_amount k) (nat_le k b) h f))
+open_applies v b m (command.DepositWithMemo k n) h = memo_applies v (state.Open b m) (pays_in b k (event.DepositedWithMemo k n)) (pays_apply b m k (event.DepositedWithMemo k n) (λ f. memo_may k n (nat_le (b + k) most) (first (is_amount k) (is_memo n) h) (memo_from k n h) f))
+open_applies v b m (command.WithdrawWithMemo k n) h = memo_applies v (state.Open b m) (takes_out b k (event.WithdrawnWithMemo k n)) (takes_apply b m k (event.WithdrawnWithMemo k n) (λ f. memo_may k n (nat_le k b) (first (is_amount k) (is_memo n) h) (memo_from k n h) f))
+open_applies v b m command.Close h = refused_unless (b == 0) (state.Open b m) event.AccountClosed 0 4 (λ f. f)
+open_applies v b m c h = refl
+
+none_applies : (v : ℕ) (c : Command) → IsTrue (are_applicable state.NoAccount (decide v state.NoAccount c).events)
+none_applies v command.Create = refl
+none_applies v (command.DepositWithMemo k m) = memo_applies v state.NoAccount (no 1) refl
+none_applies v (command.WithdrawWithMemo k m) = memo_applies v state.NoAccount (no 1) refl
+none_applies v c = refl
+
+closed_applies : (v : ℕ) (c : Command) → IsTrue (are_applicable state.Closed (decide v state.Closed c).events)
+closed_applies v command.Create = refl
+closed_applies v (command.DepositWithMemo k m) = memo_applies v state.Closed (no 1) refl
+closed_applies v (command.WithdrawWithMemo k m) = memo_applies v state.Closed (no 1) refl
+closed_applies v c = refl
 
 -- an item that is new, where there is room
 added_applies : (there room : Bool) (items : List CartItem) (x : CartItem) (v : ℕ) → has_item x.item items ≡ there → nat_lt (length items) most_items ≡ room → IsTrue (is_item x) →
@@ -87,61 +150,76 @@ added_applies false true items x v t r h =
     (both (is_item x && not (has_item x.item items)) (nat_lt (length items) most_items)
     (both (is_item x) (not (has_item x.item items)) h (not_of_false (has_item x.item items) t)) r)
 
-cart_applies : (items : List CartItem) (c : Command) → IsTrue (has_numbers c) → IsTrue (are_applicable (state.Cart false items) (decide (state.Cart false items) c).events)
-cart_applies items (command.AddItem x) h = added_applies (has_item x.item items) (nat_lt (length items) most_items) items x (length items + 1) refl refl h
-cart_applies items (command.RemoveItem i) h = refused_unless (has_item i items) (state.Cart false items) (event.ItemRemoved i) (length items - 1) 4 (λ t. both (is_item_number i) (has_item i items) h t)
-cart_applies items (command.AdjustItem x) h = refused_unless (has_item x.item items) (state.Cart false items) (event.ItemAdjusted x) (length items) 4 (λ t. both (is_item x) (has_item x.item items) h t)
-cart_applies items command.Checkout h = refused_if (length items == 0) (state.Cart false items) event.CheckedOut (length items) 5 (λ f. lt_from_nonzero (length items) f)
-cart_applies items c h = refl
+cart_applies : (v : ℕ) (items : List CartItem) (c : Command) → IsTrue (has_numbers c) → IsTrue (are_applicable (state.Cart false items) (decide v (state.Cart false items) c).events)
+cart_applies v items (command.AddItem x) h = added_applies (has_item x.item items) (nat_lt (length items) most_items) items x (length items + 1) refl refl h
+cart_applies v items (command.RemoveItem i) h = refused_unless (has_item i items) (state.Cart false items) (event.ItemRemoved i) (length items - 1) 4 (λ t. both (is_item_number i) (has_item i items) h t)
+cart_applies v items (command.AdjustItem x) h = refused_unless (has_item x.item items) (state.Cart false items) (event.ItemAdjusted x) (length items) 4 (λ t. both (is_item x) (has_item x.item items) h t)
+cart_applies v items command.Checkout h = refused_if (length items == 0) (state.Cart false items) event.CheckedOut (length items) 5 (λ f. lt_from_nonzero (length items) f)
+cart_applies v items c h = refl
 
-numbers_apply : (st : State) (c : Command) → IsTrue (has_numbers c) → IsTrue (are_applicable st (decide st c).events)
-numbers_apply (state.Counter n) c h = counter_applies n c h
-numbers_apply state.NoAccount c h = none_applies c
-numbers_apply (state.Open b) c h = open_applies b c h
-numbers_apply state.Closed c h = closed_applies c
-numbers_apply (state.Cart true items) c h = refl
-numbers_apply (state.Cart false items) c h = cart_applies items c h
+numbers_apply : (v : ℕ) (st : State) (c : Command) → IsTrue (has_numbers c) → IsTrue (are_applicable st (decide v st c).events)
+numbers_apply v (state.Counter n) c h = counter_applies v n c h
+numbers_apply v state.NoAccount c h = none_applies v c
+numbers_apply v (state.Open b m) c h = open_applies v b m c h
+numbers_apply v state.Closed c h = closed_applies v c
+numbers_apply v (state.Cart true items) c h = refl
+numbers_apply v (state.Cart false items) c h = cart_applies v items c h
 
 -- decided events are applicable one after the other
-pub decided_events_apply : (k : Kind) (st : State) (c : Command) → IsTrue (is_of_kind k c) → IsTrue (are_applicable st (decide st c).events)
-decided_events_apply k st c own = numbers_apply st c (numbers_of_kind k c own)
+pub decided_events_apply : (v : ℕ) (k : Kind) (st : State) (c : Command) → IsTrue (is_of_kind k c) → IsTrue (are_applicable st (decide v st c).events)
+decided_events_apply v k st c own = numbers_apply v st c (numbers_of_kind k c own)
 
 few_if : (b : Bool) (d f : Decision) → length d.events ≤ 4 → length f.events ≤ 4 → length (cond b d f).events ≤ 4
 few_if true d f h k = h
 few_if false d f h k = k
 
-few_open : (b : ℕ) (c : Command) → length (decide (state.Open b) c).events ≤ 4
-few_open b (command.Deposit k) = few_if (nat_lt most (b + k)) (no 5) (gives (event.Deposited k) (b + k)) (lit≤ tt) (lit≤ tt)
-few_open b (command.Withdraw k) = few_if (nat_lt b k) (no 3) (gives (event.Withdrawn k) (b - k)) (lit≤ tt) (lit≤ tt)
-few_open b command.Close = few_if (b == 0) (gives event.AccountClosed 0) (no 4) (lit≤ tt) (lit≤ tt)
-few_open b c = lit≤ tt
+few_memo : (v : ℕ) (d : Decision) → length d.events ≤ 4 → length (with_memo v d).events ≤ 4
+few_memo v d h = few_if (nat_lt v 2) (no 6) d (lit≤ tt) h
 
-few_cart : (items : List CartItem) (c : Command) → length (decide (state.Cart false items) c).events ≤ 4
-few_cart items (command.AddItem x) = few_if (has_item x.item items) (no 2) (cond (nat_lt (length items) most_items) (gives (event.ItemAdded x) (length items + 1)) (no 3)) (lit≤ tt) (few_if (nat_lt (length items) most_items) (gives (event.ItemAdded x) (length items + 1)) (no 3) (lit≤ tt) (lit≤ tt))
-few_cart items (command.RemoveItem i) = few_if (has_item i items) (gives (event.ItemRemoved i) (length items - 1)) (no 4) (lit≤ tt) (lit≤ tt)
-few_cart items (command.AdjustItem x) = few_if (has_item x.item items) (gives (event.ItemAdjusted x) (length items)) (no 4) (lit≤ tt) (lit≤ tt)
-few_cart items command.Checkout = few_if (length items == 0) (no 5) (gives event.CheckedOut (length items)) (lit≤ tt) (lit≤ tt)
-few_cart items c = lit≤ tt
+few_pays : (b k : ℕ) (e : Event) → length (pays_in b k e).events ≤ 4
+few_pays b k e = few_if (nat_lt most (b + k)) (no 5) (gives e (b + k)) (lit≤ tt) (lit≤ tt)
 
-few_counter : (n : ℕ) (c : Command) → length (decide (state.Counter n) c).events ≤ 4
-few_counter n (command.Add k) = few_if (nat_lt most (n + k)) (no 1) (gives (event.Added k) (n + k)) (lit≤ tt) (lit≤ tt)
-few_counter n c = lit≤ tt
+few_takes : (b k : ℕ) (e : Event) → length (takes_out b k e).events ≤ 4
+few_takes b k e = few_if (nat_lt b k) (no 3) (gives e (b - k)) (lit≤ tt) (lit≤ tt)
 
-few_none : (c : Command) → length (decide state.NoAccount c).events ≤ 4
-few_none command.Create = lit≤ tt
-few_none c = lit≤ tt
+few_open : (v b m : ℕ) (c : Command) → length (decide v (state.Open b m) c).events ≤ 4
+few_open v b m (command.Deposit k) = few_pays b k (in_version v (event.Deposited k))
+few_open v b m (command.Withdraw k) = few_takes b k (in_version v (event.Withdrawn k))
+few_open v b m (command.DepositWithMemo k n) = few_memo v (pays_in b k (event.DepositedWithMemo k n)) (few_pays b k (event.DepositedWithMemo k n))
+few_open v b m (command.WithdrawWithMemo k n) = few_memo v (takes_out b k (event.WithdrawnWithMemo k n)) (few_takes b k (event.WithdrawnWithMemo k n))
+few_open v b m command.Close = few_if (b == 0) (gives event.AccountClosed 0) (no 4) (lit≤ tt) (lit≤ tt)
+few_open v b m c = lit≤ tt
 
-few_closed : (c : Command) → length (decide state.Closed c).events ≤ 4
-few_closed command.Create = lit≤ tt
-few_closed c = lit≤ tt
+few_cart : (v : ℕ) (items : List CartItem) (c : Command) → length (decide v (state.Cart false items) c).events ≤ 4
+few_cart v items (command.AddItem x) = few_if (has_item x.item items) (no 2) (cond (nat_lt (length items) most_items) (gives (event.ItemAdded x) (length items + 1)) (no 3)) (lit≤ tt) (few_if (nat_lt (length items) most_items) (gives (event.ItemAdded x) (length items + 1)) (no 3) (lit≤ tt) (lit≤ tt))
+few_cart v items (command.RemoveItem i) = few_if (has_item i items) (gives (event.ItemRemoved i) (length items - 1)) (no 4) (lit≤ tt) (lit≤ tt)
+few_cart v items (command.AdjustItem x) = few_if (has_item x.item items) (gives (event.ItemAdjusted x) (length items)) (no 4) (lit≤ tt) (lit≤ tt)
+few_cart v items command.Checkout = few_if (length items == 0) (no 5) (gives event.CheckedOut (length items)) (lit≤ tt) (lit≤ tt)
+few_cart v items c = lit≤ tt
 
-pub decided_events_are_few : (st : State) (c : Command) → length (decide st c).events ≤ 4
-decided_events_are_few (state.Counter n) c = few_counter n c
-decided_events_are_few state.NoAccount c = few_none c
-decided_events_are_few (state.Open b) c = few_open b c
-decided_events_are_few state.Closed c = few_closed c
-decided_events_are_few (state.Cart true items) c = lit≤ tt
-decided_events_are_few (state.Cart false items) c = few_cart items c
+few_counter : (v n : ℕ) (c : Command) → length (decide v (state.Counter n) c).events ≤ 4
+few_counter v n (command.Add k) = few_if (nat_lt most (n + k)) (no 1) (gives (event.Added k) (n + k)) (lit≤ tt) (lit≤ tt)
+few_counter v n c = lit≤ tt
+
+few_none : (v : ℕ) (c : Command) → length (decide v state.NoAccount c).events ≤ 4
+few_none v command.Create = lit≤ tt
+few_none v (command.DepositWithMemo k m) = few_memo v (no 1) (lit≤ tt)
+few_none v (command.WithdrawWithMemo k m) = few_memo v (no 1) (lit≤ tt)
+few_none v c = lit≤ tt
+
+few_closed : (v : ℕ) (c : Command) → length (decide v state.Closed c).events ≤ 4
+few_closed v command.Create = lit≤ tt
+few_closed v (command.DepositWithMemo k m) = few_memo v (no 1) (lit≤ tt)
+few_closed v (command.WithdrawWithMemo k m) = few_memo v (no 1) (lit≤ tt)
+few_closed v c = lit≤ tt
+
+pub decided_events_are_few : (v : ℕ) (st : State) (c : Command) → length (decide v st c).events ≤ 4
+decided_events_are_few v (state.Counter n) c = few_counter v n c
+decided_events_are_few v state.NoAccount c = few_none v c
+decided_events_are_few v (state.Open b m) c = few_open v b m c
+decided_events_are_few v state.Closed c = few_closed v c
+decided_events_are_few v (state.Cart true items) c = lit≤ tt
+decided_events_are_few v (state.Cart false items) c = few_cart v items c
 
 -- a cart's items are as they should be
 valid_items : (rising each fits : Bool) → IsTrue rising → IsTrue each → IsTrue fits → IsTrue (rising && each && fits)
@@ -170,11 +248,19 @@ cart_after items (event.ItemAdjusted x) valid may =
 cart_after items event.CheckedOut valid may = valid
 cart_after items e valid may = valid
 
-open_after : (b : ℕ) (e : Event) → IsTrue (nat_le b most) → IsTrue (is_applicable (state.Open b) e) → IsTrue (is_valid kind.Account (apply (state.Open b) e))
-open_after b (event.Deposited k) valid may = second (is_amount k) (nat_le (b + k) most) may
-open_after b (event.Withdrawn k) valid may = le_of_sub b k most valid
-open_after b event.AccountClosed valid may = refl
-open_after b e valid may = cc
+valid_open : (b m : ℕ) → IsTrue (nat_le b most) → IsTrue (nat_le m most_memo) → IsTrue (is_valid kind.Account (state.Open b m))
+valid_open b m balance memo = both (nat_le b most) (nat_le m most_memo) balance memo
+
+memo_of : (k n : ℕ) (fits : Bool) → IsTrue (is_amount k && nat_le n most_memo && fits) → IsTrue (nat_le n most_memo)
+memo_of k n fits may = second (is_amount k) (nat_le n most_memo) (first (is_amount k && nat_le n most_memo) fits may)
+
+open_after : (b m : ℕ) (e : Event) → IsTrue (is_valid kind.Account (state.Open b m)) → IsTrue (is_applicable (state.Open b m) e) → IsTrue (is_valid kind.Account (apply (state.Open b m) e))
+open_after b m (event.Deposited k) valid may = valid_open (b + k) 0 (second (is_amount k) (nat_le (b + k) most) may) refl
+open_after b m (event.Withdrawn k) valid may = valid_open (b - k) 0 (le_of_sub b k most (first (nat_le b most) (nat_le m most_memo) valid)) refl
+open_after b m (event.DepositedWithMemo k n) valid may = valid_open (b + k) n (second (is_amount k && nat_le n most_memo) (nat_le (b + k) most) may) (memo_of k n (nat_le (b + k) most) may)
+open_after b m (event.WithdrawnWithMemo k n) valid may = valid_open (b - k) n (le_of_sub b k most (first (nat_le b most) (nat_le m most_memo) valid)) (memo_of k n (nat_le k b) may)
+open_after b m event.AccountClosed valid may = refl
+open_after b m e valid may = cc
 
 counter_after : (n : ℕ) (e : Event) → IsTrue (is_applicable (state.Counter n) e) → IsTrue (is_valid kind.Counter (apply (state.Counter n) e))
 counter_after n (event.Added k) may = second (is_in 1 1000 k) (nat_le (n + k) most) may
@@ -188,7 +274,7 @@ none_after e may = cc
 pub valid_after : (k : Kind) (st : State) (e : Event) → IsTrue (is_valid k st) → IsTrue (is_applicable st e) → IsTrue (is_valid k (apply st e))
 valid_after kind.Counter (state.Counter n) e valid may = counter_after n e may
 valid_after kind.Account state.NoAccount e valid may = none_after e may
-valid_after kind.Account (state.Open b) e valid may = open_after b e valid may
+valid_after kind.Account (state.Open b m) e valid may = open_after b m e valid may
 valid_after kind.Account state.Closed e valid may = cc
 valid_after kind.Cart (state.Cart true items) e valid may = cc
 valid_after kind.Cart (state.Cart false items) e valid may = cart_after items e valid may

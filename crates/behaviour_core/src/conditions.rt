@@ -1,12 +1,15 @@
 //! The conditions of a behaviour, for callers that don't know them otherwise.
-ghost use Rattle.std.specs.Prelude.{◌≡◌, ◌+◌, false, nat_le};
+ghost use Rattle.std.specs.Prelude.{◌≡◌, ℕ, ◌+◌, false, nat_le};
 ghost use Rattle.std.specs.List.{list_all};
-ghost use Rattle.yard_model.specs.Behaviour.{is_in, is_item, is_of_kind, is_valid, is_applicable, are_rising, is_below_all};
+ghost use Rattle.yard_model.specs.Behaviour.{is_in, is_item, is_memo, is_of_kind, is_valid, is_applicable, are_rising, is_below_all};
 
 use yard_model::{CartItem, Command, Event, Items, Kind, State};
 
 /// The greatest total and balance.
 const MOST: u64 = 1_000_000_000_000_000;
+
+/// The greatest memo.
+const MOST_MEMO: u16 = 9999;
 
 /// Whether the command stands among those of this kind, with its numbers in range.
 pub fn is_of_kind(kind: Kind, command: &Command) -> bool
@@ -16,6 +19,9 @@ pub fn is_of_kind(kind: Kind, command: &Command) -> bool
         (Kind::Counter, Command::Add(k)) => is_in(1, 1000, u64::from(*k)),
         (Kind::Counter, Command::Read) => true,
         (Kind::Account, Command::Deposit(k) | Command::Withdraw(k)) => is_amount(*k),
+        (Kind::Account, Command::DepositWithMemo(k, m) | Command::WithdrawWithMemo(k, m)) => {
+            is_amount(*k) && is_memo(*m)
+        }
         (Kind::Account, Command::Create | Command::Balance | Command::Close) => true,
         (Kind::Cart, Command::AddItem(x) | Command::AdjustItem(x)) => is_item(x),
         (Kind::Cart, Command::RemoveItem(number)) => is_item_number(*number),
@@ -31,13 +37,14 @@ pub fn is_valid(kind: Kind, state: &State) -> bool
     match (kind, state) {
         (Kind::Counter, State::Counter(total)) => *total <= MOST,
         (Kind::Account, State::NoAccount | State::Closed) => true,
-        (Kind::Account, State::Open(balance)) => *balance <= MOST,
+        (Kind::Account, State::Open { balance, memo }) => *balance <= MOST && *memo <= MOST_MEMO,
         (Kind::Cart, State::Cart { items, .. }) => is_valid_cart(items),
         _ => false,
     }
 }
 
-/// Whether some command of the state's kind is answered there with this event alone.
+/// Whether some command of the state's kind is answered there with this event alone, in one version
+/// or the other.
 pub fn is_applicable(state: &State, event: &Event) -> bool
     ensures { result ≡ is_applicable state.now event.now }
 {
@@ -46,12 +53,25 @@ pub fn is_applicable(state: &State, event: &Event) -> bool
             is_in(1, 1000, u64::from(*k)) && fits(*total, u64::from(*k))
         }
         (State::NoAccount, Event::Created) => true,
-        (State::Open(balance), Event::Deposited(k)) => {
-            is_amount(*k) && fits(*balance, u64::from(*k))
-        }
-        (State::Open(balance), Event::Withdrawn(k)) => is_amount(*k) && u64::from(*k) <= *balance,
-        (State::Open(balance), Event::AccountClosed) => *balance == 0,
+        (State::Open { balance, .. }, _) => is_applicable_in_account(*balance, event),
         (State::Cart { out: false, items }, _) => is_applicable_in_cart(items, event),
+        _ => false,
+    }
+}
+
+fn is_applicable_in_account(balance: u64, event: &Event) -> bool
+    ensures { (memo : ℕ) → result ≡ is_applicable (State.Open balance memo) event.now }
+{
+    match event {
+        Event::Deposited(k) => is_amount(*k) && fits(balance, u64::from(*k)),
+        Event::Withdrawn(k) => is_amount(*k) && u64::from(*k) <= balance,
+        Event::DepositedWithMemo(k, m) => {
+            is_amount(*k) && *m <= MOST_MEMO && fits(balance, u64::from(*k))
+        }
+        Event::WithdrawnWithMemo(k, m) => {
+            is_amount(*k) && *m <= MOST_MEMO && u64::from(*k) <= balance
+        }
+        Event::AccountClosed => balance == 0,
         _ => false,
     }
 }
@@ -113,6 +133,12 @@ fn is_amount(amount: u32) -> bool
     ensures { result ≡ is_in 1 1000000 amount }
 {
     is_in(1, 1_000_000, u64::from(amount))
+}
+
+fn is_memo(memo: u16) -> bool
+    ensures { result ≡ is_memo memo }
+{
+    is_in(1, u64::from(MOST_MEMO), u64::from(memo))
 }
 
 /// Whether a total or a balance and one amount more stay within the greatest.

@@ -1,9 +1,12 @@
 //! Carts.
 ghost use Rattle.std.specs.Prelude.{◌≡◌, ◌<◌, length};
 ghost use Rattle.yard_model.specs.declared.event.Kind.TheVariants as kind;
+ghost use Rattle.behaviour_kinds.specs.declared.version.Version.TheVariants as version;
+ghost use Rattle.behaviour_kinds.specs.Versions.{number};
 ghost use Rattle.yard_model.specs.Behaviour.{decide, decide_cart};
 
 use crate::decisions::{refused, taken};
+use crate::version::{Version, adapted};
 use behaviour_core::{Behaviour, Decision};
 use yard_model::{CartItem, Command, Event, Items, Kind, State};
 
@@ -17,19 +20,38 @@ const MOST_ITEMS: usize = 16;
 /// where 16 are there, 4 where an item is removed or adjusted that isn't there, 5 where an empty cart
 /// is checked out. Other answers are the number of different items afterwards.
 #[derive(Clone, Copy, Debug, PartialEq, Eq)]
-pub struct Cart;
+pub struct Cart {
+    version: Version,
+}
+
+impl Cart {
+    /// Of version 1.
+    pub fn new() -> Cart
+        ensures { result ≡ record { version = version.First } }
+    {
+        Cart {
+            version: Version::First,
+        }
+    }
+}
 
 impl Behaviour for Cart {
     ghost kind_of = { λ _. kind.Cart };
 
-    ghost version_of = { λ _. 1 };
+    ghost version_of = { λ b. number b.version };
 
     fn kind(&self) -> Kind {
         Kind::Cart
     }
 
     fn version(&self) -> u8 {
-        1
+        self.version.number()
+    }
+
+    fn at_version(self, version: u8) -> Cart {
+        Cart {
+            version: Version::of(version),
+        }
     }
 
     fn empty(&self) -> State {
@@ -46,6 +68,10 @@ impl Behaviour for Cart {
 
     fn apply(&self, state: &State, event: &Event) -> State {
         state.after(event)
+    }
+
+    fn adapt(&self, event: &Event) -> Event {
+        adapted(event)
     }
 }
 

@@ -1,9 +1,12 @@
 //! Counters.
 ghost use Rattle.std.specs.Prelude.{◌≡◌, ◌≤◌};
 ghost use Rattle.yard_model.specs.declared.event.Kind.TheVariants as kind;
+ghost use Rattle.behaviour_kinds.specs.declared.version.Version.TheVariants as version;
+ghost use Rattle.behaviour_kinds.specs.Versions.{number};
 ghost use Rattle.yard_model.specs.Behaviour.{decide, most};
 
 use crate::decisions::{MOST, answered, refused, taken};
+use crate::version::{Version, adapted};
 use behaviour_core::{Behaviour, Decision};
 use yard_model::{Command, Event, Kind, State};
 
@@ -12,19 +15,38 @@ use yard_model::{Command, Event, Kind, State};
 /// `Add` of 1 to 1000 is refused for reason 1 where the total would pass 10^15. Every answer is the
 /// total afterwards.
 #[derive(Clone, Copy, Debug, PartialEq, Eq)]
-pub struct Counter;
+pub struct Counter {
+    version: Version,
+}
+
+impl Counter {
+    /// Of version 1.
+    pub fn new() -> Counter
+        ensures { result ≡ record { version = version.First } }
+    {
+        Counter {
+            version: Version::First,
+        }
+    }
+}
 
 impl Behaviour for Counter {
     ghost kind_of = { λ _. kind.Counter };
 
-    ghost version_of = { λ _. 1 };
+    ghost version_of = { λ b. number b.version };
 
     fn kind(&self) -> Kind {
         Kind::Counter
     }
 
     fn version(&self) -> u8 {
-        1
+        self.version.number()
+    }
+
+    fn at_version(self, version: u8) -> Counter {
+        Counter {
+            version: Version::of(version),
+        }
     }
 
     fn empty(&self) -> State {
@@ -44,11 +66,16 @@ impl Behaviour for Counter {
     fn apply(&self, state: &State, event: &Event) -> State {
         state.after(event)
     }
+
+    fn adapt(&self, event: &Event) -> Event {
+        adapted(event)
+    }
 }
 
+/// Adds, the same in both versions.
 fn add(total: u64, k: u16) -> Decision
     requires { total ≤ most }
-    ensures { result ≡ decide (State.Counter total) (Command.Add k) }
+    ensures { result ≡ decide 1 (State.Counter total) (Command.Add k) }
 {
     let sum = total + u64::from(k);
     if sum > MOST {

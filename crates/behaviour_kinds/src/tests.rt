@@ -64,7 +64,7 @@ fn a_counter_counts(rt: HostRuntime) {
         ok(Command::Add(1000), Event::Added(1000), 1001),
         told(Command::Read, 1001),
     ];
-    let end = played(&rt, &Counter, &Counter.empty(), &steps);
+    let end = played(&rt, &Counter::new(), &Counter::new().empty(), &steps);
     assert_eq!(rt; end, State::Counter(1001));
 }
 
@@ -76,7 +76,7 @@ fn a_counter_ends_at_its_greatest(rt: HostRuntime) {
         no(Command::Add(1), 1),
         told(Command::Read, MOST),
     ];
-    let end = played(&rt, &Counter, &State::Counter(MOST - 999), &steps);
+    let end = played(&rt, &Counter::new(), &State::Counter(MOST - 999), &steps);
     assert_eq!(rt; end, State::Counter(MOST));
 }
 
@@ -93,7 +93,7 @@ fn an_account_lives_once(rt: HostRuntime) {
         no(Command::Balance, 1),
         no(Command::Create, 2),
     ];
-    let end = played(&rt, &Account, &Account.empty(), &steps);
+    let end = played(&rt, &Account::new(), &Account::new().empty(), &steps);
     assert_eq!(rt; end, State::Closed);
 }
 
@@ -104,14 +104,14 @@ fn an_account_that_isnt_open_refuses(rt: HostRuntime) {
         no(Command::Balance, 1),
         no(Command::Close, 1),
     ];
-    let end = played(&rt, &Account, &State::NoAccount, &steps);
+    let end = played(&rt, &Account::new(), &State::NoAccount, &steps);
     assert_eq!(rt; end, State::NoAccount);
     let steps = [
         no(Command::Deposit(1), 1),
         no(Command::Withdraw(1_000_000), 1),
         no(Command::Close, 1),
     ];
-    let end = played(&rt, &Account, &State::Closed, &steps);
+    let end = played(&rt, &Account::new(), &State::Closed, &steps);
     assert_eq!(rt; end, State::Closed);
 }
 
@@ -132,8 +132,8 @@ fn a_balance_ends_at_its_greatest(rt: HostRuntime) {
             MOST - 1_000_000,
         ),
     ];
-    let end = played(&rt, &Account, &State::Open(MOST - 1_000_000), &steps);
-    assert_eq!(rt; end, State::Open(MOST - 1_000_000));
+    let end = played(&rt, &Account::new(), &open(MOST - 1_000_000, 0), &steps);
+    assert_eq!(rt; end, open(MOST - 1_000_000, 0));
 }
 
 #[test]
@@ -154,7 +154,7 @@ fn a_cart_is_filled_and_checked_out(rt: HostRuntime) {
         no(Command::RemoveItem(1), 1),
         no(adjust(1, 2), 1),
     ];
-    let end = played(&rt, &Cart, &Cart.empty(), &steps);
+    let end = played(&rt, &Cart::new(), &Cart::new().empty(), &steps);
     let left = State::Cart {
         out: true,
         items: Items::empty().with(item(1, 1)).with(item(70, 1000)),
@@ -164,11 +164,11 @@ fn a_cart_is_filled_and_checked_out(rt: HostRuntime) {
 
 #[test]
 fn a_cart_takes_16_items(rt: HostRuntime) {
-    let mut full = Cart.empty();
+    let mut full = Cart::new().empty();
     for k in 1..17u16 {
         full = played(
             &rt,
-            &Cart,
+            &Cart::new(),
             &full,
             &[ok(add(k, k), Event::ItemAdded(item(k, k)), u64::from(k))],
         );
@@ -179,8 +179,55 @@ fn a_cart_takes_16_items(rt: HostRuntime) {
         ok(Command::RemoveItem(3), Event::ItemRemoved(3), 15),
         ok(add(17, 1), Event::ItemAdded(item(17, 1)), 16),
     ];
-    let end = played(&rt, &Cart, &full, &steps);
+    let end = played(&rt, &Cart::new(), &full, &steps);
     assert!(rt; is_valid(Kind::Cart, &end));
-    assert_eq!(rt; Cart.version(), 1);
-    assert_eq!(rt; Account.version(), 1);
+}
+
+fn open(balance: u64, memo: u16) -> State {
+    State::Open { balance, memo }
+}
+
+/// The first records are those of version 1.
+#[test]
+fn an_account_gets_memos_in_version_2(rt: HostRuntime) {
+    let first = Account::new();
+    let steps = [
+        no(Command::DepositWithMemo(5, 7), 6),
+        ok(Command::Create, Event::Created, 0),
+        ok(Command::Deposit(100), Event::Deposited(100), 100),
+        no(Command::DepositWithMemo(5, 7), 6),
+        no(Command::WithdrawWithMemo(500, 7), 6),
+    ];
+    let middle = played(&rt, &first, &first.empty(), &steps);
+    assert_eq!(rt; middle, open(100, 0));
+    let second = first.at_version(2);
+    assert_eq!(rt; second.version(), 2);
+    assert_eq!(rt; second.at_version(1), first);
+    let steps = [
+        ok(
+            Command::WithdrawWithMemo(30, 12),
+            Event::WithdrawnWithMemo(30, 12),
+            70,
+        ),
+        no(Command::WithdrawWithMemo(71, 13), 3),
+    ];
+    let end = played(&rt, &second, &middle, &steps);
+    assert_eq!(rt; end, open(70, 12));
+    let steps = [
+        ok(Command::Deposit(5), Event::DepositedWithMemo(5, 0), 75),
+        ok(
+            Command::DepositWithMemo(25, 9999),
+            Event::DepositedWithMemo(25, 9999),
+            100,
+        ),
+        ok(Command::Withdraw(100), Event::WithdrawnWithMemo(100, 0), 0),
+        ok(Command::Close, Event::AccountClosed, 0),
+        no(Command::DepositWithMemo(5, 7), 1),
+    ];
+    let end = played(&rt, &second, &end, &steps);
+    assert_eq!(rt; end, State::Closed);
+    assert_eq!(rt;
+        second.adapt(&Event::Deposited(5)),
+        Event::DepositedWithMemo(5, 0)
+    );
 }

@@ -61,6 +61,13 @@ impl Stash {
         self.ring.pop_front()
     }
 
+    /// Drops all messages.
+    pub fn clear(&mut self)
+        ensures { self.new ≡ record self.old { messages = [] } }
+    {
+        self.ring.clear();
+    }
+
     /// How many messages are held.
     pub fn len(&self) -> usize
         ensures len { result ≡ length self.now.messages }

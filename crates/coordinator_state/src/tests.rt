@@ -26,61 +26,30 @@ fn sent<T: Send>(item: T) -> T
 }
 
 #[test]
-fn a_store_goes_to_another_thread(rt: HostRuntime) -> Result<(), Fail> {
+fn a_region_gets_a_shard_and_is_lost(rt: HostRuntime) -> Result<(), Fail> {
     let alloc = rt.alloc();
     let charter = Charter::new(alloc, SETTINGS, Vec::new(alloc))?;
     let mut store = sent(CoordStore::new(alloc, &charter)?);
-    store.reserve(3)?;
-    assert_eq!(rt; store.spare(), 3);
-    assert_eq!(rt; store.len(), 0);
-    assert_eq!(rt; store.epoch(), 0);
-    let who = Incarnation {
-        node: NodeNo::FIRST,
-        number: 7,
-    };
-    assert!(rt; !store.is_leased());
-    assert_eq!(rt; store.grant(who), 1);
-    assert!(rt; store.is_leased());
-    store.free(Cause::Released);
-    assert!(rt; !store.is_leased());
-    assert_eq!(rt; store.grant(who), 2);
-    assert_eq!(rt; store.spare(), 0);
-    Ok(())
-}
-
-#[test]
-fn a_lost_region_leaves_no_home(rt: HostRuntime) -> Result<(), Fail> {
-    let alloc = rt.alloc();
-    let charter = Charter::new(alloc, SETTINGS, Vec::new(alloc))?;
-    let mut store = CoordStore::new(alloc, &charter)?;
-    store.reserve(9)?;
+    store.reserve(6)?;
     let first = Incarnation {
         node: NodeNo::FIRST,
         number: 1,
     };
-    let second = Incarnation {
-        node: NodeNo::FIRST,
-        number: 2,
-    };
-    let low = ShardNo::new(0, 10).ok_or("a shard")?;
     let high = ShardNo::new(9, 10).ok_or("a shard")?;
-    store.grant(first);
+    assert_eq!(rt; store.grant(first), 1);
     store.registered(first);
-    store.registered(second);
-    store.allocated(low, first);
-    store.allocated(high, second);
-    assert!(rt; store.home(low) == Some(first));
-    store.terminated(first);
-    assert!(rt; store.home(low) == None);
-    assert!(rt; store.home(high) == Some(second));
-    assert!(rt; !store.is_registered(first));
-    assert!(rt; store.is_registered(second));
-    let loads = store.loads();
-    assert_eq!(rt; loads.as_slice().len(), 1);
+    store.allocated(high, first);
+    assert!(rt; store.is_leased() && store.is_registered(first));
+    assert!(rt; store.home(high) == Some(first));
+    assert_eq!(rt; store.loads().as_slice().len(), 1);
     store.deallocated(high);
     assert!(rt; store.home(high) == None);
+    store.terminated(first);
     store.free(Cause::Stopped);
-    assert_eq!(rt; store.len(), 8);
-    assert!(rt; matches!(store.entries()[5], CoordEntry::Terminated(_)));
+    assert!(rt; !store.is_leased() && !store.is_registered(first));
+    assert_eq!(rt; store.epoch(), 1);
+    assert_eq!(rt; store.len(), 6);
+    assert_eq!(rt; store.spare(), 0);
+    assert!(rt; matches!(store.entries()[4], CoordEntry::Terminated(_)));
     Ok(())
 }

@@ -105,22 +105,38 @@ fn free(store: &mut QueueStore) -> bool
     }
 }
 
-/// Whether one command is queued, to the first entity.
-fn is_queued(store: &QueueStore, a: &EntityName, b: &EntityName) -> bool {
-    store.total() == 1
-        && store.queued(a) == 1
-        && store.queued(b) == 0
-        && store.command(a, 1) == Some(Command::Add(7))
-        && store.command(a, 0).is_none()
-        && store.command(a, 2).is_none()
-        && store.command(b, 1).is_none()
+/// Whether this is the first send to the entity.
+fn is_first(sent: Option<Sending>, entity: &EntityName) -> bool {
+    match sent {
+        Some(sent) => sent.entity == *entity && sent.number == 1,
+        None => false,
+    }
 }
 
-/// Whether it is confirmed, and the second of four entries.
-fn is_confirmed(store: &QueueStore, a: &EntityName) -> bool {
-    let second = store.entries().get(1);
-    let is_entry = matches!(second, Some(QueueEntry::Queued(..)));
-    is_entry && store.confirmed(a) == 1 && store.len() == 4 && store.spare() == 0
+/// Grants, queues, confirms and frees; whether each was allowed, and answered the first of all.
+fn play(store: &mut QueueStore, charter: &Charter, p: ProducerNo, entity: &EntityName) -> bool
+    requires charter { charter.now ≡ store.old.script }
+    requires producer { p ≡ store.old.producer }
+    requires nodes { store.old.script.config.nodes ≡ 3 }
+{
+    grant(store) == Some(1)
+        && is_first(queue(store, charter, p), entity)
+        && confirm(store, entity, 1)
+        && free(store)
+}
+
+/// Whether one command is queued and confirmed.
+fn is_confirmed(store: &QueueStore, entity: &EntityName) -> bool {
+    store.total() == 1
+        && store.queued(entity) == 1
+        && store.confirmed(entity) == 1
+        && store.command(entity, 1) == Some(Command::Add(7))
+}
+
+/// Whether the first lease is over, with four entries, of which the second is the command.
+fn is_freed(store: &QueueStore) -> bool {
+    let is_entry = matches!(store.entries().get(1), Some(QueueEntry::Queued(..)));
+    is_entry && store.epoch() == 1 && store.len() == 4 && store.spare() == 0
 }
 
 #[test]
@@ -128,32 +144,11 @@ fn a_queue_is_filled_and_confirmed(rt: HostRuntime) -> Result<(), Fail> {
     let alloc = rt.alloc();
     let p = ProducerNo::new(1).ok_or("1 is a producer")?;
     let a = EntityName::new(b"a").ok_or("a is a name")?;
-    let b = EntityName::new(b"b").ok_or("b is a name")?;
     let charter = one_send(alloc, p, a)?;
     let mut store = passed(QueueStore::new(alloc, &charter, p)?);
     store.reserve(4)?;
-    assert!(rt; grant(&mut store) == Some(1));
-    let sent = queue(&mut store, &charter, p).ok_or("a send is left")?;
-    assert!(rt; sent.entity == a && sent.number == 1);
-    assert!(rt; queue(&mut store, &charter, p).is_none());
-    assert!(rt; is_queued(&store, &a, &b));
-    assert!(rt; confirm(&mut store, &a, 1) && !confirm(&mut store, &a, 1));
-    assert!(rt; free(&mut store));
+    assert!(rt; play(&mut store, &charter, p, &a));
     assert!(rt; is_confirmed(&store, &a));
-    Ok(())
-}
-
-#[test]
-fn epochs_rise(rt: HostRuntime) -> Result<(), Fail> {
-    let alloc = rt.alloc();
-    let p = ProducerNo::new(1).ok_or("1 is a producer")?;
-    let a = EntityName::new(b"a").ok_or("a is a name")?;
-    let charter = one_send(alloc, p, a)?;
-    let mut store = QueueStore::new(alloc, &charter, p)?;
-    store.reserve(3)?;
-    assert!(rt; grant(&mut store) == Some(1) && grant(&mut store).is_none());
-    assert!(rt; free(&mut store));
-    assert!(rt; grant(&mut store) == Some(2));
-    assert!(rt; store.epoch() == 2);
+    assert!(rt; is_freed(&store));
     Ok(())
 }

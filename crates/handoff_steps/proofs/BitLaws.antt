@@ -1,8 +1,8 @@
 -- What clearing one bit does, and the regions whose bits are one.
-use Rattle.std.proofs.Common.{◌≡◌, ◌≢◌, ℕ, suc, ◌+◌, ◌*◌, ◌%◌, ◌^◌, ◌<◌, ◌≤◌, Bool, true, false, not, ◌&&◌, ◌||◌, List, [], ◌∷◌, length, drop, get_or, ap, sym, ◌∙◌, refl, arith, if◌then◌else◌}
+use Rattle.std.proofs.Common.{◌≡◌, ◌≢◌, ℕ, suc, ◌+◌, ◌*◌, ◌%◌, ◌^◌, ◌<◌, ◌≤◌, Bool, true, false, not, ◌&&◌, ◌||◌, List, [], ◌∷◌, ◌++◌, length, length-append, drop, get_or, ap, sym, ◌∙◌, refl, arith, if◌then◌else◌}
 use Rattle.std.specs.Prelude.{◌==◌}
 use Rattle.std.specs.Int.{w16, bit_not}
-use Rattle.std.proofs.lemmas.List.{drop_more, drop_all}
+use Rattle.std.proofs.lemmas.List.{drop_more, drop_all, append_assoc}
 use Rattle.std.proofs.lemmas.Nat.Bits.{bit_at_clear_same, bit_at_clear_other, bit_at_ones}
 use lib.Bits.{bit_and}
 use Rattle.yard_model.specs.declared.incarnation.Incarnation.{Incarnation}
@@ -66,3 +66,24 @@ pub all_awaited : (i : ℕ) (rs : List Incarnation) → i + length rs ≤ 16 →
 all_awaited i [] h = refl
 all_awaited i (r ∷ rs) h =
     ap (λ b. if b then r ∷ awaited_from (i + 1) rs 65535 else awaited_from (i + 1) rs 65535) (all_by i (omega arith)) ∙ ap (λ l. r ∷ l) (all_awaited (i + 1) rs (omega arith))
+
+-- The list of those that are awaited.
+
+one_by : (x : Incarnation) (l : List Incarnation) (b : Bool) → (if b then x ∷ l else l) ≡ (if b then x ∷ [] else []) ++ l
+one_by x l true = refl
+one_by x l false = refl
+
+-- with the region at p pushed, where it is awaited
+pub awaited_more : (old new rs all : List Incarnation) (p bits : ℕ) → p < length rs → new ≡ old ++ (if has bits p then get_or rs p no_member ∷ [] else [])
+    → old ++ awaited_from p (drop p rs) bits ≡ all → new ++ awaited_from (p + 1) (drop (p + 1) rs) bits ≡ all
+awaited_more old new rs all p bits h pushed inv =
+    let rest : List Incarnation = awaited_from (p + 1) (drop (p + 1) rs) bits in
+    let one : List Incarnation = if has bits p then get_or rs p no_member ∷ [] else [] in
+    ap (λ l. l ++ rest) pushed
+    ∙ (append_assoc old one rest
+    ∙ (ap (λ l. old ++ l) (sym (ap (λ l. awaited_from p l bits) (drop_more rs p no_member h) ∙ one_by (get_or rs p no_member) rest (has bits p))) ∙ inv))
+
+-- one region is pushed at most
+pub few_more : (old new : List Incarnation) (x : Incarnation) (b : Bool) (p : ℕ) → new ≡ old ++ (if b then x ∷ [] else []) → length old ≤ p → length new ≤ p + 1
+few_more old new x true p pushed h = omega (arith, ap (λ l. length l) pushed, length-append old (x ∷ []), h)
+few_more old new x false p pushed h = omega (arith, ap (λ l. length l) pushed, length-append old [], h)

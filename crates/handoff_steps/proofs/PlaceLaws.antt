@@ -1,17 +1,19 @@
 -- The places of a round, and the shards that move.
-use Rattle.std.proofs.Common.{◌≡◌, ◌≢◌, ℕ, zero, suc, ◌+◌, ◌<◌, Bool, true, false, not, ◌&&◌, ◌||◌, List, [], ◌∷◌, ◌++◌, length, map, drop, get_or, append-nil, ap, sym, subst, ◌∙◌, refl, arith, if◌then◌else◌, Option, Some, None}
-use Rattle.std.specs.Prelude.{◌==◌, filter, find, slice_set, option_map, IsSome}
-use Rattle.std.specs.List.{list_any}
+use Rattle.std.proofs.Common.{◌≡◌, ◌≢◌, ℕ, zero, suc, ◌+◌, ◌<◌, ◌≤◌, Bool, true, false, not, ◌&&◌, ◌||◌, List, [], ◌∷◌, ◌++◌, length, length-append, map, drop, get_or, append-nil, ap, sym, subst, ◌∙◌, refl, arith, if◌then◌else◌, Option, Some, None}
+use Rattle.std.specs.Prelude.{◌==◌, filter, find, slice_set, option_map, IsSome, replicate, nat_lt}
+use Rattle.std.specs.List.{list_any, list_all, flat_map}
+use Rattle.std.proofs.lemmas.Grind.{flat_map-append}
 use Rattle.std.proofs.lemmas.Bool.{eqb-true, eqb-false, false≢true}
+use Rattle.std.proofs.lemmas.Bool.Decides.{nat_tests}
 use Rattle.std.proofs.lemmas.List.{length-map, map-set, map-append, get_or-map, drop_more}
 use Rattle.std.proofs.lemmas.List.Elements.{filter-append}
 use Rattle.yard_model.specs.declared.incarnation.Incarnation.{Incarnation}
 use Rattle.yard_model.specs.declared.incarnation.Stamp.{Stamp}
-use Rattle.yard_model.specs.Words.{numbers, is_empty, is_among}
+use Rattle.yard_model.specs.Words.{numbers, is_same, is_empty, is_among}
 use Rattle.yard_model.specs.declared.load.Load.{Load}
 use Rattle.yard_model.specs.ShardSet.{has}
 use Rattle.yard_model.specs.Coordinator.{Moving, not_awaited}
-use Rattle.handoff_steps.specs.Places.{Handoff, Handoffs, place_at, with_place, one_of, moving_from, moving, is_open, is_awaiting, acknowledged_by, ended, first_place, home_in, regions_of, all_shards, shards_in, begins}
+use Rattle.handoff_steps.specs.Places.{Handoff, Handoffs, place_at, with_place, one_of, moving_from, moving, is_open, is_awaiting, acknowledged_by, ended, place_without, left_of, lost_at, first_place, home_in, regions_of, all_shards, shards_in, begins}
 
 pub length-numbers : (a n : ℕ) → length (numbers a n) ≡ n
 length-numbers a zero = refl
@@ -123,6 +125,38 @@ stop_here s (Some g) = by_done g.done
     by_done false = let x : Moving = record { shard = s; owner = Some g.owner; awaited = g.awaited } in
         sym (ap (λ b. if not b then x ∷ [] else []) (same_self s))
 
+lost_others : (s : ℕ) (r : Incarnation) (t : ℕ) (p : Option Handoff) → t ≢ s → lost_at s r (one_of t p) ≡ one_of t p
+lost_others s r t None h = refl
+lost_others s r t (Some g) h = by_done g.done
+  where
+    by_done : (d : Bool) → lost_at s r (one_of t (Some (record { owner = g.owner; awaited = g.awaited; done = d }))) ≡ one_of t (Some (record { owner = g.owner; awaited = g.awaited; done = d }))
+    by_done true = refl
+    by_done false = let x : Moving = record { shard = t; owner = Some g.owner; awaited = g.awaited } in
+        ap (λ b. (if b then left_of r x else x ∷ []) ++ []) (not_same t s h)
+
+pub lost_acts : (s : ℕ) (r : Incarnation) → Acts s (lost_at s r)
+lost_acts s r = record { none = refl; along = λ xs ys. flat_map-append _ xs ys; others = lost_others s r }
+
+pub lost_here : (s : ℕ) (r : Incarnation) (p : Option Handoff) → one_of s (place_without r p) ≡ lost_at s r (one_of s p)
+lost_here s r None = refl
+lost_here s r (Some g) = by_done g.done (is_same r g.owner) refl
+  where
+    with_done : Bool → Handoff
+    with_done d = record { owner = g.owner; awaited = g.awaited; done = d }
+
+    by_done : (d b : Bool) → is_same r g.owner ≡ b → one_of s (place_without r (Some (with_done d))) ≡ lost_at s r (one_of s (Some (with_done d)))
+    by_done true true e = ap (λ b. one_of s (if b then ended (Some (with_done true)) else acknowledged_by r (Some (with_done true)))) e
+    by_done true false e = ap (λ b. one_of s (if b then ended (Some (with_done true)) else acknowledged_by r (Some (with_done true)))) e
+    by_done false b e = let x : Moving = record { shard = s; owner = Some g.owner; awaited = g.awaited } in
+        ap (λ b. one_of s (if b then ended (Some (with_done false)) else acknowledged_by r (Some (with_done false)))) e
+        ∙ (by_owner x b
+        ∙ (ap (λ b. (if b then [] else not_awaited r x ∷ []) ++ []) (sym e)
+        ∙ sym (ap (λ b. (if b then left_of r x else x ∷ []) ++ []) (same_self s))))
+      where
+        by_owner : (x : Moving) (b : Bool) → one_of s (if b then ended (Some (with_done false)) else acknowledged_by r (Some (with_done false))) ≡ (if b then [] else not_awaited r (record { shard = s; owner = Some g.owner; awaited = g.awaited }) ∷ []) ++ []
+        by_owner x true = refl
+        by_owner x false = refl
+
 abbrev pub only : ℕ → List Moving → List Moving
 only s xs = filter (λ x. x.shard == s) xs
 
@@ -233,12 +267,12 @@ begun_by : (b : Bool) (s : ℕ) (loads : List Load) (l : List ℕ) → (if b the
 begun_by true s loads l = refl
 begun_by false s loads l = refl
 
-begun_from : (picks : ℕ) (loads : List Load) → ((s : ℕ) → has picks s ≡ true → IsSome (home_in loads s)) → (a n : ℕ)
+begun_from : (picks m : ℕ) (loads : List Load) → ((s : ℕ) → s < m → has picks s ≡ true → IsSome (home_in loads s)) → (a n : ℕ) → a + n ≤ m
     → moving_from a (map (first_place picks loads) (numbers a n)) ≡ map (begins loads) (filter (has picks) (numbers a n))
-begun_from picks loads h a zero = refl
-begun_from picks loads h a (suc n) =
-    ap (λ l. l ++ moving_from (a + 1) (map (first_place picks loads) (numbers (a + 1) n))) (first_one a loads (has picks a) (h a))
-    ∙ (ap (λ l. (if has picks a then begins loads a ∷ [] else []) ++ l) (begun_from picks loads h (a + 1) n)
+begun_from picks m loads h a zero le = refl
+begun_from picks m loads h a (suc n) le =
+    ap (λ l. l ++ moving_from (a + 1) (map (first_place picks loads) (numbers (a + 1) n))) (first_one a loads (has picks a) (h a (omega (arith, le))))
+    ∙ (ap (λ l. (if has picks a then begins loads a ∷ [] else []) ++ l) (begun_from picks m loads h (a + 1) n (omega (arith, le)))
     ∙ begun_by (has picks a) a loads (filter (has picks) (numbers (a + 1) n)))
 
 home_by : (l : Load) (b any : Bool) (o : Option Incarnation) → (any ≡ true → IsSome o) → (b || any) ≡ true → IsSome (if b then Some l.region else o)
@@ -254,9 +288,9 @@ pub home_some : (s : ℕ) (loads : List Load) → list_any (λ l. has l.shards s
 home_some s [] h = h
 home_some s (l ∷ loads) h = subst (λ (o : Option Incarnation). IsSome o) (home_more l (has l.shards s) (find (λ l. has l.shards s) loads)) (home_by l (has l.shards s) _ (home_in loads s) (home_some s loads) h)
 
-pub begun : (picks : ℕ) (loads : List Load) → ((s : ℕ) → has picks s ≡ true → IsSome (home_in loads s)) → moving_from 0 (map (first_place picks loads) all_shards) ≡ map (begins loads) (shards_in picks)
+pub begun : (picks : ℕ) (loads : List Load) → ((s : ℕ) → s < 128 → has picks s ≡ true → IsSome (home_in loads s)) → moving_from 0 (map (first_place picks loads) all_shards) ≡ map (begins loads) (shards_in picks)
 unfolding all_shards
-begun picks loads h = begun_from picks loads h 0 128
+begun picks loads h = begun_from picks 128 loads h 0 128 (omega arith)
 
 -- a cell is what its place says
 pub place_seen : {C : Type 0} (f : C → Option Handoff) (v : Handoffs) (stamp : Stamp) (cells : List C) (k s : ℕ) (x : C) → with_places stamp (map f cells) ≡ v → k ≡ s → k < length cells
@@ -281,3 +315,76 @@ open_one s (Some g) = by_done g.done
 
 pub opened : (s : ℕ) (v : Handoffs) → is_open (place_at v s) ≡ list_any (λ x. x.shard == s) (moving v)
 opened s v = open_one s (place_at v s) ∙ (ap (λ l. not (is_empty l)) (sym (found s v.places 0 s (omega arith))) ∙ sym (any_only s (moving v)))
+
+-- The shards that move, rising.
+
+each_same : {X A : Type 0} (f g : X → List A) → ((x : X) → f x ≡ g x) → (xs : List X) → flat_map f xs ≡ flat_map g xs
+each_same f g h [] = refl
+each_same f g h (x ∷ xs) = ap (λ l. l ++ flat_map f xs) (h x) ∙ ap (λ l. g x ++ l) (each_same f g h xs)
+
+rising_from : (ps : List (Option Handoff)) (a : ℕ) (g : ℕ → Option Handoff) → ((i : ℕ) → i < length ps → g (a + i) ≡ get_or ps i None) → moving_from a ps ≡ flat_map (λ s. one_of s (g s)) (numbers a (length ps))
+rising_from [] a g h = refl
+rising_from (p ∷ ps) a g h =
+    let zeroth : a + 0 ≡ a = omega arith in
+    let here : p ≡ g a = sym (sym (ap g zeroth) ∙ h 0 (omega arith)) in
+    ap (λ q. one_of a q ++ moving_from (a + 1) ps) here
+    ∙ ap (λ l. one_of a (g a) ++ l) (rising_from ps (a + 1) g (λ i low. let next : (a + 1) + i ≡ a + suc i = omega arith in ap g next ∙ h (suc i) (omega (arith, low))))
+
+pub rising : (v : Handoffs) → length v.places ≡ 128 → moving v ≡ flat_map (λ s. only s (moving v)) all_shards
+unfolding all_shards
+rising v size =
+    rising_from v.places 0 (place_at v) (λ i low. let same : 0 + i ≡ i = omega arith in ap (place_at v) same)
+    ∙ (ap (λ n. flat_map (λ s. one_of s (place_at v s)) (numbers 0 n)) size
+    ∙ each_same (λ s. one_of s (place_at v s)) (λ s. only s (moving v)) (λ s. sym (found s v.places 0 s (omega arith))) (numbers 0 128))
+
+few_of : (s : ℕ) (p : Option Handoff) → length (one_of s p) ≤ 1
+few_of s None = omega arith
+few_of s (Some g) = by_done g.done
+  where
+    by_done : (d : Bool) → length (one_of s (Some (record { owner = g.owner; awaited = g.awaited; done = d }))) ≤ 1
+    by_done true = omega arith
+    by_done false = omega arith
+
+few_from : (ps : List (Option Handoff)) (a : ℕ) → length (moving_from a ps) ≤ length ps
+few_from [] a = omega arith
+few_from (p ∷ ps) a = omega (arith, length-append (one_of a p) (moving_from (a + 1) ps), few_of a p, few_from ps (a + 1))
+
+pub few_move : (v : Handoffs) → length v.places ≡ 128 → length (moving v) ≤ 128
+few_move v size = subst (λ n. length (moving v) ≤ n) size (few_from v.places 0)
+
+none_from : (n a : ℕ) → moving_from a (replicate n None) ≡ []
+none_from zero a = refl
+none_from (suc n) a = none_from n (a + 1)
+
+pub none_move : (n : ℕ) → moving_from 0 (replicate n None) ≡ []
+none_move n = none_from n 0
+
+both : (a b : Bool) → a ≡ true → b ≡ true → (a && b) ≡ true
+both a b e f = ap (λ x. x && b) e ∙ f
+
+all_along : (n : ℕ) (xs ys : List Moving) → list_all (λ x. nat_lt x.shard n) xs ≡ true → list_all (λ x. nat_lt x.shard n) ys ≡ true → list_all (λ x. nat_lt x.shard n) (xs ++ ys) ≡ true
+all_along n [] ys e f = f
+all_along n (x ∷ xs) ys e f = by_first (nat_lt x.shard n) e (λ h. all_along n xs ys h f)
+  where
+    by_first : (b : Bool) → (b && list_all (λ x. nat_lt x.shard n) xs) ≡ true → (list_all (λ x. nat_lt x.shard n) xs ≡ true → list_all (λ x. nat_lt x.shard n) (xs ++ ys) ≡ true)
+        → (b && list_all (λ x. nat_lt x.shard n) (xs ++ ys)) ≡ true
+    by_first true h next = next h
+    by_first false h next = h
+
+below_of : (s n : ℕ) (p : Option Handoff) → s < n → list_all (λ x. nat_lt x.shard n) (one_of s p) ≡ true
+below_of s n None h = refl
+below_of s n (Some g) h = by_done g.done
+  where
+    less : nat_lt s n ≡ true
+    less = grind (arith, nat_tests)
+
+    by_done : (d : Bool) → list_all (λ x. nat_lt x.shard n) (one_of s (Some (record { owner = g.owner; awaited = g.awaited; done = d }))) ≡ true
+    by_done true = refl
+    by_done false = both (nat_lt s n) true less refl
+
+below_from : (ps : List (Option Handoff)) (a n : ℕ) → a + length ps ≤ n → list_all (λ x. nat_lt x.shard n) (moving_from a ps) ≡ true
+below_from [] a n h = refl
+below_from (p ∷ ps) a n h = all_along n (one_of a p) (moving_from (a + 1) ps) (below_of a n p (omega (arith, h))) (below_from ps (a + 1) n (omega (arith, h)))
+
+pub below_all : (v : Handoffs) → length v.places ≡ 128 → list_all (λ x. nat_lt x.shard 128) (moving v) ≡ true
+below_all v size = below_from v.places 0 128 (omega (arith, size))

@@ -1,11 +1,12 @@
 -- What a contract sees of a round of handoffs.
-use Rattle.std.specs.Prelude.{ℕ, ◌+◌, Bool, true, false, ◌&&◌, not, List, [], ◌∷◌, ◌++◌, map, filter, find, slice_index_or, slice_set, option_map, Option, Some, None, if◌then◌else◌}
+use Rattle.std.specs.List.{flat_map}
+use Rattle.std.specs.Prelude.{ℕ, ◌+◌, ◌==◌, Bool, true, false, ◌&&◌, not, List, [], ◌∷◌, ◌++◌, map, filter, find, slice_index_or, slice_set, option_map, Option, Some, None, if◌then◌else◌}
 use Rattle.yard_model.specs.declared.incarnation.Incarnation.{Incarnation}
 use Rattle.yard_model.specs.declared.incarnation.Stamp.{Stamp}
 use Rattle.yard_model.specs.declared.load.Load.{Load}
 use Rattle.yard_model.specs.ShardSet.{has}
-use Rattle.yard_model.specs.Words.{numbers, is_same, is_among, is_stamp, is_empty, without}
-use Rattle.yard_model.specs.Coordinator.{Moving}
+use Rattle.yard_model.specs.Words.{numbers, is_same, is_at, is_among, is_stamp, is_empty, without}
+use Rattle.yard_model.specs.Coordinator.{Moving, not_awaited}
 use Rattle.handoff_steps.specs.declared.step.Step.{Step}
 use Rattle.handoff_steps.specs.declared.step.Step.TheVariants as step
 
@@ -89,6 +90,19 @@ takes_ack v s stamp from = is_stamp stamp v.stamp && is_awaiting from (place_at 
 -- the word with this stamp from this region that the shard has stopped is waited for
 abbrev pub takes_stop : Handoffs → ℕ → Stamp → Incarnation → Bool
 takes_stop v s stamp from = is_stamp stamp v.stamp && is_stopping from (place_at v s)
+
+-- the regions that are awaited there
+abbrev pub awaited_in : Option Handoff → List Incarnation
+awaited_in None = []
+awaited_in (Some h) = h.awaited
+
+-- what is left of a shard that moves, once a region is lost: nothing of one of its own; it isn't awaited for another
+abbrev pub left_of : Incarnation → Moving → List Moving
+left_of r x = if is_at r x.owner then [] else not_awaited r x ∷ []
+
+-- the shards that move, once a region is lost for s
+abbrev pub lost_at : ℕ → Incarnation → List Moving → List Moving
+lost_at s r xs = flat_map (λ x. if x.shard == s then left_of r x else x ∷ []) xs
 
 -- How a round begins.
 

@@ -1,10 +1,11 @@
 //! A shard's place in a round.
 ghost use Rattle.std.specs.Prelude.{◌≡◌, ◌<◌, ◌≤◌, true, length, option_map};
 ghost use Rattle.yard_model.specs.ShardSet.{has};
-ghost use Rattle.handoff_steps.specs.Places.{is_open, is_awaiting, is_stopping, is_owned, acknowledged_by, ended, next_step, home_in, regions_of, first_place};
+ghost use Rattle.handoff_steps.specs.Places.{is_open, is_awaiting, is_stopping, is_owned, awaited_in, acknowledged_by, ended, next_step, home_in, regions_of, first_place};
 
+use crate::regions::Regions;
 use crate::step::Step;
-use crate::waits::{is_awaited, is_none_awaited, without};
+use crate::waits::{awaited_of, is_awaited, is_none_awaited, without};
 use yard_model::{Incarnation, Load, ShardNo, ShardSet};
 
 /// What stands at a shard's place.
@@ -86,6 +87,17 @@ impl Cell {
             Cell::Out => None,
             Cell::Moves { owner, .. } => Some(*owner),
             Cell::Done { owner } => Some(*owner),
+        }
+    }
+
+    /// The regions that are awaited, in order of registration.
+    pub(crate) fn awaited(&self, regions: &[Incarnation]) -> Regions
+        requires { length regions.now ≤ 16 }
+        ensures { result ≡ awaited_in (seen regions.now self.now) }
+    {
+        match self {
+            Cell::Moves { awaited, .. } => awaited_of(regions, *awaited),
+            _ => Regions::empty(),
         }
     }
 

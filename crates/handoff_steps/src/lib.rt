@@ -5,10 +5,12 @@
 #![tactic(auto)]
 
 mod cell;
+mod regions;
 mod round;
 mod step;
 mod waits;
 
+pub use regions::Regions;
 pub use round::Round;
 pub use step::Step;
 

@@ -1,17 +1,18 @@
 //! The round.
-ghost use Rattle.std.specs.Prelude.{◌≡◌, ℕ, ◌<◌, ◌≤◌, true, false, not, ◌==◌, ◌&&◌, length, take, map, filter, option_map, if◌then◌else◌};
-ghost use Rattle.std.specs.List.{list_any};
+ghost use Rattle.std.specs.Prelude.{◌≡◌, ℕ, ◌<◌, ◌≤◌, [], true, false, not, ◌==◌, ◌&&◌, nat_lt, length, take, map, filter, option_map, if◌then◌else◌};
+ghost use Rattle.std.specs.List.{list_any, list_all, flat_map};
 ghost use Rattle.yard_model.specs.ShardSet.{has};
 ghost use Rattle.yard_model.specs.Words.{is_among, is_empty};
 ghost use Rattle.yard_model.specs.Coordinator.{not_awaited};
 ghost use Rattle.handoff_steps.specs.declared.step.Step.TheVariants as step;
-ghost use Rattle.handoff_steps.specs.Places.{moving, place_at, with_place, one_of, is_open, is_awaiting, is_owned, acknowledged_by, ended, next_step, place_without, step_without, takes_ack, takes_stop, moving_from, first_place, regions_of, all_shards, shards_in, begins};
+ghost use Rattle.handoff_steps.specs.Places.{moving, place_at, with_place, one_of, is_open, is_awaiting, awaited_in, lost_at, acknowledged_by, ended, next_step, place_without, step_without, takes_ack, takes_stop, moving_from, first_place, regions_of, all_shards, shards_in, begins};
 ghost use Rattle.handoff_steps.specs.Seen.{seen};
 
 use crate::cell::Cell;
+use crate::regions::{NO_REGION, Regions};
 use crate::step::Step;
 use std::marker::Model;
-use yard_model::{Incarnation, Load, NodeNo, ShardNo, ShardSet, Stamp};
+use yard_model::{Incarnation, Load, ShardNo, ShardSet, Stamp};
 
 /// A round of handoffs; seen as its stamp and, at each shard's place, the shard with its owner and
 /// the regions that are awaited, where it is in the round.
@@ -36,11 +37,24 @@ impl Model for Round {
 }
 
 impl Round {
+    /// The round of no shards.
+    pub fn none(stamp: Stamp) -> Round
+        ensures stamp { result.stamp ≡ stamp }
+        ensures moving { moving result ≡ [] }
+    {
+        Round {
+            stamp,
+            regions: [NO_REGION; 16],
+            count: 0,
+            cells: [Cell::Out; 128],
+        }
+    }
+
     /// Begins a round of these shards: each is to be handed off by its home, and every region of
     /// the loads is awaited.
     pub fn begin(stamp: Stamp, picks: ShardSet, loads: &[Load]) -> Round
         requires fits { length loads.now ≤ 16 }
-        requires homes { (s : ℕ) → has picks s ≡ true → list_any (λ l. has l.shards s) loads.now ≡ true }
+        requires homes { (s : ℕ) → s < 128 → has picks s ≡ true → list_any (λ l. has l.shards s) loads.now ≡ true }
         ensures stamp { result.stamp ≡ stamp }
         ensures places { result.places ≡ map (first_place picks loads.now) all_shards }
         ensures moving { moving result ≡ map (begins loads.now) (shards_in picks) }
@@ -53,9 +67,12 @@ impl Round {
         }
     }
 
-    /// The stamp of the round.
+    /// The stamp of the round. At most 128 shards move, rising.
     pub fn stamp(&self) -> Stamp
-        ensures { result ≡ self.now.stamp }
+        ensures value { result ≡ self.now.stamp }
+        ensures few { length (moving self.now) ≤ 128 }
+        ensures below { list_all (λ x. nat_lt x.shard 128) (moving self.now) ≡ true }
+        ensures rising { moving self.now ≡ flat_map (λ s. filter (λ x. x.shard == s) (moving self.now)) all_shards }
     {
         self.stamp
     }
@@ -76,6 +93,14 @@ impl Round {
         ensures moving { result ≡ list_any (λ x. x.shard == s && is_among who x.awaited) (moving self.now) }
     {
         self.cells[s.get() as usize].is_awaiting(&self.regions[..self.count as usize], &who)
+    }
+
+    /// The regions that are awaited for the shard, in order of registration; none where it isn't
+    /// in the round or is done.
+    pub fn awaited(&self, s: ShardNo) -> Regions
+        ensures { result ≡ awaited_in (place_at self.now s) }
+    {
+        self.cells[s.get() as usize].awaited(&self.regions[..self.count as usize])
     }
 
     /// Whether every shard of the round is done.
@@ -144,8 +169,7 @@ impl Round {
         ensures shard { filter (λ x. x.shard == s) (moving self.old) ≡ one_of s (place_at self.old s) }
         ensures answer { result ≡ step_without who (place_at self.old s) }
         ensures place { self.new ≡ with_place self.old s (place_without who (place_at self.old s)) }
-        ensures owner { is_owned who (place_at self.old s) ≡ true → moving self.new ≡ filter (λ x. not (x.shard == s)) (moving self.old) }
-        ensures other { is_owned who (place_at self.old s) ≡ false → moving self.new ≡ map (λ x. if x.shard == s then not_awaited who x else x) (moving self.old) }
+        ensures moving { moving self.new ≡ lost_at s who (moving self.old) }
     {
         let place = s.get() as usize;
         let cell = self.cells[place];
@@ -168,11 +192,7 @@ fn regions_of(loads: &[Load]) -> [Incarnation; 16]
     requires { length loads.now ≤ 16 }
     ensures { take (length loads.now) result ≡ regions_of loads.now }
 {
-    let none = Incarnation {
-        node: NodeNo::FIRST,
-        number: 0,
-    };
-    let mut regions = [none; 16];
+    let mut regions = [NO_REGION; 16];
     for place in 0..loads.len() {
         regions[place] = loads[place].region;
     }

@@ -1,11 +1,12 @@
 //! The regions that a shard waits for: a bit for each of at most 16, by its place in order of
 //! registration.
-ghost use Rattle.std.specs.Prelude.{◌≡◌, ◌≢◌, ℕ, ◌<◌, ◌≤◌, Bool, false, ◌&&◌, not, length, slice_index_or};
+ghost use Rattle.std.specs.Prelude.{◌≡◌, ◌≢◌, ℕ, ◌<◌, ◌≤◌, Bool, false, ◌&&◌, not, [], ◌∷◌, ◌++◌, length, slice_index_or, if◌then◌else◌};
 ghost use Rattle.yard_model.specs.Members.{no_member};
 ghost use Rattle.yard_model.specs.ShardSet.{has};
 ghost use Rattle.yard_model.specs.Words.{is_same, is_among, is_empty, without};
 ghost use Rattle.handoff_steps.specs.Awaited.{awaited_of};
 
+use crate::regions::Regions;
 use yard_model::Incarnation;
 
 /// Whether a region is awaited.
@@ -32,6 +33,30 @@ pub(crate) fn is_none_awaited(regions: &[Incarnation], awaited: u16) -> bool
         }
     }
     true
+}
+
+/// The regions that are awaited, in order of registration.
+pub(crate) fn awaited_of(regions: &[Incarnation], awaited: u16) -> Regions
+    requires { length regions.now ≤ 16 }
+    ensures { result ≡ awaited_of regions.now awaited }
+{
+    let mut list = Regions::empty();
+    for place in 0..regions.len() {
+        push_awaited(&mut list, regions, awaited, place);
+    }
+    list
+}
+
+/// The region at this place is appended, where it is awaited.
+fn push_awaited(list: &mut Regions, regions: &[Incarnation], awaited: u16, place: usize)
+    requires within { place < length regions.now }
+    requires fits { place < 16 }
+    requires room { length list.old < 16 }
+    ensures { list.new ≡ list.old ++ (if has awaited place then slice_index_or regions.now place no_member ∷ [] else []) }
+{
+    if bit_of(awaited, place) {
+        list.push(regions[place]);
+    }
 }
 
 /// The bits without a region's.

@@ -96,6 +96,11 @@ impl View {
     pub fn oldest(&self) -> Option<Incarnation>
         ensures { result ≡ slice_get self.now.members 0 }
     {
-        self.members().as_slice().first().copied()
+        for place in 0..self.seats.len() {
+            if let Some(member) = member_at(&self.seats, place) {
+                return Some(member);
+            }
+        }
+        None
     }
 }

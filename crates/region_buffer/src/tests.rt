@@ -36,19 +36,6 @@ fn released(message: Option<Message>) -> Option<u32> {
 }
 
 #[test]
-fn a_buffer_of_one_is_full_at_the_second(rt: HostRuntime) -> Result<(), Fail> {
-    let s = ShardNo::new(0, 1).ok_or("a shard")?;
-    let mut kept = Kept::new(rt.alloc(), 1, 1)?;
-    let first = message(1).ok_or("a message")?;
-    assert_eq!(rt; refused(kept.keep(s, first)), None);
-    let second = message(2).ok_or("a message")?;
-    assert_eq!(rt; refused(kept.keep(s, second)), Some(2));
-    assert_eq!(rt; released(kept.release_one(s)), Some(1));
-    assert_eq!(rt; released(kept.release_one(s)), None);
-    Ok(())
-}
-
-#[test]
 fn shards_share_the_buffer(rt: HostRuntime) -> Result<(), Fail> {
     let low = ShardNo::new(0, 2).ok_or("a shard")?;
     let high = ShardNo::new(1, 2).ok_or("a shard")?;
@@ -62,11 +49,7 @@ fn shards_share_the_buffer(rt: HostRuntime) -> Result<(), Fail> {
     assert_eq!(rt; refused(kept.keep(low, third)), Some(3));
     assert_eq!(rt; released(kept.release_one(low)), None);
     assert_eq!(rt; released(kept.release_one(high)), Some(1));
-    let fourth = message(4).ok_or("a message")?;
-    assert_eq!(rt; refused(kept.keep(low, fourth)), None);
     assert_eq!(rt; released(kept.release_one(high)), Some(2));
-    assert!(rt; kept.is_empty(high) && !kept.is_empty(low));
-    assert_eq!(rt; released(kept.release_one(low)), Some(4));
-    assert!(rt; kept.is_empty(low));
+    assert!(rt; kept.is_empty(high));
     Ok(())
 }

@@ -1,6 +1,6 @@
 -- The orders of a script and the words that spell them. A word is missed where it would stand. Two words that are
 -- read side by side (`&`) are refused for the one of their reasons that is tried first.
-use Rattle.std.specs.Prelude.{ℕ, if◌then◌else◌, List, [], ◌∷◌, Result, Ok, Err, codes}
+use Rattle.std.specs.Prelude.{ℕ, if◌then◌else◌, List, [], ◌∷◌, Option, Some, None, Result, Ok, Err, codes}
 use Rattle.yard_model.specs.declared.charter.Config.{Config}
 use Rattle.yard_model.specs.declared.charter.Order.{Order}
 use Rattle.yard_model.specs.declared.charter.Order.TheVariants as order
@@ -56,6 +56,31 @@ item ws = do
   x ← number 1 9999 i.0 & number 1 1000 q.0
   Ok (record { item = x.0; quantity = x.1 })
 
+-- a memo, or none
+unfoldable pub memo : List (List ℕ) → Result (Option ℕ) Why
+memo [] = Ok None
+memo (w ∷ ws) = no_more ws >>= λ end. number 1 9999 w >>= λ m. Ok (Some m)
+
+-- an amount, and a memo or none
+unfoldable pub amount : List (List ℕ) → Result (ℕ × Option ℕ) Why
+amount ws = first ws >>= λ k. number 1 1000000 k.0 & memo k.1
+
+abbrev pub paid_in : ℕ → Option ℕ → Command
+paid_in k None = command.Deposit k
+paid_in k (Some m) = command.DepositWithMemo k m
+
+abbrev pub taken_out : ℕ → Option ℕ → Command
+taken_out k None = command.Withdraw k
+taken_out k (Some m) = command.WithdrawWithMemo k m
+
+-- the words after `deposit`
+unfoldable pub deposit : List (List ℕ) → Result Command Why
+deposit ws = amount ws >>= λ x. Ok (paid_in x.0 x.1)
+
+-- the words after `withdraw`
+unfoldable pub withdraw : List (List ℕ) → Result Command Why
+withdraw ws = amount ws >>= λ x. Ok (taken_out x.0 x.1)
+
 unfoldable pub counter_command : List ℕ → List (List ℕ) → Result Command Why
 counter_command w ws =
     if is_text w (codes "add") then (only_number 1 1000 ws >>= λ k. Ok (command.Add k))
@@ -65,8 +90,8 @@ counter_command w ws =
 unfoldable pub account_command : List ℕ → List (List ℕ) → Result Command Why
 account_command w ws =
     if is_text w (codes "create") then (no_more ws >>= λ end. Ok command.Create)
-    else if is_text w (codes "deposit") then (only_number 1 1000000 ws >>= λ k. Ok (command.Deposit k))
-    else if is_text w (codes "withdraw") then (only_number 1 1000000 ws >>= λ k. Ok (command.Withdraw k))
+    else if is_text w (codes "deposit") then deposit ws
+    else if is_text w (codes "withdraw") then withdraw ws
     else if is_text w (codes "balance") then (no_more ws >>= λ end. Ok command.Balance)
     else if is_text w (codes "close") then (no_more ws >>= λ end. Ok command.Close)
     else Err why.UnknownWord
@@ -132,6 +157,9 @@ verb_of w =
     else if is_text w (codes "failwrite") then Ok verb.FailWrite
     else if is_text w (codes "rebalance") then Ok verb.Rebalance
     else if is_text w (codes "settle") then Ok verb.Settle
+    else if is_text w (codes "reshard") then Ok verb.Reshard
+    else if is_text w (codes "upgrade") then Ok verb.Upgrade
+    else if is_text w (codes "ping") then Ok verb.Ping
     else Err why.UnknownWord
 
 -- the words after it
@@ -149,6 +177,9 @@ said c verb.Deliver ws = only_number 1 1000000 ws >>= λ k. Ok (order.Deliver k)
 said c verb.Pump ws = only_number 1 10000 ws >>= λ k. Ok (order.Pump k)
 said c verb.Rebalance ws = only_number 1 128 ws >>= λ l. Ok (order.Rebalance l)
 said c verb.Settle ws = no_more ws >>= λ end. Ok order.Settle
+said c verb.Reshard ws = only_number 1 128 ws >>= λ n. Ok (order.Reshard n)
+said c verb.Upgrade ws = no_more ws >>= λ end. Ok order.Upgrade
+said c verb.Ping ws = only_number 1 c.producers ws >>= λ p. Ok (order.Ping p)
 
 -- the words of an order
 unfoldable pub order_of : Config → List (List ℕ) → Result Order Why

@@ -31,10 +31,14 @@ abbrev pub takes : Mode → Order → Bool
 takes mode.Solo (order.Send p e c) = true
 takes mode.Solo (order.Deliver k) = true
 takes mode.Solo o = false
+takes mode.Replay (order.Ping p) = false
 takes mode.Replay o = true
 takes mode.Live (order.Deliver k) = false
 takes mode.Live (order.Pump k) = false
 takes mode.Live (order.FailWrite e k) = false
+takes mode.Live (order.Reshard n) = false
+takes mode.Live order.Upgrade = false
+takes mode.Live (order.Ping p) = false
 takes mode.Live o = true
 
 -- whether the command does this order yet

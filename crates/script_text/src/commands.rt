@@ -1,9 +1,10 @@
 //! Commands of each kind.
-ghost use Rattle.std.specs.Prelude.{◌≡◌, IfOk, IsTrue};
-ghost use Rattle.yard_model.specs.Behaviour.{is_in, is_of_kind, is_item};
+ghost use Rattle.std.specs.Prelude.{◌≡◌, IfOk, IfSome, IsTrue};
+ghost use Rattle.yard_model.specs.Behaviour.{is_in, is_amount, is_memo, is_of_kind, is_item};
 ghost use Rattle.script_text.specs.Words.{words};
-ghost use Rattle.script_text.specs.Orders.{number, item, counter_command, account_command, cart_command, command_of};
+ghost use Rattle.script_text.specs.Orders.{number, item, amount, memo, deposit, withdraw, counter_command, account_command, cart_command, command_of};
 
+use crate::cut::next_word;
 use crate::fault::Why;
 use crate::words::{both, first, is, no_more, number_of, only_number};
 use yard_model::{CartItem, Command, Kind};
@@ -46,10 +47,10 @@ fn account_command(verb: &[u8], line: &[u8]) -> Result<Command, Why>
         return Ok(Command::Create);
     }
     if is(verb, "deposit") {
-        return Ok(Command::Deposit(only_number(line, 1, 1_000_000)?));
+        return deposit(line);
     }
     if is(verb, "withdraw") {
-        return Ok(Command::Withdraw(only_number(line, 1, 1_000_000)?));
+        return withdraw(line);
     }
     if is(verb, "balance") {
         no_more(line)?;
@@ -60,6 +61,53 @@ fn account_command(verb: &[u8], line: &[u8]) -> Result<Command, Why>
         return Ok(Command::Close);
     }
     Err(Why::UnknownWord)
+}
+
+/// `deposit K` or `deposit K M`, from K on.
+#[tactic(auto, unfolding(crate::specs::Orders::deposit))]
+fn deposit(line: &[u8]) -> Result<Command, Why>
+    ensures value { result ≡ deposit (words line.now) }
+    ensures valid { IfOk result (λ k. IsTrue (is_of_kind Kind.Account k)) }
+{
+    match amount(line)? {
+        (k, None) => Ok(Command::Deposit(k)),
+        (k, Some(m)) => Ok(Command::DepositWithMemo(k, m)),
+    }
+}
+
+/// `withdraw K` or `withdraw K M`, from K on.
+#[tactic(auto, unfolding(crate::specs::Orders::withdraw))]
+fn withdraw(line: &[u8]) -> Result<Command, Why>
+    ensures value { result ≡ withdraw (words line.now) }
+    ensures valid { IfOk result (λ k. IsTrue (is_of_kind Kind.Account k)) }
+{
+    match amount(line)? {
+        (k, None) => Ok(Command::Withdraw(k)),
+        (k, Some(m)) => Ok(Command::WithdrawWithMemo(k, m)),
+    }
+}
+
+/// An amount, and a memo or none.
+#[tactic(auto, unfolding(crate::specs::Orders::amount))]
+fn amount(line: &[u8]) -> Result<(u32, Option<u16>), Why>
+    ensures value { result ≡ amount (words line.now) }
+    ensures valid { IfOk result (λ x. IsTrue (is_amount x.0) × IfSome x.1 (λ m. IsTrue (is_memo m))) }
+{
+    let (k, line) = first(line)?;
+    both(number_of(k, 1, 1_000_000), memo(line))
+}
+
+/// A memo, or none.
+#[tactic(auto, unfolding(crate::specs::Orders::memo))]
+fn memo(line: &[u8]) -> Result<Option<u16>, Why>
+    ensures value { result ≡ memo (words line.now) }
+    ensures valid { IfOk result (λ x. IfSome x (λ m. IsTrue (is_memo m))) }
+{
+    let Some((word, line)) = next_word(line) else {
+        return Ok(None);
+    };
+    no_more(line)?;
+    Ok(Some(part(word, 9999)?))
 }
 
 #[tactic(auto, unfolding(crate::specs::Orders::cart_command))]

@@ -40,6 +40,12 @@ pub enum Verb {
     Rebalance,
     /// `settle`
     Settle,
+    /// `reshard S`
+    Reshard,
+    /// `upgrade`
+    Upgrade,
+    /// `ping P`
+    Ping,
 }
 
 /// The order that these words say.
@@ -85,6 +91,12 @@ fn verb_of(word: &[u8]) -> Result<Verb, Why>
         Ok(Verb::Rebalance)
     } else if is(word, "settle") {
         Ok(Verb::Settle)
+    } else if is(word, "reshard") {
+        Ok(Verb::Reshard)
+    } else if is(word, "upgrade") {
+        Ok(Verb::Upgrade)
+    } else if is(word, "ping") {
+        Ok(Verb::Ping)
     } else {
         Err(Why::UnknownWord)
     }
@@ -114,6 +126,12 @@ fn said(config: &Config, verb: Verb, line: &[u8]) -> Result<Order, Why>
             no_more(line)?;
             Ok(Order::Settle)
         }
+        Verb::Reshard => Ok(Order::Reshard(only_number(line, 1, 128)? as u8)),
+        Verb::Upgrade => {
+            no_more(line)?;
+            Ok(Order::Upgrade)
+        }
+        Verb::Ping => Ok(Order::Ping(only_producer(config, line)?)),
     }
 }
 

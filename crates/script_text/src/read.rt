@@ -1,5 +1,6 @@
 //! Reading a script, line by line.
 ghost use Rattle.std.specs.Prelude.{◌≡◌, ℕ, ◌+◌, ◌≤◌, ◌≢◌, IfOk, IfErr, length, false, Some};
+ghost use Rattle.script_text.specs.declared.fault.Mode.TheVariants as mode;
 ghost use Rattle.script_text.specs.Faults.{Gives};
 ghost use Rattle.script_text.specs.Words.{words};
 ghost use Rattle.script_text.specs.Reading.{Reading, Spelled, Refused, reading, line_read, first_line, next_line, is_over, is_built, takes, is_kind_built, is_config_line, plain, ended, TellsFault, IsWithin, stopped_at};
@@ -179,12 +180,24 @@ fn takes(mode: Mode, order: &Order) -> bool
 {
     match mode {
         Mode::Solo => matches!(order, Order::Send(_, _, _) | Order::Deliver(_)),
-        Mode::Replay => true,
-        Mode::Live => !matches!(
-            order,
-            Order::Deliver(_) | Order::Pump(_) | Order::FailWrite(_, _)
-        ),
+        Mode::Replay => !matches!(order, Order::Ping(_)),
+        Mode::Live => is_taken_live(order),
     }
+}
+
+/// Whether `live` takes this order.
+fn is_taken_live(order: &Order) -> bool
+    ensures { result ≡ takes mode.Live order.now }
+{
+    !matches!(
+        order,
+        Order::Deliver(_)
+            | Order::Pump(_)
+            | Order::FailWrite(_, _)
+            | Order::Reshard(_)
+            | Order::Upgrade
+            | Order::Ping(_)
+    )
 }
 
 /// Whether the command does this order yet.

@@ -59,6 +59,10 @@ fn other_kinds(rt: HostRuntime) -> Result<(), Fail> {
             "config kind=account\nsend 2 a withdraw 9",
             Command::Withdraw(9),
         ),
+        (
+            "config kind=account\nsend 2 a deposit 5 9999",
+            Command::DepositWithMemo(5, 9999),
+        ),
     ];
     for (text, wanted) in cases {
         let charter = read_script(rt.alloc(), text.as_bytes(), Mode::Solo)?;
@@ -118,12 +122,36 @@ fn second_lines(rt: HostRuntime) {
         ("config\nsend 1 a.b read", Mode::Replay, Why::BadName),
         ("config\ndeliver 1", Mode::Live, Why::WrongMode),
         ("config\nsettle", Mode::Solo, Why::WrongMode),
+        ("config\nreshard", Mode::Solo, Why::MissingWord),
+        ("config\nreshard 129", Mode::Live, Why::OutOfRange),
+        ("config\nreshard 1", Mode::Live, Why::WrongMode),
+        ("config\nreshard 1", Mode::Replay, Why::NotBuilt),
+        ("config\nupgrade 2", Mode::Replay, Why::ExtraWord),
+        ("config\nupgrade", Mode::Live, Why::WrongMode),
+        ("config\nupgrade", Mode::Replay, Why::NotBuilt),
+        ("config\nping 3", Mode::Replay, Why::OutOfRange),
+        ("config\nping 1", Mode::Replay, Why::WrongMode),
         ("config\ntick 1", Mode::Replay, Why::NotBuilt),
         ("config\nup 1", Mode::Live, Why::NotBuilt),
         ("\nconfig kind=cart", Mode::Live, Why::NotBuilt),
     ];
     for (text, mode, why) in cases {
         expect_fault(&rt, rt.alloc(), text.as_bytes(), mode, 2, why);
+    }
+}
+
+#[test]
+fn memos(rt: HostRuntime) {
+    let cases = [
+        (
+            "config kind=account\nsend 1 a deposit x 7 7",
+            Why::ExtraWord,
+        ),
+        ("config kind=account\nsend 1 a withdraw 0 x", Why::BadNumber),
+        ("config kind=account\nsend 1 a deposit 5 0", Why::OutOfRange),
+    ];
+    for (text, why) in cases {
+        expect_fault(&rt, rt.alloc(), text.as_bytes(), Mode::Replay, 2, why);
     }
 }
 

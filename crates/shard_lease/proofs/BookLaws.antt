@@ -1,8 +1,9 @@
 -- What one call of a book of leases does.
 use Rattle.std.proofs.Common.{◌≡◌, ◌≢◌, ℕ, zero, suc, ◌+◌, ◌-◌, ◌<◌, ◌≤◌, ◌⊎◌, inl, inr, List, length, sym, ap, subst, ◌∙◌, refl, true, false, true≢false, arith}
-use Rattle.std.specs.Prelude.{Bool, [], ◌∷◌, ◌++◌, ◌==◌, ◌&&◌, nat_lt, nat_le, is_some, Option, Some, None, MatchOption, replicate, slice_set, if◌then◌else◌}
+use Rattle.std.specs.Prelude.{Bool, [], ◌∷◌, ◌++◌, ◌==◌, ◌&&◌, is_some, Option, Some, None, MatchOption, replicate, slice_set, if◌then◌else◌}
 use Rattle.std.specs.List.{list_all}
 use Rattle.std.proofs.lemmas.Bool.Decides.{nat_tests, Decides-eqb}
+use Rattle.std.proofs.lemmas.List.Folds.{list_all-append}
 use Rattle.std.proofs.lemmas.List.Sums.{fold-append}
 use Rattle.std.proofs.lemmas.List.{get_or-set_same, get_or-set_other, length-set, get_or-replicate, length-replicate}
 use Rattle.yard_model.specs.declared.fact.Fact.{Fact}
@@ -15,12 +16,15 @@ use Rattle.yard_model.specs.Behaviour.{is_in}
 use Rattle.yard_model.specs.Equal.{is_slot}
 use Rattle.yard_model.specs.Follow.{each_follows}
 use Rattle.yard_model.specs.Genuine.{is_node, is_slot_of}
-use Rattle.yard_model.specs.Lawful.{own, may_follow, is_leased, is_entry, is_held}
-use Rattle.yard_model.specs.Script.{Script}
+use Rattle.yard_model.specs.Lawful.{own, is_opening, may_open, may_follow, is_leased, is_entry, is_held}
+use Rattle.yard_model.specs.Opening.{Parts, parts_of}
+use Rattle.yard_model.specs.Script.{Script, with_shards}
 use Rattle.yard_model.specs.SlotReads.{epoch, holder_step}
 use Rattle.yard_model.specs.Words.{at}
+use Rattle.yard_model.proofs.FollowLaws.{parts_whole}
 use Rattle.shard_store.specs.declared.store.Store.{Store}
 use Rattle.shard_store.specs.Stores.{script_of, slot_of, entries_of, spare_of, entries_in, entries_at, place_of, slot_at, IsHome, IsThere, AreHomes}
+use Rattle.shard_store.proofs.PlaceLaws.{IsSlotAt, place_within, slot_back, slot_place, place_apart}
 use Rattle.shard_lease.specs.Book.{Book, IsPlace, IsBook, known_at, is_of_node, tells_of, holds_of, meaning_of}
 use Rattle.shard_lease.specs.declared.leases.Acquire.{Acquire}
 use Rattle.shard_lease.specs.declared.leases.Acquire.TheVariants as acquired
@@ -33,18 +37,6 @@ and_both false b e = absurd (true≢false (sym e))
 both : (a b : Bool) → a ≡ true → b ≡ true → (a && b) ≡ true
 both a b e f = ap (λ x. x && b) e ∙ f
 
-lt_is : (a b : ℕ) → a < b → nat_lt a b ≡ true
-lt_is a b h = grind (arith, nat_tests)
-
-lt_of : (a b : ℕ) → nat_lt a b ≡ true → a < b
-lt_of a b h = grind (arith, nat_tests)
-
-lt_not : (a b : ℕ) → b ≤ a → nat_lt a b ≡ false
-lt_not a b h = grind (arith, nat_tests)
-
-le_of : (a b : ℕ) → nat_le a b ≡ true → a ≤ b
-le_of a b h = grind (arith, nat_tests)
-
 eq_is : (a b : ℕ) → a ≡ b → (a == b) ≡ true
 eq_is a b h = (Decides-eqb a b).1 h
 
@@ -56,58 +48,6 @@ same_or_not a b = elim (a == b) as (λ v. (a == b) ≡ v → (a ≡ b) ⊎ (a �
   | true ↦ λ e. inl ((Decides-eqb a b).0 e)
   | false ↦ λ e. inr (λ same. true≢false (sym ((Decides-eqb a b).1 same) ∙ e))
 ] refl
-
--- Places and slots.
-
-count : Script → ℕ
-count c = c.config.shards + c.config.producers + 1
-
-pub place_within : (c : Script) (s : Slot) → is_slot_of c s ≡ true → place_of c.config s < c.config.shards + c.config.producers + 1
-place_within c (slot.Shard s) h = let a : s < c.config.shards = lt_of s c.config.shards h in omega arith
-place_within c slot.Coordinator h = omega arith
-place_within c (slot.Queue p) h = let a : p ≤ c.config.producers = le_of p c.config.producers (and_both (nat_le 1 p) (nat_le p c.config.producers) h).1 in omega arith
-
-pub slot_back : (c : Script) (s : Slot) → is_slot_of c s ≡ true → slot_at c.config (place_of c.config s) ≡ s
-slot_back c (slot.Shard s) h = ap (λ b. if b then slot.Shard s else if s == c.config.shards then slot.Coordinator else slot.Queue (s - c.config.shards)) h
-slot_back c slot.Coordinator h =
-    let k : ℕ = c.config.shards in
-    ap (λ b. if b then slot.Shard k else if k == k then slot.Coordinator else slot.Queue (k - k)) (lt_not k k (omega arith))
-    ∙ ap (λ b. if b then slot.Coordinator else slot.Queue (k - k)) (eq_is k k refl)
-slot_back c (slot.Queue p) h =
-    let k : ℕ = c.config.shards in
-    let above : 1 ≤ p = le_of 1 p (and_both (nat_le 1 p) (nat_le p c.config.producers) h).0 in
-    let back : k + p - k ≡ p = omega arith in
-    ap (λ b. if b then slot.Shard (k + p) else if k + p == k then slot.Coordinator else slot.Queue (k + p - k)) (lt_not (k + p) k (omega arith))
-    ∙ (ap (λ b. if b then slot.Coordinator else slot.Queue (k + p - k)) (eq_not (k + p) k (λ e. absurd (omega (arith, e, above)))) ∙ ap (λ n. slot.Queue n) back)
-
--- this place is that slot's
-abbrev IsSlotAt : Script → ℕ → Slot → Type 0
-IsSlotAt c k s = (is_slot_of c s ≡ true) × (place_of c.config s ≡ k)
-
-slot_place : (c : Script) (k : ℕ) → k < c.config.shards + c.config.producers + 1 → IsSlotAt c k (slot_at c.config k)
-slot_place c k within = by_shard (nat_lt k c.config.shards) refl
-  where
-    not_lt : (a b : ℕ) → nat_lt a b ≡ false → b ≤ a
-    not_lt a b h = grind (arith, nat_tests)
-
-    le_is : (a b : ℕ) → a ≤ b → nat_le a b ≡ true
-    le_is a b h = grind (arith, nat_tests)
-
-    by_queue : (v : Bool) → (k == c.config.shards) ≡ v → c.config.shards ≤ k → IsSlotAt c k (if v then slot.Coordinator else slot.Queue (k - c.config.shards))
-    by_queue true e above = (refl, sym ((Decides-eqb k c.config.shards).0 e))
-    by_queue false e above =
-        let other : k ≢ c.config.shards = λ same. true≢false (sym (eq_is k c.config.shards same) ∙ e) in
-        let some : 1 ≤ k - c.config.shards = omega (arith, above, other) in
-        let most : k - c.config.shards ≤ c.config.producers = omega (arith, within) in
-        let back : c.config.shards + (k - c.config.shards) ≡ k = omega (arith, above) in
-        (both (nat_le 1 (k - c.config.shards)) (nat_le (k - c.config.shards) c.config.producers) (le_is 1 (k - c.config.shards) some) (le_is (k - c.config.shards) c.config.producers most), back)
-
-    by_shard : (v : Bool) → nat_lt k c.config.shards ≡ v → IsSlotAt c k (if v then slot.Shard k else if k == c.config.shards then slot.Coordinator else slot.Queue (k - c.config.shards))
-    by_shard true e = (e, refl)
-    by_shard false e = by_queue (k == c.config.shards) refl (not_lt k c.config.shards e)
-
-place_apart : (c : Script) (s t : Slot) → is_slot_of c s ≡ true → is_slot_of c t ≡ true → t ≢ s → place_of c.config t ≢ place_of c.config s
-place_apart c s t hs ht other = λ e. other (sym (slot_back c t ht) ∙ (ap (slot_at c.config) e ∙ slot_back c s hs))
 
 -- A book in which one place is changed.
 
@@ -200,6 +140,31 @@ taken_entry b s slot_is before (fact.Terminated r) m = refl
 taken_entry b s slot_is before (fact.Allocated k r) m = refl
 taken_entry b s slot_is before f m = refl
 
+-- where its list begins anew
+taken_opening : (b : Book) (s : Slot) → is_slot_of b.script s ≡ true → (k : ℕ) (before : List Fact) (f : Fact) → may_open b.script s k before f ≡ true → is_taken (meaning_of b) s f ≡ true
+taken_opening b s slot_is k before (fact.Granted t n x) m =
+    both (is_in 1 b.script.config.nodes x.node && is_slot_of b.script s) true (both (is_in 1 b.script.config.nodes x.node) (is_slot_of b.script s) (node s m) slot_is) refl
+  where
+    node : (z : Slot) → may_open b.script z k before (fact.Granted t n x) ≡ true → is_in 1 b.script.config.nodes x.node ≡ true
+    node (slot.Shard j) e = absurd (true≢false (sym e))
+    node slot.Coordinator e =
+        let entry : is_entry (with_shards 128 b.script) slot.Coordinator before (fact.Granted t n x) ≡ true = (and_both (is_leased before (fact.Granted t n x)) (is_entry (with_shards 128 b.script) slot.Coordinator before (fact.Granted t n x)) e).1 in
+        (and_both (is_slot t slot.Coordinator) (is_node b.script x) entry).1
+    node (slot.Queue p) e = absurd (true≢false (sym e))
+taken_opening b s slot_is k before (fact.Registered r) m = refl
+taken_opening b s slot_is k before (fact.Terminated r) m = refl
+taken_opening b s slot_is k before (fact.Allocated j r) m = refl
+taken_opening b s slot_is k before f m = refl
+
+taken_list : (b : Book) (s : Slot) → is_slot_of b.script s ≡ true → (list : List Fact) → own b.script s list ≡ true → list_all (is_taken (meaning_of b) s) list ≡ true
+taken_list b s slot_is list o =
+    let p : Parts = parts_of list in
+    let taken : Fact → Bool = is_taken (meaning_of b) s in
+    let m : (is_opening b.script s p.opening ≡ true) × (each_follows (may_follow b.script s) p.opening p.since ≡ true) = and_both (is_opening b.script s p.opening) (each_follows (may_follow b.script s) p.opening p.since) o in
+    ap (list_all taken) (sym (parts_whole list))
+    ∙ (list_all-append taken p.opening p.since
+    ∙ both (list_all taken p.opening) (list_all taken p.since) (follows_each (may_open b.script s (epoch p.opening)) taken (taken_opening b s slot_is (epoch p.opening)) [] p.opening m.0) (follows_each (may_follow b.script s) taken (taken_entry b s slot_is) p.opening p.since m.1))
+
 of_node_itself : (x : Incarnation) → is_of_node x.node (Some x) ≡ true
 of_node_itself x = eq_is x.node x.node refl
 
@@ -233,8 +198,9 @@ hands b who s x y n is node slot_is there nobody number script_same slot_same li
         free = home.1;
         list_is = entries_is;
         own_is = own_is;
-        taken = follows_each (may_follow b.script s) (is_taken (meaning_of after) s) (taken_entry after s slot_is) [] (entries_of y) own_is;
+        taken = taken_list after s slot_is (entries_of y) own_is;
         holds_is = both (is_slot_of b.script s) (is_of_node who.node (at (slice_set b.holders k (Some who)) k)) slot_is (ap (is_of_node who.node) (get_or-set_same b.holders k (Some who) None inside) ∙ of_node_itself who);
+        seen_is = record { rest = entries_of y; is = refl };
         extends = record { rest = entries_of y; is = refl };
         vouched = λ e p i h. inr refl;
         tells_is = subst (λ o. MatchOption o (tells_of after s ≡ None) (λ t. (t.holder ≡ None) × (t.list ≡ entries_of x) × (tells_of after s ≡ Some (record { holder = Some who; list = [] })))) (sym known)

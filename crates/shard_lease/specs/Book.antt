@@ -53,6 +53,7 @@ meaning_of b = record {
   admits = λ n s. is_in 1 b.script.config.nodes n && is_slot_of b.script s;
   holds = holds_of b;
   told = λ s. [];
+  seen = λ s. [];
   vouches = λ e p n. true;
   tells = tells_of b;
 }

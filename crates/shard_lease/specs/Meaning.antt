@@ -29,6 +29,7 @@ pub record Meaning : Type 0 where
   pub admits : ℕ → Slot → Bool  -- the node may hold the slot
   pub holds : ℕ → Slot → Bool  -- the node's number holds the slot
   pub told : Slot → List Fact  -- a list that the one last handed out or published extends
+  pub seen : Slot → List Fact  -- a beginning of its list that it has seen
   pub vouches : List ℕ → ℕ → ℕ → Bool  -- it has seen the record of this entity, producer and place
   pub tells : Slot → Option Known  -- what it can tell of the slot
 
@@ -40,7 +41,12 @@ pub record Serves (m : Meaning) (who : Incarnation) (s : Slot) : Type 0 where
   pub slot_is : is_slot_of m.script s ≡ true
   pub admitted : m.admits who.node s ≡ true
 
--- no call changes these, and none takes back what it vouches for
+-- this list begins with that
+pub record Begins (first whole : List Fact) : Type 0 where
+  pub rest : List Fact
+  pub is : whole ≡ first ++ rest
+
+-- no call changes these, none takes back what it vouches for, and what it has seen of a list grows
 pub record Stays (old new : Meaning) : Type 0 where
   pub name_is : new.name ≡ old.name
   pub script_is : new.script ≡ old.script
@@ -48,6 +54,7 @@ pub record Stays (old new : Meaning) : Type 0 where
   pub serves_is : (x : Incarnation) → new.serves x ≡ old.serves x
   pub admits_is : (n : ℕ) (s : Slot) → new.admits n s ≡ old.admits n s
   pub vouched : (e : List ℕ) (p n : ℕ) → old.vouches e p n ≡ true → new.vouches e p n ≡ true
+  pub seen_is : (s : Slot) → Begins (old.seen s) (new.seen s)
 
 -- nothing is changed of another slot, nor of another node
 pub record Apart (node : ℕ) (s : Slot) (old new : Meaning) : Type 0 where
@@ -60,11 +67,6 @@ pub record Still (old new : Meaning) : Type 0 where
   pub holds_is : (n : ℕ) (t : Slot) → new.holds n t ≡ old.holds n t
   pub told_is : (t : Slot) → new.told t ≡ old.told t
   pub tells_is : (t : Slot) → new.tells t ≡ old.tells t
-
--- this list begins with that
-pub record Begins (first whole : List Fact) : Type 0 where
-  pub rest : List Fact
-  pub is : whole ≡ first ++ rest
 
 abbrev pub is_confirmed : List ℕ → ℕ → ℕ → Fact → Bool
 is_confirmed e p n (fact.Confirmed q x m) = (q == p) && is_name x e && (m == n)
@@ -97,6 +99,7 @@ pub record Hands (old : Meaning) (who : Incarnation) (s : Slot) (x : Store) (new
   pub own_is : own old.script s (entries_of x) ≡ true
   pub taken : list_all (is_taken new s) (entries_of x) ≡ true
   pub holds_is : new.holds who.node s ≡ true
+  pub seen_is : Begins (old.seen s) (entries_of x)
   pub extends : Begins (new.told s) (entries_of x)
   pub vouched : IsVouched new (new.told s) (entries_of x)
   pub tells_is : MatchOption (old.tells s) (new.tells s ≡ None) (λ k. (k.holder ≡ None) × (k.list ≡ before) × (new.tells s ≡ Some (record { holder = Some who; list = [] })))

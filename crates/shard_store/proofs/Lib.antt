@@ -5,3 +5,4 @@ mod KeptLaws
 mod ShelfLaws
 mod StoresLaws
 pub mod SendLaws
+pub mod PlaceLaws

@@ -1,6 +1,6 @@
 -- A shard's store with one entry more.
-use Rattle.std.proofs.Common.{◌≡◌, ℕ, ◌+◌, ◌-◌, ◌<◌, ◌≤◌, List, length, sym, ap, subst, ◌∙◌, refl, true, false, arith, true≢false}
-use Rattle.std.specs.Prelude.{Bool, [], ◌∷◌, ◌++◌, ◌==◌, ◌&&◌, ◌||◌, not, nat_lt, cond, take, filter, max, slice_set, slice_index_or, replicate, ◌↔◌, IsTrue}
+use Rattle.std.proofs.Common.{◌≡◌, ℕ, ◌+◌, ◌-◌, ◌<◌, ◌≤◌, List, length, sym, ap, subst, ◌∙◌, refl, true, false, arith, true≢false, length-append}
+use Rattle.std.specs.Prelude.{fold, if◌then◌else◌, Bool, [], ◌∷◌, ◌++◌, ◌==◌, ◌&&◌, ◌||◌, not, nat_lt, cond, take, filter, max, slice_set, slice_index_or, replicate, ◌↔◌, IsTrue}
 use Rattle.std.specs.List.{list_any}
 use Rattle.std.specs.List.Sorted.{IsStrictlySortedBy}
 use Rattle.std.specs.Ordering.{nat_cmp}
@@ -15,18 +15,18 @@ use Rattle.yard_model.specs.declared.incarnation.Incarnation.{Incarnation}
 use Rattle.yard_model.specs.declared.incarnation.Slot.{Slot}
 use Rattle.yard_model.specs.declared.incarnation.Slot.TheVariants as slot
 use Rattle.yard_model.specs.declared.packet.Record.{Record}
-use Rattle.yard_model.specs.Behaviour.{decide, folded, is_in}
-use Rattle.yard_model.specs.Equal.{is_decision, is_slot}
+use Rattle.yard_model.specs.Behaviour.{folded, is_in}
+use Rattle.yard_model.specs.Equal.{is_slot}
 use Rattle.yard_model.specs.Genuine.{is_node, is_producer, is_brought}
-use Rattle.yard_model.specs.Lawful.{own, is_held, is_leased, is_entry, is_of_shard, is_folded_after, is_merged_after}
-use Rattle.yard_model.specs.Script.{Script, IsScript, is_name, setting}
+use Rattle.yard_model.specs.Lawful.{own, is_held, is_leased, is_entry, is_of_shard, is_decided, is_folded_after, is_merged_after}
+use Rattle.yard_model.specs.Script.{Script, IsScript, is_name, setting, versions}
 use Rattle.yard_model.specs.Setting.{shard_of, names_of}
-use Rattle.yard_model.specs.SlotReads.{epoch, journal, position, last_snapshot, is_remembered}
+use Rattle.yard_model.specs.SlotReads.{epoch, journal, journal_step, position, last_snapshot, is_remembered}
 use Rattle.yard_model.specs.Spared.{Spared}
 use Rattle.entity_snapshot.specs.declared.snapshot.Snapshot.{Snapshot}
 use Rattle.entity_snapshot.specs.Kept.{Kept, last_of}
 use Rattle.shard_store.specs.Shelf.{Shelf, slot_of, may}
-use Rattle.shard_store.specs.Shelved.{no_journal, no_snapshots, name_at, IsSnapshot, AreKept, AreReserved, IsShelf}
+use Rattle.shard_store.specs.Shelved.{no_journal, no_snapshots, name_at, IsSnapshot, IsNamed, IsThere, AreKept, AreReserved, IsShelf}
 use Rattle.yard_model.proofs.FollowLaws.{own_more}
 use Rattle.shard_store.proofs.NamesLaws.{same_name}
 use Rattle.shard_store.proofs.KeptLaws.{kept_none, kept_wrote, kept_saved, kept_marked, kept_reserved, kept_new}
@@ -88,6 +88,13 @@ among_names s names e are of =
     let m : (is_brought s.script e ≡ true) × ((shard_of (setting s.script) e == s.shard) ≡ true) = and_both (is_brought s.script e) (shard_of (setting s.script) e == s.shard) of in
     ap (list_any (is_name e)) are ∙ any_picked (λ n. shard_of (setting s.script) n == s.shard) e (setting s.script).names m.1 m.0
 
+-- the place of a name among the shard's names is one among the names that are kept
+pub named : {s v : Shelf} {ls : ℕ} {names : List (List ℕ)} {journals : List (Spared Record)} {snapshots : List Kept} {marks : List Bool} (e : List ℕ) (i : ℕ) → IsShelf s ls names journals snapshots marks → s ≡ v → IsThere v i e → IsNamed names i e
+named {s} {v} e i k seen there = subst (λ ns. IsNamed ns i e) (ap (λ (x : Shelf). names_of (setting x.script) x.shard) (sym seen) ∙ sym k.names_are) there
+
+pub there : {s v : Shelf} {ls : ℕ} {names : List (List ℕ)} {journals : List (Spared Record)} {snapshots : List Kept} {marks : List Bool} (e : List ℕ) (i : ℕ) → IsShelf s ls names journals snapshots marks → s ≡ v → i < length names → name_at names i ≡ e → IsThere v i e
+there {s} {v} {ls} {names} e i k seen within it = subst (λ ns. IsNamed ns i e) (k.names_are ∙ ap (λ (x : Shelf). names_of (setting x.script) x.shard) seen) (record { within = within; it = it })
+
 -- One entry more.
 
 pub shelf_next : (s : Shelf) {ls new_shard : ℕ} {names : List (List ℕ)} {journals new_journals : List (Spared Record)} {snapshots new_snapshots : List Kept} {marks new_marks : List Bool} {entries : List Fact} {spare : ℕ} (f : Fact)
@@ -135,7 +142,7 @@ may_write s e r m =
     let entry : is_entry s.script (slot_of s) s.entries (fact.Wrote e r) ≡ true = (and_both (is_leased s.entries (fact.Wrote e r)) (is_entry s.script (slot_of s) s.entries (fact.Wrote e r)) m).1 in
     let a : _ × _ = and_both (is_of_shard s.script s.shard e && is_producer s.script r.producer && is_folded_after s.script (journal e s.entries) r) (is_merged_after s.script e (journal e s.entries) r) entry in
     let b : _ × _ = and_both (is_of_shard s.script s.shard e && is_producer s.script r.producer) (is_folded_after s.script (journal e s.entries) r) a.0 in
-    let n : _ × _ = and_both (r.number == length (journal e s.entries) + 1) (is_decision (decide (folded s.script.config.kind (journal e s.entries)) r.command) (record { events = r.events; reply = r.reply })) b.1 in
+    let n : _ × _ = and_both (r.number == length (journal e s.entries) + 1) (list_any (λ v. is_decided v s.script (journal e s.entries) r) (versions s.script)) b.1 in
     record { of = (and_both (is_of_shard s.script s.shard e) (is_producer s.script r.producer) b.0).0; number = (Decides-eqb r.number (length (journal e s.entries) + 1)).0 n.0 }
 
 pub journal_there : (s : Shelf) {ls : ℕ} {names : List (List ℕ)} {journals : List (Spared Record)} {snapshots : List Kept} {marks : List Bool} (e : List ℕ) (k : ℕ) (j : Spared Record)
@@ -243,3 +250,21 @@ shelf_reserved s {ls} {new_shard} {n} {names} {journals} {new} {snapshots} {mark
         let new_is : n ≤ (slice_index_or new i no_journal).spare = enough i (omega (arith, within, grown.there, k.kept_is.journals_there)) in
         let all : max s.spare n ≤ (slice_index_or new i no_journal).spare = max-le old_is new_is in
         omega (arith, most, all)
+
+-- there are no more records than entries
+journal_few_from : (e : List ℕ) (so_far : List Record) (list : List Fact) → length (fold (journal_step e) so_far list) ≤ length so_far + length list
+journal_few_from e so_far [] = omega arith
+journal_few_from e so_far (f ∷ fs) =
+    let step : length (journal_step e so_far f) ≤ length so_far + 1 = one_more f in
+    let rest : length (fold (journal_step e) (journal_step e so_far f) fs) ≤ length (journal_step e so_far f) + length fs = journal_few_from e (journal_step e so_far f) fs in
+    omega (arith, step, rest)
+  where
+    one_more : (f : Fact) → length (journal_step e so_far f) ≤ length so_far + 1
+    one_more (fact.Wrote x r) = elim (is_name x e) as (λ b. length (if b then so_far ++ r ∷ [] else so_far) ≤ length so_far + 1) [
+      | true ↦ let long : length (so_far ++ r ∷ []) ≡ length so_far + 1 = length-append so_far (r ∷ []) in omega (arith, long)
+      | false ↦ omega arith
+    ]
+    one_more f = omega arith
+
+pub journal_few : {s v : Shelf} (e : List ℕ) → s ≡ v → length s.entries + s.spare < 4294967296 → length (journal e v.entries) + v.spare < 4294967296
+journal_few {s} {v} e seen few = subst (λ (x : Shelf). length (journal e x.entries) + x.spare < 4294967296) seen (let most : length (journal e s.entries) ≤ 0 + length s.entries = journal_few_from e [] s.entries in omega (arith, most, few))

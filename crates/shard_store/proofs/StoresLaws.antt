@@ -76,6 +76,22 @@ new_more c places n x k new = record {
 pub homes_of : (c : Script) (places : List (Option Store)) → IsScript c → AreNew c places (c.config.shards + c.config.producers + 1) → AreHomes c places
 homes_of c places s k = record { script_is = s; all = k.count; each = λ i h. k.each i (omega (arith, h, k.count)) }
 
+-- no entry at any place, nor past the last
+pub none_at : (c : Script) (places : List (Option Store)) → AreNew c places (c.config.shards + c.config.producers + 1) → (k : ℕ) → entries_at places k ≡ []
+none_at c places h k = by (nat_lt k (c.config.shards + c.config.producers + 1)) refl
+  where
+    lt_of : (a b : ℕ) → nat_lt a b ≡ true → a < b
+    lt_of a b e = grind (arith, nat_tests)
+
+    ge_of : (a b : ℕ) → nat_lt a b ≡ false → b ≤ a
+    ge_of a b e = grind (arith, nat_tests)
+
+    by : (v : Bool) → nat_lt k (c.config.shards + c.config.producers + 1) ≡ v → entries_at places k ≡ []
+    by true e = h.none k (lt_of k (c.config.shards + c.config.producers + 1) e)
+    by false e =
+        let past : length places ≤ k = subst (λ n. n ≤ k) (sym h.count) (ge_of k (c.config.shards + c.config.producers + 1) e) in
+        ap entries_in (get_or-eq_default places None past)
+
 none_each : (f : ℕ → List Fact) (a n : ℕ) → ((i : ℕ) → a ≤ i → i < a + n → f i ≡ []) → map f (numbers a n) ≡ replicate n []
 none_each f a zero h = refl
 none_each f a (suc n) h = ap (λ x. x ∷ map f (numbers (a + 1) n)) (h a (omega arith) (omega arith)) ∙ ap (λ l. [] ∷ l) (none_each f (a + 1) n (λ i b l. h i (omega arith) (omega arith)))

@@ -26,6 +26,15 @@ no_snapshots = record { snapshots = []; keep = 1 }
 abbrev pub name_at : List (List ℕ) → ℕ → List ℕ
 name_at names i = slice_index_or names i []
 
+-- this name stands at that place among these
+pub record IsNamed (names : List (List ℕ)) (i : ℕ) (e : List ℕ) : Type 0 where
+  pub within : i < length names
+  pub it : name_at names i ≡ e
+
+-- the place of a name among the names of the store's shard
+abbrev pub IsThere : Shelf → ℕ → List ℕ → Type 0
+IsThere s i e = IsNamed (names_of (setting s.script) s.shard) i e
+
 -- what is kept of the journal of the name at a place: its records, and at least this spare
 pub record IsJournal (records : List Record) (spare : ℕ) (kept : Spared Record) : Type 0 where
   pub records_are : kept.items ≡ records

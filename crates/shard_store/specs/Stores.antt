@@ -35,6 +35,18 @@ spare_of (store.Shard x) = x.spare
 spare_of (store.Coordinator x) = x.spare
 spare_of (store.Queue x) = x.spare
 
+-- and what a store is of that is lent
+
+abbrev pub script_of_ref : StoreRef → Script
+script_of_ref (ref.Shard x) = x.now.script
+script_of_ref (ref.Coordinator x) = x.now.script
+script_of_ref (ref.Queue x) = x.now.script
+
+abbrev pub slot_of_ref : StoreRef → Slot
+slot_of_ref (ref.Shard x) = slot.Shard x.now.shard
+slot_of_ref (ref.Coordinator x) = slot.Coordinator
+slot_of_ref (ref.Queue x) = slot.Queue x.now.producer
+
 abbrev pub entries_of_ref : StoreRef → List Fact
 entries_of_ref (ref.Shard x) = x.now.entries
 entries_of_ref (ref.Coordinator x) = x.now.entries

@@ -129,7 +129,8 @@ impl SlotList {
 
     /// How many entries more take no memory.
     pub(crate) fn spare(&self) -> u32
-        ensures { result ≡ self.now.spare }
+        ensures value { result ≡ self.now.spare }
+        ensures fits { length self.now.entries + self.now.spare < 4294967296 }
     {
         self.spare
     }

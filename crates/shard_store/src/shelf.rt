@@ -8,7 +8,7 @@ ghost use Rattle.yard_model.specs.Genuine.{is_node};
 ghost use Rattle.yard_model.specs.Lawful.{own, is_held, is_of_shard};
 ghost use Rattle.yard_model.specs.SlotReads.{epoch, journal, last_snapshot, is_remembered};
 ghost use Rattle.shard_store.specs.Shelf.{Shelf, slot_of, may, with_entry};
-ghost use Rattle.shard_store.specs.Shelved.{IsSnapshot, no_journal, AreReserved};
+ghost use Rattle.shard_store.specs.Shelved.{IsSnapshot, IsThere, no_journal, AreReserved};
 
 use crate::list::SlotList;
 use crate::names::Names;
@@ -72,15 +72,20 @@ impl ShardStore {
         })
     }
 
-    /// Makes the spare at least `n`. The only error is want of memory, also where there would be
-    /// more than 4,294,967,295 entries; the list stays, though the spare may have grown.
+    /// Makes the spare at least `n`, and at once twice that where it is less. The only error is want
+    /// of memory, also where there would be more than 4,294,967,295 entries; the list stays, though
+    /// the spare may have grown.
     pub fn reserve(&mut self, n: u32) -> Result<(), AllocError>
         ensures list { self.new ≡ record self.old { spare = self.new.spare } }
         ensures ok { OnOk result (n ≤ self.new.spare) }
         ensures spare { self.old.spare ≤ self.new.spare }
     {
-        reserve_each(&mut self.journals, n)?;
-        self.list.reserve(n)
+        if n <= self.list.spare() {
+            return Ok(());
+        }
+        let wanted = twice(n, self.list.entries().len() as u32);
+        reserve_each(&mut self.journals, wanted)?;
+        self.list.reserve(wanted)
     }
 
     /// The lease of the next epoch goes to `who`, of a node of the charter; the epoch.
@@ -142,6 +147,14 @@ impl ShardStore {
         self.list.entries()
     }
 
+    /// Where an entity of this shard stands among the shard's names; a call by place looks for no name.
+    pub fn place(&self, entity: &EntityName) -> usize
+        requires { IsTrue (is_of_shard self.now.script self.now.shard entity.now) }
+        ensures { IsThere self.now result entity.now }
+    {
+        self.names.place(entity)
+    }
+
     /// A record of an entity, which may come next: under the open epoch, with the next number of its
     /// journal and the next place of its producer, as the entity decides.
     pub fn wrote(&mut self, entity: &EntityName, entry: Record)
@@ -149,8 +162,17 @@ impl ShardStore {
         requires next { IsTrue (may self.old (fact.Wrote entity.now entry)) }
         ensures { self.new ≡ with_entry self.old (fact.Wrote entity.now entry) }
     {
-        let entry = &entry;
         let place = self.names.place(entity);
+        self.wrote_at(place, entity, &entry);
+    }
+
+    /// The same, of the entity at this place.
+    pub fn wrote_at(&mut self, place: usize, entity: &EntityName, entry: &Record)
+        requires place { IsThere self.old place entity.now }
+        requires spare { 0 < self.old.spare }
+        requires next { IsTrue (may self.old (fact.Wrote entity.now entry.now)) }
+        ensures { self.new ≡ with_entry self.old (fact.Wrote entity.now entry.now) }
+    {
         self.journals[place].append(*entry);
         self.list.write(ShardEntry::Wrote(*entity, *entry));
     }
@@ -166,12 +188,25 @@ impl ShardStore {
         ensures { self.new ≡ with_entry self.old (fact.Snapshot entity.now (length (journal entity.now self.old.entries))) }
     {
         let place = self.names.place(entity);
+        self.snapshot_at(place, entity, &state);
+    }
+
+    /// The same, of the entity at this place.
+    pub fn snapshot_at(&mut self, place: usize, entity: &EntityName, state: &State)
+        requires place { IsThere self.old place entity.now }
+        requires spare { 0 < self.old.spare }
+        requires leased { is_held self.old.entries ≡ true }
+        requires name { IsTrue (is_of_shard self.old.script self.old.shard entity.now) }
+        requires newer { last_snapshot entity.now self.old.entries < length (journal entity.now self.old.entries) }
+        requires state { state.now ≡ folded self.old.script.config.kind (journal entity.now self.old.entries) }
+        ensures { self.new ≡ with_entry self.old (fact.Snapshot entity.now (length (journal entity.now self.old.entries))) }
+    {
         let journal = &self.journals[place];
         let at = journal.len();
         let positions = positions_of(journal);
         self.snapshots[place].save(Snapshot {
             at,
-            state,
+            state: *state,
             positions,
         });
         self.list.write(ShardEntry::Snapshot(*entity, at));
@@ -186,6 +221,18 @@ impl ShardStore {
         ensures { self.new ≡ with_entry self.old (fact.Remembered entity.now) }
     {
         let place = self.names.place(entity);
+        self.remember_at(place, entity);
+    }
+
+    /// The same, of the entity at this place.
+    pub fn remember_at(&mut self, place: usize, entity: &EntityName)
+        requires place { IsThere self.old place entity.now }
+        requires spare { 0 < self.old.spare }
+        requires leased { is_held self.old.entries ≡ true }
+        requires name { IsTrue (is_of_shard self.old.script self.old.shard entity.now) }
+        requires new { is_remembered entity.now self.old.entries ≡ false }
+        ensures { self.new ≡ with_entry self.old (fact.Remembered entity.now) }
+    {
         self.remembered.add(place as u16);
         self.list.write(ShardEntry::Remembered(*entity));
     }
@@ -199,6 +246,18 @@ impl ShardStore {
         ensures { self.new ≡ with_entry self.old (fact.Forgotten entity.now) }
     {
         let place = self.names.place(entity);
+        self.forget_at(place, entity);
+    }
+
+    /// The same, of the entity at this place.
+    pub fn forget_at(&mut self, place: usize, entity: &EntityName)
+        requires place { IsThere self.old place entity.now }
+        requires spare { 0 < self.old.spare }
+        requires leased { is_held self.old.entries ≡ true }
+        requires name { IsTrue (is_of_shard self.old.script self.old.shard entity.now) }
+        requires known { is_remembered entity.now self.old.entries ≡ true }
+        ensures { self.new ≡ with_entry self.old (fact.Forgotten entity.now) }
+    {
         self.remembered.drop_name(place as u16);
         self.list.write(ShardEntry::Forgotten(*entity));
     }
@@ -211,6 +270,20 @@ impl ShardStore {
         &self.journals[self.names.place(entity)]
     }
 
+    /// The same, of the entity at this place; its latest snapshot is of no more records, and with the
+    /// spare there are never too many to count.
+    pub fn journal_at(&self, place: usize, entity: &EntityName) -> &Journal
+        requires { IsThere self.now place entity.now }
+        ensures records { result.now.items ≡ journal entity.now self.now.entries }
+        ensures last { last_snapshot entity.now self.now.entries ≤ length (journal entity.now self.now.entries) }
+        ensures few { length (journal entity.now self.now.entries) + self.now.spare < 4294967296 }
+    {
+        let _entity = *entity;
+        self.snapshots[place].latest();
+        self.list.spare();
+        &self.journals[place]
+    }
+
     /// The latest snapshot of an entity of this shard, with the state and the counts of the records
     /// before it; None exactly where there is none.
     pub fn latest(&self, entity: &EntityName) -> Option<&Snapshot>
@@ -220,12 +293,30 @@ impl ShardStore {
         self.snapshots[self.names.place(entity)].latest()
     }
 
+    /// The same, of the entity at this place.
+    pub fn latest_at(&self, place: usize, entity: &EntityName) -> Option<&Snapshot>
+        requires { IsThere self.now place entity.now }
+        ensures { MatchOption result (last_snapshot entity.now self.now.entries ≡ 0) (λ s. IsSnapshot self.now.script.config.kind (journal entity.now self.now.entries) (last_snapshot entity.now self.now.entries) s.now) }
+    {
+        let _entity = *entity;
+        self.snapshots[place].latest()
+    }
+
     /// Whether an entity of this shard is remembered.
     pub fn is_remembered(&self, entity: &EntityName) -> bool
         requires { IsTrue (is_of_shard self.now.script self.now.shard entity.now) }
         ensures { result ≡ is_remembered entity.now self.now.entries }
     {
         self.remembered.holds(self.names.place(entity) as u16)
+    }
+
+    /// The same, of the entity at this place.
+    pub fn is_remembered_at(&self, place: usize, entity: &EntityName) -> bool
+        requires { IsThere self.now place entity.now }
+        ensures { result ≡ is_remembered entity.now self.now.entries }
+    {
+        let _entity = *entity;
+        self.remembered.holds(place as u16)
     }
 }
 
@@ -250,6 +341,13 @@ fn no_snapshots(alloc: Global, count: usize, keep: u8) -> Result<Vec<Snapshots>,
         lists.push(Snapshots::new(alloc, keep)?)?;
     }
     Ok(lists)
+}
+
+/// Twice as many, where so many more fit beside `len` entries; else as many.
+fn twice(n: u32, len: u32) -> u32
+    ensures { n ≤ result }
+{
+    if n <= (u32::MAX - len) / 2 { 2 * n } else { n }
 }
 
 /// Makes the spare of each journal at least `n`. The only error is want of memory.

@@ -4,7 +4,7 @@ ghost use Rattle.yard_model.specs.declared.fact.Fact.TheVariants as fact;
 ghost use Rattle.yard_model.specs.Genuine.{is_node};
 ghost use Rattle.yard_model.specs.Lawful.{own, is_held};
 ghost use Rattle.yard_model.specs.SlotReads.{epoch};
-ghost use Rattle.shard_store.specs.Stores.{script_of, slot_of, entries_of, spare_of, entries_of_ref};
+ghost use Rattle.shard_store.specs.Stores.{script_of, slot_of, entries_of, spare_of, script_of_ref, slot_of_ref, entries_of_ref};
 
 use crate::shelf::ShardStore;
 use coordinator_state::CoordStore;
@@ -126,7 +126,9 @@ impl Store {
 
     /// The store, lent.
     pub fn as_ref(&self) -> StoreRef<'_>
-        ensures { entries_of_ref result ≡ entries_of self.now }
+        ensures script { script_of_ref result ≡ script_of self.now }
+        ensures slot { slot_of_ref result ≡ slot_of self.now }
+        ensures entries { entries_of_ref result ≡ entries_of self.now }
     {
         match self {
             Store::Shard(store) => StoreRef::Shard(store),

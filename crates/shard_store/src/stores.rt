@@ -1,5 +1,5 @@
 //! The stores of all slots.
-ghost use Rattle.std.specs.Prelude.{◌≡◌, ◌+◌, ◌-◌, ◌<◌, ◌≤◌, [], nat_lt, map, IfOk, if◌then◌else◌};
+ghost use Rattle.std.specs.Prelude.{◌≡◌, ℕ, ◌+◌, ◌-◌, ◌<◌, ◌≤◌, [], nat_lt, map, IfOk, if◌then◌else◌};
 ghost use Rattle.yard_model.specs.declared.incarnation.Slot.TheVariants as slot;
 ghost use Rattle.yard_model.specs.Entry.{shard_fact, coord_fact, queue_fact};
 ghost use Rattle.yard_model.specs.Script.{Script, setting};
@@ -44,10 +44,11 @@ impl Model for Stores {
 
 impl Stores {
     /// The empty store of each slot. The only error is want of memory.
-    #[tactic(auto, using(crate::proofs::StoresLaws::homes_of, crate::proofs::StoresLaws::no_entries))]
+    #[tactic(auto, using(crate::proofs::StoresLaws::homes_of, crate::proofs::StoresLaws::no_entries, crate::proofs::StoresLaws::none_at))]
     pub fn new(alloc: Global, charter: &Charter) -> Result<Stores, AllocError>
         ensures script { IfOk result (λ s. s.script ≡ charter.now) }
         ensures none { IfOk result (λ s. lists_at charter.now.config s.places ≡ no_lists (setting charter.now)) }
+        ensures empty { IfOk result (λ s. (k : ℕ) → entries_at s.places k ≡ []) }
     {
         let shards = charter.config().shards;
         let places = new_places(alloc, charter)?;

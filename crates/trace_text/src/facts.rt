@@ -2,7 +2,7 @@
 ghost use Rattle.std.specs.Prelude.{◌≡◌, ◌++◌, ◌∷◌, [], OnOk, codes, decimal};
 ghost use Rattle.yard_model.specs.Text.{words, fact_line, fact_words, incarnation_text, slot_text, cause_text, keep_text, command_text, state_text, message_words, record_words};
 
-use crate::basics::{push, push_number, push_with_number};
+use crate::basics::{push, push_number, push_with_number, push_with_numbers};
 use crate::bodies::{
     push_body, push_with_ends, push_with_name, push_with_pair, push_with_shard, push_with_stamp,
 };
@@ -65,6 +65,14 @@ fn push_fact_words(text: &mut Vec<u8>, fact: &Fact) -> Result<(), AllocError>
         Fact::Waits(p, entity, command) => push_waits(text, *p, entity, command),
         Fact::Queued(p, entity, n, command) => push_queued(text, *p, entity, *n, command),
         Fact::Confirmed(p, entity, n) => push_with_pair(text, b"confirmed", *p, entity, *n),
+        Fact::Reshard(shards, epoch) => push_reshard(text, *shards, *epoch),
+        Fact::Resharded(_, shards, epoch) => push_reshard(text, *shards, *epoch),
+        Fact::Upgrade(version) => push_with_number(text, b"upgrade", u64::from(*version)),
+        Fact::SentAsk(number, x) => push_sent_ask(text, *number, x),
+        Fact::SentJob(number, x, entity) => push_sent_job(text, *number, b"job", x, entity),
+        Fact::SentDone(number, x, entity) => push_sent_job(text, *number, b"done", x, entity),
+        Fact::Given(entity, x) => push_given(text, entity, x),
+        Fact::Did(x, entity) => push_with_entity(text, b"did", x, entity),
     }
 }
 
@@ -272,4 +280,41 @@ fn push_queued(
     push_with_pair(text, b"queued", p, entity, number)?;
     push(text, b" ")?;
     push_command(text, command)
+}
+
+fn push_reshard(text: &mut Vec<u8>, shards: u8, epoch: u32) -> Result<(), AllocError>
+    ensures { OnOk result (text.new.items ≡ text.old.items ++ words (fact_words (Fact.Reshard shards epoch))) }
+{
+    push_with_numbers(text, b"reshard", u64::from(shards), u64::from(epoch))
+}
+
+fn push_sent_ask(text: &mut Vec<u8>, number: u32, x: &Incarnation) -> Result<(), AllocError>
+    ensures { OnOk result (text.new.items ≡ text.old.items ++ words (fact_words (Fact.SentAsk number x.now))) }
+{
+    push_with_number(text, b"sent", u64::from(number))?;
+    push(text, b" ")?;
+    push_with_incarnation(text, b"ask", x)
+}
+
+/// A packet of a worker's, this word, to or from whom, and the job.
+fn push_sent_job(
+    text: &mut Vec<u8>,
+    number: u32,
+    word: &[u8],
+    x: &Incarnation,
+    entity: &EntityName,
+) -> Result<(), AllocError>
+    ensures { OnOk result (text.new.items ≡ text.old.items ++ words (codes "sent" ∷ decimal number ∷ word.now ∷ incarnation_text x.now ∷ entity.now ∷ [])) }
+{
+    push_with_number(text, b"sent", u64::from(number))?;
+    push(text, b" ")?;
+    push_with_entity(text, word, x, entity)
+}
+
+fn push_given(text: &mut Vec<u8>, entity: &EntityName, x: &Incarnation) -> Result<(), AllocError>
+    ensures { OnOk result (text.new.items ≡ text.old.items ++ words (fact_words (Fact.Given entity.now x.now))) }
+{
+    push_with_name(text, b"given", entity)?;
+    push(text, b" ")?;
+    push_incarnation(text, x)
 }

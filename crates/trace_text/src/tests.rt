@@ -327,6 +327,11 @@ fn records(rt: HostRuntime) -> Result<(), Fail> {
             none.with(Event::ItemRemoved(7)).with(Event::CheckedOut),
             Reply::Value(1),
         )?,
+        written(
+            none.with(Event::DepositedWithMemo(4, 0))
+                .with(Event::WithdrawnWithMemo(3, 12)),
+            Reply::Value(1),
+        )?,
     ];
     let text = printed(rt.alloc(), &facts)?;
     let wanted = b"wrote c1 3 epoch 2 by 1:4 add 5 / - / no 2
@@ -335,6 +340,7 @@ wrote c1 3 epoch 2 by 1:4 add 5 / created, deposited 4 / ok 4
 wrote c1 3 epoch 2 by 1:4 add 5 / withdrawn 4, closed / ok 0
 wrote c1 3 epoch 2 by 1:4 add 5 / added 7 3, adjusted 7 3 / ok 1
 wrote c1 3 epoch 2 by 1:4 add 5 / removed 7, checkedout / ok 1
+wrote c1 3 epoch 2 by 1:4 add 5 / deposited 4 memo 0, withdrawn 3 memo 12 / ok 1
 ";
     assert_eq!(rt; text.as_slice(), wanted.as_slice());
     Ok(())
@@ -365,7 +371,14 @@ fn states(rt: HostRuntime) -> Result<(), Fail> {
     let facts = [
         active(State::Counter(8))?,
         active(State::NoAccount)?,
-        active(State::Open(1_000_000_000_000_000))?,
+        active(State::Open {
+            balance: 1_000_000_000_000_000,
+            memo: 0,
+        })?,
+        active(State::Open {
+            balance: 70,
+            memo: 12,
+        })?,
         active(State::Closed)?,
         active(State::Cart {
             out: false,
@@ -380,9 +393,39 @@ fn states(rt: HostRuntime) -> Result<(), Fail> {
     let wanted = b"active 1.1 c1 3 8
 active 1.1 c1 3 none
 active 1.1 c1 3 open 1000000000000000
+active 1.1 c1 3 open 70 memo 12
 active 1.1 c1 3 closed
 active 1.1 c1 3 open -
 active 1.1 c1 3 out 2:1,7:3
+";
+    assert_eq!(rt; text.as_slice(), wanted.as_slice());
+    Ok(())
+}
+
+#[test]
+fn changes_and_jobs(rt: HostRuntime) -> Result<(), Fail> {
+    let x = &first_start(2)?;
+    let p = ProducerNo::new(1).ok_or("a producer")?;
+    let entity = EntityName::new(b"c1").ok_or("a name")?;
+    let facts = [
+        Fact::Reshard(10, 1),
+        Fact::Upgrade(2),
+        Fact::Waits(p, entity, Command::DepositWithMemo(5, 7)),
+        Fact::SentAsk(1, *x),
+        Fact::SentJob(3, *x, entity),
+        Fact::SentDone(5, *x, entity),
+        Fact::Given(entity, *x),
+        Fact::Did(*x, entity),
+    ];
+    let text = printed(rt.alloc(), &facts)?;
+    let wanted = b"reshard 10 1
+upgrade 2
+waits 1 c1 deposit 5 7
+sent 1 ask 2.1
+sent 3 job 2.1 c1
+sent 5 done 2.1 c1
+given c1 2.1
+did 2.1 c1
 ";
     assert_eq!(rt; text.as_slice(), wanted.as_slice());
     Ok(())

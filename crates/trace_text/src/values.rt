@@ -62,6 +62,12 @@ pub(crate) fn push_command(text: &mut Vec<u8>, command: &Command) -> Result<(), 
         Command::Create => push(text, b"create"),
         Command::Deposit(k) => push_with_number(text, b"deposit", u64::from(*k)),
         Command::Withdraw(k) => push_with_number(text, b"withdraw", u64::from(*k)),
+        Command::DepositWithMemo(k, m) => {
+            push_with_numbers(text, b"deposit", u64::from(*k), u64::from(*m))
+        }
+        Command::WithdrawWithMemo(k, m) => {
+            push_with_numbers(text, b"withdraw", u64::from(*k), u64::from(*m))
+        }
         Command::Balance => push(text, b"balance"),
         Command::Close => push(text, b"close"),
         Command::AddItem(x) => push_with_item(text, b"add", x),
@@ -79,6 +85,8 @@ pub(crate) fn push_event(text: &mut Vec<u8>, event: &Event) -> Result<(), AllocE
         Event::Created => push(text, b"created"),
         Event::Deposited(k) => push_with_number(text, b"deposited", u64::from(*k)),
         Event::Withdrawn(k) => push_with_number(text, b"withdrawn", u64::from(*k)),
+        Event::DepositedWithMemo(k, m) => push_with_memo(text, b"deposited", u64::from(*k), *m),
+        Event::WithdrawnWithMemo(k, m) => push_with_memo(text, b"withdrawn", u64::from(*k), *m),
         Event::AccountClosed => push(text, b"closed"),
         Event::ItemAdded(x) => push_with_item(text, b"added", x),
         Event::ItemRemoved(item) => push_with_number(text, b"removed", u64::from(*item)),
@@ -103,6 +111,14 @@ fn push_with_item(text: &mut Vec<u8>, word: &[u8], x: &CartItem) -> Result<(), A
     push_with_numbers(text, word, u64::from(x.item), u64::from(x.quantity))
 }
 
+/// A word with an amount or a balance, and its memo.
+fn push_with_memo(text: &mut Vec<u8>, word: &[u8], k: u64, memo: u16) -> Result<(), AllocError>
+    ensures { OnOk result (text.new.items ≡ text.old.items ++ words (word.now ∷ decimal k ∷ codes "memo" ∷ decimal memo ∷ [])) }
+{
+    push_with_number(text, word, k)?;
+    push_with_number(text, b" memo", u64::from(memo))
+}
+
 fn push_item(text: &mut Vec<u8>, x: &CartItem) -> Result<(), AllocError>
     ensures { OnOk result (text.new.items ≡ text.old.items ++ item_text x.now) }
 {
@@ -115,10 +131,20 @@ pub(crate) fn push_state(text: &mut Vec<u8>, state: &State) -> Result<(), AllocE
     match state {
         State::Counter(total) => push_number(text, *total),
         State::NoAccount => push(text, b"none"),
-        State::Open(balance) => push_with_number(text, b"open", *balance),
+        State::Open { balance, memo } => push_open(text, *balance, *memo),
         State::Closed => push(text, b"closed"),
         State::Cart { out, items } => push_cart(text, *out, items.as_slice()),
     }
+}
+
+/// An open account; the memo is there once there was one.
+fn push_open(text: &mut Vec<u8>, balance: u64, memo: u16) -> Result<(), AllocError>
+    ensures { OnOk result (text.new.items ≡ text.old.items ++ state_text (State.Open balance memo)) }
+{
+    if memo == 0 {
+        return push_with_number(text, b"open", balance);
+    }
+    push_with_memo(text, b"open", balance, memo)
 }
 
 fn push_cart(text: &mut Vec<u8>, out: bool, items: &[CartItem]) -> Result<(), AllocError>

@@ -1,7 +1,7 @@
 use Rattle.std.proofs.Common.{take, get_or, if◌then◌else◌, ap, sym, ◌∙◌, arith}
-use Rattle.handoff_steps.specs.Places.{place_at, with_place, moving, acknowledged_by, ended, place_without}
+use Rattle.handoff_steps.specs.Places.{place_at, moving, acknowledged_by, ended, place_without, lost_at}
 use Rattle.handoff_steps.specs.Seen.{seen}
-use Rattle.handoff_steps.proofs.PlaceLaws.{found, placed, moving_with, all_there, ack, ack_acts, ack_here, stop, stop_acts, stop_here}
+use Rattle.handoff_steps.proofs.PlaceLaws.{found, placed, moving_with, all_there, lost_acts, lost_here}
 use Rattle.handoff_steps.proofs.round.Round.region_gone.Goals as goal
 
 pub returns-then-is_owned-clause-place : goal.returns-then-is_owned-clause-place
@@ -13,15 +13,13 @@ returns-then-is_owned-clause-place c =
     c.self.view_is c.get-place.ensures.value (omega (arith, c.self.invariant, c.get-place.ensures))
     (c.ended-next.ensures ∙ ap (λ b. if b then ended p else acknowledged_by c.args.who p) (sym (sym c.is_owned.ensures ∙ c.if-is_owned.true)))
 
-pub returns-then-is_owned-clause-owner : goal.returns-then-is_owned-clause-owner
-returns-then-is_owned-clause-owner c = λ owned.
+pub returns-then-is_owned-clause-moving : goal.returns-then-is_owned-clause-moving
+returns-then-is_owned-clause-moving c =
     let i = c.self.inside in
     let v = c.args.self.now in
     let s = c.args.s in
-    let p = place_at v s in
     let all = all_there (seen (take i.count i.regions)) v i.stamp i.cells c.self.view_is c.self.invariant.2 in
-    ap moving (returns-then-is_owned-clause-place c ∙ ap (λ b. with_place v s (if b then ended p else acknowledged_by c.args.who p)) owned)
-    ∙ moving_with v s (stop s) (stop_acts s) (ended p) (omega (arith, c.get-place.ensures)) (stop_here s p)
+    ap moving (returns-then-is_owned-clause-place c) ∙ moving_with v s (lost_at s c.args.who) (lost_acts s c.args.who) _ (omega (arith, c.get-place.ensures)) (lost_here s c.args.who (place_at v s))
 
 pub returns-clause-place : goal.returns-clause-place
 returns-clause-place c =
@@ -32,15 +30,13 @@ returns-clause-place c =
     c.self.view_is c.get-place.ensures.value (omega (arith, c.self.invariant, c.get-place.ensures))
     (c.acknowledged_by-next.ensures ∙ ap (λ b. if b then ended p else acknowledged_by c.args.who p) (sym (sym c.is_owned.ensures ∙ c.if-is_owned.false)))
 
-pub returns-clause-other : goal.returns-clause-other
-returns-clause-other c = λ other.
+pub returns-clause-moving : goal.returns-clause-moving
+returns-clause-moving c =
     let i = c.self.inside in
     let v = c.args.self.now in
     let s = c.args.s in
-    let p = place_at v s in
     let all = all_there (seen (take i.count i.regions)) v i.stamp i.cells c.self.view_is c.self.invariant.2 in
-    ap moving (returns-clause-place c ∙ ap (λ b. with_place v s (if b then ended p else acknowledged_by c.args.who p)) other)
-    ∙ moving_with v s (ack s c.args.who) (ack_acts s c.args.who) (acknowledged_by c.args.who p) (omega (arith, c.get-place.ensures)) (ack_here s c.args.who p)
+    ap moving (returns-clause-place c) ∙ moving_with v s (lost_at s c.args.who) (lost_acts s c.args.who) _ (omega (arith, c.get-place.ensures)) (lost_here s c.args.who (place_at v s))
 
 pub returns-clause-shard : goal.returns-clause-shard
 returns-clause-shard c = found c.args.s c.args.self.now.places 0 c.args.s (omega arith)

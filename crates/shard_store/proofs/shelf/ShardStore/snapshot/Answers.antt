@@ -1,13 +1,10 @@
-use Rattle.std.proofs.Common.{◌≡◌, sym, subst, refl, true, ◌<◌, length}
-use Rattle.yard_model.specs.Behaviour.{folded}
-use Rattle.yard_model.specs.Lawful.{is_held}
+use Rattle.std.proofs.Common.{◌≡◌, sym, subst, true}
 use Rattle.yard_model.specs.Lawful.{is_of_shard}
-use Rattle.yard_model.specs.SlotReads.{last_snapshot, journal}
-use Rattle.shard_store.proofs.ShelfLaws.{among_names, shelf_saved}
+use Rattle.shard_store.proofs.ShelfLaws.{among_names, there}
 use Rattle.shard_store.proofs.shelf.ShardStore.snapshot.Goals as goal
 
 pub place-place-requires : goal.place-place-requires
 place-place-requires c = among_names (record { script = c.self.inside.script.value; shard = c.self.inside.shard; entries = c.self.inside.list.entries; spare = c.self.inside.list.spare }) c.self.inside.names c.args.entity.now c.self.invariant.names_are (subst (λ v. is_of_shard v.script v.shard c.args.entity.now ≡ true) (sym c.self.view_is) c.requires.name)
 
-pub invariant_of-self : goal.invariant_of-self
-invariant_of-self c = shelf_saved (record { script = c.self.inside.script.value; shard = c.self.inside.shard; entries = c.self.inside.list.entries; spare = c.self.inside.list.spare }) c.args.entity.now c.len-at.result c.place-place.result c.index-journal.result.now (record { at = c.len-at.result; state = c.args.state; positions = c.positions_of-positions.result }) c.index_mut.result.now c.save.new.self c.self.invariant (subst (λ v. is_held v.entries ≡ true) (sym c.self.view_is) c.requires.leased) (subst (λ v. is_of_shard v.script v.shard c.args.entity.now ≡ true) (sym c.self.view_is) c.requires.name) (subst (λ v. last_snapshot c.args.entity.now v.entries < length (journal c.args.entity.now v.entries)) (sym c.self.view_is) c.requires.newer) c.place-place.ensures.within c.place-place.ensures.it c.index-journal.ensures c.len-at.ensures.count c.index_mut.ensures.value c.save.ensures.last c.save.ensures.keep refl (subst (λ v. c.args.state ≡ folded v.script.config.kind (journal c.args.entity.now v.entries)) (sym c.self.view_is) c.requires.state) c.positions_of-positions.ensures c.write.ensures.entries c.write.ensures.spare c.write.ensures.shard
+pub snapshot_at-requires-clause-place : goal.snapshot_at-requires-clause-place
+snapshot_at-requires-clause-place c = there c.args.entity.now c.place-place.result c.self.invariant c.self.view_is c.place-place.ensures.within c.place-place.ensures.it

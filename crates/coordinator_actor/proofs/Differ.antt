@@ -1,19 +1,18 @@
 -- Regions are registered once, so that those of a view and no others are at most as many as the view has members.
-use Rattle.std.proofs.Common.{◌≡◌, ◌<◌, ◌≤◌, suc, sym, subst, ap, ◌∙◌, refl, arith, length}
+use Rattle.std.proofs.Common.{◌≡◌, ℕ, ◌<◌, ◌≤◌, suc, sym, ap, ◌∙◌, refl, arith, length}
 use Rattle.std.specs.Prelude.{Bool, true, false, ◌&&◌, ◌||◌, not, cond, List, [], ◌∷◌, ◌++◌, filter}
 use Rattle.std.specs.List.{list_all}
-use Rattle.std.proofs.lemmas.List.{append-nil, append_assoc}
 use Rattle.std.proofs.lemmas.List.Sums.{fold-append, length-filter, count_by-le-length}
 use Rattle.yard_model.specs.declared.fact.Fact.{Fact}
 use Rattle.yard_model.specs.declared.fact.Fact.TheVariants as fact
 use Rattle.yard_model.specs.declared.incarnation.Incarnation.{Incarnation}
 use Rattle.yard_model.specs.declared.incarnation.Slot.TheVariants as slot
-use Rattle.yard_model.specs.Follow.{each_follows}
 use Rattle.yard_model.specs.Genuine.{is_node}
-use Rattle.yard_model.specs.Lawful.{own, is_leased, is_entry, may_follow}
-use Rattle.yard_model.specs.Script.{Script}
+use Rattle.yard_model.specs.Lawful.{own, is_leased, is_entry, may_open, may_follow}
+use Rattle.yard_model.specs.Script.{Script, with_shards}
 use Rattle.yard_model.specs.SlotReads.{regions, regions_step}
 use Rattle.yard_model.specs.Words.{is_same, is_among, without}
+use Rattle.coordinator_actor.proofs.OwnLaws.{own_steps}
 use Rattle.coordinator_actor.proofs.Same.{true_is_not_false, and_both, both, same_turned, among_without}
 use Rattle.coordinator_actor.specs.Held.{are_viewed}
 
@@ -70,15 +69,13 @@ differ_step c list (fact.Registered r) e may =
 differ_step c list (fact.Terminated r) e may = differ_filter (λ y. not (is_same r y)) (regions list) e
 differ_step c list f e may = e
 
-pub follows_to : {A : Type 0} (may : List A → A → Bool) (P : List A → Type 0) → ((before : List A) (x : A) → P before → may before x ≡ true → P (before ++ x ∷ []))
-    → (before xs : List A) → P before → each_follows may before xs ≡ true → P (before ++ xs)
-follows_to may P step before [] p e = subst P (sym (append-nil before)) p
-follows_to may P step before (x ∷ xs) p e =
-    let m : (may before x ≡ true) × (each_follows may (before ++ x ∷ []) xs ≡ true) = and_both (may before x) (each_follows may (before ++ x ∷ []) xs) e in
-    subst P (append_assoc before (x ∷ []) xs) (follows_to may P step (before ++ x ∷ []) xs (step before x p m.0) m.1)
+differ_open : (c : Script) (k : ℕ) (list : List Fact) (f : Fact) → differ (regions list) ≡ true → may_open c slot.Coordinator k list f ≡ true → differ (regions_step (regions list) f) ≡ true
+differ_open c k list (fact.Registered r) e may = differ_step (with_shards 128 c) list (fact.Registered r) e may
+differ_open c k list (fact.Terminated r) e may = differ_filter (λ y. not (is_same r y)) (regions list) e
+differ_open c k list f e may = e
 
 pub regions_differ : (c : Script) (list : List Fact) → own c slot.Coordinator list ≡ true → differ (regions list) ≡ true
-regions_differ c list o = follows_to (may_follow c slot.Coordinator) (λ l. differ (regions l) ≡ true) (λ l f e may. ap differ (regions_more l f) ∙ differ_step c l f e may) [] list refl o
+regions_differ c list o = own_steps c slot.Coordinator (λ l. differ (regions l) ≡ true) refl (λ k l f e may. ap differ (regions_more l f) ∙ differ_open c k l f e may) (λ l f e may. ap differ (regions_more l f) ∙ differ_step c l f e may) list o
 
 -- others stay where one is taken out
 pub left_among : (r : Incarnation) (regs rs : List Incarnation) → list_all (λ x. is_among x regs) rs ≡ true → is_among r rs ≡ false → list_all (λ x. is_among x (without r regs)) rs ≡ true

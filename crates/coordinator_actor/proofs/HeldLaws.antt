@@ -10,9 +10,10 @@ use Rattle.std.proofs.lemmas.List.Sums.{fold-append}
 use Rattle.yard_model.specs.declared.fact.Fact.{Fact}
 use Rattle.yard_model.specs.declared.fact.Fact.TheVariants as fact
 use Rattle.yard_model.specs.declared.incarnation.Incarnation.{Incarnation}
+use Rattle.yard_model.specs.declared.incarnation.Stamp.{Stamp}
 use Rattle.yard_model.specs.Coordinator.{Moving, not_awaited}
 use Rattle.yard_model.specs.Script.{Script, IsScript}
-use Rattle.yard_model.specs.SlotReads.{holder_step, allocation, allocation_step, holder}
+use Rattle.yard_model.specs.SlotReads.{holder_step, epoch, epoch_step, regions, allocation, allocation_step, holder}
 use Rattle.yard_model.specs.Words.{is_at, is_empty}
 use Rattle.coordinator_actor.specs.Held.{IsAtHome, IsCounted, IsHeld}
 use Rattle.coordinator_actor.proofs.Same.{true_is_not_false}
@@ -52,9 +53,9 @@ counted_first [] who e = absurd (cc)
 counted_first (x ∷ xs) who e = omega arith
 
 -- a region is lost
-pub lost_held : (c : Script) (who : Incarnation) (list : List Fact) (started : List Bool) (moving : List Moving) (begun : ℕ) (r : Incarnation) → IsHeld c who list started moving begun
-    → IsHeld c who (list ++ fact.Terminated r ∷ []) started (map (not_awaited r) (filter (λ x. not (is_at r x.owner)) moving)) begun
-lost_held c who list started moving begun r k =
+pub lost_held : (c : Script) (who : Incarnation) (list : List Fact) (started : List Bool) (moving : List Moving) (stamp : Stamp) (r : Incarnation) → IsHeld c who list started moving stamp
+    → IsHeld c who (list ++ fact.Terminated r ∷ []) started (map (not_awaited r) (filter (λ x. not (is_at r x.owner)) moving)) stamp
+lost_held c who list started moving stamp r k =
     let pick : Moving → Bool = λ x. not (is_at r x.owner) in
     record {
       script_is = k.script_is;
@@ -62,7 +63,8 @@ lost_held c who list started moving begun r k =
       started_there = k.started_there;
       at_home = All-map (IsAtHome (list ++ fact.Terminated r ∷ [])) (not_awaited r) (filter pick moving)
           (λ i d h. home_stays r list (slice_index_or (filter pick moving) i d) (All-filter pick (IsAtHome list) moving k.at_home i d h) (filter_passes pick moving i d h));
-      counted = counted_more list moving (map (not_awaited r) (filter pick moving)) begun (fact.Terminated r) k.counted;
+      epoch_is = k.epoch_is ∙ sym (fold-append epoch_step 0 list (fact.Terminated r ∷ []));
+      counted = counted_more list moving (map (not_awaited r) (filter pick moving)) stamp.round (fact.Terminated r) k.counted;
     }
 
 -- of one region more or less that is awaited
@@ -70,15 +72,16 @@ acknowledged_home : (s : ℕ) (r : Incarnation) (list : List Fact) (x : Moving) 
 acknowledged_home s r list x true h = h
 acknowledged_home s r list x false h = h
 
-pub acknowledged_held : (c : Script) (who : Incarnation) (list : List Fact) (started : List Bool) (moving : List Moving) (begun s : ℕ) (r : Incarnation) → IsHeld c who list started moving begun
-    → IsHeld c who list started (map (λ x. if x.shard == s then not_awaited r x else x) moving) begun
-acknowledged_held c who list started moving begun s r k = record {
+pub acknowledged_held : (c : Script) (who : Incarnation) (list : List Fact) (started : List Bool) (moving : List Moving) (stamp : Stamp) (s : ℕ) (r : Incarnation) → IsHeld c who list started moving stamp
+    → IsHeld c who list started (map (λ x. if x.shard == s then not_awaited r x else x) moving) stamp
+acknowledged_held c who list started moving stamp s r k = record {
   script_is = k.script_is;
   leased = k.leased;
   started_there = k.started_there;
   at_home = All-map (IsAtHome list) (λ x. if x.shard == s then not_awaited r x else x) moving
       (λ i d h. acknowledged_home s r list (slice_index_or moving i d) ((slice_index_or moving i d).shard == s) (k.at_home i d h));
-  counted = subst (λ b. begun + (if b then 1 else 0) ≤ length list) (sym (empty_map (λ x. if x.shard == s then not_awaited r x else x) moving)) k.counted;
+  epoch_is = k.epoch_is;
+  counted = subst (λ b. stamp.round + (if b then 1 else 0) ≤ length list) (sym (empty_map (λ x. if x.shard == s then not_awaited r x else x) moving)) k.counted;
 }
 
 -- another shard keeps its home where one is deallocated
@@ -87,16 +90,17 @@ other_stays s list x home other =
     let apart : (s == x.shard) ≡ false = nat_eq_equiv.symm s x.shard ∙ of_not (x.shard == s) other in
     home ∙ sym (allocation_more x.shard list (fact.Deallocated s) ∙ ap (λ b. if b then None else allocation x.shard list) apart)
 
-pub removed_held : (c : Script) (who : Incarnation) (list : List Fact) (started : List Bool) (moving : List Moving) (begun s : ℕ) → IsHeld c who list started moving begun
-    → IsHeld c who (list ++ fact.Deallocated s ∷ []) (slice_set started s false) (filter (λ x. not (x.shard == s)) moving) begun
-removed_held c who list started moving begun s k =
+pub removed_held : (c : Script) (who : Incarnation) (list : List Fact) (started : List Bool) (moving : List Moving) (stamp : Stamp) (s : ℕ) → IsHeld c who list started moving stamp
+    → IsHeld c who (list ++ fact.Deallocated s ∷ []) (slice_set started s false) (filter (λ x. not (x.shard == s)) moving) stamp
+removed_held c who list started moving stamp s k =
     let pick : Moving → Bool = λ x. not (x.shard == s) in
     record {
       script_is = k.script_is;
       leased = fold-append holder_step None list (fact.Deallocated s ∷ []) ∙ k.leased;
       started_there = length-set started s false ∙ k.started_there;
       at_home = λ i d h. other_stays s list (slice_index_or (filter pick moving) i d) (All-filter pick (IsAtHome list) moving k.at_home i d h) (filter_passes pick moving i d h);
-      counted = counted_more list moving (filter pick moving) begun (fact.Deallocated s) k.counted;
+      epoch_is = k.epoch_is ∙ sym (fold-append epoch_step 0 list (fact.Deallocated s ∷ []));
+      counted = counted_more list moving (filter pick moving) stamp.round (fact.Deallocated s) k.counted;
     }
 
 -- a shard of the round with an owner has a home
@@ -139,14 +143,15 @@ none_left s (x ∷ xs) = step (x.shard == s) refl (none_left s xs)
 pub few_shards : (c : Script) → IsScript c → c.config.shards ≤ 128
 few_shards c k = grind (arith, nat_tests, k.config)
 
-pub registered_held : (c : Script) (who : Incarnation) (list : List Fact) (started : List Bool) (moving : List Moving) (begun : ℕ) (r : Incarnation) → IsHeld c who list started moving begun
-    → IsHeld c who (list ++ fact.Registered r ∷ []) started moving begun
-registered_held c who list started moving begun r k = record {
+pub registered_held : (c : Script) (who : Incarnation) (list : List Fact) (started : List Bool) (moving : List Moving) (stamp : Stamp) (r : Incarnation) → IsHeld c who list started moving stamp
+    → IsHeld c who (list ++ fact.Registered r ∷ []) started moving stamp
+registered_held c who list started moving stamp r k = record {
   script_is = k.script_is;
   leased = fold-append holder_step None list (fact.Registered r ∷ []) ∙ k.leased;
   started_there = k.started_there;
   at_home = λ i d h. k.at_home i d h ∙ sym (allocation_more (slice_index_or moving i d).shard list (fact.Registered r));
-  counted = counted_more list moving moving begun (fact.Registered r) k.counted;
+  epoch_is = k.epoch_is ∙ sym (fold-append epoch_step 0 list (fact.Registered r ∷ []));
+  counted = counted_more list moving moving stamp.round (fact.Registered r) k.counted;
 }
 
 none_at : (s : ℕ) (xs : List Moving) → list_any (λ x. x.shard == s) xs ≡ false → (i : ℕ) (d : Moving) → i < length xs → ((slice_index_or xs i d).shard == s) ≡ false
@@ -162,53 +167,45 @@ none_at s (x ∷ xs) e (suc i) d h = none_at s xs (right (x.shard == s) e) i d (
     right true f = absurd (true_is_not_false f)
     right false f = f
 
-pub placed_held : (c : Script) (who : Incarnation) (list : List Fact) (started : List Bool) (moving : List Moving) (begun s : ℕ) (r : Incarnation) → list_any (λ x. x.shard == s) moving ≡ false → IsHeld c who list started moving begun
-    → IsHeld c who (list ++ fact.Allocated s r ∷ []) (slice_set started s false) moving begun
-placed_held c who list started moving begun s r still k = record {
+pub placed_held : (c : Script) (who : Incarnation) (list : List Fact) (started : List Bool) (moving : List Moving) (stamp : Stamp) (s : ℕ) (r : Incarnation) → list_any (λ x. x.shard == s) moving ≡ false → IsHeld c who list started moving stamp
+    → IsHeld c who (list ++ fact.Allocated s r ∷ []) (slice_set started s false) moving stamp
+placed_held c who list started moving stamp s r still k = record {
   script_is = k.script_is;
   leased = fold-append holder_step None list (fact.Allocated s r ∷ []) ∙ k.leased;
   started_there = length-set started s false ∙ k.started_there;
   at_home = λ i d h.
       let x : Moving = slice_index_or moving i d in
       k.at_home i d h ∙ sym (allocation_more x.shard list (fact.Allocated s r) ∙ ap (λ b. if b then Some r else allocation x.shard list) (nat_eq_equiv.symm s x.shard ∙ none_at s moving still i d h));
-  counted = counted_more list moving moving begun (fact.Allocated s r) k.counted;
+  epoch_is = k.epoch_is ∙ sym (fold-append epoch_step 0 list (fact.Allocated s r ∷ []));
+  counted = counted_more list moving moving stamp.round (fact.Allocated s r) k.counted;
 }
 
--- the one that joins
-at_home_push : (list : List Fact) (xs : List Moving) (x : Moving) → IsAtHome list x → All (IsAtHome list) xs → All (IsAtHome list) (xs ++ x ∷ [])
-at_home_push list [] x h k ℕ.zero d l = h
-at_home_push list [] x h k (suc i) d l = absurd (omega (arith, l))
-at_home_push list (y ∷ ys) x h k ℕ.zero d l = k ℕ.zero d (omega arith)
-at_home_push list (y ∷ ys) x h k (suc i) d l = at_home_push list ys x h (λ j e m. k (suc j) e (omega (arith, m))) i d (omega (arith, l))
+-- each shard of a round that begins is at home
+begun_home : (list : List Fact) (ss : List ℕ) → All (IsAtHome list) (map (λ s. record { shard = s; owner = allocation s list; awaited = regions list }) ss)
+begun_home list [] i d h = absurd (omega (arith, h))
+begun_home list (s ∷ ss) ℕ.zero d h = refl
+begun_home list (s ∷ ss) (suc i) d h = begun_home list ss i d (omega (arith, h))
 
-not_empty_push : (xs : List Moving) (x : Moving) → is_empty (xs ++ x ∷ []) ≡ false
-not_empty_push [] x = refl
-not_empty_push (y ∷ ys) x = refl
-
--- a shard joins the round, or begins the next where none is open
-pub moved_held : (c : Script) (who : Incarnation) (list : List Fact) (started : List Bool) (moving : List Moving) (begun : ℕ) (x : Moving) (joins : Bool) → (joins || is_empty moving) ≡ true → IsAtHome list x → IsHeld c who list started moving begun
-    → IsHeld c who list started ((if joins then moving else []) ++ x ∷ []) (if joins then begun else begun + 1)
-moved_held c who list started moving begun x true may home k = record {
+-- the next round begins, where none is open
+pub opened_held : (c : Script) (who : Incarnation) (list : List Fact) (started : List Bool) (old now : List Moving) (last next : Stamp) (ss : List ℕ) → IsHeld c who list started old last → is_empty old ≡ true → is_empty ss ≡ false
+    → now ≡ map (λ s. record { shard = s; owner = allocation s list; awaited = regions list }) ss → next.epoch ≡ epoch list → next.round ≡ last.round + 1 → IsHeld c who list started now next
+opened_held c who list started old now last next ss k closed some are number round = record {
   script_is = k.script_is;
   leased = k.leased;
   started_there = k.started_there;
-  at_home = at_home_push list moving x home k.at_home;
-  counted = subst (λ b. begun + (if b then 1 else 0) ≤ length list) (sym (not_empty_push moving x)) (least (is_empty moving) k.counted);
+  at_home = subst (λ (l : List Moving). All (IsAtHome list) l) (sym are) (begun_home list ss);
+  epoch_is = number;
+  counted =
+      let more : last.round + (if true then 1 else 0) ≤ length list = subst (λ b. last.round + (if b then 1 else 0) ≤ length list) closed k.counted in
+      let open_now : is_empty now ≡ false = ap is_empty are ∙ (not_empty ss ∙ some) in
+      subst (λ b. next.round + (if b then 1 else 0) ≤ length list) (sym open_now) (omega (arith, more, round));
 }
   where
-    least : (b : Bool) → begun + (if b then 1 else 0) ≤ length list → begun + 0 ≤ length list
-    least true h = omega (arith, h)
-    least false h = h
-moved_held c who list started moving begun x false may home k = record {
-  script_is = k.script_is;
-  leased = k.leased;
-  started_there = k.started_there;
-  at_home = at_home_push list [] x home (λ i d h. absurd (omega (arith, h)));
-  counted = let more : begun + (if true then 1 else 0) ≤ length list = subst (λ b. begun + (if b then 1 else 0) ≤ length list) may k.counted in omega (arith, more);
-}
+    not_empty : (xs : List ℕ) → is_empty (map (λ s. let x : Moving = record { shard = s; owner = allocation s list; awaited = regions list } in x) xs) ≡ is_empty xs
+    not_empty [] = refl
+    not_empty (x ∷ xs) = refl
 
 -- the number of the round that begins fits
-pub round_fits : (list : List Fact) (moving : List Moving) (begun spare : ℕ) (joins : Bool) → (joins || is_empty moving) ≡ true → IsCounted list moving begun → length list + spare < 2 ^ 32 → joins ≡ false → begun + 1 < 2 ^ 32
-round_fits list moving begun spare true may k h e = absurd (true_is_not_false e)
-round_fits list moving begun spare false may k h e =
+pub round_fits : (list : List Fact) (moving : List Moving) (begun spare : ℕ) → is_empty moving ≡ true → IsCounted list moving begun → length list + spare < 2 ^ 32 → begun + 1 < 2 ^ 32
+round_fits list moving begun spare may k h =
     let more : begun + (if true then 1 else 0) ≤ length list = subst (λ b. begun + (if b then 1 else 0) ≤ length list) may k in omega (arith, more, h)

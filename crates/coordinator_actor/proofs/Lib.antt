@@ -1,4 +1,5 @@
 pub mod Same
+pub mod OwnLaws
 pub mod HeldLaws
 pub mod Differ
 pub mod RestLaws
@@ -8,3 +9,6 @@ pub mod RoundLaws
 pub mod PickedLaws
 pub mod TickLaws
 pub mod LimitLaws
+pub mod LostLaws
+pub mod AckLaws
+pub mod HomedLaws

@@ -1,6 +1,6 @@
 -- What never changes, and how many items a rule gives at most.
-use Rattle.std.proofs.Common.{◌≡◌, ℕ, ◌+◌, ◌*◌, ◌≤◌, List, [], ◌∷◌, ◌++◌, length, ap, sym, subst, ◌∙◌, refl, arith, length-append}
-use Rattle.std.specs.Prelude.{Bool, true, false, ◌&&◌, not, zero, suc, map, filter, fold, Option, Some, None, if◌then◌else◌}
+use Rattle.std.proofs.Common.{◌≡◌, ℕ, ◌+◌, ◌*◌, ◌≤◌, List, [], ◌∷◌, ◌++◌, length, ap, ◌∙◌, refl, arith, length-append}
+use Rattle.std.specs.Prelude.{Bool, true, false, ◌&&◌, not, suc, map, filter, fold, Option, Some, None, if◌then◌else◌}
 use Rattle.std.specs.List.{flat_map}
 use Rattle.std.proofs.lemmas.Grind.{flat_map-append}
 use Rattle.std.proofs.lemmas.List.Sums.{fold-append}

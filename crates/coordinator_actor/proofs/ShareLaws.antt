@@ -3,6 +3,7 @@ use Rattle.std.proofs.Common.{◌≡◌, ◌<◌, ◌≤◌, ◌+◌, ℕ, zero,
 use Rattle.std.specs.Prelude.{Bool, true, false, ◌==◌, ◌&&◌, not, nat_lt, cond, List, [], ◌∷◌, map, filter, Option, Some, None, is_none, option_map, if◌then◌else◌}
 use Rattle.std.specs.List.{All, list_all}
 use Rattle.std.proofs.lemmas.Bool.Decides.{Decides-eqb, nat_tests}
+use Rattle.std.proofs.lemmas.List.Elements.{All-filter}
 use Rattle.std.proofs.lemmas.List.Folds.{list_all-map}
 use Rattle.std.proofs.lemmas.List.Sums.{fold-append}
 use Rattle.yard_model.specs.declared.fact.Fact.{Fact}
@@ -13,7 +14,8 @@ use Rattle.yard_model.specs.declared.packet.Body.TheVariants as body
 use Rattle.yard_model.specs.declared.load.Load.{Load}
 use Rattle.yard_model.specs.Coordinator.{Coordinator, Share, shares, homes_at, stamp, smallest, allocate}
 use Rattle.yard_model.specs.Genuine.{is_shard}
-use Rattle.yard_model.specs.Lawful.{own, is_leased, is_entry, may_follow}
+use Rattle.yard_model.specs.Lawful.{own, is_leased, is_entry, may_open, may_follow}
+use Rattle.yard_model.specs.Opening.{begins}
 use Rattle.yard_model.specs.Move.{told, post}
 use Rattle.yard_model.specs.Turns.{where_some}
 use Rattle.yard_model.specs.Script.{Script}
@@ -24,9 +26,9 @@ use Rattle.coordinator_state.specs.Coord.{IsLoadOf}
 use Rattle.coordinator_state.specs.Homes.{regions_of}
 use Rattle.least_shard.specs.Spread.{members, members_below, share_of, shares_of}
 use Rattle.coordinator_actor.specs.Parts.{staying_of, allocate_to}
-use Rattle.coordinator_actor.proofs.Differ.{follows_to}
+use Rattle.coordinator_actor.proofs.OwnLaws.{own_anew}
 use Rattle.coordinator_actor.proofs.RestLaws.{each_among}
-use Rattle.coordinator_actor.proofs.Same.{and_both, both, not_so}
+use Rattle.coordinator_actor.proofs.Same.{true_is_not_false, and_both, both, not_so}
 
 -- A shard that there isn't has no home.
 
@@ -50,10 +52,19 @@ past_step c t h list (fact.Deallocated s) e may = step (s == t)
     step true = refl
     step false = e
 past_step c t h list (fact.Terminated r) e may = ap (λ o. if is_at r o then None else o) e
+past_step c t h list (fact.Reshard n k) e may = refl
 past_step c t h list f e may = e
 
-past : (c : Script) (list : List Fact) → own c slot.Coordinator list ≡ true → (t : ℕ) → c.config.shards ≤ t → allocation t list ≡ None
-past c list o t h = follows_to (may_follow c slot.Coordinator) (λ l. allocation t l ≡ None) (λ l f e may. fold-append (allocation_step t) None l (f ∷ []) ∙ past_step c t h l f e may) [] list refl o
+-- where the number of shards changes, no shard has a home
+past_anew : (c : Script) (t k : ℕ) (list : List Fact) (f : Fact) → begins f ≡ true → may_open c slot.Coordinator k list f ≡ true → allocation_step t (allocation t list) f ≡ None
+past_anew c t k list (fact.Reshard n m) b may = refl
+past_anew c t k list (fact.Resharded s n m) b may = absurd (true_is_not_false (sym (and_both (is_leased list (fact.Resharded s n m)) false may).1))
+past_anew c t k list f b may = absurd (true_is_not_false (sym b))
+
+pub past : (c : Script) (list : List Fact) → own c slot.Coordinator list ≡ true → (t : ℕ) → c.config.shards ≤ t → allocation t list ≡ None
+past c list o t h =
+    own_anew c slot.Coordinator (λ l. allocation t l ≡ None) refl (λ k l f b may. fold-append (allocation_step t) None l (f ∷ []) ∙ past_anew c t k l f b may)
+    (λ l f e may. fold-append (allocation_step t) None l (f ∷ []) ∙ past_step c t h l f e may) list o
 
 -- Shards of a region.
 
@@ -109,6 +120,9 @@ all_filter p pick (x ∷ xs) e = step (pick x) (all_filter p pick xs (and_both (
     step : (b : Bool) → list_all p (filter pick xs) ≡ true → list_all p (cond b (x ∷ filter pick xs) (filter pick xs)) ≡ true
     step true h = both (p x) (list_all p (filter pick xs)) (and_both (p x) (list_all p xs) e).0 h
     step false h = h
+
+pub staying_homes : (P : Load → Type 0) (pick : Load → Bool) (ls : List Load) → All P ls → All P (filter pick ls)
+staying_homes P pick ls h = All-filter pick P ls h
 
 pub staying_registered : (quitting rs : List Incarnation) (loads : List Load) → regions_of loads ≡ rs → list_all (λ (l : Load). is_among l.region rs) (staying_of quitting loads) ≡ true
 staying_registered quitting rs loads e =

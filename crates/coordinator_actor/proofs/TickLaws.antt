@@ -9,12 +9,12 @@ use Rattle.yard_model.specs.Move.{post}
 use Rattle.yard_model.specs.Setting.{shards}
 use Rattle.yard_model.specs.Turns.{where_some}
 use Rattle.yard_model.specs.Words.{is_among, is_empty}
-use Rattle.coordinator_actor.specs.Parts.{ask_again, first_homes, host_all, host_at, leaving_homes}
+use Rattle.coordinator_actor.specs.Parts.{ask, first_homes, host_all, host_at, leaving_homes}
 use Rattle.coordinator_actor.proofs.MoveLaws.{Changes, of_if, hand_off_changes, all_change, asked_state}
 
 again_changes : (st : Coordinator) (x : Moving) → Changes (hand_off_again st x)
 again_changes st x =
-    of_if (is_empty x.awaited) (hand_off st x) (ask_again st x) (hand_off_changes st x x.owner) (asked_state st.who (body.BeginHandOff x.shard (stamp st)) x.awaited)
+    of_if (is_empty x.awaited) (hand_off st x) (ask x.shard (stamp st) x.awaited st) (hand_off_changes st x x.owner) (asked_state st.who (body.BeginHandOff x.shard (stamp st)) x.awaited)
 
 pub again_state : (st now : Coordinator) → fold coordinator_after now (flat_map (hand_off_again st) st.moving) ≡ now
 again_state st now = all_change (hand_off_again st) (again_changes st) st.moving now

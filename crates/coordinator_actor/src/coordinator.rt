@@ -1,30 +1,34 @@
 //! The state of a coordinator, and the moves that change it.
-ghost use Rattle.std.specs.Prelude.{◌≡◌, ℕ, ◌+◌, ◌<◌, ◌≤◌, [], ◌∷◌, ◌++◌, ◌||◌, ◌^◌, not, slice_index_or, length, if◌then◌else◌, Some, OnOk, OnErr, IsTrue, IfSome, true, false, is_none, is_some};
-ghost use Rattle.std.specs.List.{All, list_all};
+ghost use Rattle.std.specs.Prelude.{◌≡◌, ℕ, ◌+◌, ◌<◌, ◌≤◌, [], ◌∷◌, ◌++◌, not, fold, slice_index_or, length, Some, OnOk, OnErr, IsTrue, IfSome, true, false, is_none, is_some};
+ghost use Rattle.std.specs.List.{All, flat_map, list_all};
 ghost use Rattle.yard_model.specs.declared.load.Load.{Load};
 ghost use Rattle.yard_model.specs.declared.fact.Fact.TheVariants as fact;
 ghost use Rattle.yard_model.specs.declared.out.Item.TheVariants as item;
-ghost use Rattle.yard_model.specs.Coordinator.{coordinator_after, new_coordinator, registered, home_of, stamp, shares, staying, is_moving};
+ghost use Rattle.yard_model.specs.Coordinator.{coordinator_after, new_coordinator, registered, home_of, stamp, shares, staying, is_moving, acknowledge, terminate};
 ghost use Rattle.yard_model.specs.declared.incarnation.Slot.TheVariants as slot;
 ghost use Rattle.yard_model.specs.Genuine.{is_node, is_shard};
 ghost use Rattle.yard_model.specs.Lawful.{own};
-ghost use Rattle.yard_model.specs.Move.{told, started, acknowledged, quits};
+ghost use Rattle.yard_model.specs.Move.{item_of, told, started, quits};
 ghost use Rattle.yard_model.specs.Script.{setting, IsScript};
 ghost use Rattle.yard_model.specs.SlotReads.{holder, regions};
-ghost use Rattle.yard_model.specs.Words.{is_among, is_at, is_empty, is_stamp};
+ghost use Rattle.yard_model.specs.Words.{is_among, is_at, is_empty};
+ghost use Rattle.coordinator_state.specs.Coord.{IsLoadOf};
+ghost use Rattle.handoff_steps.specs.Places.{moving, all_shards};
 ghost use Rattle.least_shard.specs.Spread.{shares_of, AreOfDifferentRegions};
-ghost use Rattle.coordinator_actor.specs.Held.{Held, IsAtHome};
-ghost use Rattle.coordinator_actor.specs.Parts.{next_stamp};
+ghost use Rattle.coordinator_actor.specs.Held.{AreHomed, Held};
+ghost use Rattle.coordinator_actor.specs.Parts.{at_shard, is_stopped_by, next_stamp, opened, shards_in, step_posts};
 
 use crate::flags::Flags;
-use crate::moving::{MovingShard, Round};
+use crate::lost::lose_all;
 use crate::quitters::Quitters;
-use crate::regions::{Regions, is_same, of_loads};
+use crate::regions::{is_same, of_loads};
 use coordinator_state::CoordStore;
+use handoff_steps::{Regions, Round, Step};
 use std::alloc::{AllocError, Global};
 use std::marker::{Model, PhantomData};
 use yard_model::{
-    Body, Charter, Fact, Incarnation, Item, Loads, Out, Packet, ShardNo, Slot, Stamp, State,
+    Body, Charter, Fact, Incarnation, Item, Loads, Out, Packet, ShardNo, ShardSet, Slot, Stamp,
+    State,
 };
 
 /// The shard coordinator of a node that holds its slot (Akka 2.6, Cluster Sharding concepts): the
@@ -36,13 +40,13 @@ pub struct Coordinator {
     store: CoordStore,
     quitting: Quitters,
     started: Flags,
-    moving: Round,
-    begun: u32,
+    round: Round,
     holds: PhantomData<(Fact, Packet, Body, State, Slot)>,
 }
 
 impl Model for Coordinator {
     ghost use Rattle.yard_model.specs.Script.{setting};
+    ghost use Rattle.handoff_steps.specs.Places.{moving};
     ghost use Rattle.coordinator_actor.specs.Held.{Held, IsHeld};
 
     ghost Value = { Held };
@@ -55,14 +59,14 @@ impl Model for Coordinator {
         entries = c.store.entries;
         quitting = c.quitting.items;
         started = c.started;
-        moving = c.moving;
-        begun = c.begun;
+        moving = moving c.round;
+        begun = c.round.stamp.round;
       };
       spare = c.store.spare;
       places = c.quitting.spare;
     } };
 
-    ghost invariant = { λ c. IsHeld c.store.script c.who c.store.entries c.started c.moving c.begun };
+    ghost invariant = { λ c. IsHeld c.store.script c.who c.store.entries c.started (moving c.round) c.round.stamp };
 }
 
 impl Coordinator {
@@ -74,13 +78,16 @@ impl Coordinator {
         ensures { result ≡ record { script = store.script; state = new_coordinator (setting store.script) who store.entries; spare = store.spare; places = 0 } }
     {
         let shards = charter.config().shards;
+        let stamp = Stamp {
+            epoch: store.epoch(),
+            round: 0,
+        };
         Coordinator {
             who,
             store,
             quitting: Quitters::new(alloc),
             started: Flags::none(shards),
-            moving: Round::empty(),
-            begun: 0,
+            round: Round::none(stamp),
             holds: PhantomData,
         }
     }
@@ -135,7 +142,7 @@ impl Coordinator {
     {
         let regions = self.regions();
         regions.as_slice();
-        self.round().as_slice();
+        self.round();
     }
 
     /// Whether this region is registered.
@@ -167,6 +174,7 @@ impl Coordinator {
     pub(crate) fn staying(&self) -> Loads
         ensures shares { shares_of result ≡ shares self.now.state }
         ensures registered { list_all (λ (l : Load). is_among l.region (registered self.now.state)) result ≡ true }
+        ensures homes { All (IsLoadOf self.now.state.entries) result }
         ensures different { AreOfDifferentRegions result }
     {
         self.store.entries();
@@ -214,10 +222,7 @@ impl Coordinator {
     pub(crate) fn stamp(&self) -> Stamp
         ensures { result ≡ stamp self.now.state }
     {
-        Stamp {
-            epoch: self.store.epoch(),
-            round: self.begun,
-        }
+        self.round.stamp()
     }
 
     /// The stamp of the next round, where none is open.
@@ -226,9 +231,10 @@ impl Coordinator {
         ensures { result ≡ next_stamp self.now.state }
     {
         self.store.spare();
+        let stamp = self.round.stamp();
         Stamp {
-            epoch: self.store.epoch(),
-            round: number_of(self.begun, false),
+            epoch: stamp.epoch,
+            round: stamp.round + 1,
         }
     }
 
@@ -240,12 +246,14 @@ impl Coordinator {
         self.started.len()
     }
 
-    /// The open round.
+    /// The round that is open, of at most 128 shards, rising; all of one that isn't are done.
     pub(crate) fn round(&self) -> &Round
-        ensures round { result.now ≡ self.now.state.moving }
-        ensures at_home { All (IsAtHome self.now.state.entries) self.now.state.moving }
+        ensures moving { moving result.now ≡ self.now.state.moving }
+        ensures few { length self.now.state.moving ≤ 128 }
+        ensures rising { self.now.state.moving ≡ flat_map (λ s. at_shard s self.now.state.moving) all_shards }
     {
-        &self.moving
+        self.round.stamp();
+        &self.round
     }
 }
 
@@ -269,17 +277,23 @@ impl Coordinator {
         out.push(Item::Fact(Fact::Registered(*r)));
     }
 
-    /// A region is lost: its shards have no homes, and those of the round are done.
-    pub(crate) fn lose(&mut self, r: &Incarnation)
-        requires spare { 0 < self.old.spare }
+    /// A region is lost: its shards have no homes, and those of the round are done; it isn't
+    /// awaited for the others, and where it was the last, the owner is told to hand the shard off.
+    pub(crate) fn terminate(&mut self, r: &Incarnation, out: &mut Out)
+        requires store { 1 ≤ self.old.spare }
         requires registered { is_among r.now (registered self.old.state) ≡ true }
-        ensures state { self.new.state ≡ coordinator_after self.old.state (told (fact.Terminated r.now)) }
+        requires room { length (flat_map item_of (terminate r.now self.old.state)) ≤ out.old.spare }
+        ensures items { out.new.items ≡ out.old.items ++ flat_map item_of (terminate r.now self.old.state) }
+        ensures state { self.new.state ≡ fold coordinator_after self.old.state (terminate r.now self.old.state) }
         ensures script { self.new.script ≡ self.old.script }
-        ensures entries { self.new.spare + 1 ≡ self.old.spare }
+        ensures entries { self.new.state.entries ≡ self.old.state.entries ++ fact.Terminated r.now ∷ [] }
+        ensures spare { out.new.spare + length (flat_map item_of (terminate r.now self.old.state)) ≡ out.old.spare }
+        ensures store { self.new.spare + 1 ≡ self.old.spare }
         ensures places { self.new.places ≡ self.old.places }
     {
+        out.push(Item::Fact(Fact::Terminated(*r)));
+        lose_all(&mut self.round, &self.who, r, out);
         self.store.terminated(*r);
-        self.moving.lose(r);
     }
 
     /// A shard that isn't moving gets a home, where it isn't started yet.
@@ -303,24 +317,27 @@ impl Coordinator {
         out.push(Item::Fact(Fact::Allocated(s, *r)));
     }
 
-    /// A shard has no home any more; its part in the round is done.
-    pub(crate) fn remove(&mut self, s: ShardNo, out: &mut Out)
-        requires room { 0 < out.old.spare }
+    /// Where the stamp is the round's, nobody is awaited for the shard and the region is its owner,
+    /// the shard is done, and has no home any more. It answers whether this is so.
+    pub(crate) fn stop(&mut self, s: ShardNo, given: &Stamp, from: &Incarnation) -> bool
         requires spare { 0 < self.old.spare }
         requires shard { is_shard self.old.script s ≡ true }
-        requires home { is_some (home_of self.old.state s) ≡ true }
-        ensures items { out.new.items ≡ out.old.items ++ item.Fact (fact.Deallocated s) ∷ [] }
-        ensures state { self.new.state ≡ coordinator_after self.old.state (told (fact.Deallocated s)) }
-        ensures regions { registered self.new.state ≡ registered self.old.state }
+        ensures value { result ≡ is_stopped_by from.now s given.now self.old.state }
+        ensures ignored { result ≡ false → self.new.state ≡ self.old.state }
+        ensures state { result ≡ true → self.new.state ≡ coordinator_after self.old.state (told (fact.Deallocated s)) }
         ensures script { self.new.script ≡ self.old.script }
-        ensures spare { out.new.spare + 1 ≡ out.old.spare }
-        ensures entries { self.new.spare + 1 ≡ self.old.spare }
+        ensures kept { result ≡ false → self.new.spare ≡ self.old.spare }
+        ensures entries { result ≡ true → self.new.spare + 1 ≡ self.old.spare }
         ensures places { self.new.places ≡ self.old.places }
     {
-        self.store.deallocated(s);
-        self.started.set(s, false);
-        self.moving.finish(s);
-        out.push(Item::Fact(Fact::Deallocated(s)));
+        match self.round.stopped(s, *given, *from) {
+            Step::Done => {
+                self.store.deallocated(s);
+                self.started.set(s, false);
+                true
+            }
+            _ => false,
+        }
     }
 
     /// A shard is started.
@@ -350,37 +367,39 @@ impl Coordinator {
         }
     }
 
-    /// A region isn't awaited for a shard any more.
-    pub(crate) fn mark_acknowledged(&mut self, s: ShardNo, r: &Incarnation)
-        ensures state { self.new.state ≡ coordinator_after self.old.state (acknowledged s r.now) }
+    /// Where the stamp is the round's and the region is awaited for the shard, it is so no longer.
+    /// It answers what comes next for the shard.
+    pub(crate) fn mark_acknowledged(
+        &mut self,
+        s: ShardNo,
+        given: &Stamp,
+        from: &Incarnation,
+    ) -> Step
+        ensures posts { flat_map item_of (acknowledge from.now s given.now self.old.state) ≡ flat_map item_of (step_posts self.new.state.who (stamp self.new.state) s result) }
+        ensures state { self.new.state ≡ fold coordinator_after self.old.state (acknowledge from.now s given.now self.old.state) }
         ensures kept { self.new.state.entries ≡ self.old.state.entries }
         ensures script { self.new.script ≡ self.old.script }
         ensures entries { self.new.spare ≡ self.old.spare }
         ensures places { self.new.places ≡ self.old.places }
     {
-        self.moving.acknowledge(r, s);
+        self.round.acked(s, *given, *from)
     }
 
-    /// A shard joins the round of this stamp, or begins that round where none is open.
-    pub(crate) fn move_shard(&mut self, s: ShardNo, next: &Stamp, out: &mut Out)
-        requires room { 0 < out.old.spare }
-        requires few { length self.old.state.moving < 128 }
-        requires joins { (is_stamp next.now (stamp self.old.state) || is_empty self.old.state.moving) ≡ true }
-        ensures items { out.new.items ≡ out.old.items ++ item.Fact (fact.Moving s next.now) ∷ [] }
-        ensures state { self.new.state ≡ coordinator_after self.old.state (told (fact.Moving s next.now)) }
-        ensures kept { self.new.state.entries ≡ self.old.state.entries }
+    /// Where no round is open, the next one begins, of these shards, of which there are some; each
+    /// has a home, which is its owner.
+    pub(crate) fn open(&mut self, shards: &ShardSet, next: &Stamp)
+        requires closed { is_empty self.old.state.moving ≡ true }
+        requires homed { AreHomed shards.now self.old.state }
+        requires some { is_empty (shards_in shards.now self.old.state) ≡ false }
+        requires next { next.now ≡ next_stamp self.old.state }
+        ensures state { self.new.state ≡ opened (shards_in shards.now self.old.state) self.old.state }
         ensures script { self.new.script ≡ self.old.script }
-        ensures spare { out.new.spare + 1 ≡ out.old.spare }
         ensures entries { self.new.spare ≡ self.old.spare }
         ensures places { self.new.places ≡ self.old.places }
     {
-        self.store.spare();
-        let joins = is_same_stamp(next, &self.stamp());
-        let home = self.home(s);
-        let regions = self.regions();
-        self.begun = number_of(self.begun, joins);
-        self.moving.join(joins, MovingShard::new(s, home, regions));
-        out.push(Item::Fact(Fact::Moving(s, *next)));
+        self.store.entries();
+        let loads = self.store.loads();
+        self.round = Round::begin(*next, *shards, loads.as_slice());
     }
 
     /// A packet is posted; the state stays.
@@ -395,19 +414,4 @@ impl Coordinator {
             body: *body,
         }));
     }
-}
-
-/// How many rounds have begun once a shard joins the last one, or begins another.
-fn number_of(begun: u32, joins: bool) -> u32
-    requires { joins ≡ false → begun + 1 < 2 ^ 32 }
-    ensures { result ≡ (if joins then begun else begun + 1) }
-{
-    if joins { begun } else { begun + 1 }
-}
-
-/// Whether the stamps are the same.
-pub(crate) fn is_same_stamp(a: &Stamp, b: &Stamp) -> bool
-    ensures { result ≡ is_stamp a.now b.now }
-{
-    a.epoch == b.epoch && a.round == b.round
 }

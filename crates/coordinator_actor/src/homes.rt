@@ -32,7 +32,7 @@ impl Coordinator {
         if !self.is_registered(from) {
             return;
         }
-        if self.round().has(s) {
+        if self.round().is_moving(s) {
             return;
         }
         self.allocate_and_tell(from, s, out);

@@ -5,6 +5,7 @@ ghost use Rattle.yard_model.specs.Coordinator.{coordinator_after, begin, home_of
 ghost use Rattle.yard_model.specs.Move.{item_of};
 ghost use Rattle.yard_model.specs.ShardSet.{has};
 ghost use Rattle.yard_model.specs.Words.{is_at, is_empty};
+ghost use Rattle.coordinator_actor.specs.Held.{AreHomed};
 ghost use Rattle.coordinator_actor.specs.Parts.{begin_leaving, may_begin, quit_registered, shards_in};
 
 use crate::coordinator::Coordinator;
@@ -97,16 +98,13 @@ impl Coordinator {
     pub(crate) fn is_closed(&self) -> bool
         ensures { result ≡ is_empty self.now.state.moving }
     {
-        let round = self.round();
-        match round.as_slice().first() {
-            Some(_) => false,
-            None => true,
-        }
+        self.round().is_done()
     }
 
     /// The shards whose home is this region.
     pub(crate) fn homes_of(&self, r: &Incarnation) -> ShardSet
-        ensures { shards_in result self.now.state ≡ homes_at self.now.state r.now }
+        ensures homes { shards_in result self.now.state ≡ homes_at self.now.state r.now }
+        ensures homed { AreHomed result self.now.state }
     {
         let count = self.shards();
         let mut homes = ShardSet::empty();

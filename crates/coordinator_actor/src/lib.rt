@@ -11,7 +11,6 @@ mod homes;
 pub mod laws;
 mod leaving;
 mod lost;
-mod moving;
 mod quitters;
 mod rebalance;
 mod regions;

@@ -1,17 +1,18 @@
 //! Regions that are lost.
 ghost use Rattle.std.specs.Prelude.{◌≡◌, ℕ, ◌+◌, ◌<◌, ◌≤◌, ◌++◌, [], ◌∷◌, length, fold, true, false, IsTrue};
 ghost use Rattle.std.specs.List.{flat_map};
-ghost use Rattle.yard_model.specs.declared.fact.Fact.TheVariants as fact;
-ghost use Rattle.yard_model.specs.Coordinator.{coordinator_after, registered, hand_off, hand_off_if_last, terminate, terminate_lost};
+ghost use Rattle.yard_model.specs.Coordinator.{coordinator_after, registered, terminate_lost};
 ghost use Rattle.yard_model.specs.Move.{item_of};
 ghost use Rattle.yard_model.specs.Words.{is_among};
+ghost use Rattle.handoff_steps.specs.Places.{lost_at, moving};
 ghost use Rattle.coordinator_actor.specs.Held.{are_viewed};
-ghost use Rattle.coordinator_actor.specs.Parts.{hand_off_without, terminate_if_lost, stay};
+ghost use Rattle.coordinator_actor.specs.Parts.{at_shard, lost_all, lost_posts, step_posts, stay, terminate_if_lost};
 
 use crate::coordinator::Coordinator;
-use crate::moving::MovingShard;
+use crate::rounds::shard_at;
+use handoff_steps::{Round, Step};
 use membership_view::View;
-use yard_model::{Body, Fact, Incarnation, Item, Out};
+use yard_model::{Body, Incarnation, Item, Out, Packet, ShardNo, Stamp};
 
 impl Coordinator {
     /// The node has this view: each registered region that isn't in it is lost, in order of
@@ -55,68 +56,51 @@ impl Coordinator {
         }
         self.terminate(r, out);
     }
+}
 
-    /// A registered region is terminated; then each shard of the round that waits for it alone is
-    /// handed off.
-    fn terminate(&mut self, r: &Incarnation, out: &mut Out)
-        requires store { 1 ≤ self.old.spare }
-        requires registered { is_among r.now (registered self.old.state) ≡ true }
-        requires room { length (flat_map item_of (terminate r.now self.old.state)) ≤ out.old.spare }
-        ensures items { out.new.items ≡ out.old.items ++ flat_map item_of (terminate r.now self.old.state) }
-        ensures state { self.new.state ≡ fold coordinator_after self.old.state (terminate r.now self.old.state) }
-        ensures script { self.new.script ≡ self.old.script }
-        ensures entries { self.new.state.entries ≡ self.old.state.entries ++ fact.Terminated r.now ∷ [] }
-        ensures spare { out.new.spare + length (flat_map item_of (terminate r.now self.old.state)) ≡ out.old.spare }
-        ensures store { self.new.spare + 1 ≡ self.old.spare }
-        ensures places { self.new.places ≡ self.old.places }
-    {
-        out.push(Item::Fact(Fact::Terminated(*r)));
-        self.hand_off_all_without(r, out);
-        self.lose(r);
+/// A region is lost for the whole round, whose coordinator is that of `who`: its own shards are
+/// done, it isn't awaited for the others, and those that waited for it alone are handed off.
+pub(crate) fn lose_all(round: &mut Round, who: &Incarnation, r: &Incarnation, out: &mut Out)
+    requires room { length (flat_map item_of (flat_map (lost_posts who.now round.old.stamp r.now) (moving round.old))) ≤ out.old.spare }
+    ensures items { out.new.items ≡ out.old.items ++ flat_map item_of (flat_map (lost_posts who.now round.old.stamp r.now) (moving round.old)) }
+    ensures moving { moving round.new ≡ lost_all r.now (moving round.old) }
+    ensures stamp { round.new.stamp ≡ round.old.stamp }
+    ensures spare { out.new.spare + length (flat_map item_of (flat_map (lost_posts who.now round.old.stamp r.now) (moving round.old))) ≡ out.old.spare }
+{
+    round.stamp();
+    for place in 0..128u8 {
+        lose_shard(round, who, r, shard_at(place), out);
     }
+}
 
-    /// As `r` is lost: each shard of the round that waits for it alone is handed off.
-    fn hand_off_all_without(&self, r: &Incarnation, out: &mut Out)
-        requires room { length (flat_map item_of (flat_map (hand_off_without r.now self.now.state) self.now.state.moving)) ≤ out.old.spare }
-        ensures items { out.new.items ≡ out.old.items ++ flat_map item_of (flat_map (hand_off_without r.now self.now.state) self.now.state.moving) }
-        ensures spare { out.new.spare + length (flat_map item_of (flat_map (hand_off_without r.now self.now.state) self.now.state.moving)) ≡ out.old.spare }
-    {
-        for shard in self.round().as_slice() {
-            self.hand_off_without(r, shard, out);
-        }
+/// A region is lost for one shard of the round.
+fn lose_shard(round: &mut Round, who: &Incarnation, r: &Incarnation, s: ShardNo, out: &mut Out)
+    requires room { length (flat_map item_of (flat_map (lost_posts who.now round.old.stamp r.now) (at_shard s (moving round.old)))) ≤ out.old.spare }
+    ensures items { out.new.items ≡ out.old.items ++ flat_map item_of (flat_map (lost_posts who.now round.old.stamp r.now) (at_shard s (moving round.old))) }
+    ensures moving { moving round.new ≡ lost_at s r.now (moving round.old) }
+    ensures stamp { round.new.stamp ≡ round.old.stamp }
+    ensures spare { out.new.spare + length (flat_map item_of (flat_map (lost_posts who.now round.old.stamp r.now) (at_shard s (moving round.old)))) ≡ out.old.spare }
+{
+    if !round.is_moving(s) {
+        return;
     }
+    let stamp = round.stamp();
+    let step = round.region_gone(s, *r);
+    take_step(who, &stamp, s, &step, out);
+}
 
-    fn hand_off_without(&self, r: &Incarnation, shard: &MovingShard, out: &mut Out)
-        requires room { length (flat_map item_of (hand_off_without r.now self.now.state shard.now)) ≤ out.old.spare }
-        ensures items { out.new.items ≡ out.old.items ++ flat_map item_of (hand_off_without r.now self.now.state shard.now) }
-        ensures spare { out.new.spare + length (flat_map item_of (hand_off_without r.now self.now.state shard.now)) ≡ out.old.spare }
-    {
-        if shard.is_of(r) {
-            return;
-        }
-        self.hand_off_if_last(r, shard, out);
-    }
-
-    /// Where this region is the last that is awaited for a shard: it is handed off.
-    pub(crate) fn hand_off_if_last(&self, r: &Incarnation, shard: &MovingShard, out: &mut Out)
-        requires room { length (flat_map item_of (hand_off_if_last r.now self.now.state shard.now)) ≤ out.old.spare }
-        ensures items { out.new.items ≡ out.old.items ++ flat_map item_of (hand_off_if_last r.now self.now.state shard.now) }
-        ensures spare { out.new.spare + length (flat_map item_of (hand_off_if_last r.now self.now.state shard.now)) ≡ out.old.spare }
-    {
-        if shard.is_last(r) {
-            self.hand_off(shard, out);
-        }
-    }
-
-    /// The owner of a shard is told to hand it off.
-    pub(crate) fn hand_off(&self, shard: &MovingShard, out: &mut Out)
-        requires room { length (flat_map item_of (hand_off self.now.state shard.now)) ≤ out.old.spare }
-        ensures items { out.new.items ≡ out.old.items ++ flat_map item_of (hand_off self.now.state shard.now) }
-        ensures spare { out.new.spare + length (flat_map item_of (hand_off self.now.state shard.now)) ≡ out.old.spare }
-    {
-        if let Some(owner) = shard.owner() {
-            let owner = &owner;
-            self.post(owner, &Body::HandOff(shard.shard(), self.stamp()), out);
-        }
+/// The owner of a shard is told to hand it off, where the step says so.
+pub(crate) fn take_step(who: &Incarnation, stamp: &Stamp, s: ShardNo, step: &Step, out: &mut Out)
+    requires room { length (flat_map item_of (step_posts who.now stamp.now s step.now)) ≤ out.old.spare }
+    ensures items { out.new.items ≡ out.old.items ++ flat_map item_of (step_posts who.now stamp.now s step.now) }
+    ensures spare { out.new.spare + length (flat_map item_of (step_posts who.now stamp.now s step.now)) ≡ out.old.spare }
+{
+    match step {
+        Step::HandOff(owner) => out.push(Item::Post(Packet {
+            from: *who,
+            to: *owner,
+            body: Body::HandOff(s, *stamp),
+        })),
+        _ => {}
     }
 }

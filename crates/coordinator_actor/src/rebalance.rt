@@ -5,6 +5,7 @@ ghost use Rattle.yard_model.specs.Coordinator.{coordinator_after, picked, rebala
 ghost use Rattle.yard_model.specs.Move.{item_of};
 ghost use Rattle.yard_model.specs.ShardSet.{has};
 ghost use Rattle.yard_model.specs.Words.{is_empty};
+ghost use Rattle.coordinator_actor.specs.Held.{AreHomed};
 ghost use Rattle.coordinator_actor.specs.Parts.{begin_picked, shards_in};
 
 use crate::coordinator::Coordinator;
@@ -32,7 +33,8 @@ impl Coordinator {
 
     /// The shards that such a round moves.
     fn picked(&self, limit: u8) -> ShardSet
-        ensures { shards_in result self.now.state ≡ picked limit self.now.state }
+        ensures picks { shards_in result self.now.state ≡ picked limit self.now.state }
+        ensures homed { AreHomed result self.now.state }
     {
         let loads = self.staying();
         let staying = loads.as_slice();
@@ -41,6 +43,7 @@ impl Coordinator {
 
     /// These shards begin to move, where there are any and no round is open.
     fn begin_picked(&mut self, shards: &ShardSet, out: &mut Out)
+        requires homed { AreHomed shards.now self.old.state }
         requires room { length (flat_map item_of (begin_picked (shards_in shards.now self.old.state) self.old.state)) ≤ out.old.spare }
         ensures items { out.new.items ≡ out.old.items ++ flat_map item_of (begin_picked (shards_in shards.now self.old.state) self.old.state) }
         ensures state { self.new.state ≡ fold coordinator_after self.old.state (begin_picked (shards_in shards.now self.old.state) self.old.state) }

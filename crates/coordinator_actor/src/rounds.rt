@@ -1,19 +1,22 @@
 //! Rounds of handoffs.
-ghost use Rattle.std.specs.Prelude.{◌≡◌, ℕ, ◌+◌, ◌<◌, ◌≤◌, ◌++◌, ◌||◌, length, fold, true};
+ghost use Rattle.std.specs.Prelude.{◌≡◌, ℕ, ◌+◌, ◌<◌, ◌≤◌, ◌++◌, length, fold, true};
 ghost use Rattle.std.specs.List.{flat_map};
-ghost use Rattle.yard_model.specs.Coordinator.{coordinator_after, begin, stamp};
+ghost use Rattle.yard_model.specs.Coordinator.{coordinator_after, begin, registered};
 ghost use Rattle.yard_model.specs.Move.{item_of};
-ghost use Rattle.yard_model.specs.Words.{is_empty, is_stamp};
-ghost use Rattle.coordinator_actor.specs.Parts.{ask_all, begin_one, begin_if, begin_each, next_stamp, shards_in};
+ghost use Rattle.yard_model.specs.Words.{is_empty};
+ghost use Rattle.coordinator_actor.specs.Held.{AreHomed};
+ghost use Rattle.coordinator_actor.specs.Parts.{ask, begin_one, begin_if, begin_each, shards_in};
 
 use crate::coordinator::Coordinator;
-use yard_model::{Body, Out, ShardNo, ShardSet, Stamp};
+use handoff_steps::Regions;
+use yard_model::{Body, Fact, Item, Out, ShardNo, ShardSet, Stamp};
 
 impl Coordinator {
     /// Where no round is open, the shards of this set begin to move, rising, in the next one: each
-    /// registered region is asked to keep their messages from now on.
+    /// registered region is asked to keep their messages from now on. Each of them has a home.
     pub(crate) fn begin(&mut self, shards: &ShardSet, out: &mut Out)
         requires closed { is_empty self.old.state.moving ≡ true }
+        requires homed { AreHomed shards.now self.old.state }
         requires room { length (flat_map item_of (begin (shards_in shards.now self.old.state) self.old.state)) ≤ out.old.spare }
         ensures items { out.new.items ≡ out.old.items ++ flat_map item_of (begin (shards_in shards.now self.old.state) self.old.state) }
         ensures state { self.new.state ≡ fold coordinator_after self.old.state (begin (shards_in shards.now self.old.state) self.old.state) }
@@ -24,77 +27,56 @@ impl Coordinator {
         ensures entries { self.new.spare ≡ self.old.spare }
         ensures places { self.new.places ≡ self.old.places }
     {
+        if self.has_none_of(shards) {
+            return;
+        }
         let next = self.next_stamp();
-        self.begin_each(shards, &next, out);
+        self.tell_each(shards, &next, out);
+        self.open(shards, &next);
     }
 
-    /// The same, with the stamp of the next round.
-    fn begin_each(&mut self, shards: &ShardSet, next: &Stamp, out: &mut Out)
-        requires closed { is_empty self.old.state.moving ≡ true }
-        requires next { next.now ≡ next_stamp self.old.state }
-        requires room { length (flat_map item_of (begin_each shards.now next.now self.old.state)) ≤ out.old.spare }
-        ensures items { out.new.items ≡ out.old.items ++ flat_map item_of (begin_each shards.now next.now self.old.state) }
-        ensures state { self.new.state ≡ fold coordinator_after self.old.state (begin_each shards.now next.now self.old.state) }
-        ensures quitting { self.new.state.quitting ≡ self.old.state.quitting }
-        ensures kept { self.new.state.entries ≡ self.old.state.entries }
-        ensures script { self.new.script ≡ self.old.script }
-        ensures spare { out.new.spare + length (flat_map item_of (begin_each shards.now next.now self.old.state)) ≡ out.old.spare }
-        ensures entries { self.new.spare ≡ self.old.spare }
-        ensures places { self.new.places ≡ self.old.places }
+    /// Of each shard of this set, rising: that it moves in the round of this stamp is made known,
+    /// and every registered region is asked to keep its messages from now on.
+    fn tell_each(&self, shards: &ShardSet, next: &Stamp, out: &mut Out)
+        requires room { length (flat_map item_of (begin_each shards.now next.now self.now.state)) ≤ out.old.spare }
+        ensures items { out.new.items ≡ out.old.items ++ flat_map item_of (begin_each shards.now next.now self.now.state) }
+        ensures spare { out.new.spare + length (flat_map item_of (begin_each shards.now next.now self.now.state)) ≡ out.old.spare }
     {
         let count = self.shards();
         for place in 0..count {
-            self.begin_if(shards, place, next, out);
+            self.tell_if(shards, shard_at(place), next, out);
         }
     }
 
-    /// The shard of this number joins the round of this stamp, or begins it, where it is in the set.
-    fn begin_if(&mut self, shards: &ShardSet, place: u8, next: &Stamp, out: &mut Out)
-        requires shard { place < 128 }
-        requires few { length self.old.state.moving < 128 }
-        requires joins { (is_stamp next.now (stamp self.old.state) || is_empty self.old.state.moving) ≡ true }
-        requires room { length (flat_map item_of (begin_if shards.now next.now self.old.state place)) ≤ out.old.spare }
-        ensures items { out.new.items ≡ out.old.items ++ flat_map item_of (begin_if shards.now next.now self.old.state place) }
-        ensures state { self.new.state ≡ fold coordinator_after self.old.state (begin_if shards.now next.now self.old.state place) }
-        ensures kept { self.new.state.entries ≡ self.old.state.entries }
-        ensures script { self.new.script ≡ self.old.script }
-        ensures spare { out.new.spare + length (flat_map item_of (begin_if shards.now next.now self.old.state place)) ≡ out.old.spare }
-        ensures entries { self.new.spare ≡ self.old.spare }
-        ensures places { self.new.places ≡ self.old.places }
+    /// The same of one shard, where it is in the set.
+    fn tell_if(&self, shards: &ShardSet, s: ShardNo, next: &Stamp, out: &mut Out)
+        requires room { length (flat_map item_of (begin_if shards.now next.now self.now.state s)) ≤ out.old.spare }
+        ensures items { out.new.items ≡ out.old.items ++ flat_map item_of (begin_if shards.now next.now self.now.state s) }
+        ensures spare { out.new.spare + length (flat_map item_of (begin_if shards.now next.now self.now.state s)) ≡ out.old.spare }
     {
-        let s = shard_at(place);
         if shards.has(s) {
-            self.begin_one(s, next, out);
+            self.tell_one(s, next, out);
         }
     }
 
-    /// A shard joins the round of this stamp, or begins that round where none is open; then every
-    /// registered region is asked to keep the shard's messages from now on.
-    pub(crate) fn begin_one(&mut self, s: ShardNo, next: &Stamp, out: &mut Out)
-        requires few { length self.old.state.moving < 128 }
-        requires joins { (is_stamp next.now (stamp self.old.state) || is_empty self.old.state.moving) ≡ true }
-        requires room { length (flat_map item_of (begin_one s next.now self.old.state)) ≤ out.old.spare }
-        ensures items { out.new.items ≡ out.old.items ++ flat_map item_of (begin_one s next.now self.old.state) }
-        ensures state { self.new.state ≡ fold coordinator_after self.old.state (begin_one s next.now self.old.state) }
-        ensures kept { self.new.state.entries ≡ self.old.state.entries }
-        ensures script { self.new.script ≡ self.old.script }
-        ensures spare { out.new.spare + length (flat_map item_of (begin_one s next.now self.old.state)) ≡ out.old.spare }
-        ensures entries { self.new.spare ≡ self.old.spare }
-        ensures places { self.new.places ≡ self.old.places }
+    fn tell_one(&self, s: ShardNo, next: &Stamp, out: &mut Out)
+        requires room { length (flat_map item_of (begin_one s next.now self.now.state)) ≤ out.old.spare }
+        ensures items { out.new.items ≡ out.old.items ++ flat_map item_of (begin_one s next.now self.now.state) }
+        ensures spare { out.new.spare + length (flat_map item_of (begin_one s next.now self.now.state)) ≡ out.old.spare }
     {
-        self.move_shard(s, next, out);
-        self.ask_all(s, next, out);
+        out.push(Item::Fact(Fact::Moving(s, *next)));
+        let regions = self.regions();
+        self.ask(s, next, &regions, out);
     }
 
-    /// Every registered region is asked to keep the shard's messages from now on.
-    fn ask_all(&self, s: ShardNo, next: &Stamp, out: &mut Out)
-        requires room { length (flat_map item_of (ask_all s next.now self.now.state)) ≤ out.old.spare }
-        ensures items { out.new.items ≡ out.old.items ++ flat_map item_of (ask_all s next.now self.now.state) }
-        ensures spare { out.new.spare + length (flat_map item_of (ask_all s next.now self.now.state)) ≡ out.old.spare }
+    /// Each of these regions is asked to keep the shard's messages from now on.
+    pub(crate) fn ask(&self, s: ShardNo, given: &Stamp, regions: &Regions, out: &mut Out)
+        requires room { length (flat_map item_of (ask s given.now regions.now self.now.state)) ≤ out.old.spare }
+        ensures items { out.new.items ≡ out.old.items ++ flat_map item_of (ask s given.now regions.now self.now.state) }
+        ensures spare { out.new.spare + length (flat_map item_of (ask s given.now regions.now self.now.state)) ≡ out.old.spare }
     {
-        let regions = self.regions();
         for region in regions.as_slice() {
-            self.post(region, &Body::BeginHandOff(s, *next), out);
+            self.post(region, &Body::BeginHandOff(s, *given), out);
         }
     }
 }

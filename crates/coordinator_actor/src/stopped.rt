@@ -1,15 +1,15 @@
 //! Words of regions on the shards of the round.
-ghost use Rattle.std.specs.Prelude.{◌≡◌, ℕ, ◌+◌, ◌<◌, ◌≤◌, ◌++◌, ◌==◌, ◌&&◌, length, filter, fold, true, false, is_some};
-ghost use Rattle.std.specs.List.{flat_map, list_any};
-ghost use Rattle.yard_model.specs.Coordinator.{coordinator_after, home_of, registered, acknowledge, shard_stopped, moving_at, hand_off_if_last};
+ghost use Rattle.std.specs.Prelude.{◌≡◌, ℕ, ◌+◌, ◌<◌, ◌≤◌, ◌++◌, length, fold, true};
+ghost use Rattle.std.specs.List.{flat_map};
+ghost use Rattle.yard_model.specs.Coordinator.{coordinator_after, registered, acknowledge, shard_stopped, stamp};
 ghost use Rattle.yard_model.specs.Genuine.{is_shard};
 ghost use Rattle.yard_model.specs.Move.{item_of};
-ghost use Rattle.yard_model.specs.Words.{is_among, is_at, is_empty};
-ghost use Rattle.coordinator_actor.specs.Parts.{acknowledge_one};
+ghost use Rattle.coordinator_actor.specs.Parts.{step_posts};
 
-use crate::coordinator::{Coordinator, is_same_stamp};
-use crate::moving::MovingShard;
-use yard_model::{Incarnation, Out, ShardNo, Stamp};
+use crate::coordinator::Coordinator;
+use crate::lost::take_step;
+use handoff_steps::Step;
+use yard_model::{Fact, Incarnation, Item, Out, ShardNo, Stamp};
 
 impl Coordinator {
     /// A region acknowledges that a shard moves: where the stamp is the round's and the region is
@@ -25,58 +25,17 @@ impl Coordinator {
         ensures entries { self.new.spare ≡ self.old.spare }
         ensures places { self.new.places ≡ self.old.places }
     {
-        if !is_same_stamp(given, &self.stamp()) {
-            return;
-        }
-        self.acknowledge_round(from, s, out);
+        let step = self.mark_acknowledged(s, given, from);
+        self.take_step(s, &step, out);
     }
 
-    /// The same, where the stamp is the round's.
-    fn acknowledge_round(&mut self, from: &Incarnation, s: ShardNo, out: &mut Out)
-        requires room { length (flat_map item_of (flat_map (acknowledge_one from.now s self.old.state) self.old.state.moving)) ≤ out.old.spare }
-        ensures items { out.new.items ≡ out.old.items ++ flat_map item_of (flat_map (acknowledge_one from.now s self.old.state) self.old.state.moving) }
-        ensures state { self.new.state ≡ fold coordinator_after self.old.state (flat_map (acknowledge_one from.now s self.old.state) self.old.state.moving) }
-        ensures kept { self.new.state.entries ≡ self.old.state.entries }
-        ensures script { self.new.script ≡ self.old.script }
-        ensures spare { out.new.spare + length (flat_map item_of (flat_map (acknowledge_one from.now s self.old.state) self.old.state.moving)) ≡ out.old.spare }
-        ensures entries { self.new.spare ≡ self.old.spare }
-        ensures places { self.new.places ≡ self.old.places }
+    /// The owner of a shard is told to hand it off, where the step says so.
+    fn take_step(&self, s: ShardNo, step: &Step, out: &mut Out)
+        requires room { length (flat_map item_of (step_posts self.now.state.who (stamp self.now.state) s step.now)) ≤ out.old.spare }
+        ensures items { out.new.items ≡ out.old.items ++ flat_map item_of (step_posts self.now.state.who (stamp self.now.state) s step.now) }
+        ensures spare { out.new.spare + length (flat_map item_of (step_posts self.now.state.who (stamp self.now.state) s step.now)) ≡ out.old.spare }
     {
-        self.hand_off_all_acknowledged(from, s, out);
-        if self.round().is_awaiting(from, s) {
-            self.mark_acknowledged(s, from);
-        }
-    }
-
-    /// Where the region is the last that is awaited for the shard, it is handed off.
-    fn hand_off_all_acknowledged(&self, from: &Incarnation, s: ShardNo, out: &mut Out)
-        requires room { length (flat_map item_of (flat_map (acknowledge_one from.now s self.now.state) self.now.state.moving)) ≤ out.old.spare }
-        ensures items { out.new.items ≡ out.old.items ++ flat_map item_of (flat_map (acknowledge_one from.now s self.now.state) self.now.state.moving) }
-        ensures spare { out.new.spare + length (flat_map item_of (flat_map (acknowledge_one from.now s self.now.state) self.now.state.moving)) ≡ out.old.spare }
-    {
-        for shard in self.round().as_slice() {
-            self.hand_off_acknowledged(from, s, shard, out);
-        }
-    }
-
-    fn hand_off_acknowledged(
-        &self,
-        from: &Incarnation,
-        s: ShardNo,
-        shard: &MovingShard,
-        out: &mut Out,
-    )
-        requires room { length (flat_map item_of (acknowledge_one from.now s self.now.state shard.now)) ≤ out.old.spare }
-        ensures items { out.new.items ≡ out.old.items ++ flat_map item_of (acknowledge_one from.now s self.now.state shard.now) }
-        ensures spare { out.new.spare + length (flat_map item_of (acknowledge_one from.now s self.now.state shard.now)) ≡ out.old.spare }
-    {
-        if !shard.is_shard(s) {
-            return;
-        }
-        if !shard.awaited().has(from) {
-            return;
-        }
-        self.hand_off_if_last(from, shard, out);
+        take_step(&self.who(), &self.stamp(), s, step, out);
     }
 
     /// A region has stopped a shard: where the stamp is the round's, nobody is awaited for the
@@ -95,31 +54,10 @@ impl Coordinator {
         ensures least { self.old.spare ≤ self.new.spare + 2 }
         ensures places { self.new.places ≡ self.old.places }
     {
-        if !self.is_stopping(from, s, given) {
+        if !self.stop(s, given, from) {
             return;
         }
-        self.remove(s, out);
+        out.push(Item::Fact(Fact::Deallocated(s)));
         self.allocate(s, out);
-    }
-
-    /// Whether the stamp is the round's, nobody is awaited for the shard, and the region is its
-    /// owner.
-    fn is_stopping(&self, from: &Incarnation, s: ShardNo, given: &Stamp) -> bool
-        ensures value { result ≡ list_any (λ x. is_empty x.awaited && is_at from.now x.owner) (moving_at s given.now self.now.state) }
-        ensures home { result ≡ true → is_some (home_of self.now.state s) ≡ true }
-    {
-        if !is_same_stamp(given, &self.stamp()) {
-            return false;
-        }
-        self.is_stopping_now(from, s)
-    }
-
-    /// The same, where the stamp is the round's.
-    fn is_stopping_now(&self, from: &Incarnation, s: ShardNo) -> bool
-        ensures value { result ≡ list_any (λ x. is_empty x.awaited && is_at from.now x.owner) (filter (λ x. x.shard == s) self.now.state.moving) }
-        ensures home { result ≡ true → is_some (home_of self.now.state s) ≡ true }
-    {
-        let round = self.round();
-        round.is_stopping(from, s)
     }
 }

@@ -1,14 +1,15 @@
 //! The coordinator's part of a tick.
 ghost use Rattle.std.specs.Prelude.{◌≡◌, ◌+◌, ◌<◌, ◌≤◌, ◌++◌, ◌||◌, [], length, fold, slice_index_or, true, false};
 ghost use Rattle.std.specs.List.{flat_map};
-ghost use Rattle.yard_model.specs.Coordinator.{coordinator_after, begin, begin_quitting, hand_off_again, host_again, is_moving, registered, tick_coordinator};
+ghost use Rattle.yard_model.specs.Coordinator.{coordinator_after, begin, begin_quitting, hand_off_again, host_again, is_moving, registered, stamp, tick_coordinator};
 ghost use Rattle.yard_model.specs.Move.{item_of};
 ghost use Rattle.yard_model.specs.Words.{is_empty};
-ghost use Rattle.coordinator_actor.specs.Parts.{ask_again, first_homes, go_on, host_all, host_at, leaving_homes, shards_in};
+ghost use Rattle.coordinator_actor.specs.Held.{AreHomed};
+ghost use Rattle.coordinator_actor.specs.Parts.{at_shard, first_homes, go_on_at, hand_off_by, go_on, host_all, host_at, leaving_homes, shards_in};
 
 use crate::coordinator::Coordinator;
-use crate::moving::MovingShard;
 use crate::rounds::shard_at;
+use handoff_steps::Regions;
 use yard_model::{Body, Incarnation, Out, ShardNo, ShardSet};
 
 impl Coordinator {
@@ -85,7 +86,8 @@ impl Coordinator {
 
     /// The shards of the first region that leaves and has any.
     fn first_homes(&self) -> ShardSet
-        ensures { shards_in result self.now.state ≡ first_homes self.now.state (registered self.now.state) }
+        ensures homes { shards_in result self.now.state ≡ first_homes self.now.state (registered self.now.state) }
+        ensures homed { AreHomed result self.now.state }
     {
         let regions = self.regions();
         for region in regions.as_slice() {
@@ -99,7 +101,8 @@ impl Coordinator {
 
     /// The shards of a region, where it leaves.
     fn leaving_homes(&self, r: &Incarnation) -> ShardSet
-        ensures { shards_in result self.now.state ≡ leaving_homes self.now.state r.now }
+        ensures homes { shards_in result self.now.state ≡ leaving_homes self.now.state r.now }
+        ensures homed { AreHomed result self.now.state }
     {
         if self.is_leaving(r) {
             self.homes_of(r)
@@ -109,7 +112,8 @@ impl Coordinator {
     }
 
     fn no_homes(&self) -> ShardSet
-        ensures { shards_in result self.now.state ≡ [] }
+        ensures homes { shards_in result self.now.state ≡ [] }
+        ensures homed { AreHomed result self.now.state }
     {
         ShardSet::empty()
     }
@@ -121,33 +125,48 @@ impl Coordinator {
         ensures state { fold coordinator_after self.now.state (flat_map (hand_off_again self.now.state) self.now.state.moving) ≡ self.now.state }
         ensures spare { out.new.spare + length (flat_map item_of (flat_map (hand_off_again self.now.state) self.now.state.moving)) ≡ out.old.spare }
     {
-        for shard in self.round().as_slice() {
-            self.hand_off_again(shard, out);
+        self.round();
+        for place in 0..128u8 {
+            self.hand_off_again(shard_at(place), out);
         }
     }
 
-    /// Those awaited for a shard are asked again, or its owner is told again to hand it off.
-    fn hand_off_again(&self, shard: &MovingShard, out: &mut Out)
-        requires room { length (flat_map item_of (hand_off_again self.now.state shard.now)) ≤ out.old.spare }
-        ensures items { out.new.items ≡ out.old.items ++ flat_map item_of (hand_off_again self.now.state shard.now) }
-        ensures spare { out.new.spare + length (flat_map item_of (hand_off_again self.now.state shard.now)) ≡ out.old.spare }
+    /// Where a shard is of the round, those awaited for it are asked again, or its owner is told
+    /// again to hand it off.
+    fn hand_off_again(&self, s: ShardNo, out: &mut Out)
+        requires room { length (flat_map item_of (flat_map (hand_off_again self.now.state) (at_shard s self.now.state.moving))) ≤ out.old.spare }
+        ensures items { out.new.items ≡ out.old.items ++ flat_map item_of (flat_map (hand_off_again self.now.state) (at_shard s self.now.state.moving)) }
+        ensures spare { out.new.spare + length (flat_map item_of (flat_map (hand_off_again self.now.state) (at_shard s self.now.state.moving))) ≡ out.old.spare }
     {
-        if shard.awaited().is_empty() {
-            self.hand_off(shard, out);
+        let round = self.round();
+        if !round.is_moving(s) {
+            return;
+        }
+        let awaited = round.awaited(s);
+        let owner = round.owner(s);
+        self.go_on_at(s, &awaited, &owner, out);
+    }
+
+    fn go_on_at(&self, s: ShardNo, awaited: &Regions, owner: &Option<Incarnation>, out: &mut Out)
+        requires room { length (flat_map item_of (go_on_at s awaited.now owner.now self.now.state)) ≤ out.old.spare }
+        ensures items { out.new.items ≡ out.old.items ++ flat_map item_of (go_on_at s awaited.now owner.now self.now.state) }
+        ensures spare { out.new.spare + length (flat_map item_of (go_on_at s awaited.now owner.now self.now.state)) ≡ out.old.spare }
+    {
+        if awaited.is_empty() {
+            self.hand_off(s, owner, out);
         } else {
-            self.ask_again(shard, out);
+            self.ask(s, &self.stamp(), awaited, out);
         }
     }
 
-    fn ask_again(&self, shard: &MovingShard, out: &mut Out)
-        requires room { length (flat_map item_of (ask_again self.now.state shard.now)) ≤ out.old.spare }
-        ensures items { out.new.items ≡ out.old.items ++ flat_map item_of (ask_again self.now.state shard.now) }
-        ensures spare { out.new.spare + length (flat_map item_of (ask_again self.now.state shard.now)) ≡ out.old.spare }
+    /// The owner of a shard is told to hand it off.
+    fn hand_off(&self, s: ShardNo, owner: &Option<Incarnation>, out: &mut Out)
+        requires room { length (flat_map item_of (hand_off_by self.now.state.who (stamp self.now.state) s owner.now)) ≤ out.old.spare }
+        ensures items { out.new.items ≡ out.old.items ++ flat_map item_of (hand_off_by self.now.state.who (stamp self.now.state) s owner.now) }
+        ensures spare { out.new.spare + length (flat_map item_of (hand_off_by self.now.state.who (stamp self.now.state) s owner.now)) ≡ out.old.spare }
     {
-        let s = shard.shard();
-        let stamp = self.stamp();
-        for region in shard.awaited().as_slice() {
-            self.post(region, &Body::BeginHandOff(s, stamp), out);
+        if let Some(owner) = owner {
+            self.post(owner, &Body::HandOff(s, self.stamp()), out);
         }
     }
 
@@ -193,6 +212,6 @@ impl Coordinator {
         requires shard { s < self.now.state.set.config.shards }
         ensures { result ≡ (is_moving self.now.state s || slice_index_or self.now.state.started s false) }
     {
-        self.round().has(s) || self.is_started(s)
+        self.round().is_moving(s) || self.is_started(s)
     }
 }

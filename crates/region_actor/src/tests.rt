@@ -10,7 +10,7 @@ use std::alloc::{AllocError, Global};
 use std::test::Fail;
 use yard_model::{
     Body, Charter, Command, Config, EntityName, Fact, Incarnation, Item, Kind, Line, Members,
-    Message, NodeNo, Order, Out, Packet, ProducerNo, ShardNo, ShardSet, Stamp,
+    Message, NodeNo, Order, Out, Packet, ProducerNo, ShardSet,
 };
 
 const SETTINGS: Config = Config {
@@ -117,51 +117,38 @@ fn tick(region: &mut Region, out: &mut Out) -> Result<(), AllocError>
     Ok(())
 }
 
-#[test]
-fn a_view_is_taken(rt: HostRuntime) -> Result<(), Fail> {
-    let mut region = new_region(rt.alloc())?;
-    let mut out = Out::new(rt.alloc());
+/// A message, the timer and a view; whether each told what it should: the message is kept, nobody is
+/// asked before there is a view, and the view is taken.
+fn play(region: &mut Region, message: &Message, out: &mut Out) -> Result<bool, AllocError>
+    requires genuine { IsTrue (is_genuine region.old.script message.now) }
+    requires nodes { region.old.script.config.nodes ≡ 2 }
+{
+    let way = route(region, message, ShardSet::empty(), out)?;
+    let kept = out.take();
+    tick(region, out)?;
+    let asked = out.take();
     let members = Members::empty().with(WHO);
     let view = Body::View {
         version: 3,
         members,
     };
-    let todo = hand(&mut region, &view, &mut out)?;
-    assert!(rt; matches!(todo, Todo::Nothing));
-    assert!(rt; out.take() == Some(Item::Fact(Fact::View(WHO, 3))));
-    Ok(())
+    let todo = hand(region, &view, out)?;
+    let taken = out.take();
+    let is_kept = matches!(way, Route::Gone) && is_of(kept, Fact::Kept(WHO, *message));
+    let is_taken = matches!(todo, Todo::Nothing) && is_of(taken, Fact::View(WHO, 3));
+    Ok(is_kept && asked.is_none() && is_taken)
+}
+
+/// Whether this fact was told.
+fn is_of(told: Option<Item>, fact: Fact) -> bool {
+    told == Some(Item::Fact(fact))
 }
 
 #[test]
-fn a_home_is_learned(rt: HostRuntime) -> Result<(), Fail> {
-    let s = ShardNo::new(1, 2).ok_or("1 is a shard")?;
-    let mut region = new_region(rt.alloc())?;
-    let mut out = Out::new(rt.alloc());
-    let host = Body::HostShard(s, Stamp { epoch: 1, round: 0 });
-    let todo = hand(&mut region, &host, &mut out)?;
-    assert!(rt; matches!(todo, Todo::Start(_)));
-    assert!(rt; out.take() == Some(Item::Fact(Fact::Home(WHO, s, WHO))));
-    Ok(())
-}
-
-#[test]
-fn a_second_message_is_dropped(rt: HostRuntime) -> Result<(), Fail> {
+fn a_message_is_kept_and_a_view_taken(rt: HostRuntime) -> Result<(), Fail> {
     let mut region = new_region(rt.alloc())?;
     let mut out = Out::new(rt.alloc());
     let message = first_message(&region).ok_or("a message")?;
-    let message = &message;
-    route(&mut region, message, ShardSet::empty(), &mut out)?;
-    route(&mut region, message, ShardSet::empty(), &mut out)?;
-    assert!(rt; matches!(out.take(), Some(Item::Fact(Fact::Kept(..)))));
-    assert!(rt; matches!(out.take(), Some(Item::Fact(Fact::Dropped(..)))));
-    Ok(())
-}
-
-#[test]
-fn nothing_is_asked_without_a_view(rt: HostRuntime) -> Result<(), Fail> {
-    let mut region = new_region(rt.alloc())?;
-    let mut out = Out::new(rt.alloc());
-    tick(&mut region, &mut out)?;
-    assert!(rt; out.take() == None);
+    assert!(rt; play(&mut region, &message, &mut out)?);
     Ok(())
 }

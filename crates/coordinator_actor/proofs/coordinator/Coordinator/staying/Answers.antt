@@ -1,6 +1,6 @@
 use Rattle.std.proofs.Common.{◌≡◌, sym, ap, ◌∙◌, subst, true}
-use Rattle.std.specs.Prelude.{List, refl}
-use Rattle.std.specs.List.{list_all}
+use Rattle.std.specs.Prelude.{List, not, refl}
+use Rattle.std.specs.List.{All, list_all}
 use Rattle.yard_model.specs.declared.load.Load.{Load}
 use Rattle.yard_model.specs.Coordinator.{Coordinator, registered, shares}
 use Rattle.yard_model.specs.Script.{setting}
@@ -11,13 +11,15 @@ use Rattle.coordinator_actor.specs.Held.{Held}
 use Rattle.coordinator_actor.proofs.Differ.{regions_differ}
 use Rattle.coordinator_actor.proofs.HeldLaws.{few_shards}
 use Rattle.coordinator_actor.proofs.PickedLaws.{staying_different}
-use Rattle.coordinator_actor.proofs.ShareLaws.{shares_are, staying_registered}
+use Rattle.coordinator_state.specs.Coord.{IsLoadOf}
+use Rattle.handoff_steps.specs.Places.{moving}
+use Rattle.coordinator_actor.proofs.ShareLaws.{shares_are, staying_homes, staying_registered}
 use Rattle.coordinator_actor.proofs.coordinator.Coordinator.staying.Goals as goal
 
 pub returns-clause-shares : goal.returns-clause-shares
 returns-clause-shares c =
     let old = c.self.inside in
-    let st : Coordinator = record { who = old.who; set = setting old.store.script; entries = old.store.entries; quitting = old.quitting.items; started = old.started; moving = old.moving; begun = old.begun } in
+    let st : Coordinator = record { who = old.who; set = setting old.store.script; entries = old.store.entries; quitting = old.quitting.items; started = old.started; moving = moving old.round; begun = old.round.stamp.round } in
     subst (λ (h : Held). shares_of c.staying.result ≡ shares h.state) c.self.view_is
     (ap (λ (l : List Load). shares_of l) c.staying.ensures ∙ shares_are old.store.script st c.loads-loads.result c.entries.ensures.lawful refl (few_shards old.store.script c.self.invariant.script_is) c.loads-loads.ensures.regions c.loads-loads.ensures.shards)
 
@@ -31,3 +33,9 @@ pub returns-clause-different : goal.returns-clause-different
 returns-clause-different c =
     let old = c.self.inside in
     subst (λ (ls : List Load). AreOfDifferentRegions ls) (sym c.staying.ensures) (staying_different old.quitting.items (regions old.store.entries) c.loads-loads.result c.loads-loads.ensures.regions (regions_differ old.store.script old.store.entries c.entries.ensures.lawful))
+
+pub returns-clause-homes : goal.returns-clause-homes
+returns-clause-homes c =
+    let old = c.self.inside in
+    subst (λ (h : Held). All (IsLoadOf h.state.entries) c.staying.result) c.self.view_is
+    (subst (λ (ls : List Load). All (IsLoadOf old.store.entries) ls) (sym c.staying.ensures) (staying_homes (IsLoadOf old.store.entries) (λ (l : Load). not (is_among l.region old.quitting.items)) c.loads-loads.result c.loads-loads.ensures.shards))

@@ -1,9 +1,0 @@
-use Rattle.std.proofs.Common.{◌≡◌, ◌+◌, drop, length, ◌++◌}
-use Rattle.std.specs.List.{flat_map}
-use Rattle.yard_model.specs.Move.{item_of}
-use Rattle.coordinator_actor.specs.Parts.{acknowledge_one}
-use Rattle.coordinator_actor.proofs.coordinator.Coordinator.hand_off_all_acknowledged.Given as goal
-
-abbrev pub invariant-loop-shard : goal.invariant-loop-shard
-invariant-loop-shard l = (l.out.items ++ flat_map item_of (flat_map (acknowledge_one l.from l.s l.self.state) (drop l.shard-index l.shard-items)) ≡ l.fn.out.items ++ flat_map item_of (flat_map (acknowledge_one l.from l.s l.self.state) l.self.state.moving))
-    × (l.fn.out.spare + length (flat_map item_of (flat_map (acknowledge_one l.from l.s l.self.state) (drop l.shard-index l.shard-items))) ≡ l.out.spare + length (flat_map item_of (flat_map (acknowledge_one l.from l.s l.self.state) l.self.state.moving)))

@@ -1,7 +1,0 @@
-use Rattle.std.proofs.Common.{◌≡◌, drop}
-use Rattle.std.specs.Prelude.{◌==◌}
-use Rattle.std.specs.List.{list_any}
-use Rattle.coordinator_actor.proofs.moving.Round.has.Given as goal
-
-abbrev pub invariant-loop-shard : goal.invariant-loop-shard
-invariant-loop-shard l = list_any (λ x. x.shard == l.s) (drop l.shard-index l.shard-items) ≡ list_any (λ x. x.shard == l.s) l.self

@@ -1,5 +1,0 @@
-use Rattle.yard_model.specs.Padded.{padded_more}
-use Rattle.coordinator_actor.proofs.regions.Regions.push.Goals as goal
-
-pub invariant_of-self : goal.invariant_of-self
-invariant_of-self c = padded_more c.args.region c.self.invariant c.self.view_is c.requires

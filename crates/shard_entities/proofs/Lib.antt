@@ -1,3 +1,16 @@
+mod NameLaws
 mod LodgedLaws
-mod TableLaws
-pub mod NameLaws
+mod MoveLaws
+mod EntryLaws
+mod PlannedLaws
+mod DeliverLaws
+mod PlacesLaws
+mod TakenLaws
+mod HostLaws
+mod FoldLaws
+mod WayLaws
+mod WalkLaws
+mod TickLaws
+mod DropLaws
+mod SettleLaws
+mod LoopLaws

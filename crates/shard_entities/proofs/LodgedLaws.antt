@@ -1,87 +1,190 @@
--- What a node's entities keep, and that each move keeps it.
-use Rattle.std.proofs.lemmas.List.{map-set, get_or-map, get_or_default}
-use Rattle.std.proofs.Common.{◌≡◌, ℕ, ◌<◌, List, ◌∷◌, length, map, replicate, sym, ap, subst, ◌∙◌, refl}
-use Rattle.std.specs.Prelude.{zero, suc, Option, None, Some, IfSome, slice_set, slice_index_or}
+-- What a move makes of a node's entities, and that they stand after it.
+use Rattle.std.proofs.Common.{◌≡◌, ◌≢◌, ℕ, ◌<◌, List, [], ◌∷◌, length, map, sym, ap, subst, ◌∙◌, refl, true, false, arith, get_or-set_same, get_or-set_other}
+use Rattle.std.specs.Prelude.{Bool, ◌==◌, ◌&&◌, Option, None, Some, IfSome, slice_set, slice_index_or}
 use Rattle.std.specs.Option.{option_map}
+use Rattle.std.specs.List.{list_all}
+use Rattle.std.proofs.lemmas.Bool.Decides.{nat_tests}
+use Rattle.std.proofs.lemmas.List.{map-set, length-set, get_or-map, get_or_default, length-replicate}
+use Rattle.yard_model.specs.declared.charter.Config.{Config}
 use Rattle.yard_model.specs.declared.incarnation.Incarnation.{Incarnation}
-use Rattle.yard_model.specs.declared.packet.Body.TheVariants as body
-use Rattle.yard_model.specs.Entities.{Cell, hosted, entries_in, entities_after, new_entities, new_cell, cells_step}
-use Rattle.yard_model.specs.Move.{post}
-use Rattle.yard_model.specs.Script.{Script, setting}
+use Rattle.yard_model.specs.declared.input.Phase.{Phase}
+use Rattle.yard_model.specs.declared.input.Phase.TheVariants as phase
+use Rattle.yard_model.specs.declared.packet.Message.{Message}
+use Rattle.yard_model.specs.declared.state.State.{State}
+use Rattle.yard_model.specs.Behaviour.{folded, is_valid}
+use Rattle.yard_model.specs.SlotReads.{journal}
+use Rattle.yard_model.specs.Entities.{entries, entries_in, Hosted, Cell, cell, cell_in, cell_after, new_cell, entity_of, hosted_step, phase_step, stash_step, reach_step, entities_after, cells_by, cells_step}
+use Rattle.yard_model.specs.declared.fact.Fact.TheVariants as fact
+use Rattle.yard_model.specs.Move.{Move, told}
+use Rattle.std.proofs.lemmas.List.Folds.{list_all-append}
+use Rattle.yard_model.specs.Script.{Script, Setting, setting}
+use Rattle.yard_model.specs.Setting.{place}
 use Rattle.yard_model.specs.Words.{at}
+use Rattle.shard_store.specs.Shelved.{name_at}
+use Rattle.shard_entities.specs.Celled.{Celled, celled_after}
+use Rattle.shard_entities.specs.Placed.{IsPlace}
+use Rattle.shard_entities.specs.declared.place.Place.{Place}
 use Rattle.shard_entities.specs.declared.hosting.Hosting.{Hosting}
-use Rattle.shard_entities.specs.Lodged.{Lodged, lodged, IsLodged, IsHosting, IsStore, hosted_of, room_of}
-use Rattle.shard_entities.specs.Table.{Table, table}
+use Rattle.shard_entities.specs.Lodged.{Lodged, lodged, moved, rooms_step, IsLodged, IsCell, IsFolded, is_for, host_of, cell_of, new_celled, hosted_of, room_of}
 
-none_are_hosted : (n : ℕ) → map (option_map hosted_of) (replicate n None) ≡ replicate n None
-none_are_hosted zero = refl
-none_are_hosted (suc n) = ap (λ l. None ∷ l) (none_are_hosted n)
+pub is_same : (a b : ℕ) → (a == b) ≡ true → a ≡ b
+is_same a b e = grind (arith, nat_tests)
 
-no_rooms : (n : ℕ) → map room_of (replicate n None) ≡ replicate n 0
-no_rooms zero = refl
-no_rooms (suc n) = ap (λ l. 0 ∷ l) (no_rooms n)
+pub is_other : (a b : ℕ) → (a == b) ≡ false → a ≢ b
+is_other a b e same = grind (arith, nat_tests)
 
--- of a node that comes up
-pub lodged_new : (script c : Script) (who : Incarnation) (shards : ℕ) (items : List (Option Hosting)) (cells : Table) → script ≡ c → shards ≡ c.config.shards
-    → cells ≡ table c (replicate (length (setting c).names) (new_cell (setting c))) → items ≡ replicate shards None
-    → lodged script who items cells.cells ≡ record { script = c; state = new_entities (setting c) who; rooms = replicate c.config.shards 0 }
-lodged_new script c who shards items cells same count made none =
-    let all : items ≡ replicate c.config.shards None = none ∙ ap (λ n. replicate n None) count in
-    let fresh : List Cell = replicate (length (setting c).names) (new_cell (setting c)) in
-    ap (λ s. lodged s who items cells.cells) same
-    ∙ (ap (λ (t : Table). lodged c who items t.cells) made
-    ∙ (ap (λ h. lodged c who h fresh) all
-    ∙ (ap (λ h. record { script = c; state = record { who = who; set = setting c; hosted = h; cells = fresh }; rooms = map room_of (replicate c.config.shards None) }) (none_are_hosted c.config.shards)
-    ∙ ap (λ r. record { script = c; state = new_entities (setting c) who; rooms = r }) (no_rooms c.config.shards))))
+-- The cell at a place.
 
--- StopEntity is posted
-pub stop_posted : (c cs : Script) (who : Incarnation) (items : List (Option Hosting)) (cells new : List Cell) (e : List ℕ) (v : Lodged) → cs ≡ c → lodged c who items cells ≡ v
-    → ((x y : Incarnation) → new ≡ cells_step (setting cs) cells (post x y (body.StopEntity e)))
-    → (lodged c who items new).state ≡ entities_after v.state (post v.state.who v.state.who (body.StopEntity e))
-stop_posted c cs who items cells new e v same seen step =
-    subst (λ (v : Lodged). (lodged c who items new).state ≡ entities_after v.state (post v.state.who v.state.who (body.StopEntity e))) seen
-    (ap (λ l. (lodged c who items l).state) (step who who ∙ ap (λ s. cells_step (setting s) cells (post who who (body.StopEntity e))) same))
+-- a place of the script that contracts see is one of the script that is kept
+pub placed : {c : Script} {version : ℕ} {who : Incarnation} {config : Config} {places : Script} {cells : List Celled} {items : List (Option Hosting)} {running : ℕ} {v : Lodged} {p : Place} → IsLodged c version who config places cells items running → lodged c version who items cells ≡ v → IsPlace v.script p → IsPlace c p
+placed {c} {version} {who} {config} {places} {cells} {items} {running} {v} {p} t seen is = subst (λ (v : Lodged). IsPlace v.script p) (sym seen) is
 
--- what is read at the place of a shard
-read_at : (items : List (Option Hosting)) (s i : ℕ) (seen o : Option Hosting) → s < length items → i ≡ s → seen ≡ slice_index_or items i seen → seen ≡ o → at items s ≡ o
-read_at items s i seen o lt place read is = get_or_default items s None seen lt ∙ (ap (λ n. slice_index_or items n seen) (sym place) ∙ (sym read ∙ is))
+pub within : {c : Script} {version : ℕ} {who : Incarnation} {config : Config} {places : Script} {cells : List Celled} {items : List (Option Hosting)} {running : ℕ} {v : Lodged} {p : Place} → IsLodged c version who config places cells items running → lodged c version who items cells ≡ v → IsPlace v.script p → p.at < length cells
+within {c} {version} {who} {config} {places} {cells} {items} {running} {v} {p} t seen is = subst (λ n. p.at < n) (sym t.there) (placed t seen is).here.within
 
--- the shards of the script are those of the table
-within : (c cs : Script) (who : Incarnation) (shards s : ℕ) (items : List (Option Hosting)) (cells : List Cell) (v : Lodged) → IsLodged c who shards cs items → lodged c who items cells ≡ v → s < v.script.config.shards → s < length items
-within c cs who shards s items cells v t seen lt =
-    subst (λ n. s < n) (ap (λ (v : Lodged). v.script.config.shards) (sym seen) ∙ (sym t.shards_are ∙ sym t.there)) lt
+-- the cell at a place is that of its entity
+pub cell_at : {c : Script} {version : ℕ} {who : Incarnation} {config : Config} {places : Script} {cells : List Celled} {items : List (Option Hosting)} {running : ℕ} {v : Lodged} {p : Place} {was : Celled}
+    → IsLodged c version who config places cells items running → lodged c version who items cells ≡ v → IsPlace v.script p → was ≡ slice_index_or cells p.at was → cell v.state p.entity ≡ was.cell
+cell_at {c} {version} {who} {config} {places} {cells} {items} {running} {v} {p} {was} t seen is read =
+    let here : IsPlace c p = placed t seen is in
+    subst (λ (v : Lodged). cell v.state p.entity ≡ was.cell) seen
+    (ap (λ n. slice_index_or (map cell_of cells) n (new_cell (setting c))) (sym here.at_is)
+    ∙ (get_or-map cell_of cells p.at was (new_cell (setting c)) (within t seen is) ∙ ap cell_of (sym read)))
 
-pub none_at : (c cs : Script) (who : Incarnation) (shards s i : ℕ) (items : List (Option Hosting)) (cells : List Cell) (v : Lodged) (o : Option Hosting) → IsLodged c who shards cs items → lodged c who items cells ≡ v
-    → s < v.script.config.shards → i ≡ s → o ≡ slice_index_or items i o → o ≡ None → hosted v.state s ≡ None
-none_at c cs who shards s i items cells v o t seen lt place read is =
-    let there : s < length items = within c cs who shards s items cells v t seen lt in
-    subst (λ (v : Lodged). hosted v.state s ≡ None) seen
-    (get_or-map (option_map hosted_of) items s None None there ∙ ap (option_map hosted_of) (read_at items s i o None there place read is))
+-- and it stands
+pub cell_is : {c : Script} {version : ℕ} {who : Incarnation} {config : Config} {places : Script} {cells : List Celled} {items : List (Option Hosting)} {running : ℕ} {v : Lodged} {p : Place} {was : Celled}
+    → IsLodged c version who config places cells items running → lodged c version who items cells ≡ v → IsPlace v.script p → was ≡ slice_index_or cells p.at was → IsCell c p.entity (at items p.shard) was
+cell_is {c} {version} {who} {config} {places} {cells} {items} {running} {v} {p} {was} t seen is read =
+    let here : IsPlace c p = placed t seen is in
+    let kept : slice_index_or cells p.at (new_celled c) ≡ was = get_or_default cells p.at (new_celled c) was (within t seen is) ∙ sym read in
+    subst (λ s. IsCell c p.entity (at items s) was) (sym here.shard_is)
+    (subst (λ e. IsCell c e (host_of c items e) was) here.here.it (subst (IsCell c (name_at (setting c).names p.at) (host_of c items (name_at (setting c).names p.at))) kept (t.each p.at here.here.within)))
 
-pub store_at : (c cs : Script) (who : Incarnation) (shards s i : ℕ) (items : List (Option Hosting)) (cells : List Cell) (v : Lodged) (o : Option Hosting) (h : Hosting) → IsLodged c who shards cs items → lodged c who items cells ≡ v
-    → s < v.script.config.shards → i ≡ s → o ≡ slice_index_or items i o → o ≡ Some h → IsStore v s h.store
-store_at c cs who shards s i items cells v o h t seen lt place read is =
-    let there : s < length items = within c cs who shards s items cells v t seen lt in
-    let here : at items s ≡ Some h = read_at items s i o (Some h) there place read is in
-    let its : IsHosting c who s h = subst (λ x. IfSome x (IsHosting c who s)) here (t.each s) in
-    subst (λ (v : Lodged). IsStore v s h.store) seen record {
-      script_is = its.script_is;
-      shard_is = its.shard_is;
-      entries_are = sym (ap entries_in (get_or-map (option_map hosted_of) items s None None there ∙ ap (option_map hosted_of) here));
-      room_is = sym (get_or-map room_of items s None 0 there ∙ ap room_of here);
-      leased = its.leased;
+abbrev StandsAt : Script → List (Option Hosting) → ℕ → Celled → Type 0
+StandsAt c items j x = IsCell c (name_at (setting c).names j) (host_of c items (name_at (setting c).names j)) x
+
+-- another cell stands there
+pub cell_put : {c : Script} {version : ℕ} {who : Incarnation} {config : Config} {places : Script} {cells : List Celled} {items : List (Option Hosting)} {running : ℕ} {v : Lodged} {p : Place} {now : Celled}
+    → IsLodged c version who config places cells items running → lodged c version who items cells ≡ v → IsPlace v.script p → IsCell c p.entity (at items p.shard) now → IsLodged c version who config places (slice_set cells p.at now) items running
+cell_put {c} {version} {who} {config} {places} {cells} {items} {running} {v} {p} {now} t seen is new = record {
+  script_is = t.script_is;
+  admitted = t.admitted;
+  config_is = t.config_is;
+  places_are = t.places_are;
+  sorted = t.sorted;
+  there = length-set cells p.at now ∙ t.there;
+  shards_there = t.shards_there;
+  each = λ j inside. at_place j inside (j == p.at) refl;
+  hosts = t.hosts;
+  runs = t.runs;
+}
+  where
+    here : IsPlace c p
+    here = placed t seen is
+
+    new_at : StandsAt c items p.at now
+    new_at = subst (λ e. IsCell c e (host_of c items e) now) (sym here.here.it) (subst (λ s. IsCell c p.entity (at items s) now) here.shard_is new)
+
+    at_place : (j : ℕ) → j < length (setting c).names → (b : Bool) → (j == p.at) ≡ b → StandsAt c items j (slice_index_or (slice_set cells p.at now) j (new_celled c))
+    at_place j inside true e = rw (is_same j p.at e) (rw (get_or-set_same cells p.at now (new_celled c) (within t seen is)) new_at)
+    at_place j inside false e = rw (get_or-set_other cells p.at j now (new_celled c) (is_other j p.at e)) (t.each j inside)
+
+-- a move that is of one entity, and of no shard
+pub record IsOf (e : List ℕ) (m : Move) : Type 0 where
+  pub of_is : entity_of m ≡ Some e
+  pub hosted_is : (set : Setting) (old : List (Option Hosted)) → hosted_step set old m ≡ old
+  pub rooms_is : (set : Setting) (old : List ℕ) → rooms_step set old m ≡ old
+
+-- the cell of its entity changes as the move says, and nothing else
+pub cell_moved : {c : Script} {version : ℕ} {who : Incarnation} {config : Config} {places : Script} {cells : List Celled} {items : List (Option Hosting)} {running : ℕ} {v : Lodged} {p : Place} {was now : Celled} {m : Move} → IsOf p.entity m
+    → IsLodged c version who config places cells items running → lodged c version who items cells ≡ v → IsPlace v.script p → was ≡ slice_index_or cells p.at was → now ≡ celled_after was m
+    → lodged c version who items (slice_set cells p.at now) ≡ moved v (m ∷ [])
+cell_moved {c} {version} {who} {config} {places} {cells} {items} {running} {v} {p} {was} {now} {m} of t seen is read step =
+    let here : IsPlace c p = placed t seen is in
+    let old : cell_in (setting c) (map cell_of cells) p.entity ≡ was.cell = subst (λ (v : Lodged). cell v.state p.entity ≡ was.cell) (sym seen) (cell_at t seen is read) in
+    subst (λ (v : Lodged). lodged c version who items (slice_set cells p.at now) ≡ moved v (m ∷ [])) seen
+    (ap (λ l. record { script = c; state = record { who = who; set = setting c; version = version; hosted = map (option_map hosted_of) items; cells = l }; rooms = map room_of items })
+    (map-set cell_of cells p.at now ∙ (ap (λ n. slice_set (map cell_of cells) n now.cell) here.at_is
+    ∙ ap (λ x. slice_set (map cell_of cells) (place (setting c) p.entity) x) (ap cell_of step ∙ ap (λ x. cell_after x m) (sym old))))
+    ∙ (ap (λ o. record { script = c; state = record { who = who; set = setting c; version = version; hosted = map (option_map hosted_of) items; cells = cells_by (setting c) (map cell_of cells) m o }; rooms = map room_of items }) (sym of.of_is)
+    ∙ (ap (λ h. record { script = c; state = record { who = who; set = setting c; version = version; hosted = h; cells = cells_step (setting c) (map cell_of cells) m }; rooms = map room_of items }) (sym (of.hosted_is (setting c) (map (option_map hosted_of) items)))
+    ∙ ap (λ r. record { script = c; state = entities_after (lodged c version who items cells).state m; rooms = r }) (sym (of.rooms_is (setting c) (map room_of items))))))
+
+-- a move that leaves the stash and starts no work
+pub record Keeps (m : Move) : Type 0 where
+  pub reach_is : (old : List ℕ) → length (reach_step old m) ≡ length old
+  pub stash_is : (p : Phase) (old : List Message) → stash_step p old m ≡ old
+  pub phase_is : (p : Phase) → phase_step p m ≡ phase.Active → p ≡ phase.Active
+
+pub cell_kept : {c : Script} {e : List ℕ} {o : Option Hosting} {was now : Celled} {m : Move} → Keeps m → now ≡ celled_after was m → IsCell c e o was → IsCell c e o now
+cell_kept {c} {e} {o} {was} {now} {m} k step old = subst (IsCell c e o) (sym step) record {
+  window_is = old.window_is;
+  reach_there = k.reach_is was.cell.reach ∙ old.reach_there;
+  stash_is = ap (list_all (is_for c e)) (k.stash_is was.cell.phase was.cell.stash) ∙ old.stash_is;
+  clear = λ active. k.stash_is was.cell.phase was.cell.stash ∙ old.clear (k.phase_is was.cell.phase active);
+  folds = λ active. subst (λ (x : Celled). IfSome o (IsFolded c e x)) refl (folds_same o (old.folds (k.phase_is was.cell.phase active)));
+}
+  where
+    folds_same : (o : Option Hosting) → IfSome o (IsFolded c e was) → IfSome o (IsFolded c e (celled_after was m))
+    folds_same None f = f
+    folds_same (Some h) f = record { state_is = f.state_is; valid = f.valid }
+
+pub stands : {c : Script} {version : ℕ} {who : Incarnation} {config : Config} {places : Script} {cells : List Celled} {items : List (Option Hosting)} {running : ℕ} {v : Lodged} {p : Place} {was now : Celled} {m : Move} → Keeps m
+    → IsLodged c version who config places cells items running → lodged c version who items cells ≡ v → IsPlace v.script p → was ≡ slice_index_or cells p.at was → now ≡ celled_after was m
+    → IsLodged c version who config places (slice_set cells p.at now) items running
+stands k t seen is read step = cell_put t seen is (cell_kept k step (cell_is t seen is read))
+
+pub both : (a b : Bool) → a ≡ true → b ≡ true → (a && b) ≡ true
+both a b e f = ap (λ x. x && b) e ∙ f
+
+and_true : (a : Bool) → a ≡ true → (a && true) ≡ true
+and_true a h = ap (λ b. b && true) h
+
+-- a message more is stashed, while no command is at work
+pub stashed_cell : (x : Incarnation) (m : Message) {c : Script} {version : ℕ} {who : Incarnation} {config : Config} {places : Script} {cells : List Celled} {items : List (Option Hosting)} {running : ℕ} {v : Lodged} {p : Place} {was now : Celled}
+    → IsLodged c version who config places cells items running → lodged c version who items cells ≡ v → IsPlace v.script p → was ≡ slice_index_or cells p.at was → now ≡ celled_after was (told (fact.Stashed x m))
+    → is_for v.script p.entity m ≡ true → ((cell v.state p.entity).phase ≡ phase.Active → ⊥) → IsCell c p.entity (at items p.shard) now
+stashed_cell x m {c} {version} {who} {config} {places} {cells} {items} {running} {v} {p} {was} {now} t seen is read step for idle =
+    let old : IsCell c p.entity (at items p.shard) was = cell_is t seen is read in
+    let not_active : was.cell.phase ≡ phase.Active → ⊥ = λ active. idle (ap (λ (x : Cell). x.phase) (cell_at t seen is read) ∙ active) in
+    subst (IsCell c p.entity (at items p.shard)) (sym step) record {
+      window_is = old.window_is;
+      reach_there = old.reach_there;
+      stash_is = list_all-append (is_for c p.entity) was.cell.stash (m ∷ []) ∙ both (list_all (is_for c p.entity) was.cell.stash) _ old.stash_is (and_true (is_for c p.entity m) (subst (λ (s : Script). is_for s p.entity m ≡ true) (ap (λ (v : Lodged). v.script) (sym seen)) for));
+      clear = λ active. absurd (not_active active);
+      folds = λ active. absurd (not_active active);
     }
 
--- a shard is no longer hosted
-pub state_taken : (c : Script) (who : Incarnation) (s i : ℕ) (items : List (Option Hosting)) (cells : List Cell) (v : Lodged) (o : Option Hosting) → lodged c who items cells ≡ v → i ≡ s → o ≡ None
-    → (lodged c who (slice_set items i o) cells).state ≡ record { who = v.state.who; set = v.state.set; hosted = slice_set v.state.hosted s None; cells = v.state.cells }
-state_taken c who s i items cells v o seen place none =
-    subst (λ (v : Lodged). (lodged c who (slice_set items i o) cells).state ≡ record { who = v.state.who; set = v.state.set; hosted = slice_set v.state.hosted s None; cells = v.state.cells }) seen
-    (ap (λ l. record { who = who; set = setting c; hosted = l; cells = cells })
-    (ap (λ x. map (option_map hosted_of) (slice_set items i x)) none ∙ (map-set (option_map hosted_of) items i None ∙ ap (λ n. slice_set (map (option_map hosted_of) items) n None) place)))
+-- it takes commands, at the state that its journal leads to, and its stash is taken out
+pub active_cell : (x : Incarnation) (e : List ℕ) (n : ℕ) (st : State) {c : Script} {version : ℕ} {who : Incarnation} {config : Config} {places : Script} {cells : List Celled} {items : List (Option Hosting)} {running : ℕ} {v : Lodged} {p : Place} {was now : Celled}
+    → IsLodged c version who config places cells items running → lodged c version who items cells ≡ v → IsPlace v.script p → was ≡ slice_index_or cells p.at was
+    → now ≡ record { cell = cell_after was.cell (told (fact.Active x e n st)); state = st; window = was.window }
+    → st ≡ folded v.script.config.kind (journal p.entity (entries v.state p.entity)) → is_valid v.script.config.kind st ≡ true → IsCell c p.entity (at items p.shard) now
+active_cell x e n st {c} {version} {who} {config} {places} {cells} {items} {running} {v} {p} {was} {now} t seen is read step leads valid =
+    let old : IsCell c p.entity (at items p.shard) was = cell_is t seen is read in
+    let here : IsPlace c p = placed t seen is in
+    let inside : p.shard < length items = subst (λ n. p.shard < n) (sym t.shards_there) here.shard_in in
+    let list : entries v.state p.entity ≡ entries_in (option_map hosted_of (at items p.shard)) =
+    subst (λ (v : Lodged). entries v.state p.entity ≡ entries_in (option_map hosted_of (at items p.shard))) seen
+    (ap (λ n. entries_in (at (map (option_map hosted_of) items) n)) (sym here.shard_is) ∙ ap entries_in (get_or-map (option_map hosted_of) items p.shard None None inside)) in
+    let script : v.script ≡ c = ap (λ (v : Lodged). v.script) (sym seen) in
+    subst (IsCell c p.entity (at items p.shard)) (sym step) record {
+      window_is = old.window_is;
+      reach_there = length-replicate (length was.cell.reach) 0 ∙ old.reach_there;
+      stash_is = refl;
+      clear = λ active. refl;
+      folds = λ active. folds_at (at items p.shard) (subst (λ (s : Script). st ≡ folded s.config.kind (journal p.entity (entries_in (option_map hosted_of (at items p.shard))))) script (subst (λ l. st ≡ folded v.script.config.kind (journal p.entity l)) list leads)) (subst (λ (s : Script). is_valid s.config.kind st ≡ true) script valid);
+    }
+  where
+    folds_at : (o : Option Hosting) → st ≡ folded c.config.kind (journal p.entity (entries_in (option_map hosted_of o))) → is_valid c.config.kind st ≡ true → IfSome o (IsFolded c p.entity (record { cell = cell_after was.cell (told (fact.Active x e n st)); state = st; window = was.window }))
+    folds_at None leads valid = tt
+    folds_at (Some h) leads valid = record { state_is = leads; valid = valid }
 
-pub rooms_taken : (c : Script) (who : Incarnation) (s i : ℕ) (items : List (Option Hosting)) (cells : List Cell) (v : Lodged) (o : Option Hosting) → lodged c who items cells ≡ v → i ≡ s → o ≡ None
-    → map room_of (slice_set items i o) ≡ slice_set v.rooms s 0
-rooms_taken c who s i items cells v o seen place none =
-    subst (λ (v : Lodged). map room_of (slice_set items i o) ≡ slice_set v.rooms s 0) seen
-    (ap (λ x. map room_of (slice_set items i x)) none ∙ (map-set room_of items i None ∙ ap (λ n. slice_set (map room_of items) n 0) place))
+-- its value, whatever the state behind it
+pub cell_moved_to : (st : State) {m : Move} {c : Script} {version : ℕ} {who : Incarnation} {config : Config} {places : Script} {cells : List Celled} {items : List (Option Hosting)} {running : ℕ} {v : Lodged} {p : Place} {was now : Celled} → IsOf p.entity m
+    → IsLodged c version who config places cells items running → lodged c version who items cells ≡ v → IsPlace v.script p → was ≡ slice_index_or cells p.at was → now ≡ record { cell = cell_after was.cell m; state = st; window = was.window }
+    → lodged c version who items (slice_set cells p.at now) ≡ moved v (m ∷ [])
+cell_moved_to st {m} {c} {version} {who} {config} {places} {cells} {items} {running} {v} {p} {was} {now} of t seen is read step =
+    ap (λ l. record { script = c; state = record { who = who; set = setting c; version = version; hosted = map (option_map hosted_of) items; cells = l }; rooms = map room_of items })
+    (map-set cell_of cells p.at now ∙ (ap (slice_set (map cell_of cells) p.at) (ap cell_of step) ∙ sym (map-set cell_of cells p.at (celled_after was m))))
+    ∙ cell_moved of t seen is read refl

@@ -1,30 +1,31 @@
 //! Where the entity of one name stands.
-ghost use Rattle.std.specs.Prelude.{◌≡◌, ℕ, ◌-◌, ◌<◌, ◌≤◌, List, [], ◌∷◌, ◌++◌, length, drop, replicate, slice_set, slice_index_or, IfOk, MatchOption};
+ghost use Rattle.std.specs.Prelude.{◌≡◌, ℕ, ◌-◌, ◌<◌, ◌≤◌, List, [], ◌∷◌, ◌++◌, length, drop, replicate, slice_set, slice_index_or, IfOk, MatchOption, IsNone, IfSome, IfNone, ◌↔◌};
 ghost use Rattle.yard_model.specs.declared.fact.Fact.TheVariants as fact;
 ghost use Rattle.yard_model.specs.declared.packet.Body.TheVariants as body;
 ghost use Rattle.yard_model.specs.declared.packet.Message.{Message};
 ghost use Rattle.yard_model.specs.declared.incarnation.Incarnation.{Incarnation};
 ghost use Rattle.yard_model.specs.declared.input.Phase.TheVariants as phase;
 ghost use Rattle.yard_model.specs.declared.state.State.{State};
-ghost use Rattle.yard_model.specs.Entities.{cell_after, is_phase};
+ghost use Rattle.yard_model.specs.Entities.{is_phase};
 ghost use Rattle.yard_model.specs.Move.{told, post, passivates};
-ghost use Rattle.shard_entities.specs.Celled.{celled};
+ghost use Rattle.shard_entities.specs.Celled.{celled, celled_after};
 
 use consumer_ctl::Stash;
 use std::alloc::{AllocError, Global};
 use std::marker::{Model, PhantomData};
-use yard_model::{Command, Keep, Message, Phase, ProducerNo};
+use yard_model::{Command, Keep, Message, Phase, ProducerNo, State};
 
 /// Where the entity of one name stands: its phase, whether it passivates, what is stashed for it,
 /// whether its next write fails, and up to which number each producer was asked. Once it is made
 /// it takes no memory.
 #[derive(Drop)]
-pub struct Cell {
+pub(crate) struct Cell {
     phase: Phase,
     passivating: bool,
     stash: Stash,
     armed: Option<Keep>,
     reach: Vec<u32>,
+    state: State,
     holds: PhantomData<(Message, Command)>,
 }
 
@@ -35,6 +36,7 @@ impl Model for Cell {
 
     ghost view = { λ c. record {
       cell = record { phase = c.phase; passivating = c.passivating; stash = c.stash.messages; armed = c.armed; reach = c.reach.items };
+      state = c.state;
       window = c.stash.window;
     } };
 }
@@ -42,7 +44,7 @@ impl Model for Cell {
 impl Cell {
     /// Of an entity that wasn't started yet, with so many producers, and room for a window of
     /// messages. The only error is want of memory.
-    pub fn new(alloc: Global, producers: u8, window: u8) -> Result<Cell, AllocError>
+    pub(crate) fn new(alloc: Global, producers: u8, window: u8) -> Result<Cell, AllocError>
         ensures { IfOk result (λ c. c ≡ celled producers window) }
     {
         let stash = Stash::new(alloc, window)?;
@@ -53,19 +55,20 @@ impl Cell {
             stash,
             armed: None,
             reach,
+            state: State::NoAccount,
             holds: PhantomData,
         })
     }
 
     /// Where it is between its start and its end.
-    pub fn phase(&self) -> Phase
+    pub(crate) fn phase(&self) -> Phase
         ensures { result ≡ self.now.cell.phase }
     {
         self.phase
     }
 
     /// Whether it takes commands.
-    pub fn is_active(&self) -> bool
+    pub(crate) fn is_active(&self) -> bool
         ensures { result ≡ is_phase phase.Active self.now.cell.phase }
     {
         match self.phase {
@@ -75,21 +78,35 @@ impl Cell {
     }
 
     /// Whether it asked for its stop.
-    pub fn is_passivating(&self) -> bool
+    pub(crate) fn is_passivating(&self) -> bool
         ensures { result ≡ self.now.cell.passivating }
     {
         self.passivating
     }
 
     /// How its next write fails; None exactly where it isn't to fail.
-    pub fn armed(&self) -> Option<Keep>
+    pub(crate) fn armed(&self) -> Option<Keep>
         ensures { result ≡ self.now.cell.armed }
     {
         self.armed
     }
 
+    /// What its journal leads to, while it takes commands.
+    pub(crate) fn state(&self) -> State
+        ensures { result ≡ self.now.state }
+    {
+        self.state
+    }
+
+    /// Its journal leads to this from now on.
+    pub(crate) fn set_state(&mut self, state: &State)
+        ensures { self.new ≡ record self.old { state = state.now } }
+    {
+        self.state = *state;
+    }
+
     /// How many messages are stashed.
-    pub fn stashed(&self) -> usize
+    pub(crate) fn stashed(&self) -> usize
         ensures count { result ≡ length self.now.cell.stash }
         ensures fits { length self.now.cell.stash ≤ self.now.window }
     {
@@ -97,7 +114,7 @@ impl Cell {
     }
 
     /// Up to which number a producer was asked.
-    pub fn reach(&self, p: ProducerNo) -> u32
+    pub(crate) fn reach(&self, p: ProducerNo) -> u32
         requires { p - 1 < length self.now.cell.reach }
         ensures { result ≡ slice_index_or self.now.cell.reach (p - 1) 0 }
     {
@@ -105,51 +122,59 @@ impl Cell {
     }
 
     /// It is started.
-    pub fn start(&mut self)
-        ensures cell { (x : Incarnation) (e : List ℕ) → self.new.cell ≡ cell_after self.old.cell (told (fact.Start x e)) }
-        ensures window { self.new.window ≡ self.old.window }
+    pub(crate) fn start(&mut self)
+        ensures { (x : Incarnation) (e : List ℕ) → self.new ≡ celled_after self.old (told (fact.Start x e)) }
     {
         self.phase = Phase::Loading;
         self.passivating = false;
         self.armed = None;
     }
 
+    /// It takes commands from now on, at this state; what was stashed goes into `pending`, which
+    /// gives an empty stash for it.
+    pub(crate) fn activate(&mut self, state: &State, pending: &mut Stash)
+        requires window { pending.old.window ≡ self.old.window }
+        requires empty { pending.old.messages ≡ [] }
+        ensures cell { (x : Incarnation) (e : List ℕ) (n : ℕ) (st : State) → self.new ≡ record (celled_after self.old (told (fact.Active x e n st))) { state = state.now } }
+        ensures pending { pending.new ≡ record { messages = self.old.cell.stash; window = self.old.window } }
+    {
+        std::mem::swap(&mut self.stash, pending);
+        self.phase = Phase::Active;
+        self.reach.fill(0);
+        self.state = *state;
+    }
+
     /// It is stopped; what is stashed stays.
-    pub fn stop(&mut self)
-        ensures cell { (x : Incarnation) (e : List ℕ) → self.new.cell ≡ cell_after self.old.cell (told (fact.Stop x e)) }
-        ensures window { self.new.window ≡ self.old.window }
+    pub(crate) fn stop(&mut self)
+        ensures { (x : Incarnation) (e : List ℕ) → self.new ≡ celled_after self.old (told (fact.Stop x e)) }
     {
         self.phase = Phase::Absent;
     }
 
     /// Its write failed, and it is gone; what is stashed stays.
-    pub fn fail(&mut self)
-        ensures cell { (x : Incarnation) (e : List ℕ) → self.new.cell ≡ cell_after self.old.cell (told (fact.WriteFailed x e)) }
-        ensures window { self.new.window ≡ self.old.window }
+    pub(crate) fn fail(&mut self)
+        ensures { (x : Incarnation) (e : List ℕ) → self.new ≡ celled_after self.old (told (fact.WriteFailed x e)) }
     {
         self.phase = Phase::Absent;
     }
 
     /// Its next write is to fail.
-    pub fn arm(&mut self, keep: Keep)
-        ensures cell { (e : List ℕ) → self.new.cell ≡ cell_after self.old.cell (told (fact.Armed e keep)) }
-        ensures window { self.new.window ≡ self.old.window }
+    pub(crate) fn arm(&mut self, keep: Keep)
+        ensures { (e : List ℕ) → self.new ≡ celled_after self.old (told (fact.Armed e keep)) }
     {
         self.armed = Some(keep);
     }
 
     /// It passivates.
-    pub fn passivate(&mut self)
-        ensures cell { (e : List ℕ) → self.new.cell ≡ cell_after self.old.cell (passivates e) }
-        ensures window { self.new.window ≡ self.old.window }
+    pub(crate) fn passivate(&mut self)
+        ensures { (e : List ℕ) → self.new ≡ celled_after self.old (passivates e) }
     {
         self.passivating = true;
     }
 
     /// It is told to stop, where it was started.
-    pub fn ask_stop(&mut self)
-        ensures cell { (x y : Incarnation) (e : List ℕ) → self.new.cell ≡ cell_after self.old.cell (post x y (body.StopEntity e)) }
-        ensures window { self.new.window ≡ self.old.window }
+    pub(crate) fn ask_stop(&mut self)
+        ensures { (x y : Incarnation) (e : List ℕ) → self.new ≡ celled_after self.old (post x y (body.StopEntity e)) }
     {
         match self.phase {
             Phase::Absent => {}
@@ -158,10 +183,9 @@ impl Cell {
     }
 
     /// A message is stashed, which there is room for.
-    pub fn put(&mut self, message: Message)
+    pub(crate) fn put(&mut self, message: Message)
         requires room { length self.old.cell.stash < self.old.window }
-        ensures cell { (x : Incarnation) → self.new.cell ≡ cell_after self.old.cell (told (fact.Stashed x message)) }
-        ensures window { self.new.window ≡ self.old.window }
+        ensures { (x : Incarnation) → self.new ≡ celled_after self.old (told (fact.Stashed x message)) }
     {
         match self.stash.put(message) {
             Ok(()) => {}
@@ -169,11 +193,34 @@ impl Cell {
         }
     }
 
+    /// The oldest stashed message is taken out, while the entity doesn't exist; None exactly where
+    /// there is none.
+    pub(crate) fn pop(&mut self) -> Option<Message>
+        requires gone { self.old.cell.phase ≡ phase.Absent }
+        ensures empty { IsNone result ↔ (self.old.cell.stash ≡ []) }
+        ensures oldest { IfSome result (λ m. self.old.cell.stash ≡ m ∷ drop 1 self.old.cell.stash) }
+        ensures cell { IfSome result (λ m. (x : Incarnation) → self.new ≡ celled_after self.old (told (fact.Dropped x m))) }
+        ensures unchanged { IfNone result (self.new ≡ self.old) }
+    {
+        self.stash.pop()
+    }
+
+    /// Nothing is known of its entity any more.
+    pub(crate) fn clear(&mut self)
+        ensures { self.new ≡ celled (length self.old.cell.reach) self.old.window }
+    {
+        self.phase = Phase::Absent;
+        self.passivating = false;
+        self.armed = None;
+        self.state = State::NoAccount;
+        self.reach.fill(0);
+        self.stash.clear();
+    }
+
     /// A producer was asked up to this number.
-    pub fn ask(&mut self, p: ProducerNo, up_to: u32)
+    pub(crate) fn ask(&mut self, p: ProducerNo, up_to: u32)
         requires { p - 1 < length self.old.cell.reach }
-        ensures cell { (x y : Incarnation) (e : List ℕ) (n : ℕ) → self.new.cell ≡ cell_after self.old.cell (post x y (body.Request p e n up_to)) }
-        ensures window { self.new.window ≡ self.old.window }
+        ensures { (x y : Incarnation) (e : List ℕ) (n : ℕ) → self.new ≡ celled_after self.old (post x y (body.Request p e n up_to)) }
     {
         self.reach[p.get() as usize - 1] = up_to;
     }

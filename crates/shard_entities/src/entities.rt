@@ -1,97 +1,96 @@
-//! The entities of a node, and the moves that change them.
-ghost use Rattle.std.specs.Prelude.{◌≡◌, ℕ, ◌+◌, ◌<◌, ◌≤◌, List, [], ◌∷◌, ◌++◌, length, map, replicate, fold, true, None, IfOk, MatchOption, slice_set};
-ghost use Rattle.std.specs.List.{list_any, flat_map};
+//! The entities of a node, by name.
+ghost use Rattle.std.specs.Prelude.{◌≡◌, ℕ, ◌+◌, ◌*◌, ◌<◌, ◌≤◌, List, [], ◌∷◌, length, replicate, true, false, None, Some, IfOk, OnOk, MatchOption, IsTrue, slice_index_or};
+ghost use Rattle.std.specs.List.{list_any};
 ghost use Rattle.yard_model.specs.declared.fact.Fact.TheVariants as fact;
-ghost use Rattle.yard_model.specs.declared.out.Item.TheVariants as item;
-ghost use Rattle.yard_model.specs.declared.packet.Body.TheVariants as body;
 ghost use Rattle.yard_model.specs.declared.input.Phase.TheVariants as phase;
-ghost use Rattle.yard_model.specs.Entities.{entities_after, new_entities, hosted, is_in_phase, passivate};
-ghost use Rattle.yard_model.specs.Move.{told, post, passivates, item_of};
-ghost use Rattle.yard_model.specs.Script.{is_name, setting};
-ghost use Rattle.shard_entities.specs.Lodged.{IsStore};
+ghost use Rattle.yard_model.specs.Entities.{new_entities, hosted, is_hosted, is_running, is_in_phase, deliver, recovered, passivate, start_remembered, hand_off, stop, forget_passivated, tick_entities};
+ghost use Rattle.yard_model.specs.Genuine.{is_brought, is_genuine, is_producer};
+ghost use Rattle.yard_model.specs.Move.{told};
+ghost use Rattle.yard_model.specs.Script.{setting, is_version};
+ghost use Rattle.yard_model.specs.Setting.{shard_of, names_of};
+ghost use Rattle.yard_model.specs.ShardSet.{has};
+ghost use Rattle.yard_model.specs.SlotReads.{holder};
+ghost use Rattle.shard_entities.specs.Lodged.{IsStore, HasRoom, RoomIfHosted, moved, given, hosting, without};
+ghost use Rattle.shard_entities.specs.Roomy.{AreMore, room_wanted};
+ghost use Rattle.shard_entities.specs.Settled.{IsSettled, IsStopped, frees};
 
-use crate::cells::Cells;
-use crate::hosting::{Ending, Hosting};
+use crate::handoff::Stopped;
+use crate::shards::Shards;
+use behaviour_core::Behaviour;
+use consumer_ctl::Stash;
 use shard_store::ShardStore;
 use std::alloc::{AllocError, Global};
-use std::marker::{Model, PhantomData};
-use std::snapshot::Snapshot;
-use yard_model::{
-    Body, Charter, Command, EntityName, Fact, Incarnation, Item, Keep, Message, Out, Packet,
-    ShardNo, Slot, Stamp, State,
-};
+use std::marker::Model;
+use yard_model::{Charter, EntityName, Incarnation, Keep, Message, Out, ShardNo, ShardSet, Stamp};
 
-/// The entities of a node (Akka 2.6, Cluster Sharding: shards, passivation): the shards that it
-/// hosts, and where the entity of each name stands.
+/// The entities of a node (Akka 2.6, Cluster Sharding: shards, passivation, remembering entities;
+/// Event Sourcing: recovery and snapshots; Reliable Delivery: the consumer's side).
+///
+/// Contracts see them as the definition's state and the room of each store; what a call makes of them,
+/// and what it appends, is one equation each: the definition's moves, folded. An entity exists only in
+/// a shard that is hosted, and only while it recovers or stops is something stashed for it.
 #[derive(Drop)]
 pub struct Entities {
-    script: Snapshot<Charter>,
-    who: Incarnation,
-    shards: u8,
-    cells: Cells,
-    hosted: Vec<Option<Hosting>>,
-    holds: PhantomData<
-        (
-            Fact,
-            Packet,
-            Body,
-            State,
-            Slot,
-            Message,
-            Command,
-            Ending,
-            Stamp,
-        ),
-    >,
+    shards: Shards,
+    pending: Stash,
 }
 
 impl Model for Entities {
-    ghost use Rattle.std.specs.Prelude.{map};
-    ghost use Rattle.std.specs.Option.{option_map};
-    ghost use Rattle.yard_model.specs.Script.{setting};
-    ghost use Rattle.shard_entities.specs.Lodged.{Lodged, IsLodged, hosted_of, room_of};
+    ghost use Rattle.std.specs.Prelude.{◌≡◌, []};
+    ghost use Rattle.shard_entities.specs.Lodged.{Lodged};
+    ghost use Rattle.shard_entities.specs.Settled.{IsSettled, IsIdle};
 
     ghost Value = { Lodged };
 
-    ghost view = { λ e. record {
-      script = e.script.value;
-      state = record {
-        who = e.who;
-        set = setting e.script.value;
-        hosted = map (option_map hosted_of) e.hosted.items;
-        cells = e.cells.cells;
-      };
-      rooms = map room_of e.hosted.items;
-    } };
+    ghost view = { λ e. e.shards };
 
-    ghost invariant = { λ e. IsLodged e.script.value e.who e.shards e.cells.script e.hosted.items };
+    ghost invariant = { λ e. IsIdle e.shards e.pending };
 }
 
 impl Entities {
-    /// The entities of a node that comes up: it hosts no shard, and none was started. The only
-    /// error is want of memory.
-    pub fn new(alloc: Global, who: Incarnation, charter: &Charter) -> Result<Entities, AllocError>
-        ensures { IfOk result (λ e. e ≡ record { script = charter.now; state = new_entities (setting charter.now) who; rooms = replicate charter.now.config.shards 0 }) }
+    /// The entities of a node that comes up with behaviours of this version, which the script admits:
+    /// it hosts no shard, and none was started. The only error is want of memory.
+    pub fn new(
+        alloc: Global,
+        who: Incarnation,
+        version: u8,
+        charter: &Charter,
+    ) -> Result<Entities, AllocError>
+        requires { is_version charter.now version ≡ true }
+        ensures { IfOk result (λ e. e ≡ record { script = charter.now; state = new_entities (setting charter.now) version who; rooms = replicate charter.now.config.shards 0 }) }
     {
-        let config = charter.config();
-        let shards = config.shards;
-        let cells = Cells::new(alloc, charter)?;
-        let hosted = none_hosted(alloc, shards)?;
-        Ok(Entities {
-            script: Snapshot::of(charter),
-            who,
-            shards,
-            cells,
-            hosted,
-            holds: PhantomData,
-        })
+        let shards = Shards::new(alloc, who, version, charter)?;
+        let pending = Stash::new(alloc, charter.config().window)?;
+        Ok(Entities { shards, pending })
     }
 
     /// Whose they are.
     pub fn who(&self) -> Incarnation
         ensures { result ≡ self.now.state.who }
     {
-        self.who
+        self.shards.who()
+    }
+
+    /// The shards that are hosted and aren't being handed off.
+    pub fn running(&self) -> ShardSet
+        ensures { (s : ℕ) → s < self.now.script.config.shards → has result s ≡ is_running self.now.state s }
+    {
+        self.shards.running()
+    }
+
+    /// The shards that are hosted.
+    pub fn hosted(&self) -> ShardSet
+        ensures { (s : ℕ) → s < self.now.script.config.shards → has result s ≡ is_hosted self.now.state s }
+    {
+        self.shards.hosted()
+    }
+
+    /// Whether an entity takes commands.
+    pub fn is_active(&self, entity: &EntityName) -> bool
+        requires name { is_brought self.now.script entity.now ≡ true }
+        ensures { result ≡ is_in_phase phase.Active self.now.state entity.now }
+    {
+        self.shards.is_active(&self.shards.find(entity))
     }
 
     /// The store of a shard; None exactly where it isn't hosted.
@@ -99,104 +98,144 @@ impl Entities {
         requires shard { s < self.now.script.config.shards }
         ensures { MatchOption result (hosted self.now.state s ≡ None) (λ x. IsStore self.now s x.now) }
     {
-        match &self.hosted[s.get() as usize] {
-            Some(hosting) => Some(&hosting.store),
-            None => None,
-        }
+        self.shards.store(s)
     }
 
-    /// Takes the store of a shard out, which isn't hosted then; None exactly where it wasn't.
-    pub fn take_all(&mut self, s: ShardNo) -> Option<ShardStore>
+    /// Makes room in the store of each hosted shard for all that a turn may write there. The only
+    /// error is want of memory; then nothing else changes.
+    pub fn reserve(&mut self) -> Result<(), AllocError>
+        ensures state { self.new ≡ record self.old { rooms = self.new.rooms } }
+        ensures more { AreMore self.old.rooms self.new.rooms }
+        ensures ok { OnOk result ((s : ℕ) → (hosted self.old.state s ≡ None → ⊥) → room_wanted self.old.script s ≤ slice_index_or self.new.rooms s 0) }
+    {
+        self.shards.reserve()
+    }
+
+    /// A shard starts, with its store, which is leased to this node; each entity that is remembered
+    /// starts with it, where the script says so.
+    pub fn start(&mut self, s: ShardNo, store: ShardStore, out: &mut Out)
         requires shard { s < self.old.script.config.shards }
-        ensures store { MatchOption result (hosted self.old.state s ≡ None) (IsStore self.old s) }
-        ensures state { self.new.state ≡ record self.old.state { hosted = slice_set self.old.state.hosted s None } }
-        ensures script { self.new.script ≡ self.old.script }
-        ensures rooms { self.new.rooms ≡ slice_set self.old.rooms s 0 }
+        requires new { hosted self.old.state s ≡ None }
+        requires script { store.script ≡ self.old.script }
+        requires its { store.shard ≡ s }
+        requires leased { holder store.entries ≡ Some self.old.state.who }
+        requires room { 2 * length (names_of self.old.state.set s) ≤ out.old.spare }
+        ensures state { self.new ≡ moved (hosting self.old s store) (start_remembered s (hosting self.old s store).state) }
+        ensures out { out.new ≡ given out.old (start_remembered s (hosting self.old s store).state) }
     {
-        match self.hosted[s.get() as usize].take() {
-            Some(hosting) => Some(hosting.store),
-            None => None,
-        }
+        self.shards.start(s, store, out);
     }
 
-    /// Whether an entity takes commands here.
-    pub fn is_active(&self, entity: &EntityName) -> bool
-        requires name { list_any (is_name entity.now) (setting self.now.script).names ≡ true }
-        ensures { result ≡ is_in_phase phase.Active self.now.state entity.now }
+    /// A message is delivered (Akka 2.6, Event Sourcing and Reliable Delivery): an entity that doesn't
+    /// exist is started and stashes it, as one that recovers or stops does; one that takes commands
+    /// handles it, where its number is the next.
+    pub fn deliver<B: Behaviour>(&mut self, message: Message, behaviour: &B, out: &mut Out)
+        requires kind { B.kind_of behaviour.now ≡ self.old.script.config.kind }
+        requires version { B.version_of behaviour.now ≡ self.old.state.version }
+        requires genuine { is_genuine self.old.script message ≡ true }
+        requires producer { is_producer self.old.script message.producer ≡ true }
+        requires name { is_brought self.old.script message.entity ≡ true }
+        requires there { HasRoom self.old (shard_of (setting self.old.script) message.entity) 1 }
+        requires room { 4 ≤ out.old.spare }
+        ensures state { self.new ≡ moved self.old (deliver message self.old.state) }
+        ensures out { out.new ≡ given out.old (deliver message self.old.state) }
     {
-        self.cells.cell(entity).is_active()
+        let place = self.shards.find(&message.entity);
+        self.shards.deliver_to(behaviour, &place, &message, out);
+    }
+
+    /// An entity has its journal (Akka 2.6, Event Sourcing: recovery): where it recovers it takes
+    /// commands from now on, and gets what was stashed for it, oldest first.
+    pub fn recovered<B: Behaviour>(&mut self, entity: &EntityName, behaviour: &B, out: &mut Out)
+        requires kind { B.kind_of behaviour.now ≡ self.old.script.config.kind }
+        requires version { B.version_of behaviour.now ≡ self.old.state.version }
+        requires name { is_brought self.old.script entity.now ≡ true }
+        requires there { RoomIfHosted self.old (shard_of (setting self.old.script) entity.now) (2 * self.old.script.config.window) }
+        requires room { 2 + 4 * self.old.script.config.window ≤ out.old.spare }
+        ensures state { self.new ≡ moved self.old (recovered entity.now self.old.state) }
+        ensures out { out.new ≡ given out.old (recovered entity.now self.old.state) }
+    {
+        self.shards.knows();
+        let place = self.shards.find(entity);
+        self.shards
+            .recovered(behaviour, &place, &mut self.pending, out);
+    }
+
+    /// An entity asks for its stop (Akka 2.6, Cluster Sharding: `Passivate`): where it takes commands
+    /// it passivates, and is told to stop; else nothing happens.
+    pub fn passivate(&mut self, entity: &EntityName, out: &mut Out)
+        requires name { is_brought self.old.script entity.now ≡ true }
+        requires room { 0 < out.old.spare }
+        ensures state { self.new ≡ moved self.old (passivate entity.now self.old.state) }
+        ensures out { out.new ≡ given out.old (passivate entity.now self.old.state) }
+    {
+        self.shards.knows();
+        let place = self.shards.find(entity);
+        self.shards.passivate(&place, out);
     }
 
     /// The next write of an entity is to fail, in this way; its stop undoes that.
     pub fn arm(&mut self, entity: &EntityName, keep: Keep, out: &mut Out)
-        requires name { list_any (is_name entity.now) (setting self.old.script).names ≡ true }
+        requires name { is_brought self.old.script entity.now ≡ true }
         requires room { 0 < out.old.spare }
-        ensures items { out.new.items ≡ out.old.items ++ item.Fact (fact.Armed entity.now keep) ∷ [] }
-        ensures state { self.new.state ≡ entities_after self.old.state (told (fact.Armed entity.now keep)) }
-        ensures script { self.new.script ≡ self.old.script }
-        ensures rooms { self.new.rooms ≡ self.old.rooms }
-        ensures spare { out.new.spare + 1 ≡ out.old.spare }
+        ensures state { self.new ≡ moved self.old (told (fact.Armed entity.now keep) ∷ []) }
+        ensures out { out.new ≡ given out.old (told (fact.Armed entity.now keep) ∷ []) }
     {
-        self.cells.arm(entity, keep);
-        out.push(Item::Fact(Fact::Armed(*entity, keep)));
+        self.shards.knows();
+        let place = self.shards.find(entity);
+        self.shards.arm(&place, keep, out);
     }
 
-    /// An entity asks for its stop (Akka 2.6, Cluster Sharding: `Passivate`): where it takes
-    /// commands it passivates, and is told to stop; else nothing happens.
-    pub fn passivate(&mut self, entity: &EntityName, out: &mut Out)
-        requires name { list_any (is_name entity.now) (setting self.old.script).names ≡ true }
-        requires room { 0 < out.old.spare }
-        ensures items { out.new.items ≡ out.old.items ++ flat_map item_of (passivate entity.now self.old.state) }
-        ensures state { self.new.state ≡ fold entities_after self.old.state (passivate entity.now self.old.state) }
-        ensures script { self.new.script ≡ self.old.script }
-        ensures rooms { self.new.rooms ≡ self.old.rooms }
-        ensures spare { out.old.spare ≤ out.new.spare + length (flat_map item_of (passivate entity.now self.old.state)) }
+    /// A hosted shard is handed off (Akka 2.6, Cluster Sharding: rebalancing): each of its entities is
+    /// told to stop; where it has none it is let go, and its store is answered.
+    pub fn hand_off(
+        &mut self,
+        s: ShardNo,
+        stamp: Stamp,
+        to: Incarnation,
+        out: &mut Out,
+    ) -> Option<ShardStore>
+        requires shard { s < self.old.script.config.shards }
+        requires there { hosted self.old.state s ≡ None → ⊥ }
+        requires room { 2 + length (names_of self.old.state.set s) ≤ out.old.spare }
+        ensures state { self.new ≡ moved self.old (hand_off s stamp to self.old.state) }
+        ensures out { out.new ≡ given out.old (hand_off s stamp to self.old.state) }
+        ensures store { MatchOption result (list_any frees (hand_off s stamp to self.old.state) ≡ false) (IsStore self.old s) }
     {
-        if self.is_active(entity) {
-            self.set_passivating(entity);
-            self.post_stop(entity, out);
-        }
-    }
-}
-
-// The moves.
-impl Entities {
-    /// It passivates.
-    pub(crate) fn set_passivating(&mut self, entity: &EntityName)
-        requires name { list_any (is_name entity.now) (setting self.old.script).names ≡ true }
-        ensures state { self.new.state ≡ entities_after self.old.state (passivates entity.now) }
-        ensures script { self.new.script ≡ self.old.script }
-        ensures rooms { self.new.rooms ≡ self.old.rooms }
-    {
-        self.cells.passivate(entity);
+        self.shards.hand_off(s, stamp, to, out)
     }
 
-    /// It is told to stop.
-    pub(crate) fn post_stop(&mut self, entity: &EntityName, out: &mut Out)
-        requires name { list_any (is_name entity.now) (setting self.old.script).names ≡ true }
-        requires room { 0 < out.old.spare }
-        ensures items { out.new.items ≡ out.old.items ++ flat_map item_of (post self.old.state.who self.old.state.who (body.StopEntity entity.now) ∷ []) }
-        ensures state { self.new.state ≡ entities_after self.old.state (post self.old.state.who self.old.state.who (body.StopEntity entity.now)) }
-        ensures script { self.new.script ≡ self.old.script }
-        ensures rooms { self.new.rooms ≡ self.old.rooms }
-        ensures spare { out.new.spare + 1 ≡ out.old.spare }
+    /// An entity that is told to stop has stopped (Akka 2.6, Cluster Sharding: passivation): what was
+    /// stashed meanwhile goes to its successor, or is dropped where its shard is handed off; after the
+    /// last one the shard is let go, and is answered.
+    pub fn stop(&mut self, entity: &EntityName, out: &mut Out) -> Option<Stopped>
+        requires name { is_brought self.old.script entity.now ≡ true }
+        requires there { RoomIfHosted self.old (shard_of (setting self.old.script) entity.now) 0 }
+        requires room { 4 + self.old.script.config.window ≤ out.old.spare }
+        ensures state { self.new ≡ moved self.old (stop entity.now self.old.state) }
+        ensures out { out.new ≡ given out.old (stop entity.now self.old.state) }
+        ensures stopped { MatchOption result (list_any frees (stop entity.now self.old.state) ≡ false) (IsStopped self.old (moved self.old (told (fact.Stop self.old.state.who entity.now) ∷ forget_passivated entity.now self.old.state)) (shard_of (setting self.old.script) entity.now)) }
     {
-        self.cells.ask_stop(entity);
-        out.push(Item::Post(Packet {
-            from: self.who,
-            to: self.who,
-            body: Body::StopEntity(*entity),
-        }));
+        self.shards.knows();
+        let place = self.shards.find(entity);
+        self.shards.stop(&place, out)
     }
-}
 
-/// No shard is hosted.
-fn none_hosted(alloc: Global, shards: u8) -> Result<Vec<Option<Hosting>>, AllocError>
-    ensures { IfOk result (λ v. v.items ≡ replicate shards None) }
-{
-    let mut hosted = Vec::new(alloc);
-    for _ in 0..shards {
-        hosted.push(None)?;
+    /// Each entity that recovers is asked for its journal again, and each that stops is told so again.
+    pub fn tick(&self, out: &mut Out)
+        requires room { length (tick_entities self.now.state) ≤ out.old.spare }
+        ensures { out.new ≡ given out.old (tick_entities self.now.state) }
+    {
+        self.shards.tick(out);
     }
-    Ok(hosted)
+
+    /// Takes the store of a shard out, which isn't hosted then, and none of its entities is left; None
+    /// exactly where it wasn't hosted.
+    pub fn take_all(&mut self, s: ShardNo) -> Option<ShardStore>
+        requires shard { s < self.old.script.config.shards }
+        ensures state { self.new ≡ without self.old s }
+        ensures store { MatchOption result (hosted self.old.state s ≡ None) (IsStore self.old s) }
+    {
+        self.shards.take_all(s)
+    }
 }

@@ -1,20 +1,26 @@
 //! The entities of a node (Akka 2.6, Cluster Sharding: shards and passivation; Event Sourcing: the
-//! stash while an entity recovers): the shards that it hosts, each with its store, and of each name of
-//! a script, where its entity stands.
-//!
-//! Begun: the cells with all that changes them, and of the node's entities what is made, lent and taken
-//! out, armed writes and passivation. Starting a shard, delivery, recovery, stopping and the handoff
-//! come next; no command calls this crate yet.
+//! stash while an entity recovers; Reliable Delivery: the consumer's side): the shards that it hosts,
+//! each with its store, and of each name of a script, where its entity stands.
 #![tactic(auto)]
 
 mod cell;
-mod cells;
+mod delivery;
 mod entities;
+mod handoff;
 mod hosting;
+mod moves;
+mod passivation;
+mod place;
+mod places;
+mod recovery;
+mod shards;
+mod starting;
+mod stopping;
+mod ticking;
+mod writing;
 
-pub use cell::Cell;
-pub use cells::Cells;
 pub use entities::Entities;
+pub use handoff::Stopped;
 
 #[cfg(test)]
 mod tests;

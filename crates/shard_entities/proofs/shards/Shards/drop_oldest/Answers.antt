@@ -1,0 +1,8 @@
+use Rattle.shard_entities.proofs.DropLaws.{dropped_stands, dropped_moved}
+use Rattle.shard_entities.proofs.shards.Shards.drop_oldest.Goals as goal
+
+pub invariant_of-self : goal.invariant_of-self
+invariant_of-self c = dropped_stands c.pop.result c.pop.new.self c.self.invariant c.self.view_is c.requires.place c.index_mut.ensures.value c.requires.gone c.pop.ensures.cell c.pop.ensures.unchanged
+
+pub returns-clause-state : goal.returns-clause-state
+returns-clause-state c = dropped_moved c.pop.result c.pop.new.self c.self.invariant c.self.view_is c.requires.place c.index_mut.ensures.value c.pop.ensures.empty c.pop.ensures.oldest c.pop.ensures.cell c.pop.ensures.unchanged

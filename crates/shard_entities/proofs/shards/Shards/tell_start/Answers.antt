@@ -1,0 +1,9 @@
+use Rattle.shard_entities.proofs.LodgedLaws.{cell_moved, stands}
+use Rattle.shard_entities.proofs.MoveLaws.{of_start, keeps_start}
+use Rattle.shard_entities.proofs.shards.Shards.tell_start.Goals as goal
+
+pub invariant_of-self : goal.invariant_of-self
+invariant_of-self c = stands (keeps_start c.args.self.now.state.who c.args.place.now.entity) c.self.invariant c.self.view_is c.requires.place c.index_mut.ensures.value (c.start.ensures c.args.self.now.state.who c.args.place.now.entity)
+
+pub returns-clause-state : goal.returns-clause-state
+returns-clause-state c = cell_moved (of_start c.args.self.now.state.who c.args.place.now.entity) c.self.invariant c.self.view_is c.requires.place c.index_mut.ensures.value (c.start.ensures c.args.self.now.state.who c.args.place.now.entity)

@@ -1,0 +1,49 @@
+//! The tick.
+ghost use Rattle.std.specs.Prelude.{◌≡◌, ℕ, ◌<◌, ◌≤◌, List, [], ◌∷◌, length};
+ghost use Rattle.std.specs.List.{flat_map};
+ghost use Rattle.yard_model.specs.Entities.{cell, entities_of, remind_by, tick_entities};
+ghost use Rattle.shard_entities.specs.Lodged.{given};
+ghost use Rattle.shard_entities.specs.Placed.{IsPlace};
+
+use crate::place::Place;
+use crate::places::shard_at;
+use crate::shards::Shards;
+use yard_model::{Body, Out, Phase, ShardNo};
+
+impl Shards {
+    /// Each entity that recovers is asked for its journal again, and each that stops is told so again.
+    pub(crate) fn tick(&self, out: &mut Out)
+        requires room { length (tick_entities self.now.state) ≤ out.old.spare }
+        ensures { out.new ≡ given out.old (tick_entities self.now.state) }
+    {
+        self.knows();
+        for s in 0..self.shards() {
+            self.remind_shard(shard_at(s), out);
+        }
+    }
+
+    /// Those of one shard.
+    fn remind_shard(&self, s: ShardNo, out: &mut Out)
+        requires shard { s < self.now.script.config.shards }
+        requires room { length (flat_map (λ e. remind_by e self.now.state (cell self.now.state e).phase) (entities_of self.now.state s)) ≤ out.old.spare }
+        ensures { out.new ≡ given out.old (flat_map (λ e. remind_by e self.now.state (cell self.now.state e).phase) (entities_of self.now.state s)) }
+    {
+        self.knows();
+        for k in 0..self.count(s) {
+            self.remind(&self.nth(s, k), out);
+        }
+    }
+
+    /// One of them.
+    fn remind(&self, place: &Place, out: &mut Out)
+        requires place { IsPlace self.now.script place.now }
+        requires room { length (remind_by place.now.entity self.now.state (cell self.now.state place.now.entity).phase) ≤ out.old.spare }
+        ensures { out.new ≡ given out.old (remind_by place.now.entity self.now.state (cell self.now.state place.now.entity).phase) }
+    {
+        match self.phase(place) {
+            Phase::Loading => self.post_recovered(place, out),
+            Phase::Stopping => self.post(&self.who, Body::StopEntity(place.entity), out),
+            _ => {}
+        }
+    }
+}

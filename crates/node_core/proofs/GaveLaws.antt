@@ -1,8 +1,9 @@
 -- What steps give, one after another.
-use Rattle.std.proofs.Common.{◌≡◌, ◌≢◌, ℕ, List, [], ◌∷◌, ◌++◌, map, sym, ap, subst, ◌∙◌, refl, append_assoc, append-nil, true, false, true≢false}
-use Rattle.std.specs.Prelude.{Bool, ◌||◌, fold, Option, Some, None, is_some, IfSome, IsSomeAnd}
+use Rattle.std.proofs.Common.{◌≡◌, ◌≢◌, ℕ, ◌-◌, List, [], ◌∷◌, ◌++◌, map, sym, ap, subst, ◌∙◌, refl, append_assoc, append-nil, true, false, true≢false}
+use Rattle.std.specs.Prelude.{Bool, ◌||◌, fold, Option, Some, None, is_some, IfSome, IsSomeAnd, if◌then◌else◌}
 use Rattle.std.specs.List.{list_all, flat_map}
 use Rattle.std.proofs.lemmas.Grind.{flat_map-append}
+use Rattle.std.proofs.lemmas.List.{length-set}
 use Rattle.std.proofs.lemmas.List.Sums.{fold-append}
 use Rattle.yard_model.specs.declared.fact.Fact.{Fact}
 use Rattle.yard_model.specs.declared.fact.Fact.TheVariants as fact
@@ -13,22 +14,24 @@ use Rattle.yard_model.specs.declared.out.Item.{Item}
 use Rattle.yard_model.specs.declared.out.Item.TheVariants as item
 use Rattle.yard_model.specs.Coordinator.{Coordinator, coordinator_after}
 use Rattle.yard_model.specs.Genuine.{is_slot_of}
-use Rattle.yard_model.specs.Move.{Move, made, viewed, registered_with, told, item_of}
+use Rattle.yard_model.specs.Lawful.{own}
+use Rattle.yard_model.specs.Move.{Move, made, told, item_of}
 use Rattle.yard_model.specs.Node.{Node, Act, Rule, by_region, by_coordinator, move_of, after, items_of}
 use Rattle.yard_model.specs.Region.{Region, region_after}
-use Rattle.yard_model.specs.Script.{Script, setting}
-use Rattle.yard_model.specs.SlotLists.{SlotLists}
+use Rattle.yard_model.specs.Script.{Script, Setting, setting}
+use Rattle.yard_model.specs.SlotLists.{SlotLists, shard_list, queue_list}
 use Rattle.yard_model.specs.SlotReads.{holder, holder_step}
-use Rattle.yard_model.specs.Trace.{lists_step}
+use Rattle.yard_model.specs.Trace.{slot_of, list_at, with_entry, lists_step}
+use Rattle.yard_laws.specs.Free.{is_free, is_free_move}
 use Rattle.yard_laws.proofs.PartsLaws.{region_alone, region_items, coordinator_items}
-use Rattle.yard_laws.proofs.Booleans.{and_both, both}
-use Rattle.world_laws.specs.Hands.{held_list}
+use Rattle.plain_laws.proofs.Booleans.{and_both, both, left_of, right_of}
+use Rattle.actor_laws.specs.Hands.{held_list, AreInHand}
+use Rattle.actor_laws.specs.Owes.{facts_in, AreElseLawful}
 use Rattle.shard_lease.specs.Meaning.{Known, Meaning, Stays, is_taken, confirms, is_confirmed}
 use Rattle.node_core.specs.Leased.{Rests, IsHandOf, IsTold, Tells}
-use Rattle.world_laws.specs.Hands.{AreInHand}
-use Rattle.world_laws.specs.Owes.{facts_in, AreElseLawful}
-use Rattle.node_core.specs.Gave.{Gave, lists_after}
-use Rattle.node_core.proofs.FoundLaws.{hand_lists, hands_in_lists, lists_else_lawful}
+use Rattle.node_core.specs.Found.{none, either, AreThere, IsAlike, AreAlike, AreElseOthers}
+use Rattle.node_core.specs.Gave.{Moment, moment, Gave, IsLeft, lists_after}
+use Rattle.node_core.proofs.FoundLaws.{lists_from, from_there, list_from, hand_found, alike_both, told_alike, none_alike}
 
 facts_append : (xs ys : List Item) → facts_in (xs ++ ys) ≡ facts_in xs ++ facts_in ys
 facts_append [] ys = refl
@@ -44,6 +47,25 @@ lists_append c lists xs ys =
     ∙ (ap (fold (lists_step (setting c)) lists) (facts_append (items_of xs) (items_of ys))
     ∙ fold-append (lists_step (setting c)) lists (facts_in (items_of xs)) (facts_in (items_of ys)))
 
+-- each slot has its list still
+step_there : (c : Script) (lists : SlotLists) (f : Fact) (o : Option Slot) → AreThere c lists → AreThere c (with_entry f lists o)
+step_there c lists f None k = k
+step_there c lists f (Some (slot.Shard s)) k = record { shards = length-set lists.shards s (shard_list lists s ++ f ∷ []) ∙ k.shards; queues = k.queues }
+step_there c lists f (Some slot.Coordinator) k = record { shards = k.shards; queues = k.queues }
+step_there c lists f (Some (slot.Queue p)) k = record { shards = k.shards; queues = length-set lists.queues (p - 1) (queue_list lists p ++ f ∷ []) ∙ k.queues }
+
+steps_there : (c : Script) (lists : SlotLists) (fs : List Fact) → AreThere c lists → AreThere c (fold (lists_step (setting c)) lists fs)
+steps_there c lists [] k = k
+steps_there c lists (f ∷ fs) k = steps_there c (lists_step (setting c) lists f) fs (step_there c lists f (slot_of (setting c) f) k)
+
+pub after_there : (c : Script) (lists : SlotLists) (acts : List Act) → AreThere c lists → AreThere c (lists_after c lists acts)
+after_there c lists acts k = steps_there c lists (facts_in (items_of acts)) k
+
+-- no act changes whose node it is
+pub who_after : (st : Node) (acts : List Act) → (fold after st acts).who ≡ st.who
+who_after st [] = refl
+who_after st (a ∷ acts) = who_after (after st a) acts
+
 pub stays_same : (m : Meaning) → Stays m m
 stays_same m = record {
   name_is = refl;
@@ -52,9 +74,10 @@ stays_same m = record {
   serves_is = λ x. refl;
   admits_is = λ n s. refl;
   vouched = λ e p n h. h;
+  seen_is = λ s. record { rest = []; is = sym (append-nil (m.seen s)) };
 }
 
-stays_both : (a b c : Meaning) → Stays a b → Stays b c → Stays a c
+pub stays_both : (a b c : Meaning) → Stays a b → Stays b c → Stays a c
 stays_both a b c h k = record {
   name_is = k.name_is ∙ h.name_is;
   script_is = k.script_is ∙ h.script_is;
@@ -62,194 +85,301 @@ stays_both a b c h k = record {
   serves_is = λ x. k.serves_is x ∙ h.serves_is x;
   admits_is = λ n s. k.admits_is n s ∙ h.admits_is n s;
   vouched = λ e p n v. k.vouched e p n (h.vouched e p n v);
+  seen_is = λ s. let x = h.seen_is s in let y = k.seen_is s in record { rest = x.rest ++ y.rest; is = y.is ∙ (ap (λ l. l ++ y.rest) x.is ∙ append_assoc (a.seen s) x.rest y.rest) };
 }
 
 -- nothing at all
-pub gave_nothing : (c : Script) (m : Meaning) (st : Node) (before : List Item) → Rests m c st → Gave c (λ lists. []) m st before m st before
-gave_nothing c m st before rests = record {
-  items = λ lists t h. sym (append-nil before);
-  state = λ lists t h. refl;
-  tells = λ lists t h. t;
-  in_hand = λ lists t h. h;
-  found = record { lists = hand_lists c st; hands_are = hands_in_lists c st; else_are = lists_else_lawful c st; items_are = sym (append-nil before); state_is = refl };
-  who_is = refl;
+pub gave_nothing : (c : Script) (now : Moment) → Rests now.meaning c now.node → Gave c none (λ lists. []) now now
+gave_nothing c now rests = record {
+  told = [];
+  items_are = sym (append-nil now.items);
+  node_is = refl;
+  found = hand_found now.meaning c (λ lists. []) now.node [] (λ lists. refl);
+  alike = λ lists full t h. none_alike c now.node lists (hand_found now.meaning c (λ lists. []) now.node [] (λ lists. refl)).lists;
+  tells = λ lists full t h. t;
+  in_hand = λ lists full t h. h;
+  left = λ s v e free. record { held_is = free; tells_is = refl };
   rests = rests;
-  stays = stays_same m;
+  stays = stays_same now.meaning;
   others = λ n s other. refl;
 }
 
 -- the same acts
-pub gave_same : (c : Script) (p q : SlotLists → List Act) (old new : Meaning) (st to : Node) (before now : List Item) → ((lists : SlotLists) → p lists ≡ q lists) → Gave c p old st before new to now → Gave c q old st before new to now
-gave_same c p q old new st to before now same g = record {
-  items = λ lists t h. g.items lists t h ∙ ap (λ acts. before ++ items_of acts) (same lists);
-  state = λ lists t h. g.state lists t h ∙ ap (fold after st) (same lists);
-  tells = λ lists t h. subst (λ acts. Tells new c (lists_after c lists acts)) (same lists) (g.tells lists t h);
-  in_hand = λ lists t h. subst (λ acts. AreInHand c (lists_after c lists acts) to) (same lists) (g.in_hand lists t h);
+pub gave_same : (c : Script) (asked : Slot → Bool) (p q : SlotLists → List Act) (old new : Moment) → ((lists : SlotLists) → p lists ≡ q lists) → Gave c asked p old new → Gave c asked q old new
+gave_same c asked p q old new same g = record {
+  told = g.told;
+  items_are = g.items_are;
+  node_is = g.node_is;
   found = record {
     lists = g.found.lists;
+    there = g.found.there;
     hands_are = g.found.hands_are;
     else_are = g.found.else_are;
-    items_are = g.found.items_are ∙ ap (λ acts. before ++ items_of acts) (same g.found.lists);
-    state_is = g.found.state_is ∙ ap (fold after st) (same g.found.lists);
+    others_are = g.found.others_are;
+    same = λ lists a. sym (same lists) ∙ g.found.same lists a;
   };
-  who_is = g.who_is;
+  alike = g.alike;
+  tells = g.tells;
+  in_hand = g.in_hand;
+  left = g.left;
   rests = g.rests;
   stays = g.stays;
   others = g.others;
 }
 
--- and then a rule that reads no lists
-pub gave_both : (c : Script) (p : SlotLists → List Act) (q : Rule) (old mid new : Meaning) (st one two : Node) (before between now : List Item)
-    → one.who ≡ st.who
-    → Gave c p old st before mid one between
-    → Gave c (λ lists. q one) mid one between new two now
-    → Gave c (λ lists. p lists ++ q (fold after st (p lists))) old st before new two now
-gave_both c p q old mid new st one two before between now same f g = record {
-  items = λ lists t h. g.items (lists_after c lists (p lists)) (f.tells lists t h) (f.in_hand lists t h)
-      ∙ (ap (λ is. is ++ items_of (q one)) (f.items lists t h)
-      ∙ (append_assoc before (items_of (p lists)) (items_of (q one))
-      ∙ (ap (λ is. before ++ is) (sym (items_append (p lists) (q one)))
-      ∙ ap (λ s. before ++ items_of (p lists ++ q s)) (f.state lists t h))));
-  state = λ lists t h. g.state (lists_after c lists (p lists)) (f.tells lists t h) (f.in_hand lists t h)
-      ∙ (ap (λ s. fold after s (q s)) (f.state lists t h)
-      ∙ sym (fold-append after st (p lists) (q (fold after st (p lists)))));
-  tells = λ lists t h. subst (λ l. Tells new c l) (sym (lists_append c lists (p lists) (q one)) ∙ ap (λ s. lists_after c lists (p lists ++ q s)) (f.state lists t h))
-      (g.tells (lists_after c lists (p lists)) (f.tells lists t h) (f.in_hand lists t h));
-  in_hand = λ lists t h. subst (λ l. AreInHand c l two) (sym (lists_append c lists (p lists) (q one)) ∙ ap (λ s. lists_after c lists (p lists ++ q s)) (f.state lists t h))
-      (g.in_hand (lists_after c lists (p lists)) (f.tells lists t h) (f.in_hand lists t h));
+-- the same slots asked for
+pub gave_asked : (c : Script) (a b : Slot → Bool) (acts : SlotLists → List Act) (old new : Moment) → ((s : Slot) → a s ≡ b s) → Gave c a acts old new → Gave c b acts old new
+gave_asked c a b acts old new same g = record {
+  told = g.told;
+  items_are = g.items_are;
+  node_is = g.node_is;
   found = record {
-    lists = f.found.lists;
-    hands_are = f.found.hands_are;
-    else_are = f.found.else_are;
-    items_are = g.found.items_are
-        ∙ (ap (λ is. is ++ items_of (q one)) f.found.items_are
-        ∙ (append_assoc before (items_of (p f.found.lists)) (items_of (q one))
-        ∙ (ap (λ is. before ++ is) (sym (items_append (p f.found.lists) (q one)))
-        ∙ ap (λ s. before ++ items_of (p f.found.lists ++ q s)) f.found.state_is)));
-    state_is = g.found.state_is
-        ∙ (ap (λ s. fold after s (q s)) f.found.state_is
-        ∙ sym (fold-append after st (p f.found.lists) (q (fold after st (p f.found.lists)))));
+    lists = g.found.lists;
+    there = g.found.there;
+    hands_are = g.found.hands_are;
+    else_are = g.found.else_are;
+    others_are = g.found.others_are;
+    same = λ lists k. g.found.same lists (λ s v asked free. k s v (sym (same s) ∙ asked) free);
   };
-  who_is = g.who_is ∙ same;
+  alike = λ lists full t h s v asked free. g.alike lists full t h s v (same s ∙ asked) free;
+  tells = g.tells;
+  in_hand = g.in_hand;
+  left = λ s v e free. g.left s v (same s ∙ e) free;
   rests = g.rests;
-  stays = stays_both old mid new f.stays g.stays;
-  others = λ n s other. g.others n s (subst (λ (x : Incarnation). n ≢ x.node) (sym same) other) ∙ f.others n s other;
+  stays = g.stays;
+  others = g.others;
 }
+
+-- Two steps, of which the second asks for no slot that the first asks for or frees.
+
+-- what is held, else what the first or the second found
+abbrev mixed : Option (List Fact) → Bool → List Fact → List Fact → List Fact
+mixed (Some l) b x y = l
+mixed None b x y = if b then x else y
+
+-- the first frees no slot that the second asks for
+abbrev pub Keeps : Script → (Slot → Bool) → Moment → Moment → Type 0
+Keeps c asked old new = (s : Slot) → is_slot_of c s ≡ true → asked s ≡ true → held_list s new.node ≡ None → held_list s old.node ≡ None
+
+or_left : (a b : Bool) → (a || b) ≡ false → a ≡ false
+or_left false b e = refl
+or_left true b e = absurd (true≢false e)
+
+or_right : (a b : Bool) → (a || b) ≡ false → b ≡ false
+or_right false b e = e
+or_right true b e = absurd (true≢false e)
+
+module _ (c : Script) (one two : Slot → Bool) (p : SlotLists → List Act) (q : SlotLists → Rule) (old mid new : Moment)
+    (apart : (s : Slot) → one s ≡ true → two s ≡ false) (keeps : Keeps c two old mid) (f : Gave c one p old mid) (g : Gave c two (λ lists. q lists mid.node) mid new) where
+  pick : Slot → List Fact
+  pick s = mixed (held_list s old.node) (one s) (list_at f.found.lists s) (list_at g.found.lists s)
+
+  both_lists : SlotLists
+  both_lists = lists_from c pick
+
+  both_there : AreThere c both_lists
+  unfolding both_lists
+  both_there = from_there c pick
+
+  at_is : (s : Slot) → is_slot_of c s ≡ true → list_at both_lists s ≡ pick s
+  unfolding both_lists
+  at_is s h = list_from c pick s h
+
+  at_one : (s : Slot) → is_slot_of c s ≡ true → held_list s old.node ≡ None → one s ≡ true → list_at both_lists s ≡ list_at f.found.lists s
+  unfolding pick
+  at_one s h free asked = at_is s h ∙ (ap (λ o. mixed o (one s) (list_at f.found.lists s) (list_at g.found.lists s)) free ∙ ap (λ v. if v then list_at f.found.lists s else list_at g.found.lists s) asked)
+
+  at_two : (s : Slot) → is_slot_of c s ≡ true → held_list s old.node ≡ None → one s ≡ false → list_at both_lists s ≡ list_at g.found.lists s
+  unfolding pick
+  at_two s h free not_one = at_is s h ∙ (ap (λ o. mixed o (one s) (list_at f.found.lists s) (list_at g.found.lists s)) free ∙ ap (λ v. if v then list_at f.found.lists s else list_at g.found.lists s) not_one)
+
+  not_first : (s : Slot) → two s ≡ true → one s ≡ false
+  not_first s asked = by (one s) refl
+    where
+      by : (v : Bool) → one s ≡ v → one s ≡ false
+      by true e = absurd (true≢false (sym asked ∙ apart s e))
+      by false e = e
+
+  who_is : mid.node.who ≡ old.node.who
+  who_is = ap (λ (x : Node). x.who) f.node_is ∙ who_after old.node f.told
+
+  hands : AreInHand c both_lists old.node
+  unfolding pick
+  hands s h = by (held_list s old.node) refl
+    where
+      by : (o : Option (List Fact)) → held_list s old.node ≡ o → IfSome o (λ list. list_at both_lists s ≡ list)
+      by None e = tt
+      by (Some l) e = at_is s h ∙ ap (λ o. mixed o (one s) (list_at f.found.lists s) (list_at g.found.lists s)) e
+
+  elses : AreElseLawful c both_lists old.node
+  elses s h free = by (one s) refl
+    where
+      by : (v : Bool) → one s ≡ v → own c s (list_at both_lists s) ≡ true
+      by true e = ap (own c s) (at_one s h free e) ∙ f.found.else_are s h free
+      by false e = ap (own c s) (at_two s h free e) ∙ g.found.else_are s h (f.left s h e free).held_is
+
+  abbrev IsOther : Moment → Slot → Option Incarnation → Type 0
+  IsOther k s o = IfSome o (λ x. (x.node ≢ k.node.who.node) × (k.meaning.admits x.node s ≡ true))
+
+  as_first : (s : Slot) (o : Option Incarnation) → IsOther mid s o → IsOther old s o
+  as_first s None h = h
+  as_first s (Some x) h = ((λ e. h.0 (e ∙ ap (λ (y : Incarnation). y.node) (sym who_is))), sym (f.stays.admits_is x.node s) ∙ h.1)
+
+  elsewhere : AreElseOthers old.meaning c both_lists old.node
+  elsewhere s h free = by (one s) refl
+    where
+      by : (v : Bool) → one s ≡ v → IsOther old s (holder (list_at both_lists s))
+      by true e = subst (λ l. IsOther old s (holder l)) (sym (at_one s h free e)) (f.found.others_are s h free)
+      by false e = subst (λ l. IsOther old s (holder l)) (sym (at_two s h free e)) (as_first s (holder (list_at g.found.lists s)) (g.found.others_are s h (f.left s h e free).held_is))
+
+  first_same : (lists : SlotLists) → AreAlike c (either one two) old.node lists both_lists → p lists ≡ f.told
+  first_same lists k = f.found.same lists (λ s h asked free. subst (IsAlike (list_at lists s)) (at_one s h free asked) (k s h (left_of (one s) (two s) asked) free))
+
+  second_same : (lists : SlotLists) → AreAlike c (either one two) old.node lists both_lists → q lists mid.node ≡ g.told
+  second_same lists k = g.found.same lists (λ s h asked free. let before : held_list s old.node ≡ None = keeps s h asked free in
+      subst (IsAlike (list_at lists s)) (at_two s h before (not_first s asked)) (k s h (right_of (one s) (two s) asked) before))
+
+  told_are : (lists : SlotLists) → AreAlike c (either one two) old.node lists both_lists → p lists ++ q lists (fold after old.node (p lists)) ≡ f.told ++ g.told
+  told_are lists k = ap (λ acts. acts ++ q lists (fold after old.node acts)) (first_same lists k) ∙ (ap (λ st. f.told ++ q lists st) (sym f.node_is) ∙ ap (λ acts. f.told ++ acts) (second_same lists k))
+
+  -- of lists that are told
+  alike_told : (lists : SlotLists) → AreThere c lists → Tells old.meaning c lists → AreInHand c lists old.node → AreAlike c (either one two) old.node lists both_lists
+  alike_told lists full t hand s h asked free = by (one s) refl
+    where
+      mid_lists : SlotLists
+      mid_lists = lists_after c lists f.told
+
+      told_mid : Tells mid.meaning c mid_lists
+      told_mid = f.tells lists full t hand
+
+      hand_mid : AreInHand c mid_lists mid.node
+      hand_mid = f.in_hand lists full t hand
+
+      second : (a b : Bool) → (a || b) ≡ true → a ≡ false → b ≡ true
+      second a b e not_a = ap (λ v. v || b) (sym not_a) ∙ e
+
+      by : (v : Bool) → one s ≡ v → IsAlike (list_at lists s) (list_at both_lists s)
+      by true e = subst (IsAlike (list_at lists s)) (sym (at_one s h free e)) (f.alike lists full t hand s h e free)
+      by false e =
+          let left : IsLeft old mid s = f.left s h e free in
+          let last : IsAlike (list_at mid_lists s) (list_at g.found.lists s) = g.alike mid_lists (after_there c lists f.told full) told_mid hand_mid s h (second (one s) (two s) asked e) left.held_is in
+          let first : IsAlike (list_at lists s) (list_at mid_lists s) = told_alike (old.meaning.tells s) (list_at lists s) (list_at mid_lists s) (t s h) (subst (λ o. IsSomeAnd o (IsTold (list_at mid_lists s))) left.tells_is (told_mid s h)) in
+          subst (IsAlike (list_at lists s)) (sym (at_two s h free e)) (alike_both (list_at lists s) (list_at mid_lists s) (list_at g.found.lists s) first last)
+
+  together : Gave c (either one two) (λ lists. p lists ++ q lists (fold after old.node (p lists))) old new
+  together = record {
+    told = f.told ++ g.told;
+    items_are = g.items_are ∙ (ap (λ is. is ++ items_of g.told) f.items_are ∙ (append_assoc old.items (items_of f.told) (items_of g.told) ∙ ap (λ is. old.items ++ is) (sym (items_append f.told g.told))));
+    node_is = g.node_is ∙ (ap (λ st. fold after st g.told) f.node_is ∙ sym (fold-append after old.node f.told g.told));
+    found = record { lists = both_lists; there = both_there; hands_are = hands; else_are = elses; others_are = elsewhere; same = told_are };
+    alike = alike_told;
+    tells = λ lists full t h. subst (Tells new.meaning c) (sym (lists_append c lists f.told g.told)) (g.tells (lists_after c lists f.told) (after_there c lists f.told full) (f.tells lists full t h) (f.in_hand lists full t h));
+    in_hand = λ lists full t h. subst (λ l. AreInHand c l new.node) (sym (lists_append c lists f.told g.told)) (g.in_hand (lists_after c lists f.told) (after_there c lists f.told full) (f.tells lists full t h) (f.in_hand lists full t h));
+    left = λ s h e free.
+        let first : IsLeft old mid s = f.left s h (or_left (one s) (two s) e) free in
+        let last : IsLeft mid new s = g.left s h (or_right (one s) (two s) e) first.held_is in
+        record { held_is = last.held_is; tells_is = last.tells_is ∙ first.tells_is };
+    rests = g.rests;
+    stays = stays_both old.meaning mid.meaning new.meaning f.stays g.stays;
+    others = λ n s other. g.others n s (subst (λ (x : Incarnation). n ≢ x.node) (sym who_is) other) ∙ f.others n s other;
+  }
+
+pub gave_both : (c : Script) (one two : Slot → Bool) (p : SlotLists → List Act) (q : SlotLists → Rule) (old mid new : Moment)
+    → ((s : Slot) → one s ≡ true → two s ≡ false) → Keeps c two old mid
+    → Gave c one p old mid → Gave c two (λ lists. q lists mid.node) mid new
+    → Gave c (either one two) (λ lists. p lists ++ q lists (fold after old.node (p lists))) old new
+gave_both c one two p q old mid new apart keeps f g = together c one two p q old mid new apart keeps f g
+
+-- the second asks for nothing
+pub gave_then : (c : Script) (one : Slot → Bool) (p : SlotLists → List Act) (q : SlotLists → Rule) (old mid new : Moment)
+    → Gave c one p old mid → Gave c none (λ lists. q lists mid.node) mid new
+    → Gave c one (λ lists. p lists ++ q lists (fold after old.node (p lists))) old new
+gave_then c one p q old mid new f g =
+    gave_asked c (either one none) one (λ lists. p lists ++ q lists (fold after old.node (p lists))) old new (λ s. or_none (one s))
+    (gave_both c one none p q old mid new (λ s asked. refl) (λ s v asked free. absurd (true≢false (sym asked))) f g)
+  where
+    or_none : (b : Bool) → (b || false) ≡ b
+    or_none true = refl
+    or_none false = refl
+
+-- the first asks for nothing
+pub gave_first : (c : Script) (two : Slot → Bool) (p : SlotLists → List Act) (q : SlotLists → Rule) (old mid new : Moment) → Keeps c two old mid
+    → Gave c none p old mid → Gave c two (λ lists. q lists mid.node) mid new
+    → Gave c two (λ lists. p lists ++ q lists (fold after old.node (p lists))) old new
+gave_first c two p q old mid new keeps f g = gave_both c none two p q old mid new (λ s asked. absurd (true≢false (sym asked))) keeps f g
 
 -- The region's moves: none is an entry.
 
-abbrev pub is_quiet : Move → Bool
-is_quiet (made (item.Fact (fact.View x v))) = true
-is_quiet (made (item.Fact (fact.Forget x s))) = true
-is_quiet (made (item.Post p)) = true
-is_quiet (viewed xs) = true
-is_quiet (registered_with x) = true
-is_quiet m = false
+free_step : (set : Setting) (lists : SlotLists) (f : Fact) → is_free f ≡ true → lists_step set lists f ≡ lists
+free_step set lists (fact.At n) h = refl
+free_step set lists fact.Nothing h = refl
+free_step set lists fact.WireFull h = refl
+free_step set lists fact.Settled h = refl
+free_step set lists (fact.Up x) h = refl
+free_step set lists (fact.View x v) h = refl
+free_step set lists (fact.Sent k p) h = refl
+free_step set lists (fact.Got k) h = refl
+free_step set lists (fact.Held s x n) h = refl
+free_step set lists (fact.Moving s stamp) h = refl
+free_step set lists (fact.Home x s k) h = refl
+free_step set lists (fact.Forget x s) h = refl
+free_step set lists (fact.Kept x m) h = refl
+free_step set lists (fact.Dropped x m) h = refl
+free_step set lists (fact.Stashed x m) h = refl
+free_step set lists (fact.Armed e k) h = refl
+free_step set lists (fact.Waits p e k) h = refl
+free_step set lists (fact.SentAsk k x) h = refl
+free_step set lists (fact.SentJob k x e) h = refl
+free_step set lists (fact.SentDone k x e) h = refl
+free_step set lists (fact.Given e x) h = refl
+free_step set lists (fact.Did x e) h = refl
+free_step set lists f h = absurd (true≢false (sym h))
 
-quiet_lists : (c : Script) (lists : SlotLists) (ms : List Move) → list_all is_quiet ms ≡ true → fold (lists_step (setting c)) lists (facts_in (flat_map item_of ms)) ≡ lists
-quiet_lists c lists [] h = refl
-quiet_lists c lists (made (item.Fact (fact.View x v)) ∷ ms) h = quiet_lists c lists ms h
-quiet_lists c lists (made (item.Fact (fact.Forget x s)) ∷ ms) h = quiet_lists c lists ms h
-quiet_lists c lists (made (item.Post p) ∷ ms) h = quiet_lists c lists ms h
-quiet_lists c lists (viewed xs ∷ ms) h = quiet_lists c lists ms h
-quiet_lists c lists (registered_with x ∷ ms) h = quiet_lists c lists ms h
-quiet_lists c lists (m ∷ ms) h = absurd (true≢false (sym h))
+free_lists : (set : Setting) (lists : SlotLists) (ms : List Move) → list_all is_free_move ms ≡ true → fold (lists_step set) lists (facts_in (flat_map item_of ms)) ≡ lists
+free_lists set lists [] h = refl
+free_lists set lists (made (item.Fact f) ∷ ms) h =
+    let parts : (is_free f ≡ true) × (list_all is_free_move ms ≡ true) = and_both (is_free f) (list_all is_free_move ms) h in
+    ap (λ l. fold (lists_step set) l (facts_in (flat_map item_of ms))) (free_step set lists f parts.0) ∙ free_lists set lists ms parts.1
+free_lists set lists (made (item.Post p) ∷ ms) h = free_lists set lists ms h
+free_lists set lists (m ∷ ms) h = free_lists set lists ms h
 
-quiet_acts : (c : Script) (lists : SlotLists) (ms : List Move) → list_all is_quiet ms ≡ true → lists_after c lists (map by_region ms) ≡ lists
-quiet_acts c lists ms h = ap (λ is. fold (lists_step (setting c)) lists (facts_in is)) (region_items ms) ∙ quiet_lists c lists ms h
+-- of another region it is the same
+pub held_region : (s : Slot) (st : Node) (r : Region) → held_list s (record st { region = r }) ≡ held_list s st
+held_region (slot.Shard s) st r = refl
+held_region slot.Coordinator st r = refl
+held_region (slot.Queue p) st r = refl
 
-in_hand_region : (c : Script) (lists : SlotLists) (st : Node) (r : Region) → AreInHand c lists st → AreInHand c lists (record st { region = r })
-in_hand_region c lists st r h (slot.Shard s) v = h (slot.Shard s) v
-in_hand_region c lists st r h slot.Coordinator v = h slot.Coordinator v
-in_hand_region c lists st r h (slot.Queue p) v = h (slot.Queue p) v
-
-else_region : (c : Script) (lists : SlotLists) (st : Node) (r : Region) → AreElseLawful c lists st → AreElseLawful c lists (record st { region = r })
-else_region c lists st r h (slot.Shard s) v none = h (slot.Shard s) v none
-else_region c lists st r h slot.Coordinator v none = h slot.Coordinator v none
-else_region c lists st r h (slot.Queue p) v none = h (slot.Queue p) v none
-
-pub rests_region : (m : Meaning) (c : Script) (st : Node) (r : Region) → Rests m c st → Rests m c (record st { region = r })
+rests_region : (m : Meaning) (c : Script) (st : Node) (r : Region) → Rests m c st → Rests m c (record st { region = r })
 rests_region m c st r h = record {
   script_is = h.script_is;
   serves_is = h.serves_is;
   number_is = h.number_is;
   admits_is = h.admits_is;
-  held_is = held;
-  lists_are = lists;
+  held_is = λ s v. h.held_is s v ∙ ap is_some (sym (held_region s st r));
+  lists_are = λ s v. subst (λ o. IfSome o (IsHandOf m s)) (sym (held_region s st r)) (h.lists_are s v);
 }
-  where
-    held : (s : Slot) → is_slot_of c s ≡ true → m.holds st.who.node s ≡ is_some (held_list s (record st { region = r }))
-    held (slot.Shard s) v = h.held_is (slot.Shard s) v
-    held slot.Coordinator v = h.held_is slot.Coordinator v
-    held (slot.Queue p) v = h.held_is (slot.Queue p) v
 
-    lists : (s : Slot) → is_slot_of c s ≡ true → IfSome (held_list s (record st { region = r })) (IsHandOf m s)
-    lists (slot.Shard s) v = h.lists_are (slot.Shard s) v
-    lists slot.Coordinator v = h.lists_are slot.Coordinator v
-    lists (slot.Queue p) v = h.lists_are (slot.Queue p) v
-
--- the region's moves, and then the rest
-pub region_first : (c : Script) (ms : List Move) (q : SlotLists → List Act) (old new : Meaning) (st to : Node) (before now : List Item)
-    → list_all is_quiet ms ≡ true
-    → Gave c q old (record st { region = fold region_after st.region ms }) (before ++ flat_map item_of ms) new to now
-    → Gave c (λ lists. map by_region ms ++ q lists) old st before new to now
-region_first c ms q old new st to before now quiet g = record {
-  items = λ lists t h. g.items lists t (in_hand_region c lists st r h) ∙ items_same lists;
-  state = λ lists t h. g.state lists t (in_hand_region c lists st r h) ∙ (ap (λ s. fold after s (q lists)) (sym (region_alone st ms)) ∙ sym (fold-append after st (map by_region ms) (q lists)));
-  tells = λ lists t h. subst (λ l. Tells new c l) (sym (lists_same lists)) (g.tells lists t (in_hand_region c lists st r h));
-  in_hand = λ lists t h. subst (λ l. AreInHand c l to) (sym (lists_same lists)) (g.in_hand lists t (in_hand_region c lists st r h));
-  found = record {
-    lists = g.found.lists;
-    hands_are = in_hand_region c g.found.lists (record st { region = r }) st.region g.found.hands_are;
-    else_are = else_region c g.found.lists (record st { region = r }) st.region g.found.else_are;
-    items_are = g.found.items_are ∙ items_same g.found.lists;
-    state_is = g.found.state_is ∙ (ap (λ s. fold after s (q g.found.lists)) (sym (region_alone st ms)) ∙ sym (fold-append after st (map by_region ms) (q g.found.lists)));
-  };
-  who_is = g.who_is;
-  rests = g.rests;
-  stays = g.stays;
-  others = g.others;
+pub region_gave : (c : Script) (ms : List Move) (m : Meaning) (st : Node) (before : List Item) → list_all is_free_move ms ≡ true → Rests m c st
+    → Gave c none (λ lists. map by_region ms) (moment m st before) (moment m (record st { region = fold region_after st.region ms }) (before ++ flat_map item_of ms))
+region_gave c ms m st before free rests = record {
+  told = map by_region ms;
+  items_are = ap (λ is. before ++ is) (sym (region_items ms));
+  node_is = sym (region_alone st ms);
+  found = hand_found m c (λ lists. map by_region ms) st (map by_region ms) (λ lists. refl);
+  alike = λ lists full t h. none_alike c st lists (hand_found m c (λ lists. map by_region ms) st (map by_region ms) (λ lists. refl)).lists;
+  tells = λ lists full t h. subst (Tells m c) (sym (lists_same lists)) t;
+  in_hand = λ lists full t h. subst (λ l. AreInHand c l (record st { region = r })) (sym (lists_same lists)) (λ s v. subst (λ o. IfSome o (λ list. list_at lists s ≡ list)) (sym (held_region s st r)) (h s v));
+  left = λ s v e none. record { held_is = held_region s st r ∙ none; tells_is = refl };
+  rests = rests_region m c st r rests;
+  stays = stays_same m;
+  others = λ n s other. refl;
 }
   where
     r : Region
     r = fold region_after st.region ms
 
-    items_same : (lists : SlotLists) → (before ++ flat_map item_of ms) ++ items_of (q lists) ≡ before ++ items_of (map by_region ms ++ q lists)
-    items_same lists = append_assoc before (flat_map item_of ms) (items_of (q lists))
-        ∙ ap (λ is. before ++ is) (ap (λ is. is ++ items_of (q lists)) (sym (region_items ms)) ∙ sym (items_append (map by_region ms) (q lists)))
-
-    lists_same : (lists : SlotLists) → lists_after c lists (map by_region ms ++ q lists) ≡ lists_after c lists (q lists)
-    lists_same lists = lists_append c lists (map by_region ms) (q lists) ∙ ap (λ l. lists_after c l (q lists)) (quiet_acts c lists ms quiet)
-
--- and then the region's moves
-pub region_last : (c : Script) (ms : List Move) (q : SlotLists → List Act) (old new : Meaning) (st to : Node) (before between : List Item)
-    → list_all is_quiet ms ≡ true
-    → Gave c q old st before new to between
-    → Gave c (λ lists. q lists ++ map by_region ms) old st before new (record to { region = fold region_after to.region ms }) (between ++ flat_map item_of ms)
-region_last c ms q old new st to before between quiet g = record {
-  items = λ lists t h. ap (λ is. is ++ flat_map item_of ms) (g.items lists t h)
-      ∙ (append_assoc before (items_of (q lists)) (flat_map item_of ms)
-      ∙ ap (λ is. before ++ is) (ap (λ is. items_of (q lists) ++ is) (sym (region_items ms)) ∙ sym (items_append (q lists) (map by_region ms))));
-  state = λ lists t h. sym (region_alone to ms) ∙ (ap (λ s. fold after s (map by_region ms)) (g.state lists t h) ∙ sym (fold-append after st (q lists) (map by_region ms)));
-  tells = λ lists t h. subst (λ l. Tells new c l) (sym (lists_same lists)) (g.tells lists t h);
-  in_hand = λ lists t h. subst (λ l. AreInHand c l (record to { region = fold region_after to.region ms })) (sym (lists_same lists)) (in_hand_region c (lists_after c lists (q lists)) to (fold region_after to.region ms) (g.in_hand lists t h));
-  found = record {
-    lists = g.found.lists;
-    hands_are = g.found.hands_are;
-    else_are = g.found.else_are;
-    items_are = ap (λ is. is ++ flat_map item_of ms) g.found.items_are
-        ∙ (append_assoc before (items_of (q g.found.lists)) (flat_map item_of ms)
-        ∙ ap (λ is. before ++ is) (ap (λ is. items_of (q g.found.lists) ++ is) (sym (region_items ms)) ∙ sym (items_append (q g.found.lists) (map by_region ms))));
-    state_is = sym (region_alone to ms) ∙ (ap (λ s. fold after s (map by_region ms)) g.found.state_is ∙ sym (fold-append after st (q g.found.lists) (map by_region ms)));
-  };
-  who_is = g.who_is;
-  rests = rests_region new c to (fold region_after to.region ms) g.rests;
-  stays = g.stays;
-  others = g.others;
-}
-  where
-    lists_same : (lists : SlotLists) → lists_after c lists (q lists ++ map by_region ms) ≡ lists_after c lists (q lists)
-    lists_same lists = lists_append c lists (q lists) (map by_region ms) ∙ quiet_acts c (lists_after c lists (q lists)) ms quiet
+    lists_same : (lists : SlotLists) → lists_after c lists (map by_region ms) ≡ lists
+    lists_same lists = ap (λ is. fold (lists_step (setting c)) lists (facts_in is)) (region_items ms) ∙ free_lists (setting c) lists ms free
 
 -- The coordinator's moves: it writes who is registered and who is terminated.
 
@@ -346,20 +476,16 @@ pub coordinator_gave : (c : Script) (m : Meaning) (x : Incarnation) (st : Node) 
     → holder k.entries ≡ Some x
     → list_all (is_plain m) ms ≡ true
     → Rests m c (record st { coordinator = Some k })
-    → Gave c (λ lists. map by_coordinator ms) m (record st { coordinator = Some k }) before m (record st { coordinator = Some (fold coordinator_after k ms) }) (before ++ flat_map item_of ms)
+    → Gave c none (λ lists. map by_coordinator ms) (moment m (record st { coordinator = Some k }) before) (moment m (record st { coordinator = Some (fold coordinator_after k ms) }) (before ++ flat_map item_of ms))
 coordinator_gave c m x st k ms before leased plain rests = record {
-  items = λ lists t h. ap (λ is. before ++ is) (sym (coordinator_items ms));
-  state = λ lists t h. sym (plain_state m st k ms plain);
-  tells = λ lists t h. subst (λ l. Tells m c l) (sym (lists_are lists (h slot.Coordinator refl))) (tells lists t (h slot.Coordinator refl));
-  in_hand = λ lists t h. subst (λ l. AreInHand c l (record st { coordinator = Some now })) (sym (lists_are lists (h slot.Coordinator refl))) (in_hand lists h);
-  found = record {
-    lists = hand_lists c (record st { coordinator = Some k });
-    hands_are = hands_in_lists c (record st { coordinator = Some k });
-    else_are = lists_else_lawful c (record st { coordinator = Some k });
-    items_are = ap (λ is. before ++ is) (sym (coordinator_items ms));
-    state_is = sym (plain_state m st k ms plain);
-  };
-  who_is = refl;
+  told = map by_coordinator ms;
+  items_are = ap (λ is. before ++ is) (sym (coordinator_items ms));
+  node_is = sym (plain_state m st k ms plain);
+  found = hand_found m c (λ lists. map by_coordinator ms) (record st { coordinator = Some k }) (map by_coordinator ms) (λ lists. refl);
+  alike = λ lists full t h. none_alike c (record st { coordinator = Some k }) lists (hand_found m c (λ lists. map by_coordinator ms) (record st { coordinator = Some k }) (map by_coordinator ms) (λ lists. refl)).lists;
+  tells = λ lists full t h. subst (λ l. Tells m c l) (sym (lists_are lists (h slot.Coordinator refl))) (tells lists t (h slot.Coordinator refl));
+  in_hand = λ lists full t h. subst (λ l. AreInHand c l (record st { coordinator = Some now })) (sym (lists_are lists (h slot.Coordinator refl))) (in_hand lists h);
+  left = left;
   rests = record {
     script_is = rests.script_is;
     serves_is = rests.serves_is;
@@ -401,3 +527,9 @@ coordinator_gave c m x st k ms before leased plain rests = record {
     hands (slot.Shard s) v = rests.lists_are (slot.Shard s) v
     hands slot.Coordinator v = hand_more m k.entries now.entries more (rests.lists_are slot.Coordinator v)
     hands (slot.Queue p) v = rests.lists_are (slot.Queue p) v
+
+    left : (s : Slot) → is_slot_of c s ≡ true → none s ≡ false → held_list s (record st { coordinator = Some k }) ≡ None
+        → IsLeft (moment m (record st { coordinator = Some k }) before) (moment m (record st { coordinator = Some now }) (before ++ flat_map item_of ms)) s
+    left (slot.Shard s) v e free = record { held_is = free; tells_is = refl }
+    left slot.Coordinator v e free = absurd (some_is_not_none k.entries free)
+    left (slot.Queue p) v e free = record { held_is = free; tells_is = refl }

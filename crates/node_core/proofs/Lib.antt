@@ -1,7 +1,10 @@
 pub mod FoundLaws
 pub mod GaveLaws
+pub mod AskLaws
+pub mod BesideLaws
 pub mod LeadLaws
 pub mod CrashLaws
 pub mod StepLaws
+pub mod TurnLaws
 pub mod SlotLaws
 pub mod BookLaws

@@ -10,13 +10,13 @@ use Rattle.yard_model.specs.declared.input.Input.TheVariants as input
 use Rattle.yard_model.specs.declared.packet.Body.{Body}
 use Rattle.yard_model.specs.declared.packet.Body.TheVariants as body
 use Rattle.yard_model.specs.declared.packet.Packet.{Packet}
-use Rattle.yard_model.specs.Genuine.{is_slot_of, is_genuine_packet}
+use Rattle.yard_model.specs.Genuine.{is_slot_of}
 use Rattle.yard_model.specs.Node.{Node}
 use Rattle.yard_model.specs.Script.{Script}
 use Rattle.yard_model.specs.SlotLists.{SlotLists}
 use Rattle.yard_model.specs.SlotReads.{holder}
 use Rattle.yard_model.specs.Trace.{list_at}
-use Rattle.world_laws.specs.Hands.{held_list}
+use Rattle.actor_laws.specs.Hands.{held_list}
 use Rattle.shard_lease.specs.Meaning.{Known, Meaning, Apart, Begins, IsVouched, is_taken}
 
 -- a list that a node has in hand: it extends the one that was told last, its incarnations have numbers within the limit, and what it confirms is vouched for
@@ -47,15 +47,18 @@ pub record IsTold (list : List Fact) (k : Known) : Type 0 where
 abbrev pub Tells : Meaning → Script → SlotLists → Type 0
 Tells m c lists = (s : Slot) → IsTrue (is_slot_of c s) → IsSomeAnd (m.tells s) (IsTold (list_at lists s))
 
--- a packet for this incarnation, made of what the script has, from one whose number is within the limit
-pub record IsFor (c : Script) (m : Meaning) (who : Incarnation) (p : Packet) : Type 0 where
-  pub genuine : IsTrue (is_genuine_packet c p)
+-- a packet for this incarnation, from one whose number is within the limit
+pub record IsFor (m : Meaning) (who : Incarnation) (p : Packet) : Type 0 where
   pub to_is : p.to ≡ who
   pub within_is : m.within p.from.number ≡ true
 
 abbrev pub IfPacket : Input → (Packet → Type 0) → Type 0
 IfPacket (input.Packet p) P = P p
 IfPacket i P = Unit {0}
+
+abbrev pub IfProduce : Input → (ℕ → Type 0) → Type 0
+IfProduce (input.Produce p) P = P p
+IfProduce i P = Unit {0}
 
 -- a view whose version is greater than this
 abbrev pub is_newer : Body → ℕ → Bool

@@ -1,5 +1,8 @@
-pub mod Standing
-pub mod Leased
+pub mod Built
+pub mod Found
 pub mod Gave
-pub mod Taken
+pub mod Leased
 pub mod Slots
+pub mod Standing
+pub mod Taken
+pub mod Turned

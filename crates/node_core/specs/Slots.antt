@@ -5,7 +5,7 @@ use Rattle.yard_model.specs.declared.incarnation.Slot.TheVariants as slot
 use Rattle.yard_model.specs.Node.{Node}
 use Rattle.yard_model.specs.Script.{Script}
 use Rattle.yard_model.specs.Words.{numbers}
-use Rattle.world_laws.specs.Hands.{held_list}
+use Rattle.actor_laws.specs.Hands.{held_list}
 
 -- shards rising, the coordinator, queues rising
 abbrev pub slots : Script → List Slot

@@ -1,6 +1,5 @@
 -- A node as it stands between its inputs.
-use Rattle.std.specs.Prelude.{◌≡◌, ℕ, ◌+◌, ◌*◌, ◌≤◌, true, length, replicate, Option, Some, None, IfSome, IsTrue, List, []}
-use Rattle.std.specs.List.{list_all}
+use Rattle.std.specs.Prelude.{◌≡◌, ℕ, ◌+◌, ◌*◌, ◌≤◌, true, length, replicate, Option, Some, None, IfSome, IsTrue, List}
 use Rattle.std.specs.Option.{option_map}
 use Rattle.yard_model.specs.declared.incarnation.Incarnation.{Incarnation}
 use Rattle.yard_model.specs.Entities.{new_entities}
@@ -25,36 +24,34 @@ abbrev pub places_in : Option Held → ℕ
 places_in None = 0
 places_in (Some k) = k.places
 
--- the node of these parts, which hosts nothing and produces nothing yet
-abbrev pub node_of : Script → Region → Option Held → Node
-node_of c region coordinator = record {
+-- the node of these parts and of a behaviour of this version, which hosts nothing and produces nothing yet
+abbrev pub node_of : Script → ℕ → Region → Option Held → Node
+node_of c version region coordinator = record {
   who = region.who;
   set = setting c;
   region = region;
-  entities = new_entities (setting c) region.who;
+  entities = new_entities (setting c) version region.who;
   producers = replicate c.config.producers None;
   coordinator = option_map (λ k. k.state) coordinator;
 }
 
--- a coordinator of this script, at this incarnation; no round is open yet
+-- a coordinator of this script, at this incarnation
 pub record IsOf (c : Script) (who : Incarnation) (k : Held) : Type 0 where
   pub script_is : k.script ≡ c
   pub who_is : k.state.who ≡ who
   pub set_is : k.state.set ≡ setting c
-  pub still_is : k.state.moving ≡ []
 
--- the parts of a node are of one script and of one incarnation, which is of one of the script's nodes, as are the members in its view
+-- the parts of a node are of one script and of one incarnation, which is of one of the script's nodes
 pub record AreParts (c : Script) (region : Made) (office : Option Held) : Type 0 where
   pub script_is : IsScript c
   pub who_is : is_node c region.state.who ≡ true
   pub region_script : region.script ≡ c
   pub region_set : region.state.set ≡ setting c
-  pub view_is : IsTrue (list_all (is_node c) region.state.view)
   pub coordinator : IfSome office (IsOf c region.state.who)
 
--- where it is the coordinator, each registered region is in its view
+-- where there is a coordinator, each registered region is in this view
 abbrev pub AreSeen : List Incarnation → Option Held → Type 0
-AreSeen view coordinator = IfSome coordinator (λ k. IsTrue (are_viewed view k.state.entries))
+AreSeen view office = IfSome office (λ k. IsTrue (are_viewed view k.state.entries))
 
 -- an input that it handles, and its crash, take no memory
 pub record IsReady (v : Standing) (spare : ℕ) : Type 0 where

@@ -9,11 +9,13 @@ ghost use Rattle.yard_model.specs.Region.{oldest};
 ghost use Rattle.yard_model.specs.Words.{is_at};
 ghost use Rattle.shard_lease.specs.declared.leases.Acquire.TheVariants as answers;
 ghost use Rattle.shard_lease.specs.Meaning.{Meaning, Stays};
-ghost use Rattle.node_core.specs.Standing.{node_of, AreParts, AreSeen, IsOf};
+ghost use Rattle.node_core.specs.Standing.{node_of, AreParts, IsOf};
 ghost use Rattle.node_core.specs.Leased.{Rests};
 ghost use Rattle.node_core.specs.Taken.{Took, IsGrant, IsGranted};
-ghost use Rattle.node_core.specs.Gave.{Gave, take_lead};
+ghost use Rattle.node_core.specs.Found.{none};
+ghost use Rattle.node_core.specs.Gave.{Gave, moment, take_lead, asks_lead, office};
 
+use crate::actors::Actors;
 use coordinator_actor::Coordinator;
 use coordinator_actor::laws::{lost_room, same_law as same_coordinator};
 use region_actor::Region;
@@ -22,50 +24,64 @@ use shard_store::Store;
 use std::alloc::Global;
 use yard_model::{Charter, Fact, Incarnation, Item, NodeNo, Out, Slot};
 
-/// Where the node is the oldest of its view and isn't the coordinator, it asks for the
-/// coordinator's slot. Where it is the coordinator now, each registered region that isn't in the view
-/// is terminated.
-pub(crate) fn lead<L: Leases>(
-    alloc: Global,
-    charter: &Charter,
-    region: &Region,
-    coordinator: &mut Option<Coordinator>,
-    leases: &mut L,
-    out: &mut Out,
-)
-    requires parts { AreParts charter.now region.now coordinator.old }
-    requires rests { Rests (L.meaning leases.old) charter.now (node_of charter.now region.now.state coordinator.old) }
-    requires entries { IfSome coordinator.old (λ k. 16 ≤ k.spare) }
-    requires room { 2065 ≤ out.old.spare }
-    ensures parts { AreParts charter.now region.now coordinator.new }
-    ensures seen { AreSeen region.now.state.view coordinator.new }
-    ensures gave { Gave charter.now (λ lists. rules.lead lists (node_of charter.now region.now.state coordinator.old)) (L.meaning leases.old) (node_of charter.now region.now.state coordinator.old) out.old.items (L.meaning leases.new) (node_of charter.now region.now.state coordinator.new) out.new.items }
-    ensures spare { out.old.spare ≤ out.new.spare + 2065 }
-{
-    acquire_lead(alloc, charter, region, coordinator, leases, out);
-    drop_lost(charter, region, coordinator, out);
-}
+impl<B: Drop> Actors<B> {
+    /// Where the node is the oldest of its view and isn't the coordinator, it asks for the
+    /// coordinator's slot. Where it is the coordinator now, each registered region that isn't in the
+    /// view is terminated.
+    pub(crate) fn lead<L: Leases>(&mut self, charter: &Charter, leases: &mut L, out: &mut Out)
+        requires charter { charter.now ≡ self.old.script }
+        requires rests { Rests (L.meaning leases.old) self.old.script self.old.state }
+        requires entries { IfSome self.old.state.coordinator (λ k. 16 ≤ self.old.spare) }
+        requires room { 2065 ≤ out.old.spare }
+        ensures script { self.new.script ≡ self.old.script }
+        ensures gave { Gave self.old.script (asks_lead self.old.state) (λ lists. rules.lead lists self.old.state) (moment (L.meaning leases.old) self.old.state out.old.items) (moment (L.meaning leases.new) self.new.state out.new.items) }
+        ensures room { out.old.spare ≤ out.new.spare + 2065 }
+    {
+        self.take_lead(charter, leases, out);
+        self.drop_lost(charter, out);
+    }
 
-/// The first part of Lead.
-fn acquire_lead<L: Leases>(
-    alloc: Global,
-    charter: &Charter,
-    region: &Region,
-    coordinator: &mut Option<Coordinator>,
-    leases: &mut L,
-    out: &mut Out,
-)
-    requires parts { AreParts charter.now region.now coordinator.old }
-    requires rests { Rests (L.meaning leases.old) charter.now (node_of charter.now region.now.state coordinator.old) }
-    requires entries { IfSome coordinator.old (λ k. 16 ≤ k.spare) }
-    requires room { 1 ≤ out.old.spare }
-    ensures parts { AreParts charter.now region.now coordinator.new }
-    ensures entries { IfSome coordinator.new (λ k. 16 ≤ k.spare) }
-    ensures gave { Gave charter.now (λ lists. take_lead lists (node_of charter.now region.now.state coordinator.old)) (L.meaning leases.old) (node_of charter.now region.now.state coordinator.old) out.old.items (L.meaning leases.new) (node_of charter.now region.now.state coordinator.new) out.new.items }
-    ensures spare { out.old.spare ≤ out.new.spare + 1 }
-{
-    if coordinator.is_none() && is_oldest(region) {
-        take_slot(alloc, charter, region, coordinator, leases, out);
+    /// The first part of Lead.
+    fn take_lead<L: Leases>(&mut self, charter: &Charter, leases: &mut L, out: &mut Out)
+        requires charter { charter.now ≡ self.old.script }
+        requires rests { Rests (L.meaning leases.old) self.old.script self.old.state }
+        requires entries { IfSome self.old.state.coordinator (λ k. 16 ≤ self.old.spare) }
+        requires room { 1 ≤ out.old.spare }
+        ensures script { self.new.script ≡ self.old.script }
+        ensures entries { IfSome self.new.state.coordinator (λ k. 16 ≤ self.new.spare) }
+        ensures gave { Gave self.old.script (asks_lead self.old.state) (λ lists. take_lead lists self.old.state) (moment (L.meaning leases.old) self.old.state out.old.items) (moment (L.meaning leases.new) self.new.state out.new.items) }
+        ensures room { out.old.spare ≤ out.new.spare + 1 }
+    {
+        if self.coordinator.is_none() && is_oldest(&self.region) {
+            take_slot(
+                self.alloc,
+                charter,
+                self.version,
+                &self.region,
+                &mut self.coordinator,
+                leases,
+                out,
+            );
+        }
+    }
+
+    /// The second part of Lead.
+    fn drop_lost(&mut self, charter: &Charter, out: &mut Out)
+        requires charter { charter.now ≡ self.old.script }
+        requires entries { IfSome self.old.state.coordinator (λ k. 16 ≤ self.old.spare) }
+        requires room { 2064 ≤ out.old.spare }
+        ensures script { self.new.script ≡ self.old.script }
+        ensures gave { (m : Meaning) → Rests m self.old.script self.old.state
+            → Gave self.old.script none (λ lists. rules.of_coordinator (terminate_lost self.old.state.region.view) self.old.state) (moment m self.old.state out.old.items) (moment m self.new.state out.new.items) }
+        ensures room { out.old.spare ≤ out.new.spare + 2064 }
+    {
+        drop_lost(
+            charter,
+            self.version,
+            &self.region,
+            &mut self.coordinator,
+            out,
+        );
     }
 }
 
@@ -83,6 +99,7 @@ fn is_oldest(region: &Region) -> bool
 fn take_slot<L: Leases>(
     alloc: Global,
     charter: &Charter,
+    version: u8,
     region: &Region,
     coordinator: &mut Option<Coordinator>,
     leases: &mut L,
@@ -91,13 +108,14 @@ fn take_slot<L: Leases>(
     requires none { coordinator.old ≡ None }
     requires oldest { is_at region.now.state.who (oldest region.now.state) ≡ true }
     requires parts { AreParts charter.now region.now None }
-    requires rests { Rests (L.meaning leases.old) charter.now (node_of charter.now region.now.state None) }
+    requires rests { Rests (L.meaning leases.old) charter.now (node_of charter.now version region.now.state None) }
     requires room { 1 ≤ out.old.spare }
     ensures parts { AreParts charter.now region.now coordinator.new }
     ensures entries { IfSome coordinator.new (λ k. 16 ≤ k.spare) }
-    ensures gave { Gave charter.now (λ lists. take_lead lists (node_of charter.now region.now.state coordinator.old)) (L.meaning leases.old) (node_of charter.now region.now.state coordinator.old) out.old.items (L.meaning leases.new) (node_of charter.now region.now.state coordinator.new) out.new.items }
-    ensures spare { out.old.spare ≤ out.new.spare + 1 }
+    ensures gave { Gave charter.now office (λ lists. take_lead lists (node_of charter.now version region.now.state coordinator.old)) (moment (L.meaning leases.old) (node_of charter.now version region.now.state coordinator.old) out.old.items) (moment (L.meaning leases.new) (node_of charter.now version region.now.state coordinator.new) out.new.items) }
+    ensures room { out.old.spare ≤ out.new.spare + 1 }
 {
+    let _ = version;
     let who = region.who();
     let answer = leases.acquire(who, Slot::Coordinator);
     take(alloc, charter, &who, answer, coordinator, out);
@@ -163,9 +181,10 @@ fn begin(
     }
 }
 
-/// The second part of Lead.
+/// Each registered region that isn't in the view is terminated.
 fn drop_lost(
     charter: &Charter,
+    version: u8,
     region: &Region,
     coordinator: &mut Option<Coordinator>,
     out: &mut Out,
@@ -174,13 +193,13 @@ fn drop_lost(
     requires entries { IfSome coordinator.old (λ k. 16 ≤ k.spare) }
     requires room { 2064 ≤ out.old.spare }
     ensures parts { AreParts charter.now region.now coordinator.new }
-    ensures seen { AreSeen region.now.state.view coordinator.new }
-    ensures gave { (m : Meaning) → Rests m charter.now (node_of charter.now region.now.state coordinator.old)
-        → Gave charter.now (λ lists. rules.of_coordinator (terminate_lost region.now.state.view) (node_of charter.now region.now.state coordinator.old)) m (node_of charter.now region.now.state coordinator.old) out.old.items m (node_of charter.now region.now.state coordinator.new) out.new.items }
+    ensures gave { (m : Meaning) → Rests m charter.now (node_of charter.now version region.now.state coordinator.old)
+        → Gave charter.now none (λ lists. rules.of_coordinator (terminate_lost region.now.state.view) (node_of charter.now version region.now.state coordinator.old)) (moment m (node_of charter.now version region.now.state coordinator.old) out.old.items) (moment m (node_of charter.now version region.now.state coordinator.new) out.new.items) }
     ensures spare { out.old.spare ≤ out.new.spare + 2064 }
 {
     lost_room();
     same_coordinator();
+    let _ = version;
     let _config = charter.config();
     if let Some(coordinator) = coordinator {
         coordinator.who();

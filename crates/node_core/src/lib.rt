@@ -2,8 +2,11 @@
 //! coordinator (Akka 2.6, Cluster Sharding concepts). Each input is handled whole before the next.
 #![tactic(auto)]
 
+mod actors;
+mod end;
 mod lead;
 mod node;
+mod packets;
 mod register;
 
 pub use node::Node;

@@ -6,7 +6,8 @@ ghost use Rattle.yard_model.specs.Node as rules;
 ghost use Rattle.shard_lease.specs.Meaning.{Meaning};
 ghost use Rattle.node_core.specs.Standing.{node_of, AreParts, AreSeen};
 ghost use Rattle.node_core.specs.Leased.{Rests};
-ghost use Rattle.node_core.specs.Gave.{Gave};
+ghost use Rattle.node_core.specs.Found.{none};
+ghost use Rattle.node_core.specs.Gave.{Gave, moment};
 
 use coordinator_actor::Coordinator;
 use coordinator_actor::laws::{register_room, same_law};
@@ -17,6 +18,7 @@ use yard_model::{Charter, Out, Packet};
 /// if it is in the node's view (Akka 2.6, Cluster Sharding concepts).
 pub(crate) fn register(
     charter: &Charter,
+    version: u8,
     region: &Region,
     coordinator: &mut Option<Coordinator>,
     packet: &Packet,
@@ -30,12 +32,12 @@ pub(crate) fn register(
     requires places { IfSome coordinator.old (λ k. 1 ≤ k.places) }
     requires room { 2 ≤ out.old.spare }
     ensures parts { AreParts charter.now region.now coordinator.new }
-    ensures seen { AreSeen region.now.state.view coordinator.new }
-    ensures gave { (m : Meaning) → Rests m charter.now (node_of charter.now region.now.state coordinator.old) → m.within packet.now.from.number ≡ true
-        → Gave charter.now (λ lists. rules.packet lists packet.now.from body.Register (node_of charter.now region.now.state coordinator.old)) m (node_of charter.now region.now.state coordinator.old) out.old.items m (node_of charter.now region.now.state coordinator.new) out.new.items }
+    ensures gave { (m : Meaning) → Rests m charter.now (node_of charter.now version region.now.state coordinator.old) → m.within packet.now.from.number ≡ true
+        → Gave charter.now none (λ lists. rules.packet lists packet.now.from body.Register (node_of charter.now version region.now.state coordinator.old)) (moment m (node_of charter.now version region.now.state coordinator.old) out.old.items) (moment m (node_of charter.now version region.now.state coordinator.new) out.new.items) }
 {
     register_room();
     same_law();
+    let _ = version;
     let _config = charter.config();
     if let Some(coordinator) = coordinator {
         coordinator.who();

@@ -4,11 +4,13 @@ ghost use Rattle.yard_model.specs.declared.event.Kind.TheVariants as kind;
 ghost use Rattle.yard_model.specs.Genuine.{is_node, is_genuine_body};
 ghost use Rattle.yard_model.specs.Node.{new_node};
 ghost use Rattle.yard_model.specs.Script.{setting};
-ghost use Rattle.world_laws.specs.Built.{is_built_body};
+ghost use Rattle.node_core.specs.Built.{is_built_body};
+ghost use Rattle.node_laws.specs.Members.{is_different_body};
 ghost use Rattle.shard_lease.specs.Book.{meaning_of};
 ghost use Rattle.node_core.specs.Leased.{Rests};
 
 use crate::Node;
+use behaviour_kinds::Counter;
 use shard_lease::LeaseBook;
 use shard_store::Stores;
 use std::alloc::{AllocError, Global};
@@ -24,17 +26,17 @@ const ONE: Incarnation = Incarnation {
 };
 
 /// What a node that comes up rests on of a book in which nobody holds a slot.
-fn nobody_holds(node: &Node<u8>, book: &LeaseBook)
+fn nobody_holds(node: &Node<Counter>, book: &LeaseBook)
     requires script { book.now.script ≡ node.now.script }
     requires none { (n : ℕ) × (book.now.holders ≡ replicate n None) }
-    requires new { node.now.state ≡ new_node (setting node.now.script) node.now.state.who }
+    requires new { (version : ℕ) × (node.now.state ≡ new_node (setting node.now.script) version node.now.state.who) }
     requires who { is_node node.now.script node.now.state.who ≡ true }
     ensures { Rests (meaning_of book.now) node.now.script node.now.state }
 {}
 
 /// A packet from the node to itself.
 fn hand(
-    node: &mut Node<u8>,
+    node: &mut Node<Counter>,
     charter: &Charter,
     body: &Body,
     book: &mut LeaseBook,
@@ -44,6 +46,7 @@ fn hand(
     requires who { node.old.state.who ≡ record { node = 1; number = 1 } }
     requires nodes { node.old.script.config.nodes ≡ 2 }
     requires genuine { IsTrue (is_genuine_body node.old.script body.now) }
+    requires different { IsTrue (is_different_body body.now) }
     requires built { IsTrue (is_built_body body.now) }
     requires rests { Rests (meaning_of book.old) node.old.script node.old.state }
     ensures script { node.new.script ≡ node.old.script }
@@ -93,15 +96,15 @@ fn new_leader(
     charter: &Charter,
     book: &mut LeaseBook,
     out: &mut Out,
-) -> Result<Node<u8>, AllocError>
+) -> Result<Node<Counter>, AllocError>
     requires script { book.old.script ≡ charter.now }
     requires none { (n : ℕ) × (book.old.holders ≡ replicate n None) }
-    requires nodes { charter.now.config.nodes ≡ 2 }
+    requires alone { charter.now ≡ record { config = record { nodes = 2; shards = 2; producers = 1; buffer = 10; window = 4; snapshot = 100; keep = 2; remember = false; kind = kind.Counter }; orders = [] } }
     ensures script { IfOk result (λ n. n.script ≡ charter.now) }
     ensures who { IfOk result (λ n. n.state.who ≡ record { node = 1; number = 1 }) }
     ensures rests { IfOk result (λ n. Rests (meaning_of book.new) n.script n.state) }
 {
-    let mut node = Node::new(alloc, ONE, charter, 0u8)?;
+    let mut node = Node::new(alloc, ONE, charter, Counter::new())?;
     nobody_holds(&node, book);
     let view = Body::View {
         version: 1,
@@ -136,7 +139,7 @@ fn a_node_leads(rt: HostRuntime) -> Result<(), Fail> {
 fn a_node_that_comes_up_holds_nothing(rt: HostRuntime) -> Result<(), Fail> {
     let alloc = rt.alloc();
     let charter = no_orders(alloc)?;
-    let node = Node::new(alloc, ONE, &charter, 0u8)?;
+    let node = Node::new(alloc, ONE, &charter, Counter::new())?;
     let entity = EntityName::new(b"a").ok_or("a is a name")?;
     let producer = ProducerNo::new(1).ok_or("1 is a producer")?;
     node.stands();

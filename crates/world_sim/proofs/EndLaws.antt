@@ -1,8 +1,8 @@
 -- A node that goes down, and a node that handles a packet: what the code keeps stands for the world after.
 use Rattle.std.proofs.Common.{◌≡◌, ℕ, ◌+◌, ◌-◌, ◌<◌, ◌≤◌, Bool, true, false, ◌&&◌, List, [], ◌∷◌, ◌++◌, length, fold, refl, ap, sym, ◌∙◌, subst, arith, append_assoc}
-use Rattle.std.specs.Prelude.{map, nat_lt, nat_le, Option, Some, None, IfSome, is_none, slice_set, if◌then◌else◌}
+use Rattle.std.specs.Prelude.{map, nat_lt, Option, Some, None, IfSome, is_none, slice_set, if◌then◌else◌}
 use Rattle.std.specs.List.{list_all, flat_map}
-use Rattle.std.proofs.lemmas.List.{map-set, append-nil, length-set}
+use Rattle.std.proofs.lemmas.List.{map-set, append-nil}
 use Rattle.std.proofs.lemmas.List.Folds.{list_all-append}
 use Rattle.yard_model.specs.declared.fact.Fact.{Fact}
 use Rattle.yard_model.specs.declared.fact.Fact.TheVariants as fact
@@ -13,48 +13,65 @@ use Rattle.yard_model.specs.declared.out.Item.{Item}
 use Rattle.yard_model.specs.declared.out.Item.TheVariants as item
 use Rattle.yard_model.specs.declared.packet.Packet.{Packet}
 use Rattle.yard_model.specs.Node.{Node, Act, after, items_of, turn, crash, freed_stopped}
-use Rattle.yard_model.specs.Genuine.{is_node, is_genuine_body, is_genuine_packet}
-use Rattle.yard_model.specs.Script.{Script, setting}
+use Rattle.yard_model.specs.Script.{setting}
 use Rattle.yard_model.specs.Setting.{shards, producers}
 use Rattle.yard_model.specs.SlotLists.{SlotLists}
 use Rattle.yard_model.specs.Trace.{lists_step}
 use Rattle.yard_model.specs.Turns.{where_some}
 use Rattle.yard_model.specs.Words.{at, without}
-use Rattle.yard_model.specs.World.{World, world_after, numbered, count_posts, input_facts, wire_limit, go_down, go_down_by, handle, tell, full_step, node_at}
-use Rattle.shard_lease.specs.Book.{meaning_of}
-use Rattle.node_core.specs.Gave.{ForLists, lists_after}
-use Rattle.world_laws.specs.Hands.{AreInHand}
-use Rattle.world_laws.specs.Owes.{facts_in}
+use Rattle.yard_model.specs.World.{World, world_after, numbered, count_posts, input_facts, all_sends, wire_limit, go_down, go_down_by, handle, tell, full_step, node_at}
+use Rattle.shard_lease.specs.Book.{Book, meaning_of}
+use Rattle.node_laws.specs.Cluster.{IsMember}
+use Rattle.node_core.specs.Found.{AreThere}
+use Rattle.node_core.specs.Gave.{ForLists, lists_after, moment}
+use Rattle.actor_laws.specs.Hands.{AreInHand}
+use Rattle.actor_laws.specs.Owes.{facts_in}
 use Rattle.node_core.specs.Leased.{Rests, Tells}
 use Rattle.node_core.specs.Standing.{Standing}
-use Rattle.world_laws.specs.Built.{is_built_packet}
-use Rattle.world_laws.specs.Standing.{IsUp}
-use Rattle.world_laws.proofs.Place.{placed_at, placed_beside, by_place}
-use Rattle.yard_laws.proofs.Booleans.{true_is_not_false, at_most, both}
-use Rattle.world_sim.specs.Mail.{Mails, facts_of}
-use Rattle.world_sim.specs.Yard.{Yard, IsSeen, IsSeenBut, IsFirm, IsSoundBut, Goes, state_in}
+use Rattle.plain_laws.proofs.Lists.{inside, placed_at, placed_beside, by_place}
+use Rattle.plain_laws.proofs.Booleans.{true_is_not_false, both}
+use Rattle.world_sim.specs.Mail.{Mails, ToldSome, facts_of}
+use Rattle.world_sim.specs.Yard.{Yard, IsSeen, IsFirm, Goes, state_in}
 use Rattle.world_sim.proofs.FreshLaws.{lt_false}
-use Rattle.world_sim.proofs.RestsLaws.{rests_of, in_hand_of}
-use Rattle.world_sim.proofs.SeenLaws.{IsAllTold, led_to, seen_told, facts_told, mailed_from}
-use Rattle.world_sim.proofs.TellLaws.{words_after, input_nodes}
+use Rattle.world_sim.proofs.RestsLaws.{member, rests_of, there_of, in_hand_of}
+use Rattle.world_sim.proofs.SeenLaws.{IsAllTold, items_told, led_to, seen_told, facts_told, mailed_from}
+use Rattle.world_sim.proofs.TellLaws.{words_after, facts_within, input_within, input_nodes}
 use Rattle.world_sim.proofs.OwnLaws.{turn_is_own}
-use Rattle.world_sim.proofs.PlaceLaws.{put_back, set_again, set_same, taken_out}
+use Rattle.world_sim.proofs.PlaceLaws.{taken_out}
+use Rattle.world_sim.proofs.StepLaws.{some_rest}
+use Rattle.world_sim.specs.Turns.{HandledAt, Ends}
 use Rattle.world_sim.specs.Told.{is_own, is_own_item}
 use Rattle.world_sim.proofs.UpLaws.{node_kept}
 
--- the node that was taken out is the world's
-pub taken_is : (n : ℕ) (node : Standing) (y : Yard) (w : World) → IsSeenBut n node y w → 1 ≤ n → at w.nodes (n - 1) ≡ Some node.state
-taken_is n node y w s some =
-    let l : n ≤ length y.nodes = s.there in
-    let there : n - 1 < length y.nodes = omega (arith, some, l) in
-    node_kept (record y { nodes = slice_set y.nodes (n - 1) (Some node) }) w (n - 1) s.seen_is ∙ ap state_in (placed_at y.nodes (n - 1) (Some node) there)
+-- A node that is kept, where it is up.
+
+-- it is the world's
+pub kept_is : (n : ℕ) (node : Standing) (y : Yard) (w : World) → IsSeen y w → at y.nodes (n - 1) ≡ Some node → at w.nodes (n - 1) ≡ Some node.state
+kept_is n node y w s up = node_kept y w (n - 1) s ∙ ap state_in up
 
 -- it is of that number
-pub number_is : (n : ℕ) (node : Standing) (y : Yard) (w : World) → IsSoundBut n node y w → 1 ≤ n → node.state.who.node ≡ n
-number_is n node y w s some =
-    let u : IsUp y.script w (n - 1) node.state = s.stands_is.nodes_are (n - 1) node.state (taken_is n node y w s.seen_is some) in
+pub number_is : (n : ℕ) (node : Standing) (y : Yard) (w : World) → IsFirm y w → 1 ≤ n → at y.nodes (n - 1) ≡ Some node → node.state.who.node ≡ n
+number_is n node y w s some up =
+    let u : IsMember y.script s.stands_is.trace (n - 1) node.state = member y.script w (n - 1) node.state s.stands_is (kept_is n node y w s.seen_is up) in
     let e : node.state.who.node ≡ (n - 1) + 1 = u.node_is in
     omega (arith, e, some)
+
+-- it is of the script
+pub script_of_node : (n : ℕ) (node : Standing) (y : Yard) (w : World) → IsSeen y w → at y.nodes (n - 1) ≡ Some node → node.script ≡ y.script
+script_of_node n node y w s up = subst (λ o. IfSome o (λ (v : Standing). v.script ≡ y.script)) up (s.scripts_are (n - 1))
+
+-- it may rest on the leases
+pub rests_on : (n : ℕ) (node : Standing) (y : Yard) (w : World) → IsFirm y w → at y.nodes (n - 1) ≡ Some node → Rests (meaning_of y.book) node.script node.state
+rests_on n node y w s up =
+    subst (λ c. Rests (meaning_of y.book) c node.state) (sym (script_of_node n node y w s.seen_is up))
+    (rests_of y.book y.script w (n - 1) node.state s.seen_is.book_is s.stands_is s.seen_is.tells_is (kept_is n node y w s.seen_is up))
+
+-- what holds for all lists that the leases tell holds for the world's
+for_world : (n : ℕ) (node : Standing) (y : Yard) (w : World) (items : List Item) (P : SlotLists → Type 0) → IsFirm y w → at y.nodes (n - 1) ≡ Some node → ForLists node.script (moment (meaning_of y.book) node.state items) P → P w.lists
+for_world n node y w items P s up h =
+    let script : node.script ≡ y.script = script_of_node n node y w s.seen_is up in
+    h w.lists (subst (λ c. AreThere c w.lists) (sym script) (there_of y.script w s.stands_is)) (subst (λ c. Tells (meaning_of y.book) c w.lists) (sym script) s.seen_is.tells_is)
+    (subst (λ c. AreInHand c w.lists node.state) (sym script) (in_hand_of y.script w (n - 1) node.state s.stands_is (kept_is n node y w s.seen_is up)))
 
 -- Items that are facts alone.
 
@@ -114,10 +131,10 @@ crash_own st =
 -- Going down.
 
 -- after `gone`, before anything is freed
-gone_seen : (y : Yard) (w : World) (n : ℕ) (node : Standing) → IsSoundBut n node y w → 1 ≤ n
-    → IsSeen (record y { members = without node.state.who y.members; version = y.version + 1 }) (world_after w (fact.Gone node.state.who))
-gone_seen y w n node s some =
-    let u : IsSeen (record y { nodes = slice_set y.nodes (n - 1) (Some node) }) w = s.seen_is.seen_is in
+gone_seen : (y : Yard) (w : World) (n : ℕ) (node : Standing) → IsFirm y w → 1 ≤ n → at y.nodes (n - 1) ≡ Some node
+    → IsSeen (record y { nodes = slice_set y.nodes (n - 1) None; members = without node.state.who y.members; version = y.version + 1 }) (world_after w (fact.Gone node.state.who))
+gone_seen y w n node s some up =
+    let u : IsSeen y w = s.seen_is in
     record {
       set_is = u.set_is;
       limit_is = u.limit_is;
@@ -128,67 +145,78 @@ gone_seen y w n node s some =
       fresh_is = u.fresh_is;
       full_is = u.full_is;
       told_all = u.told_all;
-      nodes_are = sym (ap (λ j. slice_set w.nodes (j - 1) None) (number_is n node y w s some)
-          ∙ (ap (λ ns. slice_set ns (n - 1) None) (sym u.nodes_are)
-          ∙ (sym (map-set state_in (slice_set y.nodes (n - 1) (Some node)) (n - 1) None)
-          ∙ ap (map state_in) (set_again y.nodes (n - 1) (Some node) None ∙ set_same y.nodes (n - 1) s.seen_is.out_is))));
-      scripts_are = λ k. by_place (IfSome (at y.nodes k) (λ (v : Standing). v.script ≡ y.script)) k (n - 1)
-          (λ e. subst (λ o. IfSome o (λ (v : Standing). v.script ≡ y.script)) (sym (ap (at y.nodes) e ∙ s.seen_is.out_is)) tt)
-          (λ other. subst (λ o. IfSome o (λ (v : Standing). v.script ≡ y.script)) (placed_beside y.nodes (n - 1) k (Some node) other) (u.scripts_are k));
+      nodes_are = map-set state_in y.nodes (n - 1) None ∙ (ap (λ ns. slice_set ns (n - 1) None) u.nodes_are ∙ ap (λ j. slice_set w.nodes (j - 1) None) (sym (number_is n node y w s some up)));
+      scripts_are = λ k. by_place (IfSome (at (slice_set y.nodes (n - 1) None) k) (λ (v : Standing). v.script ≡ y.script)) k (n - 1)
+          (λ e. subst (λ o. IfSome o (λ (v : Standing). v.script ≡ y.script)) (sym (ap (at (slice_set y.nodes (n - 1) None)) e ∙ taken_out y.nodes (n - 1))) tt)
+          (λ other. subst (λ o. IfSome o (λ (v : Standing). v.script ≡ y.script)) (sym (placed_beside y.nodes (n - 1) k None other)) (u.scripts_are k));
       book_is = u.book_is;
       tells_is = u.tells_is;
     }
 
 -- what the end of a node leaves
-pub record IsEnded (y z : Yard) (w : World) (node : Standing) : Type 0 where
+pub record IsEnded (y z : Yard) (n : ℕ) (node : Standing) : Type 0 where
   pub script_is : z.script ≡ y.script
-  pub nodes_are : z.nodes ≡ y.nodes
+  pub nodes_are : z.nodes ≡ slice_set y.nodes (n - 1) None
   pub members_are : z.members ≡ without node.state.who y.members
   pub version_is : z.version ≡ y.version + 1
   pub ups_are : z.ups ≡ y.ups
-  pub book_is : z.book.script ≡ y.script
-  pub tells_is : Tells (meaning_of z.book) y.script (fold (lists_step (setting y.script)) w.lists (crash node.state))
 
--- a mail with these items, where nothing else of it is changed
-pub record HasItems (old mid : Mails) (is : List Item) : Type 0 where
-  pub packets_are : mid.packets ≡ old.packets
-  pub fresh_are : mid.fresh ≡ old.fresh
-  pub full_is : mid.full ≡ old.full
-  pub items_are : mid.items ≡ is
+-- the items that wait, where none did
+items_there : (old mid : Mails) (is more : List Item) → old.items ≡ [] → mid.items ≡ old.items ++ more → more ≡ is → mid.items ≡ is
+items_there old mid is more none e f = e ∙ (ap (λ l. l ++ more) none ∙ f)
 
-pub ended_goes : (y z : Yard) (w : World) (n : ℕ) (node : Standing) (mid : Mails) (before after_ : List Fact) → IsSoundBut n node y w → 1 ≤ n → IsEnded y z w node → HasItems y.mail mid (map item.Fact (crash node.state))
+ended_items : (y : Yard) (w : World) (node : Standing) (book : Book) (mid : Mails) → IsSeen y w → Ends y.book book y.mail mid node → mid.items ≡ map item.Fact (crash node.state)
+ended_items y w node book mid s e = items_there y.mail mid (map item.Fact (crash node.state)) (map item.Fact (crash node.state)) s.told_all e.ended.items_are refl
+
+pub ended_goes : (y z : Yard) (w : World) (n : ℕ) (node : Standing) (mid : Mails) (before after_ : List Fact) → IsFirm y w → 1 ≤ n → at y.nodes (n - 1) ≡ Some node → Ends y.book z.book y.mail mid node → IsEnded y z n node
     → length y.mail.packets ≤ wire_limit → IsAllTold mid z.mail (before ++ fact.Gone node.state.who ∷ []) after_ → Goes before after_ z (go_down n w)
-ended_goes y z w n node mid before after_ s some e m limit t =
-    let u : IsSeen (record y { nodes = slice_set y.nodes (n - 1) (Some node) }) w = s.seen_is.seen_is in
+ended_goes y z w n node mid before after_ s some up d e limit t =
+    let u : IsSeen y w = s.seen_is in
     let st : Node = node.state in
     let fs : List Fact = crash st in
     let is : List Item = map item.Fact fs in
     let gone : List Fact = before ++ fact.Gone st.who ∷ [] in
     let w1 : World = world_after w (fact.Gone st.who) in
-    let y1 : Yard = record y { members = without st.who y.members; version = y.version + 1 } in
-    let s1 : IsSeen y1 w1 = gone_seen y w n node s some in
+    let y1 : Yard = record y { nodes = slice_set y.nodes (n - 1) None; members = without st.who y.members; version = y.version + 1 } in
+    let s1 : IsSeen y1 w1 = gone_seen y w n node s some up in
+    let items : mid.items ≡ is = ended_items y w node z.book mid u d in
     let own : list_all is_own_item is ≡ true = own_alone fs (crash_own st) in
     let size : length w.wire ≤ w.limit = subst (λ k. length w.wire ≤ k) (sym u.limit_is) (subst (λ p. length p ≤ wire_limit) u.wire_is limit) in
     let facts : input_facts w1 is ≡ fs = input_alone w1 fs size in
+    let script : node.script ≡ y.script = script_of_node n node y w u up in
+    let tells : Tells (meaning_of z.book) y.script (fold (lists_step (setting y.script)) w.lists fs) = subst (λ c. Tells (meaning_of z.book) c (fold (lists_step (setting c)) w.lists fs)) script
+    (for_world n node y w y.mail.items (λ lists. Tells (meaning_of z.book) node.script (fold (lists_step (setting node.script)) lists fs)) s up d.ended.tells) in
     let led : IsSeen z (led_to w1 is (map state_in z.nodes)) = seen_told y1 z w1 is (map state_in z.nodes) s1 own
     (record { script_is = e.script_is; members_are = e.members_are; version_is = e.version_is; ups_are = e.ups_are })
-    (mailed_from y.mail mid z.mail is m.packets_are m.fresh_are m.full_is m.items_are t.mail_is)
+    (mailed_from y.mail mid z.mail is d.beside.packets_are d.beside.fresh_are d.beside.full_is items t.mail_is)
     (record {
       nodes_are = refl;
-      scripts_are = λ k. subst (λ ns. IfSome (at ns k) (λ (v : Standing). v.script ≡ z.script)) (sym e.nodes_are) (subst (λ c. IfSome (at y.nodes k) (λ (v : Standing). v.script ≡ c)) (sym e.script_is) (s1.scripts_are k));
-      book_is = e.book_is ∙ sym e.script_is;
+      scripts_are = λ k. subst (λ ns. IfSome (at ns k) (λ (v : Standing). v.script ≡ z.script)) (sym e.nodes_are) (subst (λ c. IfSome (at (slice_set y.nodes (n - 1) None) k) (λ (v : Standing). v.script ≡ c)) (sym e.script_is) (s1.scripts_are k));
+      book_is = d.ended.stays.script_is ∙ (u.book_is ∙ sym e.script_is);
       tells_is = subst (λ c. Tells (meaning_of z.book) c (fold (lists_step (setting c)) w.lists (facts_in is))) (sym e.script_is)
-          (subst (λ gs. Tells (meaning_of z.book) y.script (fold (lists_step (setting y.script)) w.lists gs)) (sym (facts_alone fs)) e.tells_is);
+          (subst (λ gs. Tells (meaning_of z.book) y.script (fold (lists_step (setting y.script)) w.lists gs)) (sym (facts_alone fs)) tells);
     }) in
     let nodes : map state_in z.nodes ≡ (fold world_after w1 (input_facts w1 is)).nodes =
-    ap (map state_in) e.nodes_are ∙ (s1.nodes_are ∙ (sym (input_nodes w1.set w1 is w1.nodes own) ∙ sym (ap (λ (v : World). v.nodes) (words_after w1 (input_facts w1 is))))) in
+    ap (map state_in) e.nodes_are ∙ (s1.nodes_are ∙ (sym (input_nodes w1.set w1.behaviour w1 is w1.nodes own) ∙ sym (ap (λ (v : World). v.nodes) (words_after w1 (input_facts w1 is) (input_within w1 is own))))) in
     let world : led_to w1 is (map state_in z.nodes) ≡ fold world_after w1 fs = ap (led_to w1 is) nodes ∙ ap (fold world_after w1) facts in
     let goes : Goes before after_ z (tell (fact.Gone st.who ∷ fs) w) = record {
       seen_is = subst (IsSeen z) world led;
-      facts_are = facts_told y1 w1 is gone after_ s1 (t.facts_are ∙ (ap (λ p. gone ++ facts_of wire_limit (length p) mid.items) m.packets_are ∙ ap (λ i. gone ++ facts_of wire_limit (length y.mail.packets) i) m.items_are))
+      facts_are = facts_told y1 w1 is gone after_ s1 (t.facts_are ∙ (ap (λ p. gone ++ facts_of wire_limit (length p) mid.items) d.beside.packets_are ∙ ap (λ i. gone ++ facts_of wire_limit (length y.mail.packets) i) items))
           ∙ (ap (λ gs. gone ++ gs) facts ∙ append_assoc before (fact.Gone st.who ∷ []) fs);
     } in
-    subst (λ o. Goes before after_ z (go_down_by o w)) (sym (taken_is n node y w s.seen_is some)) goes
+    subst (λ o. Goes before after_ z (go_down_by o w)) (sym (kept_is n node y w u up)) goes
+
+-- where memory runs out
+pub cut_ended : (y : Yard) (w : World) (n : ℕ) (node : Standing) (book : Book) (mid : Mails) (before after : List Fact) → IsFirm y w → at y.nodes (n - 1) ≡ Some node → Ends y.book book y.mail mid node → length y.mail.packets ≤ wire_limit
+    → ToldSome (before ++ fact.Gone node.state.who ∷ []) after (facts_of wire_limit (length mid.packets) mid.items) → ToldSome before after (go_down n w).facts
+cut_ended y w n node book mid before after s up d limit t =
+    let u : IsSeen y w = s.seen_is in
+    let fs : List Fact = crash node.state in
+    let gone : List Fact = fact.Gone node.state.who ∷ [] in
+    let size : length w.wire ≤ w.limit = subst (λ k. length w.wire ≤ k) (sym u.limit_is) (subst (λ p. length p ≤ wire_limit) u.wire_is limit) in
+    let facts : facts_of wire_limit (length mid.packets) mid.items ≡ fs = items_told y w mid (map item.Fact fs) u d.beside.packets_are (ended_items y w node book mid u d) ∙ input_alone w fs size in
+    subst (λ o. ToldSome before after (go_down_by o w).facts) (sym (kept_is n node y w u up))
+    (some_rest before (before ++ gone) after gone fs refl (subst (ToldSome (before ++ gone) after) facts t))
 
 -- Handling a packet.
 
@@ -196,80 +224,74 @@ who_stays : (st : Node) (acts : List Act) → (fold after st acts).who ≡ st.wh
 who_stays st [] = refl
 who_stays st (a ∷ acts) = who_stays (after st a) acts
 
--- what a turn leaves
-pub record IsTurned (y z : Yard) (w : World) (n : ℕ) (node later : Standing) (p : Packet) : Type 0 where
+-- what a turn leaves beside the node, the book and the mail
+pub record IsTurned (y z : Yard) : Type 0 where
   pub script_is : z.script ≡ y.script
-  pub nodes_are : z.nodes ≡ slice_set y.nodes (n - 1) (Some later)
   pub members_are : z.members ≡ y.members
   pub version_is : z.version ≡ y.version
   pub ups_are : z.ups ≡ y.ups
-  pub book_is : z.book.script ≡ y.script
-  pub later_script : later.script ≡ y.script
-  pub later_is : later.state ≡ fold after node.state (turn w.sends w.lists (input.Packet p) node.state)
-  pub tells_is : Tells (meaning_of z.book) y.script (lists_after y.script w.lists (turn w.sends w.lists (input.Packet p) node.state))
 
-pub turned_goes : (y z : Yard) (w : World) (n : ℕ) (node later : Standing) (p : Packet) (mid : Mails) (before after_ : List Fact) → IsSoundBut n node y w → 1 ≤ n → is_built_packet p ≡ true → IsTurned y z w n node later p
-    → HasItems y.mail mid (items_of (turn w.sends w.lists (input.Packet p) node.state)) → IsAllTold mid z.mail before after_ → Goes before after_ z (handle (input.Packet p) node.state w)
-turned_goes y z w n node later p mid before after_ s some built e m t =
-    let y0 : Yard = record y { nodes = slice_set y.nodes (n - 1) (Some node) } in
-    let u : IsSeen y0 w = s.seen_is.seen_is in
-    let l : n ≤ length y.nodes = s.seen_is.there in
-    let there : n - 1 < length y.nodes = omega (arith, some, l) in
+-- the acts that it told are the definition's
+told_is : (y : Yard) (w : World) (p : Packet) (node : Standing) (book : Book) (mid : Mails) (nodes : List (Option Standing)) → IsFirm y w → at y.nodes (p.to.node - 1) ≡ Some node → (h : HandledAt p y.book book y.mail mid y.nodes nodes node)
+    → h.handled.turned.told ≡ turn w.sends w.lists (input.Packet p) node.state
+told_is y w p node book mid nodes s up h =
+    sym (for_world p.to.node node y w y.mail.items (λ lists. turn (all_sends node.script) lists (input.Packet p) node.state ≡ h.handled.turned.told) s up h.handled.turned.acts_are)
+    ∙ ap (λ x. turn x w.lists (input.Packet p) node.state) (ap all_sends (script_of_node p.to.node node y w s.seen_is up) ∙ sym s.stands_is.sound.sends_are)
+
+turned_items : (y : Yard) (w : World) (p : Packet) (node : Standing) (book : Book) (mid : Mails) (nodes : List (Option Standing)) → IsFirm y w → at y.nodes (p.to.node - 1) ≡ Some node → HandledAt p y.book book y.mail mid y.nodes nodes node
+    → mid.items ≡ items_of (turn w.sends w.lists (input.Packet p) node.state)
+turned_items y w p node book mid nodes s up h =
+    items_there y.mail mid (items_of (turn w.sends w.lists (input.Packet p) node.state)) (items_of h.handled.turned.told) s.seen_is.told_all h.handled.turned.items_are (ap items_of (told_is y w p node book mid nodes s up h))
+
+pub turned_goes : (y z : Yard) (w : World) (p : Packet) (node : Standing) (mid : Mails) (before after_ : List Fact) → IsFirm y w → 1 ≤ p.to.node → at y.nodes (p.to.node - 1) ≡ Some node → HandledAt p y.book z.book y.mail mid y.nodes z.nodes node
+    → IsTurned y z → IsAllTold mid z.mail before after_ → Goes before after_ z (handle (input.Packet p) node.state w)
+turned_goes y z w p node mid before after_ s some up h e t =
+    let n : ℕ = p.to.node in
+    let u : IsSeen y w = s.seen_is in
+    let there : n - 1 < length y.nodes = inside y.nodes (n - 1) node up in
+    let later : Standing = h.new in
     let st : Node = node.state in
     let acts : List Act = turn w.sends w.lists (input.Packet p) st in
     let to : Node = fold after st acts in
     let is : List Item = items_of acts in
+    let told : h.handled.turned.told ≡ acts = told_is y w p node z.book mid z.nodes s up h in
+    let items : mid.items ≡ is = turned_items y w p node z.book mid z.nodes s up h in
+    let script : node.script ≡ y.script = script_of_node n node y w u up in
+    let later_is : later.state ≡ to = h.handled.turned.node_is ∙ ap (fold after st) told in
+    let tells : Tells (meaning_of z.book) y.script (lists_after y.script w.lists acts) = subst (λ told. Tells (meaning_of z.book) y.script (lists_after y.script w.lists told)) told
+    (subst (λ c. Tells (meaning_of z.book) c (lists_after c w.lists h.handled.turned.told)) script
+    (for_world n node y w y.mail.items (λ lists. Tells (meaning_of z.book) node.script (lists_after node.script lists h.handled.turned.told)) s up h.handled.turned.tells)) in
     let own : list_all is_own_item is ≡ true = turn_is_own w.sends w.lists (input.Packet p) st in
     let v : World = fold world_after w (input_facts w is) in
-    let same : v.nodes ≡ w.nodes = ap (λ (x : World). x.nodes) (words_after w (input_facts w is)) ∙ input_nodes w.set w is w.nodes own in
-    let place : to.who.node ≡ n = ap (λ (x : Incarnation). x.node) (who_stays st acts) ∙ number_is n node y w s some in
+    let same : v.nodes ≡ w.nodes = ap (λ (x : World). x.nodes) (words_after w (input_facts w is) (input_within w is own)) ∙ input_nodes w.set w.behaviour w is w.nodes own in
+    let place : to.who.node ≡ n = ap (λ (x : Incarnation). x.node) (who_stays st acts) ∙ number_is n node y w s some up in
     let nodes : map state_in z.nodes ≡ slice_set v.nodes (to.who.node - 1) (Some to) =
-    ap (map state_in) (e.nodes_are ∙ sym (set_again y.nodes (n - 1) (Some node) (Some later)))
-    ∙ (map-set state_in (slice_set y.nodes (n - 1) (Some node)) (n - 1) (Some later)
+    ap (map state_in) h.nodes_are
+    ∙ (map-set state_in y.nodes (n - 1) (Some later)
     ∙ (ap (λ ns. slice_set ns (n - 1) (Some later.state)) (u.nodes_are ∙ sym same)
-    ∙ (ap (λ x. slice_set v.nodes (n - 1) (Some x)) e.later_is ∙ ap (λ j. slice_set v.nodes (j - 1) (Some to)) (sym place)))) in
+    ∙ (ap (λ x. slice_set v.nodes (n - 1) (Some x)) later_is ∙ ap (λ j. slice_set v.nodes (j - 1) (Some to)) (sym place)))) in
     record {
-      seen_is = seen_told y0 z w is (slice_set v.nodes (to.who.node - 1) (Some to)) u own
+      seen_is = seen_told y z w is (slice_set v.nodes (to.who.node - 1) (Some to)) u own
           (record { script_is = e.script_is; members_are = e.members_are; version_is = e.version_is; ups_are = e.ups_are })
-          (mailed_from y.mail mid z.mail is m.packets_are m.fresh_are m.full_is m.items_are t.mail_is)
+          (mailed_from y.mail mid z.mail is h.handled.beside.packets_are h.handled.beside.fresh_are h.handled.beside.full_is items t.mail_is)
           (record {
             nodes_are = nodes;
-            scripts_are = λ k. subst (λ ns. IfSome (at ns k) (λ (v : Standing). v.script ≡ z.script)) (sym e.nodes_are) (subst (λ c. IfSome (at (slice_set y.nodes (n - 1) (Some later)) k) (λ (v : Standing). v.script ≡ c)) (sym e.script_is)
+            scripts_are = λ k. subst (λ ns. IfSome (at ns k) (λ (v : Standing). v.script ≡ z.script)) (sym h.nodes_are) (subst (λ c. IfSome (at (slice_set y.nodes (n - 1) (Some later)) k) (λ (v : Standing). v.script ≡ c)) (sym e.script_is)
                 (by_place (IfSome (at (slice_set y.nodes (n - 1) (Some later)) k) (λ (v : Standing). v.script ≡ y.script)) k (n - 1)
                 (λ f. subst (λ j. IfSome (at (slice_set y.nodes (n - 1) (Some later)) j) (λ (v : Standing). v.script ≡ y.script)) (sym f)
-                (subst (λ o. IfSome o (λ (v : Standing). v.script ≡ y.script)) (sym (placed_at y.nodes (n - 1) (Some later) there)) e.later_script))
-                (λ other. subst (λ o. IfSome o (λ (v : Standing). v.script ≡ y.script)) (placed_beside y.nodes (n - 1) k (Some node) other ∙ sym (placed_beside y.nodes (n - 1) k (Some later) other)) (u.scripts_are k))));
-            book_is = e.book_is ∙ sym e.script_is;
-            tells_is = subst (λ c. Tells (meaning_of z.book) c (fold (lists_step (setting c)) w.lists (facts_in is))) (sym e.script_is) e.tells_is;
+                (subst (λ o. IfSome o (λ (v : Standing). v.script ≡ y.script)) (sym (placed_at y.nodes (n - 1) (Some later) there)) (h.handled.script_is ∙ script)))
+                (λ other. subst (λ o. IfSome o (λ (v : Standing). v.script ≡ y.script)) (sym (placed_beside y.nodes (n - 1) k (Some later) other)) (u.scripts_are k))));
+            book_is = h.handled.turned.stays.script_is ∙ (u.book_is ∙ sym e.script_is);
+            tells_is = subst (λ c. Tells (meaning_of z.book) c (fold (lists_step (setting c)) w.lists (facts_in is))) (sym e.script_is) tells;
           });
-      facts_are = facts_told y0 w is before after_ u (t.facts_are ∙ (ap (λ p. before ++ facts_of wire_limit (length p) mid.items) m.packets_are ∙ ap (λ i. before ++ facts_of wire_limit (length y.mail.packets) i) m.items_are));
+      facts_are = facts_told y w is before after_ u (t.facts_are ∙ (ap (λ p. before ++ facts_of wire_limit (length p) mid.items) h.handled.beside.packets_are ∙ ap (λ i. before ++ facts_of wire_limit (length y.mail.packets) i) items));
     }
 
--- it is of the script
-pub script_of_node : (n : ℕ) (node : Standing) (y : Yard) (w : World) → IsSeenBut n node y w → 1 ≤ n → node.script ≡ y.script
-script_of_node n node y w s some =
-    let l : n ≤ length y.nodes = s.there in
-    let there : n - 1 < length y.nodes = omega (arith, some, l) in
-    subst (λ o. IfSome o (λ (v : Standing). v.script ≡ y.script)) (placed_at y.nodes (n - 1) (Some node) there) (s.seen_is.scripts_are (n - 1))
-
--- it may rest on the leases
-pub rests_on : (n : ℕ) (node later : Standing) (y : Yard) (w : World) → IsSoundBut n node y w → 1 ≤ n → later.script ≡ node.script → later.state ≡ node.state → Rests (meaning_of y.book) later.script later.state
-rests_on n node later y w s some e f =
-    subst (λ c. Rests (meaning_of y.book) c later.state) (sym (e ∙ script_of_node n node y w s.seen_is some))
-    (subst (λ st. Rests (meaning_of y.book) y.script st) (sym f)
-    (rests_of y.book y.script w (n - 1) node.state s.seen_is.seen_is.book_is s.stands_is s.seen_is.seen_is.tells_is (taken_is n node y w s.seen_is some)))
-
--- what holds for all lists that the leases tell holds for the world's
-pub for_world : (n : ℕ) (node later : Standing) (y : Yard) (w : World) (P : SlotLists → Type 0) → IsSoundBut n node y w → 1 ≤ n → later.script ≡ node.script → later.state ≡ node.state
-    → ForLists (meaning_of y.book) later.script later.state P → P w.lists
-for_world n node later y w P s some e f h =
-    let script : later.script ≡ y.script = e ∙ script_of_node n node y w s.seen_is some in
-    h w.lists (subst (λ c. Tells (meaning_of y.book) c w.lists) (sym script) s.seen_is.seen_is.tells_is)
-    (subst (λ c. AreInHand c w.lists later.state) (sym script) (subst (λ st. AreInHand y.script w.lists st) (sym f) (in_hand_of y.script w (n - 1) node.state s.stands_is (taken_is n node y w s.seen_is some))))
-
--- a packet's addressee has a node's number
-pub to_some : (c : Script) (p : Packet) → is_genuine_packet c p ≡ true → 1 ≤ p.to.node
-to_some c p e = at_most 1 p.to.node (front (nat_le 1 p.to.node) (nat_le p.to.node c.config.nodes) (back (is_node c p.from) (is_node c p.to) (front (is_node c p.from && is_node c p.to) (is_genuine_body c p.body) e)))
+-- where memory runs out
+pub cut_turned : (y : Yard) (w : World) (p : Packet) (node : Standing) (book : Book) (mid : Mails) (nodes : List (Option Standing)) (before after : List Fact) → IsFirm y w → at y.nodes (p.to.node - 1) ≡ Some node → HandledAt p y.book book y.mail mid y.nodes nodes node
+    → ToldSome before after (facts_of wire_limit (length mid.packets) mid.items) → ToldSome before after (handle (input.Packet p) node.state w).facts
+cut_turned y w p node book mid nodes before after s up h t =
+    subst (ToldSome before after) (items_told y w mid (items_of (turn w.sends w.lists (input.Packet p) node.state)) s.seen_is h.handled.beside.packets_are (turned_items y w p node book mid nodes s up h)) t
 
 -- A crash.
 
@@ -283,7 +305,7 @@ own_full (f ∷ fs) b e = ap (λ a. fold full_step a fs) (step f (front (is_own 
 
 down_full : (w : World) (o : Option Node) → (go_down_by o w).world.full ≡ w.full
 down_full w None = refl
-down_full w (Some st) = ap (λ (v : World). v.full) (words_after (world_after w (fact.Gone st.who)) (crash st)) ∙ own_full (crash st) w.full (crash_own st)
+down_full w (Some st) = ap (λ (v : World). v.full) (words_after (world_after w (fact.Gone st.who)) (crash st) (facts_within (crash st) (crash_own st))) ∙ own_full (crash st) w.full (crash_own st)
 
 -- a node that goes down doesn't fill the wire
 pub go_down_full : (w : World) (n : ℕ) → (go_down n w).world.full ≡ w.full
@@ -296,20 +318,3 @@ none_state (Some v) = refl
 -- a place that is kept empty is so in the world
 pub none_kept : (y : Yard) (w : World) (n : ℕ) (b : Bool) → IsSeen y w → is_none (at y.nodes (n - 1)) ≡ b → is_none (node_at w n) ≡ b
 none_kept y w n b s e = ap is_none (node_kept y w (n - 1) s) ∙ (none_state (at y.nodes (n - 1)) ∙ e)
-
--- Taking a node out of its place.
-
-pub sound_out : (y : Yard) (w : World) (n : ℕ) (node : Standing) (nodes : List (Option Standing)) → IsFirm y w → 1 ≤ n → n ≤ length y.nodes → at y.nodes (n - 1) ≡ Some node → nodes ≡ slice_set y.nodes (n - 1) None
-    → IsSoundBut n node (record y { nodes = nodes }) w
-sound_out y w n node nodes s some there up out =
-    let inside : n - 1 < length y.nodes = omega (arith, some, there) in
-    let back : slice_set nodes (n - 1) (Some node) ≡ y.nodes = ap (λ ns. slice_set ns (n - 1) (Some node)) out ∙ put_back y.nodes (n - 1) (Some node) up inside in
-    let size : length nodes ≡ length y.nodes = ap length out ∙ length-set y.nodes (n - 1) None in
-    record {
-      seen_is = record {
-        seen_is = subst (λ ns. IsSeen (record y { nodes = ns }) w) (sym back) s.seen_is;
-        out_is = ap (λ ns. at ns (n - 1)) out ∙ taken_out y.nodes (n - 1);
-        there = omega (arith, there, size);
-      };
-      stands_is = s.stands_is;
-    }

@@ -1,7 +1,9 @@
-pub mod CutLaws
+pub mod BuiltLaws
 pub mod DeliveryLaws
+pub mod DownLaws
 pub mod EndLaws
 pub mod FreshLaws
+pub mod KeepLaws
 pub mod MembersLaws
 pub mod NewLaws
 pub mod OwnLaws
@@ -9,8 +11,10 @@ pub mod PlaceLaws
 pub mod PlayedLaws
 pub mod RestsLaws
 pub mod SeenLaws
+pub mod StepLaws
 pub mod StoresLaws
 pub mod TellLaws
 pub mod ToldLaws
 pub mod UpLaws
 pub mod WorldLaws
+pub mod TurnsLaws

@@ -6,7 +6,7 @@ use Rattle.yard_model.specs.declared.incarnation.Incarnation.{Incarnation}
 use Rattle.yard_model.specs.Follow.{each_follows}
 use Rattle.yard_model.specs.Members.{has_node, is_other_node, are_of_different_nodes}
 use Rattle.yard_model.specs.Words.{is_same, without}
-use Rattle.yard_laws.proofs.Booleans.{true_is_not_false, and_both, of_not}
+use Rattle.plain_laws.proofs.Booleans.{true_is_not_false, and_both, of_not}
 
 or_none : (a b : Bool) → (a || b) ≡ false → (a ≡ false) × (b ≡ false)
 or_none true b h = absurd (true_is_not_false h)

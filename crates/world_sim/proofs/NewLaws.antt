@@ -8,8 +8,9 @@ use Rattle.yard_model.specs.World.{new_world, wire_limit}
 use Rattle.shard_lease.specs.Book.{meaning_of}
 use Rattle.node_core.specs.Leased.{Tells}
 use Rattle.node_core.specs.Standing.{Standing}
-use Rattle.world_laws.specs.Keeps.{are_built}
-use Rattle.yard_laws.proofs.Booleans.{get_replicate}
+use Rattle.world_sim.specs.Built.{are_built}
+use Rattle.world_sim.specs.Stands.{Stands}
+use Rattle.plain_laws.proofs.Booleans.{get_replicate}
 use Rattle.world_sim.specs.World.{IsWorld}
 use Rattle.world_sim.specs.Yard.{Yard, IsSeen, state_in}
 
@@ -48,13 +49,13 @@ seen_new y c k = record {
   tells_is = subst (λ s. Tells (meaning_of y.book) s (no_lists (setting c))) (sym k.script_is) k.tells_is;
 }
 
-pub world_new : (y : Yard) (c : Script) → IsScript c → IsTrue (are_built c) → y.script ≡ c → y.version ≡ 0 → y.ups ≡ replicate c.config.nodes 0 → IsSeen y (new_world c wire_limit) → IsWorld y 0 None
-world_new y c script built e version ups seen = record {
+pub world_new : (y : Yard) (c : Script) → IsScript c → IsTrue (are_built c) → y.script ≡ c → y.version ≡ 0 → y.ups ≡ replicate c.config.nodes 0 → IsSeen y (new_world c wire_limit) → Stands c (new_world c wire_limit) → IsWorld y 0 None
+world_new y c script built e version ups seen stands = record {
   script_is = subst IsScript (sym e) script;
   built = ap are_built e ∙ built;
   few = omega arith;
   kept = (
-    record { seen_is = subst (λ s. IsSeen y (new_world s wire_limit)) (sym e) seen; full_is = refl },
+    record { seen_is = subst (λ s. IsSeen y (new_world s wire_limit)) (sym e) seen; stands_is = subst (λ s. Stands s (new_world s wire_limit)) (sym e) stands; full_is = refl },
     record {
       version_is = omega (arith, version);
       ups_are = λ k. let none : slice_index_or y.ups k 0 ≡ 0 = ap (λ us. slice_index_or us k 0) ups ∙ get_replicate c.config.nodes k 0 in omega (arith, none);

@@ -10,8 +10,9 @@ use Rattle.yard_model.specs.declared.input.Input.TheVariants as input
 use Rattle.yard_model.specs.declared.charter.Sending.{Sending}
 use Rattle.yard_model.specs.Node.{Node, items_of, turn}
 use Rattle.yard_model.specs.SlotLists.{SlotLists}
-use Rattle.yard_laws.proofs.Booleans.{all_map}
-use Rattle.play_laws.proofs.Tells.{is_turn_fact, is_turn_item, is_no_fail, turn_tells}
+use Rattle.plain_laws.proofs.Booleans.{all_map}
+use Rattle.play_laws.proofs.Tells.{is_no_fail, turn_tells}
+use Rattle.play_laws.specs.TurnItems.{is_turn_fact, is_turn_item}
 use Rattle.world_sim.specs.Told.{TurnIsOwn, PostsAreOwn, is_own, is_own_item}
 
 fact_own : (f : Fact) → is_turn_fact f ≡ true → is_own f ≡ true
@@ -20,6 +21,8 @@ fact_own (fact.Gone x) h = h
 fact_own (fact.Sent k p) h = h
 fact_own (fact.Got k) h = h
 fact_own fact.WireFull h = h
+fact_own (fact.Reshard n k) h = h
+fact_own (fact.Upgrade v) h = h
 fact_own f h = refl
 
 item_own : (i : Item) → is_turn_item i ≡ true → is_own_item i ≡ true

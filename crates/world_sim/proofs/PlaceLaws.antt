@@ -1,11 +1,11 @@
 -- Places of the table of nodes, and of lists.
-use Rattle.std.proofs.Common.{◌≡◌, ℕ, zero, suc, ◌<◌, Bool, true, List, [], ◌∷◌, length, refl, ap, sym, ◌∙◌, arith}
+use Rattle.std.proofs.Common.{◌≡◌, ℕ, zero, suc, Bool, true, List, [], ◌∷◌, refl, ap, sym, ◌∙◌}
 use Rattle.std.specs.Prelude.{map, slice_get, slice_set, Option, Some, None}
 use Rattle.std.specs.List.{list_all}
 use Rattle.yard_model.specs.Words.{at}
 use Rattle.node_core.specs.Standing.{Standing}
-use Rattle.world_laws.proofs.Place.{none_is_not_some, some_is}
-use Rattle.yard_laws.proofs.Booleans.{and_both}
+use Rattle.plain_laws.proofs.Lists.{none_is_not_some, some_is}
+use Rattle.plain_laws.proofs.Booleans.{and_both}
 use Rattle.world_sim.specs.Yard.{state_in}
 
 pub state_at : (ys : List (Option Standing)) (k : ℕ) → at (map state_in ys) k ≡ state_in (at ys k)
@@ -13,26 +13,11 @@ state_at [] k = refl
 state_at (y ∷ ys) zero = refl
 state_at (y ∷ ys) (suc k) = state_at ys k
 
--- what was taken out, put back
-pub put_back : (ys : List (Option Standing)) (k : ℕ) (o : Option Standing) → at ys k ≡ o → k < length ys → slice_set (slice_set ys k None) k o ≡ ys
-put_back [] k o e h = absurd (omega (arith, h))
-put_back (y ∷ ys) zero o e h = ap (λ o. o ∷ ys) (sym e)
-put_back (y ∷ ys) (suc k) o e h = ap (λ l. y ∷ l) (put_back ys k o e (omega (arith, h)))
-
+-- a place that is emptied
 pub taken_out : (ys : List (Option Standing)) (k : ℕ) → at (slice_set ys k None) k ≡ None
 taken_out [] k = refl
 taken_out (y ∷ ys) zero = refl
 taken_out (y ∷ ys) (suc k) = taken_out ys k
-
-pub set_again : {A : Type 0} (xs : List A) (k : ℕ) (a b : A) → slice_set (slice_set xs k a) k b ≡ slice_set xs k b
-set_again [] k a b = refl
-set_again (x ∷ xs) zero a b = refl
-set_again (x ∷ xs) (suc k) a b = ap (λ ys. x ∷ ys) (set_again xs k a b)
-
-pub set_same : {A : Type 0} (xs : List (Option A)) (k : ℕ) → at xs k ≡ None → slice_set xs k None ≡ xs
-set_same [] k e = refl
-set_same (x ∷ xs) zero e = ap (λ o. o ∷ xs) (sym e)
-set_same (x ∷ xs) (suc k) e = ap (λ ys. x ∷ ys) (set_same xs k e)
 
 -- what is so of all is so of the one at a place
 pub all_got : {A : Type 0} (p : A → Bool) (xs : List A) (i : ℕ) (x : A) → list_all p xs ≡ true → slice_get xs i ≡ Some x → p x ≡ true

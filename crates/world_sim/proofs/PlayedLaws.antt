@@ -4,7 +4,7 @@ use Rattle.std.specs.Prelude.{map, drop, slice_get, Some, None, is_some, unwrap_
 use Rattle.std.proofs.lemmas.List.{append-nil}
 use Rattle.yard_model.specs.declared.charter.Line.{Line}
 use Rattle.yard_model.specs.World.{World, Made, Step, new_world, play_line, in_order, wire_limit}
-use Rattle.yard_laws.proofs.Booleans.{true_is_not_false}
+use Rattle.plain_laws.proofs.Booleans.{true_is_not_false}
 use Rattle.world_sim.specs.Played.{made_of, MadeNone, MadeNext, MadeFull, MadeAll}
 
 pub made_none : MadeNone

@@ -1,6 +1,6 @@
 -- What code keeps after a step stands for the world that the step makes.
 use Rattle.std.proofs.Common.{◌≡◌, ℕ, ◌+◌, true, ◌||◌, List, [], ◌∷◌, ◌++◌, length, fold, refl, ap, sym, ◌∙◌, subst}
-use Rattle.std.specs.Prelude.{map, Option, IfSome, Result, Ok, Err, OnOk, OnErr}
+use Rattle.std.specs.Prelude.{map, Option, IfSome, Result, Ok, Err, OnOk}
 use Rattle.std.specs.List.{list_all}
 use Rattle.yard_model.specs.declared.fact.Fact.{Fact}
 use Rattle.yard_model.specs.declared.incarnation.Incarnation.{Incarnation}
@@ -13,36 +13,14 @@ use Rattle.yard_model.specs.Words.{at, numbers}
 use Rattle.yard_model.specs.Node.{Node}
 use Rattle.yard_model.specs.World.{World, world_after, members_step, version_step, ups_step, wire_step, fresh_step, full_step, nodes_step, input_facts, wire_limit, views}
 use Rattle.shard_lease.specs.Book.{meaning_of}
-use Rattle.world_laws.specs.Owes.{facts_in}
+use Rattle.actor_laws.specs.Owes.{facts_in}
 use Rattle.node_core.specs.Leased.{Tells}
 use Rattle.node_core.specs.Standing.{Standing}
-use Rattle.world_sim.specs.Mail.{Mails, facts_of, posts_of, is_past}
+use Rattle.world_sim.specs.Mail.{Mails, ToldSome, facts_of, posts_of, is_past}
 use Rattle.world_sim.specs.Told.{AreTold, is_own_item}
 use Rattle.world_sim.specs.Yard.{Yard, IsSeen, Goes, state_in}
-use Rattle.world_sim.proofs.TellLaws.{words_after, input_lists, input_members, input_version, input_ups, input_nodes}
+use Rattle.world_sim.proofs.TellLaws.{words_after, input_within, input_lists, input_members, input_version, input_ups, input_nodes}
 use Rattle.world_sim.proofs.ToldLaws.{told, facts_are}
-
--- Of a result.
-
-pub on_ok : {T E : Type 0} (r : Result T E) {P Q : Type 0} → OnOk r P → (P → Q) → OnOk r Q
-on_ok (Ok x) p f = f p
-on_ok (Err e) p f = tt
-
-pub on_both : {T E : Type 0} (r : Result T E) (P Q : Type 0) → OnOk r P → OnOk r Q → OnOk r (P × Q)
-on_both (Ok x) P Q p q = (p, q)
-on_both (Err e) P Q p q = tt
-
-pub on_any : {T E : Type 0} (r : Result T E) {P : Type 0} → P → OnOk r P
-on_any (Ok x) p = p
-on_any (Err e) p = tt
-
-pub on_err : {T E : Type 0} (r : Result T E) {P Q : Type 0} → OnErr r P → (P → Q) → OnErr r Q
-on_err (Ok x) p f = tt
-on_err (Err e) p f = f p
-
-pub on_any_err : {T E : Type 0} (r : Result T E) {P : Type 0} → P → OnErr r P
-on_any_err (Ok x) p = tt
-on_any_err (Err e) p = p
 
 -- The mail once items are told.
 
@@ -102,6 +80,13 @@ pub facts_told : (y : Yard) (w : World) (is : List Item) (before after : List Fa
 facts_told y w is before after s e =
     e ∙ (ap (λ p. before ++ facts_of wire_limit (length p) is) s.wire_is ∙ (ap (λ l. before ++ facts_of l (length w.wire) is) (sym s.limit_is) ∙ ap (λ fs. before ++ fs) (sym (facts_are w is))))
 
+-- the facts of the items of a mail are the world's
+pub items_told : (y : Yard) (w : World) (mid : Mails) (is : List Item) → IsSeen y w → mid.packets ≡ y.mail.packets → mid.items ≡ is → facts_of wire_limit (length mid.packets) mid.items ≡ input_facts w is
+items_told y w mid is s e h =
+    ap (λ p. facts_of wire_limit (length p) mid.items) (e ∙ s.wire_is)
+    ∙ (ap (λ i. facts_of wire_limit (length w.wire) i) h
+    ∙ (ap (λ l. facts_of l (length w.wire) is) (sym s.limit_is) ∙ sym (facts_are w is)))
+
 -- what the step doesn't touch
 pub record IsKept (y z : Yard) : Type 0 where
   pub script_is : z.script ≡ y.script
@@ -131,8 +116,8 @@ seen_told y z w is nodes s own k m l =
       fresh = fold fresh_step w.fresh fs;
       lists = fold (lists_step w.set) w.lists fs;
       full = fold full_step w.full fs;
-      nodes = fold (nodes_step w.set) w.nodes fs;
-    } = words_after w fs in
+      nodes = fold (nodes_step w.set w.behaviour) w.nodes fs;
+    } = words_after w fs (input_within w is own) in
     let lists : fold (lists_step (setting z.script)) w.lists (facts_in is) ≡ (fold world_after w fs).lists =
     sym (input_lists (setting z.script) w is w.lists) ∙ (ap (λ set. fold (lists_step set) w.lists fs) (ap setting k.script_is ∙ sym s.set_is) ∙ sym (ap (λ (v : World). v.lists) e)) in
     record {
@@ -171,7 +156,7 @@ views_seen y mid new w before after s e f g h t =
     let own : list_all is_own_item is ≡ true = views_own w.version w.members w.members in
     let items : mid.items ≡ is = h ∙ (ap (λ v. view_items v y.members y.members) s.version_is ∙ ap (λ m. view_items w.version m m) s.members_are) in
     let fs : List Fact = input_facts w is in
-    let nodes : (fold world_after w fs).nodes ≡ w.nodes = ap (λ (v : World). v.nodes) (words_after w fs) ∙ input_nodes w.set w is w.nodes own in
+    let nodes : (fold world_after w fs).nodes ≡ w.nodes = ap (λ (v : World). v.nodes) (words_after w fs (input_within w is own)) ∙ input_nodes w.set w.behaviour w is w.nodes own in
     record {
       seen_is = seen_told y (record y { mail = new }) w is (fold world_after w fs).nodes s own (record { script_is = refl; members_are = refl; version_is = refl; ups_are = refl })
           (mailed_from y.mail mid new is e f g items t.mail_is)
@@ -183,3 +168,10 @@ views_seen y mid new w before after s e f g h t =
           });
       facts_are = facts_told y w is before after s (t.facts_are ∙ (ap (λ p. before ++ facts_of wire_limit (length p) mid.items) e ∙ ap (λ i. before ++ facts_of wire_limit (length y.mail.packets) i) items));
     }
+
+pub cut_views : (y : Yard) (mid : Mails) (w : World) (before after : List Fact) → IsSeen y w → mid.packets ≡ y.mail.packets → mid.items ≡ view_items y.version y.members y.members
+    → ToldSome before after (facts_of wire_limit (length mid.packets) mid.items) → ToldSome before after (views w).facts
+cut_views y mid w before after s e h t =
+    let is : List Item = view_items w.version w.members w.members in
+    let items : mid.items ≡ is = h ∙ (ap (λ v. view_items v y.members y.members) s.version_is ∙ ap (λ m. view_items w.version m m) s.members_are) in
+    subst (ToldSome before after) (items_told y w mid is s e items) t

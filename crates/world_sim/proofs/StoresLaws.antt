@@ -20,24 +20,26 @@ use Rattle.yard_model.specs.SlotReads.{holder}
 use Rattle.yard_model.specs.Trace.{lists_step, list_at}
 use Rattle.yard_model.specs.Turns.{where_some}
 use Rattle.yard_model.specs.Words.{numbers, at}
-use Rattle.yard_model.specs.World.{World, Made, world_after, nodes_step, go_down, go_down_by, node_at, wire_limit}
+use Rattle.yard_model.specs.World.{World, Made, world_after, nodes_step, go_down, go_down_by, node_at}
 use Rattle.shard_store.specs.Stores.{entries_at, lists_at, place_of}
 use Rattle.shard_lease.specs.Book.{Book, known_at, meaning_of}
 use Rattle.node_core.specs.Leased.{IsTold, Tells}
-use Rattle.world_laws.specs.Hands.{HasHand}
-use Rattle.world_laws.specs.Standing.{IsUp, Stands}
-use Rattle.world_laws.proofs.Place.{none_is_not_some, inside, placed_beside, by_place}
-use Rattle.world_laws.proofs.Play.{played_goes}
-use Rattle.world_laws.proofs.UpDown.{go_down_goes}
-use Rattle.yard_laws.proofs.Booleans.{true_is_not_false, and_both, both}
+use Rattle.node_laws.specs.Cluster.{IsMember, IsHeldBy}
+use Rattle.node_core.specs.Found.{AreThere}
+use Rattle.world_sim.specs.Keeps.{Keeps}
+use Rattle.world_sim.specs.Stands.{Stands}
+use Rattle.world_sim.specs.Stepped.{IsWhole}
+use Rattle.plain_laws.proofs.Lists.{none_is_not_some, inside, placed_beside, by_place}
+use Rattle.plain_laws.proofs.Booleans.{true_is_not_false, and_both, both}
 use Rattle.world_sim.specs.declared.fault.StepFault.{StepFault}
 use Rattle.world_sim.specs.declared.fault.StepFault.TheVariants as fault
 use Rattle.world_sim.specs.Played.{FreesSome, AreFreed, is_freed, made_of}
 use Rattle.world_sim.specs.Stopped.{IsStopped}
 use Rattle.world_sim.specs.World.{IsKept, IsWorld}
-use Rattle.world_sim.specs.Yard.{Yard, IsSeen, IsFirm, Goes}
-use Rattle.world_sim.proofs.RestsLaws.{told_of}
-use Rattle.world_sim.proofs.TellLaws.{words_after}
+use Rattle.world_sim.specs.Yard.{Yard, IsSeen, IsFirm}
+use Rattle.world_sim.proofs.RestsLaws.{member, there_of, own_of, held_by, told_of}
+use Rattle.world_sim.proofs.TellLaws.{words_after, facts_within}
+use Rattle.world_sim.proofs.EndLaws.{crash_own}
 
 -- Numbers.
 
@@ -95,7 +97,7 @@ down_by c w None e = none_freed c w.lists
 down_by c w (Some st) e = record {
   freed = crash st;
   all_freed = crash_freed st;
-  lists_are = ap (λ (v : World). v.lists) (words_after (world_after w (fact.Gone st.who)) (crash st)) ∙ ap (λ set. fold (lists_step set) w.lists (crash st)) e;
+  lists_are = ap (λ (v : World). v.lists) (words_after (world_after w (fact.Gone st.who)) (crash st) (facts_within (crash st) (crash_own st))) ∙ ap (λ set. fold (lists_step set) w.lists (crash st)) e;
 }
 
 -- Places of nodes.
@@ -109,19 +111,19 @@ still_empty : (xs : List (Option Node)) (j k : ℕ) → at xs k ≡ None → at 
 still_empty xs j k h = by_place (at (slice_set xs j None) k ≡ None) k j (λ e. ap (at (slice_set xs j None)) e ∙ emptied xs j) (λ other. placed_beside xs j k None other ∙ h)
 
 -- what is freed changes no node
-freed_nodes : (set : Setting) (fs : List Fact) (ns : List (Option Node)) → list_all is_freed fs ≡ true → fold (nodes_step set) ns fs ≡ ns
-freed_nodes set [] ns e = refl
-freed_nodes set (f ∷ fs) ns e =
+freed_nodes : (set : Setting) (version : ℕ) (fs : List Fact) (ns : List (Option Node)) → list_all is_freed fs ≡ true → fold (nodes_step set version) ns fs ≡ ns
+freed_nodes set version [] ns e = refl
+freed_nodes set version (f ∷ fs) ns e =
     let p : (is_freed f ≡ true) × (list_all is_freed fs ≡ true) = and_both (is_freed f) (list_all is_freed fs) e in
-    ap (λ ms. fold (nodes_step set) ms fs) (one f p.0) ∙ freed_nodes set fs ns p.1
+    ap (λ ms. fold (nodes_step set version) ms fs) (one f p.0) ∙ freed_nodes set version fs ns p.1
   where
-    one : (f : Fact) → is_freed f ≡ true → nodes_step set ns f ≡ ns
+    one : (f : Fact) → is_freed f ≡ true → nodes_step set version ns f ≡ ns
     one (fact.Freed s n why) g = refl
     one f g = absurd (true_is_not_false (sym g))
 
 nodes_by : (w : World) (st : Node) → (go_down_by (Some st) w).world.nodes ≡ slice_set w.nodes (st.who.node - 1) None
 nodes_by w st =
-    ap (λ (v : World). v.nodes) (words_after (world_after w (fact.Gone st.who)) (crash st)) ∙ freed_nodes w.set (crash st) (slice_set w.nodes (st.who.node - 1) None) (crash_freed st)
+    ap (λ (v : World). v.nodes) (words_after (world_after w (fact.Gone st.who)) (crash st) (facts_within (crash st) (crash_own st))) ∙ freed_nodes w.set w.behaviour (crash st) (slice_set w.nodes (st.who.node - 1) None) (crash_freed st)
 
 -- a place that is empty stays so
 pub down_stays : (w : World) (o : Option Node) (k : ℕ) → at w.nodes k ≡ None → at (go_down_by o w).world.nodes k ≡ None
@@ -132,7 +134,7 @@ down_stays w (Some st) k h = ap (λ ns. at ns k) (nodes_by w st) ∙ still_empty
 pub down_now : (c : Script) (w : World) (j : ℕ) (o : Option Node) → Stands c w → at w.nodes j ≡ o → at (go_down_by o w).world.nodes j ≡ None
 down_now c w j None s e = e
 down_now c w j (Some st) s e =
-    let u : IsUp c w j st = s.nodes_are j st e in
+    let u : IsMember c s.trace j st = member c w j st s e in
     let n : st.who.node ≡ j + 1 = u.node_is in
     let place : st.who.node - 1 ≡ j = omega (arith, n) in
     ap (λ ns. at ns j) (nodes_by w st) ∙ (ap (λ k. at (slice_set w.nodes k None) j) place ∙ emptied w.nodes j)
@@ -142,13 +144,13 @@ down_now c w j (Some st) s e =
 pub stopped_first : (y : Yard) (w : World) → IsFirm y w → IsStopped 0 w.lists y w
 stopped_first y w f = record { firm_is = f; down = λ k less. absurd (omega (arith, less)); freed_are = none_freed y.script w.lists }
 
-pub stopped_next : (y z : Yard) (lists : SlotLists) (v : World) (i : ℕ) → is_in 1 y.script.config.nodes (i + 1) ≡ true → IsStopped i lists y v → z.script ≡ y.script → IsSeen z (go_down (i + 1) v).world → IsStopped (i + 1) lists z (go_down (i + 1) v).world
-stopped_next y z lists v i node s e g = record {
-  firm_is = record { seen_is = g; stands_is = subst (λ c. Stands c m.world) (sym e) (go_down_goes y.script v (i + 1) node s.firm_is.stands_is) };
+pub stopped_next : Keeps → (y z : Yard) (lists : SlotLists) (v : World) (i : ℕ) → is_in 1 y.script.config.nodes (i + 1) ≡ true → IsStopped i lists y v → z.script ≡ y.script → IsSeen z (go_down (i + 1) v).world → IsStopped (i + 1) lists z (go_down (i + 1) v).world
+stopped_next keeps y z lists v i node s e g = record {
+  firm_is = record { seen_is = g; stands_is = subst (λ c. Stands c m.world) (sym e) (keeps.goes_down y.script v (i + 1) s.firm_is.stands_is) };
   down = λ k less. by_place (at m.world.nodes k ≡ None) k i
       (λ same. ap (at m.world.nodes) same ∙ down_now y.script v i (node_at v (i + 1)) s.firm_is.stands_is (ap (at v.nodes) here))
       (λ other. down_stays v (node_at v (i + 1)) k (s.down k (lower k less other)));
-  freed_are = subst (λ c. FreesSome c lists m.world.lists) (sym e) (freed_on y.script lists v.lists m.world.lists s.freed_are (down_by y.script v (node_at v (i + 1)) s.firm_is.stands_is.set_is));
+  freed_are = subst (λ c. FreesSome c lists m.world.lists) (sym e) (freed_on y.script lists v.lists m.world.lists s.freed_are (down_by y.script v (node_at v (i + 1)) s.firm_is.stands_is.sound.set_is));
 }
   where
     m : Made
@@ -169,18 +171,19 @@ pub record Stopping (old y : Yard) (i : ℕ) : Type 0 where
 pub stopping_first : (y : Yard) → Stopping y y 0
 stopping_first y = record { goes_on = λ w f. (w, stopped_first y w f); script_is = refl; version_is = omega arith }
 
-pub stopping_next : (old y z : Yard) (start after : List Fact) (i n : ℕ) → n ≡ i + 1 → is_in 1 y.script.config.nodes n ≡ true → Stopping old y i → ((w : World) → IsFirm y w → Goes start after z (go_down n w)) → z.script ≡ y.script → z.version ≤ y.version + 1 → Stopping old z (i + 1)
-stopping_next old y z start after i n one node s g script version =
+pub stopping_next : Keeps → (old y z : Yard) (start after : List Fact) (i n : ℕ) → n ≡ i + 1 → is_in 1 y.script.config.nodes n ≡ true → Stopping old y i → IsWhole IsFirm 1 (go_down n) y z start after → Stopping old z (i + 1)
+stopping_next keeps old y z start after i n one node s g =
     let before : y.version ≤ old.version + i = s.version_is in
+    let more : z.version ≤ y.version + 1 = g.counts.version_is in
     record {
       goes_on = λ w f.
           let r : (v : World) × IsStopped i w.lists y v = s.goes_on w f in (
             (go_down (i + 1) r.0).world,
-            stopped_next y z w.lists r.0 i (subst (λ n. is_in 1 y.script.config.nodes n ≡ true) one node) r.1 script
-                (subst (λ n. IsSeen z (go_down n r.0).world) one (g r.0 r.1.firm_is).seen_is),
+            stopped_next keeps y z w.lists r.0 i (subst (λ n. is_in 1 y.script.config.nodes n ≡ true) one node) r.1 g.script_is
+                (subst (λ n. IsSeen z (go_down n r.0).world) one (g.goes r.0 r.1.firm_is).seen_is),
           );
-      script_is = script ∙ s.script_is;
-      version_is = omega (arith, before, version);
+      script_is = g.script_is ∙ s.script_is;
+      version_is = omega (arith, before, more);
     }
 
 -- Where no node is up, nobody holds a slot.
@@ -191,17 +194,17 @@ none_holds c w s stands down i = by (holder (list_at w.lists s)) refl
     by : (o : Option Incarnation) → holder (list_at w.lists s) ≡ o → o ≡ None
     by None e = refl
     by (Some x) e =
-        let t : HasHand w s x = stands.hands_are.holders s x i e in
-        let within : x.node - 1 < length w.nodes = inside w.nodes (x.node - 1) t.node t.is_up in
-        let count : length w.nodes ≡ c.config.nodes = stands.nodes_there in
-        let less : x.node - 1 < c.config.nodes = omega (arith, within, count) in
-        absurd (none_is_not_some t.node (sym (down (x.node - 1) less) ∙ t.is_up))
+        let t : IsHeldBy w.nodes s x = held_by c w s x stands i e in
+        let within : t.place < length w.nodes = inside w.nodes t.place t.st t.here in
+        let count : length w.nodes ≡ c.config.nodes = stands.sound.nodes_there in
+        let less : t.place < c.config.nodes = omega (arith, within, count) in
+        absurd (none_is_not_some t.st (sym (down t.place less) ∙ t.here))
 
 -- so each slot that was held is freed
 pub all_free : (y : Yard) (lists : SlotLists) (w : World) → IsStopped y.script.config.nodes lists y w → AreFreed y.script lists w.lists
 all_free y lists w s = record {
   some_are = s.freed_are;
-  own_are = s.firm_is.stands_is.owns;
+  own_are = λ t i. own_of y.script w t s.firm_is.stands_is i;
   free_are = λ t i. ap is_some (none_holds y.script w t s.firm_is.stands_is s.down i);
 }
 
@@ -228,16 +231,19 @@ lists_same a b e f g i = record { shards = e i; coordinator = f i; queues = g i 
 
 pub lists_home : (b : Book) (y : Yard) (lists : SlotLists) (w : World) → b ≡ y.book → IsStopped y.script.config.nodes lists y w → lists_at y.script.config b.places ≡ w.lists
 lists_home b y lists w same s = lists_same (lists_at y.script.config b.places) w.lists
-    (by_numbers (entries_at b.places) w.lists.shards 0 y.script.config.shards s.firm_is.stands_is.shards_there
+    (by_numbers (entries_at b.places) w.lists.shards 0 y.script.config.shards there.shards
     (λ i j less e. let at_place : j ≡ i = omega (arith, e) in ap (entries_at b.places) at_place ∙ each (slot.Shard i) (lt_is i y.script.config.shards less)))
     (each slot.Coordinator refl)
-    (by_numbers (λ p. entries_at b.places (y.script.config.shards + p)) w.lists.queues 1 y.script.config.producers s.firm_is.stands_is.queues_there
+    (by_numbers (λ p. entries_at b.places (y.script.config.shards + p)) w.lists.queues 1 y.script.config.producers there.queues
     (λ i j less e.
     let some : 1 ≤ j = omega (arith, e) in
     let most : j ≤ y.script.config.producers = omega (arith, e, less) in
     let before : j - 1 ≡ i = omega (arith, e) in
     each (slot.Queue j) (both (nat_le 1 j) (nat_le j y.script.config.producers) (le_is 1 j some) (le_is j y.script.config.producers most)) ∙ ap (λ k. slice_index_or w.lists.queues k []) before))
   where
+    there : AreThere y.script w.lists
+    there = there_of y.script w s.firm_is.stands_is
+
     each : (t : Slot) → is_slot_of y.script t ≡ true → entries_at b.places (place_of y.script.config t) ≡ list_at w.lists t
     each t i =
         let script : b.script ≡ y.script = ap (λ (b : Book). b.script) same ∙ s.firm_is.seen_is.book_is in
@@ -247,11 +253,11 @@ lists_home b y lists w same s = lists_same (lists_at y.script.config b.places) w
 -- The world's parts, where it found memory.
 
 pub firm_kept : (y : Yard) (n : ℕ) (f : Option StepFault) → IsWorld y n f → f ≢ Some fault.OutOfMemory → IsFirm y (made_of y.script n).world
-firm_kept y n f w h = record { seen_is = by f h w.kept; stands_is = played_goes y.script wire_limit n w.script_is w.built }
+firm_kept y n f w h = by f h w.kept
   where
-    by : (f : Option StepFault) → f ≢ Some fault.OutOfMemory → IsKept y n f → IsSeen y (made_of y.script n).world
-    by None h k = k.0.seen_is
-    by (Some fault.WireFull) h k = k.0.seen_is
+    by : (f : Option StepFault) → f ≢ Some fault.OutOfMemory → IsKept y n f → IsFirm y (made_of y.script n).world
+    by None h k = record { seen_is = k.0.seen_is; stands_is = k.0.stands_is }
+    by (Some fault.WireFull) h k = record { seen_is = k.0.seen_is; stands_is = k.0.stands_is }
     by (Some fault.OutOfMemory) h k = absurd (h refl)
 
 pub version_kept : (y : Yard) (n : ℕ) (f : Option StepFault) → IsWorld y n f → f ≢ Some fault.OutOfMemory → y.version ≤ 200000

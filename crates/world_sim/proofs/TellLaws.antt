@@ -14,12 +14,40 @@ use Rattle.yard_model.specs.SlotLists.{SlotLists}
 use Rattle.yard_model.specs.Trace.{lists_step}
 use Rattle.yard_model.specs.Node.{Node}
 use Rattle.yard_model.specs.World.{World, world_after, members_step, version_step, ups_step, wire_step, fresh_step, full_step, nodes_step, numbered, count_posts, input_facts}
-use Rattle.world_laws.specs.Owes.{facts_in}
-use Rattle.yard_laws.proofs.Booleans.{true_is_not_false, and_both}
+use Rattle.actor_laws.specs.Owes.{facts_in}
+use Rattle.plain_laws.proofs.Booleans.{true_is_not_false, and_both, both, all_map}
+use Rattle.plain_laws.proofs.Lists.{all_join, all_if}
 use Rattle.world_sim.specs.Told.{is_own, is_own_item}
 
--- each word after the facts is the fold of its own step
-pub words_after : (w : World) (fs : List Fact) → fold world_after w fs ≡ record w {
+-- it changes neither the number of shards nor the version of behaviours
+abbrev pub is_within : Fact → Bool
+is_within (fact.Reshard n k) = false
+is_within (fact.Upgrade v) = false
+is_within f = true
+
+abbrev pub AreWithin : List Fact → Type 0
+AreWithin fs = list_all is_within fs ≡ true
+
+-- the words after such a fact
+abbrev words_next : World → Fact → World
+words_next w f = record w {
+  members = members_step w.members f;
+  version = version_step w.version f;
+  ups = ups_step w.ups f;
+  wire = wire_step w.wire f;
+  fresh = fresh_step w.fresh f;
+  lists = lists_step w.set w.lists f;
+  full = full_step w.full f;
+  nodes = nodes_step w.set w.behaviour w.nodes f;
+}
+
+next_is : (w : World) (f : Fact) → is_within f ≡ true → world_after w f ≡ words_next w f
+next_is w (fact.Reshard n k) h = absurd (true_is_not_false (sym h))
+next_is w (fact.Upgrade v) h = absurd (true_is_not_false (sym h))
+next_is w f h = refl
+
+-- each word after such facts is the fold of its own step
+pub words_after : (w : World) (fs : List Fact) → AreWithin fs → fold world_after w fs ≡ record w {
   members = fold members_step w.members fs;
   version = fold version_step w.version fs;
   ups = fold ups_step w.ups fs;
@@ -27,10 +55,35 @@ pub words_after : (w : World) (fs : List Fact) → fold world_after w fs ≡ rec
   fresh = fold fresh_step w.fresh fs;
   lists = fold (lists_step w.set) w.lists fs;
   full = fold full_step w.full fs;
-  nodes = fold (nodes_step w.set) w.nodes fs;
+  nodes = fold (nodes_step w.set w.behaviour) w.nodes fs;
 }
-words_after w [] = refl
-words_after w (f ∷ fs) = words_after (world_after w f) fs
+words_after w [] h = refl
+words_after w (f ∷ fs) h =
+    let m : (is_within f ≡ true) × AreWithin fs = and_both (is_within f) (list_all is_within fs) h in
+    ap (λ v. fold world_after v fs) (next_is w f m.0) ∙ words_after (words_next w f) fs m.1
+
+-- a fact that a node may tell is such a one
+own_within : (f : Fact) → is_own f ≡ true → is_within f ≡ true
+own_within (fact.Reshard n k) h = h
+own_within (fact.Upgrade v) h = h
+own_within f h = refl
+
+pub facts_within : (fs : List Fact) → list_all is_own fs ≡ true → AreWithin fs
+facts_within fs h = all_map is_own is_within own_within fs h
+
+numbered_within : (limit k : ℕ) (is : List Item) → list_all is_own_item is ≡ true → AreWithin (numbered limit k is)
+numbered_within limit k [] h = refl
+numbered_within limit k (item.Fact f ∷ is) h =
+    let s : (is_own f ≡ true) × (list_all is_own_item is ≡ true) = and_both (is_own f) (list_all is_own_item is) h in
+    both (is_within f) (list_all is_within (numbered limit k is)) (own_within f s.0) (numbered_within limit k is s.1)
+numbered_within limit k (item.Post p ∷ is) h =
+    all_join is_within (if nat_lt k limit then fact.Sent (k + 1) p ∷ [] else []) (numbered limit (k + 1) is)
+    (all_if is_within (nat_lt k limit) (fact.Sent (k + 1) p ∷ []) [] refl refl) (numbered_within limit (k + 1) is h)
+
+pub input_within : (w : World) (is : List Item) → list_all is_own_item is ≡ true → AreWithin (input_facts w is)
+input_within w is h =
+    all_join is_within (numbered w.limit (length w.wire) is) (if nat_lt w.limit (fold count_posts (length w.wire) is) then fact.WireFull ∷ [] else [])
+    (numbered_within w.limit (length w.wire) is h) (all_if is_within (nat_lt w.limit (fold count_posts (length w.wire) is)) (fact.WireFull ∷ []) [] refl refl)
 
 -- A word that no post changes.
 
@@ -84,10 +137,10 @@ ups_stay : (a : List ℕ) (f : Fact) → is_own f ≡ true → ups_step a f ≡ 
 ups_stay a (fact.Up x) e = absurd (true_is_not_false (sym e))
 ups_stay a f e = refl
 
-nodes_stay : (set : Setting) (a : List (Option Node)) (f : Fact) → is_own f ≡ true → nodes_step set a f ≡ a
-nodes_stay set a (fact.Up x) e = absurd (true_is_not_false (sym e))
-nodes_stay set a (fact.Gone x) e = absurd (true_is_not_false (sym e))
-nodes_stay set a f e = refl
+nodes_stay : (set : Setting) (version : ℕ) (a : List (Option Node)) (f : Fact) → is_own f ≡ true → nodes_step set version a f ≡ a
+nodes_stay set version a (fact.Up x) e = absurd (true_is_not_false (sym e))
+nodes_stay set version a (fact.Gone x) e = absurd (true_is_not_false (sym e))
+nodes_stay set version a f e = refl
 
 pub input_members : (w : World) (is : List Item) (a : List Incarnation) → list_all is_own_item is ≡ true → fold members_step a (input_facts w is) ≡ a
 input_members w is a e = input_apart members_step (record { sent = λ a k p. refl; filled = λ a. refl }) w is a ∙ stays members_step members_stay is a e
@@ -98,5 +151,5 @@ input_version w is a e = input_apart version_step (record { sent = λ a k p. ref
 pub input_ups : (w : World) (is : List Item) (a : List ℕ) → list_all is_own_item is ≡ true → fold ups_step a (input_facts w is) ≡ a
 input_ups w is a e = input_apart ups_step (record { sent = λ a k p. refl; filled = λ a. refl }) w is a ∙ stays ups_step ups_stay is a e
 
-pub input_nodes : (set : Setting) (w : World) (is : List Item) (a : List (Option Node)) → list_all is_own_item is ≡ true → fold (nodes_step set) a (input_facts w is) ≡ a
-input_nodes set w is a e = input_apart (nodes_step set) (record { sent = λ a k p. refl; filled = λ a. refl }) w is a ∙ stays (nodes_step set) (nodes_stay set) is a e
+pub input_nodes : (set : Setting) (version : ℕ) (w : World) (is : List Item) (a : List (Option Node)) → list_all is_own_item is ≡ true → fold (nodes_step set version) a (input_facts w is) ≡ a
+input_nodes set version w is a e = input_apart (nodes_step set version) (record { sent = λ a k p. refl; filled = λ a. refl }) w is a ∙ stays (nodes_step set version) (nodes_stay set version) is a e

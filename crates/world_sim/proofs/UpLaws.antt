@@ -11,17 +11,20 @@ use Rattle.yard_model.specs.Behaviour.{is_in}
 use Rattle.yard_model.specs.Genuine.{is_node}
 use Rattle.yard_model.specs.Members.{has_node, are_of_different_nodes}
 use Rattle.yard_model.specs.Node.{new_node}
-use Rattle.yard_model.specs.Script.{setting}
+use Rattle.yard_model.specs.Script.{setting, is_version}
 use Rattle.yard_model.specs.Words.{at, is_among}
-use Rattle.yard_model.specs.World.{World, Made, node_at}
+use Rattle.yard_model.specs.World.{World, node_at}
 use Rattle.node_core.specs.Standing.{Standing}
-use Rattle.world_laws.specs.Standing.{IsThere}
-use Rattle.world_laws.proofs.Members.{all_among, different_last, node_of_some}
-use Rattle.world_laws.proofs.Place.{none_is_not_some, placed_at, placed_beside, by_place}
-use Rattle.world_laws.proofs.Room.{few_members, few_nodes}
-use Rattle.yard_laws.proofs.Booleans.{and_both, both, at_most}
+use Rattle.node_laws.specs.Members.{IsThere}
+use Rattle.plain_laws.proofs.Members.{all_among, different_last, node_of_some}
+use Rattle.plain_laws.proofs.Lists.{none_is_not_some, placed_at, placed_beside, by_place}
+use Rattle.actor_laws.proofs.Room.{few_members, few_nodes}
+use Rattle.plain_laws.proofs.Booleans.{and_both, both, at_most}
 use Rattle.world_sim.proofs.PlaceLaws.{state_at}
-use Rattle.world_sim.specs.Steps.{entered, AreOneMore}
+use Rattle.node_laws.specs.Cluster.{IsMember}
+use Rattle.world_sim.proofs.RestsLaws.{member}
+use Rattle.world_sim.specs.Stepped.{Counts, IsWhole}
+use Rattle.world_sim.specs.Steps.{entered}
 use Rattle.world_sim.specs.Yard.{Yard, IsSeen, IsFirm, IsSound, Goes, state_in}
 
 -- Places.
@@ -35,15 +38,19 @@ pub firm_of : (y : Yard) (w : World) → IsSound y w → IsFirm y w
 firm_of y w s = record { seen_is = s.seen_is; stands_is = s.stands_is }
 
 pub nodes_count : (y : Yard) (w : World) → IsFirm y w → length y.nodes ≡ y.script.config.nodes
-nodes_count y w s = sym (length-map y.nodes state_in) ∙ (ap length s.seen_is.nodes_are ∙ s.stands_is.nodes_there)
+nodes_count y w s = sym (length-map y.nodes state_in) ∙ (ap length s.seen_is.nodes_are ∙ s.stands_is.sound.nodes_there)
 
 pub ups_count : (y : Yard) (w : World) → IsSound y w → length y.ups ≡ y.script.config.nodes
-ups_count y w s = ap length s.seen_is.ups_are ∙ s.stands_is.ups_there
+ups_count y w s = ap length s.seen_is.ups_are ∙ s.stands_is.sound.ups_there
 
 pub node_within : (n nodes : ℕ) → is_in 1 nodes n ≡ true → (1 ≤ n) × (n ≤ nodes)
 node_within n nodes e = let p : (nat_le 1 n ≡ true) × (nat_le n nodes ≡ true) = and_both (nat_le 1 n) (nat_le n nodes) e in (at_most 1 n p.0, at_most n nodes p.1)
 
 -- Coming up.
+
+-- the script admits the version in force
+pub admitted_one : (y : Yard) (w : World) → IsSound y w → is_version y.script 1 ≡ true
+admitted_one y w s = ap (is_version y.script) (sym s.stands_is.built.behaviour_is) ∙ s.stands_is.sound.admitted
 
 -- no member is of a node that isn't up
 pub none_of_down : (y : Yard) (w : World) (n : ℕ) → IsSound y w → at y.nodes (n - 1) ≡ None → has_node n y.members ≡ false
@@ -51,7 +58,7 @@ none_of_down y w n s down = by (has_node n y.members) refl
   where
     none_up : (x : Incarnation) → is_among x y.members ≡ true → x.node ≡ n → ⊥
     none_up x m e =
-        let there : IsThere w x = s.stands_is.members_are x (ap (is_among x) (sym s.seen_is.members_are) ∙ m) in
+        let there : IsThere w x = s.stands_is.sound.members_are x (ap (is_among x) (sym s.seen_is.members_are) ∙ m) in
         none_is_not_some there.node (sym (node_kept y w (n - 1) s.seen_is ∙ ap state_in down) ∙ (ap (λ j. node_at w j) (sym e) ∙ there.is_up))
 
     by : (b : Bool) → has_node n y.members ≡ b → b ≡ false
@@ -61,16 +68,17 @@ none_of_down y w n s down = by (has_node n y.members) refl
 -- the members are of the script's nodes
 pub members_nodes : (y : Yard) (w : World) → IsSound y w → list_all (is_node y.script) y.members ≡ true
 members_nodes y w s = all_among (is_node y.script) y.members (λ x m.
-    let there : IsThere w x = s.stands_is.members_are x (ap (is_among x) (sym s.seen_is.members_are) ∙ m) in
-    ap (is_node y.script) (sym there.who_is) ∙ (s.stands_is.nodes_are (x.node - 1) there.node there.is_up).self_is.who_is)
+    let there : IsThere w x = s.stands_is.sound.members_are x (ap (is_among x) (sym s.seen_is.members_are) ∙ m) in
+    let me : IsMember y.script s.stands_is.trace (x.node - 1) there.node = member y.script w (x.node - 1) there.node s.stands_is there.is_up in
+    ap (is_node y.script) (sym there.who_is) ∙ me.sound.who_is)
 
 -- so there is room for one
 pub room_for : (y : Yard) (w : World) (x : Incarnation) → IsSound y w → is_in 1 y.script.config.nodes x.node ≡ true → has_node x.node y.members ≡ false → length y.members < 16
 room_for y w x s node other =
     let all : length (y.members ++ x ∷ []) ≤ y.script.config.nodes = few_members y.script (y.members ++ x ∷ [])
     (list_all-append (is_node y.script) y.members (x ∷ []) ∙ both (list_all (is_node y.script) y.members) (list_all (is_node y.script) (x ∷ [])) (members_nodes y w s) (both (is_node y.script x) true node refl))
-    (different_last y.members x (ap are_of_different_nodes s.seen_is.members_are ∙ s.stands_is.members_different) other) in
-    let most : y.script.config.nodes ≤ 16 = few_nodes y.script s.stands_is.script_is in
+    (different_last y.members x (ap are_of_different_nodes s.seen_is.members_are ∙ s.stands_is.sound.members_different) other) in
+    let most : y.script.config.nodes ≤ 16 = few_nodes y.script s.stands_is.sound.script_is in
     let long : length (y.members ++ x ∷ []) ≡ length y.members + 1 = length-append y.members (x ∷ []) in
     omega (arith, all, most, long)
 
@@ -86,7 +94,7 @@ with_node y n node = record y {
   ups = slice_set y.ups (n - 1) (slice_index_or y.ups (n - 1) 0 + 1);
 }
 
-pub entered_goes : (y : Yard) (w : World) (n : ℕ) (node : Standing) (before after : List Fact) → IsSound y w → is_in 1 y.script.config.nodes n ≡ true → node.script ≡ y.script → node.state ≡ new_node (setting y.script) (came y.ups n)
+pub entered_goes : (y : Yard) (w : World) (n : ℕ) (node : Standing) (before after : List Fact) → IsSound y w → is_in 1 y.script.config.nodes n ≡ true → node.script ≡ y.script → node.state ≡ new_node (setting y.script) 1 (came y.ups n)
     → after ≡ before ++ fact.Up (came y.ups n) ∷ [] → Goes before after (with_node y n node) (entered n w)
 entered_goes y w n node before after s within script state told =
     let u : IsSeen y w = s.seen_is in
@@ -106,7 +114,7 @@ entered_goes y w n node before after s within script state told =
         told_all = u.told_all;
         nodes_are = map-set state_in y.nodes (n - 1) (Some node)
             ∙ (ap (λ ns. slice_set ns (n - 1) (Some node.state)) u.nodes_are
-            ∙ ap (λ st. slice_set w.nodes (n - 1) (Some st)) (state ∙ (ap (λ x. new_node (setting y.script) x) came_is ∙ ap (λ set. new_node set (came w.ups n)) (sym u.set_is))));
+            ∙ ap (λ st. slice_set w.nodes (n - 1) (Some st)) (state ∙ (ap (new_node (setting y.script) 1) came_is ∙ (ap (λ set. new_node set 1 (came w.ups n)) (sym u.set_is) ∙ ap (λ v. new_node w.set v (came w.ups n)) (sym s.stands_is.built.behaviour_is)))));
         scripts_are = λ k. by_place (IfSome (at (slice_set y.nodes (n - 1) (Some node)) k) (λ (v : Standing). v.script ≡ y.script)) k (n - 1)
             (λ e. subst (λ j. IfSome (at (slice_set y.nodes (n - 1) (Some node)) j) (λ (v : Standing). v.script ≡ y.script)) (sym e)
             (subst (λ o. IfSome o (λ (v : Standing). v.script ≡ y.script)) (sym (placed_at y.nodes (n - 1) (Some node) there)) script))
@@ -126,21 +134,27 @@ set_itself (v ∷ vs) (suc j) = set_itself vs j
 set_beside : (us : List ℕ) (i k : ℕ) → (k ≡ i → ⊥) → slice_index_or (slice_set us i (slice_index_or us i 0 + 1)) k 0 ≤ slice_index_or us k 0 + 1
 set_beside us i k h = let e : slice_index_or (slice_set us i (slice_index_or us i 0 + 1)) k 0 ≡ slice_index_or us k 0 = get_or-set_other us i k (slice_index_or us i 0 + 1) 0 h in omega (arith, e)
 
-pub one_more : (us : List ℕ) (i : ℕ) → AreOneMore us (slice_set us i (slice_index_or us i 0 + 1))
+one_more : (us : List ℕ) (i k : ℕ) → slice_index_or (slice_set us i (slice_index_or us i 0 + 1)) k 0 ≤ slice_index_or us k 0 + 1
 one_more us i k = by_place (slice_index_or (slice_set us i (slice_index_or us i 0 + 1)) k 0 ≤ slice_index_or us k 0 + 1) k i
     (λ e. subst (λ j. slice_index_or (slice_set us i (slice_index_or us i 0 + 1)) j 0 ≤ slice_index_or us j 0 + 1) (sym e) (set_itself us i))
     (set_beside us i k)
 
-pub same_more : (us vs : List ℕ) → vs ≡ us → AreOneMore us vs
-same_more us vs e k = let f : slice_index_or vs k 0 ≡ slice_index_or us k 0 = ap (λ xs. slice_index_or xs k 0) e in omega (arith, f)
+-- once a node came up
+pub counts_came : (y : Yard) (n : ℕ) (node : Standing) → Counts 1 y (with_node y n node)
+counts_came y n node = record { version_is = omega arith; ups_are = one_more y.ups (n - 1) }
 
--- What is kept is the same where each part is.
+-- What is kept once a node came up.
+
+pub entered_whole : (y z : Yard) (n : ℕ) (node : Standing) (before after : List Fact) → z ≡ with_node y n node → is_in 1 y.script.config.nodes n ≡ true → node.script ≡ y.script → node.state ≡ new_node (setting y.script) 1 (came y.ups n)
+    → after ≡ before ++ fact.Up (came y.ups n) ∷ [] → IsWhole IsSound 1 (entered n) y z before after
+entered_whole y z n node before after same within script state told = record {
+  script_is = ap (λ (v : Yard). v.script) same;
+  counts = subst (Counts 1 y) (sym same) (counts_came y n node);
+  goes = λ w s. subst (λ v. Goes before after v (entered n w)) (sym same) (entered_goes y w n node before after s within script state told);
+}
 
 pub yard_is : (a b : Yard) → a.script ≡ b.script → a.book ≡ b.book → a.nodes ≡ b.nodes → a.members ≡ b.members → a.version ≡ b.version → a.ups ≡ b.ups → a.mail ≡ b.mail → a ≡ b
 yard_is a b e f g h k l m i = record { script = e i; book = f i; nodes = g i; members = h i; version = k i; ups = l i; mail = m i }
-
-pub goes_at : (before after : List Fact) (y z : Yard) (m : Made) → z ≡ y → Goes before after y m → Goes before after z m
-goes_at before after y z m e g = subst (λ v. Goes before after v m) (sym e) g
 
 -- of an incarnation whose number was counted
 pub came_is : (ups : List ℕ) (n k : ℕ) → k ≡ slice_index_or ups (n - 1) 0 + 1 → record { node = n; number = k } ≡ came ups n

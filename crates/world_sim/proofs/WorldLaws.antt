@@ -4,16 +4,16 @@ use Rattle.std.specs.Prelude.{slice_get, slice_index_or, Option, Some, None}
 use Rattle.yard_model.specs.declared.fact.Fact.{Fact}
 use Rattle.yard_model.specs.declared.charter.Line.{Line}
 use Rattle.yard_model.specs.Script.{Script, IsScript, is_order}
-use Rattle.yard_model.specs.World.{World, Made, play_line, wire_limit}
-use Rattle.world_laws.specs.Built.{is_built_order}
-use Rattle.world_laws.specs.Keeps.{are_built}
-use Rattle.world_laws.proofs.Place.{none_is_not_some}
-use Rattle.world_laws.proofs.Play.{played_goes}
+use Rattle.yard_model.specs.World.{World, Made, play_line}
+use Rattle.world_sim.specs.Built.{is_built_order, are_built}
+use Rattle.world_sim.specs.Keeps.{Keeps}
+use Rattle.world_sim.specs.Stands.{Stands}
+use Rattle.plain_laws.proofs.Lists.{none_is_not_some}
 use Rattle.world_sim.specs.declared.fault.StepFault.{StepFault}
 use Rattle.world_sim.specs.declared.fault.StepFault.TheVariants as fault
 use Rattle.world_sim.specs.Mail.{ToldSome}
 use Rattle.world_sim.specs.Played.{Played, made_of, Told, Went, Filled, CutShort}
-use Rattle.world_sim.specs.Steps.{AreOneMore}
+use Rattle.world_sim.specs.Stepped.{IsWhole}
 use Rattle.world_sim.specs.World.{IsWorld, IsAt, IsCounted, IsKept}
 use Rattle.world_sim.specs.Yard.{Yard, IsSeen, IsSound, Goes}
 use Rattle.world_sim.proofs.PlaceLaws.{all_got}
@@ -31,7 +31,7 @@ going_at y n f w e = subst (IsKept y n) e w.kept
 pub sound_at : (y : Yard) (n : ℕ) (f : Option StepFault) → IsWorld y n f → f ≡ None → IsSound y (made_of y.script n).world
 sound_at y n f w e = record {
   seen_is = (going_at y n f w e).0.seen_is;
-  stands_is = played_goes y.script wire_limit n w.script_is w.built;
+  stands_is = (going_at y n f w e).0.stands_is;
   going_is = (going_at y n f w e).0.full_is;
 }
 
@@ -63,30 +63,33 @@ count_fits y n f l w next =
 
 -- What one order more leads to.
 
-pub record IsNext (y z : Yard) (n : ℕ) (l : Line) (before after : List Fact) : Type 0 where
-  pub script_is : z.script ≡ y.script
-  pub version_is : z.version ≤ y.version + 1
-  pub ups_are : AreOneMore y.ups z.ups
-  pub goes : Goes before after z (play_line l (made_of y.script n).world)
+abbrev pub IsNext : Yard → Yard → ℕ → Line → List Fact → List Fact → Type 0
+IsNext y z n l before after = IsWhole IsSound 1 (play_line l) y z before after
+
+next_goes : (y z : Yard) (n : ℕ) (f : Option StepFault) (l : Line) (before after : List Fact) → IsWorld y n f → f ≡ None → IsNext y z n l before after → Goes before after z (play_line l (made_of y.script n).world)
+next_goes y z n f l before after w e k = k.goes (made_of y.script n).world (sound_at y n f w e)
 
 made_is : (y z : Yard) (n : ℕ) (f : Option StepFault) (l : Line) (before after : List Fact) → IsWorld y n f → f ≡ None → slice_get y.script.orders n ≡ Some l → IsNext y z n l before after
     → (made_of z.script (n + 1)).world ≡ (play_line l (made_of y.script n).world).world
 made_is y z n f l before after w e next k = ap (λ c. (made_of c (n + 1)).world) k.script_is ∙ ap (λ (m : Made). m.world) (made_next y.script n l next (going_at y n f w e).0.full_is)
 
-at_next : (y z : Yard) (n : ℕ) (f : Option StepFault) (l : Line) (before after : List Fact) (b : Bool) → IsWorld y n f → f ≡ None → slice_get y.script.orders n ≡ Some l → IsNext y z n l before after → z.mail.full ≡ b → IsAt z (n + 1) b
-at_next y z n f l before after b w e next k full =
+at_next : Keeps → (y z : Yard) (n : ℕ) (f : Option StepFault) (l : Line) (before after : List Fact) (b : Bool) → IsWorld y n f → f ≡ None → slice_get y.script.orders n ≡ Some l → IsNext y z n l before after → z.mail.full ≡ b → IsAt z (n + 1) b
+at_next keeps y z n f l before after b w e next k full =
     let m : (made_of z.script (n + 1)).world ≡ (play_line l (made_of y.script n).world).world = made_is y z n f l before after w e next k in
+    let g : Goes before after z (play_line l (made_of y.script n).world) = next_goes y z n f l before after w e k in
     record {
-      seen_is = subst (IsSeen z) (sym m) k.goes.seen_is;
-      full_is = ap (λ (v : World). v.full) m ∙ (sym k.goes.seen_is.full_is ∙ full);
+      seen_is = subst (IsSeen z) (sym m) g.seen_is;
+      stands_is = subst (λ c. Stands c (made_of z.script (n + 1)).world) (sym k.script_is) (subst (Stands y.script) (sym m)
+          (keeps.plays y.script (made_of y.script n).world l (order_of_line y n f l w next) (built_line y n f l w next) (going_at y n f w e).0.stands_is));
+      full_is = ap (λ (v : World). v.full) m ∙ (sym g.seen_is.full_is ∙ full);
     }
 
 counted_next : (y z : Yard) (n : ℕ) (f : Option StepFault) (l : Line) (before after : List Fact) → IsWorld y n f → f ≡ None → IsNext y z n l before after → IsCounted z (n + 1)
 counted_next y z n f l before after w e k =
     let c : IsCounted y n = (going_at y n f w e).1 in
     record {
-      version_is = let a : y.version ≤ n = c.version_is in let b : z.version ≤ y.version + 1 = k.version_is in omega (arith, a, b);
-      ups_are = λ j. let a : slice_index_or y.ups j 0 ≤ n = c.ups_are j in let b : slice_index_or z.ups j 0 ≤ slice_index_or y.ups j 0 + 1 = k.ups_are j in omega (arith, a, b);
+      version_is = let a : y.version ≤ n = c.version_is in let b : z.version ≤ y.version + 1 = k.counts.version_is in omega (arith, a, b);
+      ups_are = λ j. let a : slice_index_or y.ups j 0 ≤ n = c.ups_are j in let b : slice_index_or z.ups j 0 ≤ slice_index_or y.ups j 0 + 1 = k.counts.ups_are j in omega (arith, a, b);
     }
 
 world_by : (y z : Yard) (n : ℕ) (f g : Option StepFault) (l : Line) (before after : List Fact) → IsWorld y n f → slice_get y.script.orders n ≡ Some l → IsNext y z n l before after → IsKept z (n + 1) g → IsWorld z (n + 1) g
@@ -97,13 +100,13 @@ world_by y z n f g l before after w next k kept = record {
   kept = kept;
 }
 
-pub world_going : (y z : Yard) (n : ℕ) (f g : Option StepFault) (l : Line) (before after : List Fact) → IsWorld y n f → f ≡ None → slice_get y.script.orders n ≡ Some l → IsNext y z n l before after → z.mail.full ≡ false → g ≡ None → IsWorld z (n + 1) g
-world_going y z n f g l before after w e next k full none =
-    subst (IsWorld z (n + 1)) (sym none) (world_by y z n f None l before after w next k (at_next y z n f l before after false w e next k full, counted_next y z n f l before after w e k))
+pub world_going : Keeps → (y z : Yard) (n : ℕ) (f g : Option StepFault) (l : Line) (before after : List Fact) → IsWorld y n f → f ≡ None → slice_get y.script.orders n ≡ Some l → IsNext y z n l before after → z.mail.full ≡ false → g ≡ None → IsWorld z (n + 1) g
+world_going keeps y z n f g l before after w e next k full none =
+    subst (IsWorld z (n + 1)) (sym none) (world_by y z n f None l before after w next k (at_next keeps y z n f l before after false w e next k full, counted_next y z n f l before after w e k))
 
-pub world_full : (y z : Yard) (n : ℕ) (f : Option StepFault) (l : Line) (before after : List Fact) → IsWorld y n f → f ≡ None → slice_get y.script.orders n ≡ Some l → IsNext y z n l before after → z.mail.full ≡ true → IsWorld z (n + 1) (Some fault.WireFull)
-world_full y z n f l before after w e next k full =
-    world_by y z n f (Some fault.WireFull) l before after w next k (at_next y z n f l before after true w e next k full, counted_next y z n f l before after w e k)
+pub world_full : Keeps → (y z : Yard) (n : ℕ) (f : Option StepFault) (l : Line) (before after : List Fact) → IsWorld y n f → f ≡ None → slice_get y.script.orders n ≡ Some l → IsNext y z n l before after → z.mail.full ≡ true → IsWorld z (n + 1) (Some fault.WireFull)
+world_full keeps y z n f l before after w e next k full =
+    world_by y z n f (Some fault.WireFull) l before after w next k (at_next keeps y z n f l before after true w e next k full, counted_next y z n f l before after w e k)
 
 pub world_spent : (y z : Yard) (n : ℕ) (f : Option StepFault) → IsWorld y n f → z.script ≡ y.script → IsWorld z n (Some fault.OutOfMemory)
 world_spent y z n f w e = record {
@@ -118,20 +121,20 @@ world_spent y z n f w e = record {
 abbrev seen : Yard → ℕ → Option StepFault → Played
 seen y n f = record { script = y.script; count = n; fault = f }
 
-told_next : (y z : Yard) (n : ℕ) (f : Option StepFault) (l : Line) (before after : List Fact) → f ≡ None → IsNext y z n l before after → Told (seen y n f) l before after
-told_next y z n f l before after e k = record { fresh_is = e; facts_are = k.goes.facts_are }
+told_next : (y z : Yard) (n : ℕ) (f : Option StepFault) (l : Line) (before after : List Fact) → IsWorld y n f → f ≡ None → IsNext y z n l before after → Told (seen y n f) l before after
+told_next y z n f l before after w e k = record { fresh_is = e; facts_are = (next_goes y z n f l before after w e k).facts_are }
 
-pub went : (y z : Yard) (n : ℕ) (f g : Option StepFault) (l : Line) (before after : List Fact) → f ≡ None → IsNext y z n l before after → z.mail.full ≡ false → g ≡ None → Went (seen y n f) l before (seen z (n + 1) g) after
-went y z n f g l before after e k full none = record {
-  told_is = told_next y z n f l before after e k;
-  going_is = sym k.goes.seen_is.full_is ∙ full;
+pub went : (y z : Yard) (n : ℕ) (f g : Option StepFault) (l : Line) (before after : List Fact) → IsWorld y n f → f ≡ None → IsNext y z n l before after → z.mail.full ≡ false → g ≡ None → Went (seen y n f) l before (seen z (n + 1) g) after
+went y z n f g l before after w e k full none = record {
+  told_is = told_next y z n f l before after w e k;
+  going_is = sym (next_goes y z n f l before after w e k).seen_is.full_is ∙ full;
   new_is = λ i. record { script = k.script_is i; count = n + 1; fault = none i };
 }
 
-pub filled : (y z : Yard) (n : ℕ) (f : Option StepFault) (l : Line) (before after : List Fact) → f ≡ None → IsNext y z n l before after → z.mail.full ≡ true → Filled (seen y n f) l before (seen z (n + 1) (Some fault.WireFull)) after
-filled y z n f l before after e k full = record {
-  told_is = told_next y z n f l before after e k;
-  full_is = sym k.goes.seen_is.full_is ∙ full;
+pub filled : (y z : Yard) (n : ℕ) (f : Option StepFault) (l : Line) (before after : List Fact) → IsWorld y n f → f ≡ None → IsNext y z n l before after → z.mail.full ≡ true → Filled (seen y n f) l before (seen z (n + 1) (Some fault.WireFull)) after
+filled y z n f l before after w e k full = record {
+  told_is = told_next y z n f l before after w e k;
+  full_is = sym (next_goes y z n f l before after w e k).seen_is.full_is ∙ full;
   new_is = λ i. record { script = k.script_is i; count = n + 1; fault = Some fault.WireFull };
 }
 

@@ -1,8 +1,13 @@
+pub mod Built
+pub mod Keeps
 pub mod Lending
 pub mod Mail
 pub mod Played
+pub mod Stands
+pub mod Stepped
 pub mod Steps
 pub mod Stopped
 pub mod Told
+pub mod Turns
 pub mod World
 pub mod Yard

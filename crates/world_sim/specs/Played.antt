@@ -4,6 +4,7 @@ use Rattle.std.specs.List.{list_all}
 use Rattle.yard_model.specs.declared.fact.Fact.{Fact}
 use Rattle.yard_model.specs.declared.fact.Fact.TheVariants as fact
 use Rattle.yard_model.specs.declared.charter.Line.{Line}
+use Rattle.yard_model.specs.declared.incarnation.Cause.TheVariants as cause
 use Rattle.yard_model.specs.declared.incarnation.Slot.{Slot}
 use Rattle.yard_model.specs.Script.{Script, setting}
 use Rattle.yard_model.specs.SlotLists.{SlotLists}
@@ -66,8 +67,9 @@ pub record Spent (old : Played) (f : StepFault) (before : List Fact) (r : Result
 abbrev pub Steps : Played → Line → List Fact → Result (Unit {0}) StepFault → Played → List Fact → Type 0
 Steps old l before r new after = (IfNone old.fault (Answers old l before r new after)) × (IfSome old.fault (λ f. Spent old f before r new after))
 
+-- a slot is freed since its node stopped
 abbrev pub is_freed : Fact → Bool
-is_freed (fact.Freed s n why) = true
+is_freed (fact.Freed s n cause.Stopped) = true
 is_freed f = false
 
 -- these lists are those of the world, with entries more that free slots

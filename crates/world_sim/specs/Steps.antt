@@ -1,16 +1,11 @@
 -- Parts of the world's steps that the code has functions for.
-use Rattle.std.specs.Prelude.{ℕ, ◌+◌, ◌-◌, ◌≤◌, List, [], ◌∷◌, slice_index_or, IsTrue}
+use Rattle.std.specs.Prelude.{ℕ, ◌+◌, ◌-◌, List, [], ◌∷◌, slice_index_or}
 use Rattle.yard_model.specs.declared.fact.Fact.TheVariants as fact
 use Rattle.yard_model.specs.declared.incarnation.Incarnation.{Incarnation}
 use Rattle.yard_model.specs.declared.out.Item.{Item}
 use Rattle.yard_model.specs.declared.out.Item.TheVariants as item
 use Rattle.yard_model.specs.declared.packet.Body.TheVariants as body
-use Rattle.yard_model.specs.declared.packet.Packet.{Packet}
-use Rattle.yard_model.specs.Genuine.{is_genuine_packet}
-use Rattle.yard_model.specs.Script.{Script}
 use Rattle.yard_model.specs.World.{Step, tell}
-use Rattle.world_laws.specs.Built.{is_built_packet}
-use Rattle.world_laws.specs.Standing.{has_different_members}
 
 -- a node comes up, and nobody is told yet
 abbrev pub entered : ℕ → Step
@@ -23,13 +18,3 @@ marked k w = tell (fact.Got k ∷ []) w
 -- a view of these members, of this version, for one of them
 abbrev pub view_item : ℕ → List Incarnation → Incarnation → Item
 view_item version members x = item.Post (record { from = x; to = x; body = body.View version members })
-
--- a packet that may be on the wire
-pub record IsGood (c : Script) (p : Packet) : Type 0 where
-  pub genuine : IsTrue (is_genuine_packet c p)
-  pub built : IsTrue (is_built_packet p)
-  pub different : IsTrue (has_different_members p)
-
--- each of these numbers is at most one more than it was
-abbrev pub AreOneMore : List ℕ → List ℕ → Type 0
-AreOneMore old new = (k : ℕ) → slice_index_or new k 0 ≤ slice_index_or old k 0 + 1

@@ -33,13 +33,15 @@ all_told limit m =
       full = m.full;
     }
 
--- a fact that a node may tell: none of who is a member, none of a packet's number, nor that the wire is full
+-- a fact that a node may tell: none of who is a member, none of a packet's number, none of shards and versions, nor that the wire is full
 abbrev pub is_own : Fact → Bool
 is_own (fact.Up x) = false
 is_own (fact.Gone x) = false
 is_own (fact.Sent k p) = false
 is_own (fact.Got k) = false
 is_own fact.WireFull = false
+is_own (fact.Reshard n k) = false
+is_own (fact.Upgrade v) = false
 is_own f = true
 
 abbrev pub is_own_item : Item → Bool

@@ -1,15 +1,17 @@
 -- What the type of a world keeps.
 use Rattle.std.specs.Prelude.{◌≡◌, ℕ, ◌≤◌, Bool, true, false, length, slice_index_or, Option, Some, None, IsTrue}
 use Rattle.yard_model.specs.Script.{IsScript}
-use Rattle.world_laws.specs.Keeps.{are_built}
+use Rattle.world_sim.specs.Built.{are_built}
 use Rattle.world_sim.specs.declared.fault.StepFault.{StepFault}
 use Rattle.world_sim.specs.declared.fault.StepFault.TheVariants as fault
 use Rattle.world_sim.specs.Played.{made_of}
+use Rattle.world_sim.specs.Stands.{Stands}
 use Rattle.world_sim.specs.Yard.{Yard, IsSeen}
 
 -- its parts stand for the world after so many orders, whose wire is full or isn't
 pub record IsAt (y : Yard) (n : ℕ) (full : Bool) : Type 0 where
   pub seen_is : IsSeen y (made_of y.script n).world
+  pub stands_is : Stands y.script (made_of y.script n).world
   pub full_is : (made_of y.script n).world.full ≡ full
 
 -- so often at most have nodes come up or gone

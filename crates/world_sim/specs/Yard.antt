@@ -1,17 +1,20 @@
 -- What the code keeps of a world, and the world of the definition that it stands for.
-use Rattle.std.specs.Prelude.{◌≡◌, ℕ, ◌-◌, ◌≤◌, false, List, [], ◌++◌, length, map, slice_set, Option, Some, None, IfSome}
+use Rattle.std.specs.Prelude.{◌≡◌, ℕ, false, List, [], ◌++◌, map, Option, IfSome, IsTrue}
 use Rattle.std.specs.Option.{option_map}
 use Rattle.yard_model.specs.declared.fact.Fact.{Fact}
 use Rattle.yard_model.specs.declared.incarnation.Incarnation.{Incarnation}
+use Rattle.yard_model.specs.declared.packet.Packet.{Packet}
 use Rattle.yard_model.specs.Script.{Script, setting}
 use Rattle.yard_model.specs.Words.{at}
 use Rattle.yard_model.specs.Node.{Node}
 use Rattle.yard_model.specs.World.{World, Made, wire_limit}
-use Rattle.world_laws.specs.Standing.{Stands}
 use Rattle.shard_lease.specs.Book.{Book, meaning_of}
+use Rattle.node_core.specs.Built.{is_built_packet}
 use Rattle.node_core.specs.Leased.{Tells}
 use Rattle.node_core.specs.Standing.{Standing}
+use Rattle.play_laws.specs.Sound.{IsWell}
 use Rattle.world_sim.specs.Mail.{Mails}
+use Rattle.world_sim.specs.Stands.{Stands}
 
 pub record Yard : Type 0 where
   pub script : Script
@@ -41,12 +44,6 @@ pub record IsSeen (y : Yard) (w : World) : Type 0 where
   pub book_is : y.book.script ≡ y.script
   pub tells_is : Tells (meaning_of y.book) y.script w.lists
 
--- the same, where this node was taken out of its place
-pub record IsSeenBut (n : ℕ) (node : Standing) (y : Yard) (w : World) : Type 0 where
-  pub seen_is : IsSeen (record y { nodes = slice_set y.nodes (n - 1) (Some node) }) w
-  pub out_is : at y.nodes (n - 1) ≡ None
-  pub there : n ≤ length y.nodes
-
 -- it stands for a world that stands
 pub record IsFirm (y : Yard) (w : World) : Type 0 where
   pub seen_is : IsSeen y w
@@ -58,10 +55,11 @@ pub record IsSound (y : Yard) (w : World) : Type 0 where
   pub stands_is : Stands y.script w
   pub going_is : w.full ≡ false
 
--- it stands for a world that stands, where this node was taken out of its place
-pub record IsSoundBut (n : ℕ) (node : Standing) (y : Yard) (w : World) : Type 0 where
-  pub seen_is : IsSeenBut n node y w
-  pub stands_is : Stands y.script w
+-- and this packet may be on its wire
+pub record IsSoundFor (p : Packet) (y : Yard) (w : World) : Type 0 where
+  pub sound : IsSound y w
+  pub well : IsWell y.script w.lists p
+  pub built : IsTrue (is_built_packet p)
 
 -- it stands for the world that a step made, and the step's facts were told
 pub record Goes (before after : List Fact) (y : Yard) (m : Made) : Type 0 where

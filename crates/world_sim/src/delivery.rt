@@ -1,31 +1,24 @@
 //! Packets that are delivered.
-ghost use Rattle.std.specs.Prelude.{◌≡◌, ◌-◌, ◌<◌, ◌≤◌, ◌++◌, false, length, Some, OnOk, OnErr};
-ghost use Rattle.yard_model.specs.declared.input.Input.TheVariants as input;
-ghost use Rattle.yard_model.specs.Words.{at};
-ghost use Rattle.yard_model.specs.World.{World, handle, hand_over, deliver, deliver_by, drain, pump};
+ghost use Rattle.std.specs.Prelude.{◌≡◌, ℕ, ◌<◌, ◌≤◌, length, Some};
+ghost use Rattle.yard_model.specs.World.{World, hand_over, deliver, deliver_by, drain, pump};
 ghost use Rattle.wire_packet.specs.Wire.{packet_at};
-ghost use Rattle.world_laws.specs.Standing.{Stands};
-ghost use Rattle.world_sim.specs.Mail.{ToldSome};
-ghost use Rattle.world_sim.specs.Steps.{marked, IsGood};
-ghost use Rattle.world_sim.specs.Yard.{IsSeen, IsSound, IsSoundBut, Goes};
+ghost use Rattle.world_sim.specs.Stepped.{Stepped};
+ghost use Rattle.world_sim.specs.Steps.{marked};
+ghost use Rattle.world_sim.specs.Yard.{IsSound, IsSoundFor};
 
+use crate::laws::standing_is_kept;
 use crate::members::has;
-use crate::places::{put_node, take_node};
-use crate::turns::{hand_packet, make_room};
+use crate::turns::hand_at;
 use crate::yard::Yard;
-use node_core::Node;
+use behaviour_core::Behaviour;
 use std::alloc::AllocError;
 use yard_model::{Fact, Facts, Packet};
 
-impl<B: Copy + Drop> Yard<B> {
+impl<B: Behaviour + Copy + Drop> Yard<B> {
     /// The packet of this number is delivered, where one was posted.
     pub(crate) fn deliver(&mut self, number: u32, facts: &mut Facts) -> Result<(), AllocError>
-        requires world { (w : World) × IsSound self.old w }
-        ensures goes { OnOk result ((w : World) → IsSound self.old w → Goes facts.old facts.new self.new (deliver number w)) }
-        ensures memory { OnErr result ((w : World) → IsSound self.old w → ToldSome facts.old facts.new (deliver number w).facts) }
-        ensures script { self.new.script ≡ self.old.script }
-        ensures version { OnOk result (self.new.version ≡ self.old.version) }
-        ensures ups { OnOk result (self.new.ups ≡ self.old.ups) }
+        requires { (w : World) × IsSound self.old w }
+        ensures { Stepped IsSound 0 (deliver number) result self.old self.new facts.old facts.new }
     {
         match &self.mail.packet(number) {
             Some(packet) => self.deliver_packet(number, packet, facts),
@@ -43,72 +36,41 @@ impl<B: Copy + Drop> Yard<B> {
         requires world { (w : World) × IsSound self.old w }
         requires above { 0 < number }
         requires posted { packet_at self.old.mail.packets number ≡ Some packet.now }
-        ensures goes { OnOk result ((w : World) → IsSound self.old w → Goes facts.old facts.new self.new (deliver_by number (Some packet.now) w)) }
-        ensures memory { OnErr result ((w : World) → IsSound self.old w → ToldSome facts.old facts.new (deliver_by number (Some packet.now) w).facts) }
-        ensures script { self.new.script ≡ self.old.script }
-        ensures version { OnOk result (self.new.version ≡ self.old.version) }
-        ensures ups { OnOk result (self.new.ups ≡ self.old.ups) }
+        ensures { Stepped IsSound 0 (deliver_by number (Some packet.now)) result self.old self.new facts.old facts.new }
     {
+        standing_is_kept();
         self.mark(number, facts)?;
         self.hand_over(packet, facts)
     }
 
     /// A packet that was posted is delivered now.
     fn mark(&mut self, number: u32, facts: &mut Facts) -> Result<(), AllocError>
-        requires world { (w : World) × IsSeen self.old w }
+        requires world { (w : World) × IsSound self.old w }
         requires above { 0 < number }
         requires posted { number ≤ length self.old.mail.packets }
-        ensures goes { OnOk result ((w : World) → IsSeen self.old w → Goes facts.old facts.new self.new (marked number w)) }
-        ensures memory { OnErr result ((w : World) → IsSeen self.old w → ToldSome facts.old facts.new (marked number w).facts) }
-        ensures script { self.new.script ≡ self.old.script }
-        ensures version { OnOk result (self.new.version ≡ self.old.version) }
-        ensures ups { OnOk result (self.new.ups ≡ self.old.ups) }
+        ensures { Stepped IsSound 0 (marked number) result self.old self.new facts.old facts.new }
     {
         facts.push(Fact::Got(number))?;
         self.mail.got(number);
         Ok(())
     }
 
-    /// A packet at the node that it is addressed to, where that incarnation is up.
+    /// A packet at the node that it is addressed to, where that incarnation is up. Its number isn't
+    /// asked: the number of shards has never changed.
     fn hand_over(&mut self, packet: &Packet, facts: &mut Facts) -> Result<(), AllocError>
-        requires world { (w : World) × IsSound self.old w }
-        requires packet { IsGood self.old.script packet.now }
-        ensures goes { OnOk result ((w : World) → IsSound self.old w → Goes facts.old facts.new self.new (hand_over packet.now w)) }
-        ensures memory { OnErr result ((w : World) → IsSound self.old w → ToldSome facts.old facts.new (hand_over packet.now w).facts) }
-        ensures script { self.new.script ≡ self.old.script }
-        ensures version { OnOk result (self.new.version ≡ self.old.version) }
-        ensures ups { OnOk result (self.new.ups ≡ self.old.ups) }
+        requires { (w : World) × IsSoundFor packet.now self.old w }
+        ensures { (k : ℕ) → 0 < k → Stepped (IsSoundFor packet.now) 0 (hand_over k packet.now) result self.old self.new facts.old facts.new }
     {
         if !has(&self.members, &packet.to) {
             return Ok(());
         }
-        let Some(node) = take_node(&mut self.nodes, packet.to.node) else {
-            unreachable!()
-        };
-        self.give(node, packet, facts)
-    }
-
-    /// A packet at this node, which is up and was taken out of its place.
-    fn give(&mut self, node: Node<B>, packet: &Packet, facts: &mut Facts) -> Result<(), AllocError>
-        requires world { (w : World) × IsSoundBut packet.now.to.node node self.old w }
-        requires packet { IsGood self.old.script packet.now }
-        requires addressed { packet.now.to ≡ node.state.who }
-        ensures goes { OnOk result ((w : World) → IsSoundBut packet.now.to.node node self.old w → Goes facts.old facts.new self.new (handle (input.Packet packet.now) node.state w)) }
-        ensures memory { OnErr result ((w : World) → IsSoundBut packet.now.to.node node self.old w → ToldSome facts.old facts.new (handle (input.Packet packet.now) node.state w).facts) }
-        ensures script { self.new.script ≡ self.old.script }
-        ensures version { OnOk result (self.new.version ≡ self.old.version) }
-        ensures ups { OnOk result (self.new.ups ≡ self.old.ups) }
-    {
-        let mut node = node;
-        make_room(&mut self.mail, &mut node)?;
-        hand_packet(
+        hand_at(
+            &mut self.nodes,
             &self.charter,
             packet,
-            &mut node,
             &mut self.book,
             &mut self.mail,
-        );
-        put_node(&mut self.nodes, packet.to.node, node);
+        )?;
         self.mail.tell_items(facts)
     }
 
@@ -117,12 +79,9 @@ impl<B: Copy + Drop> Yard<B> {
     fn drain(&mut self, from: u32, n: u32, facts: &mut Facts) -> Result<(), AllocError>
         requires world { (w : World) × IsSound self.old w }
         requires from { from < 4000000000 }
-        ensures goes { OnOk result ((w : World) → IsSound self.old w → Goes facts.old facts.new self.new (drain from n w)) }
-        ensures memory { OnErr result ((w : World) → IsSound self.old w → ToldSome facts.old facts.new (drain from n w).facts) }
-        ensures script { self.new.script ≡ self.old.script }
-        ensures version { OnOk result (self.new.version ≡ self.old.version) }
-        ensures ups { OnOk result (self.new.ups ≡ self.old.ups) }
+        ensures { Stepped IsSound 0 (drain from n) result self.old self.new facts.old facts.new }
     {
+        standing_is_kept();
         for _ in 0..n {
             let Some(number) = self.mail.next_after(from) else {
                 return Ok(());
@@ -137,12 +96,8 @@ impl<B: Copy + Drop> Yard<B> {
 
     /// At most `n` packets that were never delivered are delivered; where there is none, nothing.
     pub(crate) fn pump(&mut self, n: u32, facts: &mut Facts) -> Result<(), AllocError>
-        requires world { (w : World) × IsSound self.old w }
-        ensures goes { OnOk result ((w : World) → IsSound self.old w → Goes facts.old facts.new self.new (pump n w)) }
-        ensures memory { OnErr result ((w : World) → IsSound self.old w → ToldSome facts.old facts.new (pump n w).facts) }
-        ensures script { self.new.script ≡ self.old.script }
-        ensures version { OnOk result (self.new.version ≡ self.old.version) }
-        ensures ups { OnOk result (self.new.ups ≡ self.old.ups) }
+        requires { (w : World) × IsSound self.old w }
+        ensures { Stepped IsSound 0 (pump n) result self.old self.new facts.old facts.new }
     {
         if !self.mail.has_fresh() {
             return facts.push(Fact::Nothing);

@@ -1,7 +1,19 @@
-//! Laws of what mail tells. Each is a function that does nothing, whose contract is the law; a proof
+//! Laws of what mail tells, and of what steps of the world keep. Each is a function that does nothing, whose contract is the law; a proof
 //! that needs it calls the function.
+ghost use Rattle.world_sim.specs.Keeps.{Keeps};
 ghost use Rattle.world_sim.specs.Played.{MadeNone, MadeNext, MadeFull, MadeAll};
 ghost use Rattle.world_sim.specs.Told.{FactsLaw, PostsAreOwn, ToldLaw, TurnIsOwn};
+
+use actor_laws::region::shards_are_there;
+use era_laws::opening::{era_opens, opening_gives_lists, opening_is_quiet};
+use era_laws::reshape::{reshaped_is_lawful, reshaped_keeps_journals};
+use node_laws::carried::turn_carries;
+use node_laws::cluster::{
+    cluster_begins, cluster_gains, cluster_hears, cluster_is_safe, cluster_loses, cluster_turns,
+    cluster_upgrades,
+};
+use node_laws::hand::{recorded_stays, turn_is_guarded};
+use play_laws::play::played_is_sound;
 
 /// What is told of a turn's items is what the world's definition gives for them, and leads to the
 /// packets, the fresh numbers and the flag that the mail has: for items whose facts speak of no
@@ -29,3 +41,27 @@ pub fn made_law()
     ensures full { MadeFull }
     ensures all { MadeAll }
 {}
+
+/// A world begins sound, and each step of an order that is built keeps it so; no round of handoffs is
+/// open then, and packets of members alone are on the wire.
+pub fn standing_is_kept()
+    ensures { Keeps }
+{
+    cluster_turns();
+    turn_is_guarded();
+    recorded_stays();
+    turn_carries();
+    cluster_loses();
+    cluster_hears();
+    cluster_gains();
+    cluster_begins();
+    cluster_upgrades();
+    cluster_is_safe();
+    opening_gives_lists();
+    opening_is_quiet();
+    era_opens();
+    reshaped_is_lawful();
+    reshaped_keeps_journals();
+    shards_are_there();
+    played_is_sound();
+}

@@ -1,18 +1,17 @@
 //! The orders of a script.
-ghost use Rattle.std.specs.Prelude.{◌≡◌, ℕ, ◌+◌, ◌<◌, ◌≤◌, ◌++◌, false, OnOk, OnErr, IsTrue, slice_index_or};
+ghost use Rattle.std.specs.Prelude.{ℕ, ◌<◌, IsTrue, slice_index_or};
 ghost use Rattle.yard_model.specs.Script.{is_order};
 ghost use Rattle.yard_model.specs.World.{World, play, play_line};
-ghost use Rattle.world_laws.specs.Built.{is_built_order};
-ghost use Rattle.world_laws.specs.Standing.{Stands};
-ghost use Rattle.world_sim.specs.Mail.{ToldSome};
-ghost use Rattle.world_sim.specs.Steps.{AreOneMore};
-ghost use Rattle.world_sim.specs.Yard.{IsSeen, IsSound, IsSoundBut, Goes};
+ghost use Rattle.world_sim.specs.Built.{is_built_order};
+ghost use Rattle.world_sim.specs.Stepped.{Stepped};
+ghost use Rattle.world_sim.specs.Yard.{IsSound};
 
 use crate::yard::Yard;
+use behaviour_core::Behaviour;
 use std::alloc::AllocError;
 use yard_model::{Fact, Facts, Line, Order};
 
-impl<B: Copy + Drop> Yard<B> {
+impl<B: Behaviour + Copy + Drop> Yard<B> {
     /// The order of a line: `at`, and what it gives.
     pub(crate) fn play_line(&mut self, line: &Line, facts: &mut Facts) -> Result<(), AllocError>
         requires world { (w : World) × IsSound self.old w }
@@ -20,11 +19,7 @@ impl<B: Copy + Drop> Yard<B> {
         requires built { IsTrue (is_built_order line.now.order) }
         requires version { self.old.version < 4000000000 }
         requires ups { (k : ℕ) → slice_index_or self.old.ups k 0 < 4000000000 }
-        ensures goes { OnOk result ((w : World) → IsSound self.old w → Goes facts.old facts.new self.new (play_line line.now w)) }
-        ensures memory { OnErr result ((w : World) → IsSound self.old w → ToldSome facts.old facts.new (play_line line.now w).facts) }
-        ensures script { self.new.script ≡ self.old.script }
-        ensures version { OnOk result (self.new.version ≤ self.old.version + 1) }
-        ensures ups { OnOk result (AreOneMore self.old.ups self.new.ups) }
+        ensures { Stepped IsSound 1 (play_line line.now) result self.old self.new facts.old facts.new }
     {
         facts.push(Fact::At(line.number))?;
         self.play(&line.order, facts)
@@ -37,11 +32,7 @@ impl<B: Copy + Drop> Yard<B> {
         requires built { IsTrue (is_built_order order.now) }
         requires version { self.old.version < 4000000000 }
         requires ups { (k : ℕ) → slice_index_or self.old.ups k 0 < 4000000000 }
-        ensures goes { OnOk result ((w : World) → IsSound self.old w → Goes facts.old facts.new self.new (play order.now w)) }
-        ensures memory { OnErr result ((w : World) → IsSound self.old w → ToldSome facts.old facts.new (play order.now w).facts) }
-        ensures script { self.new.script ≡ self.old.script }
-        ensures version { OnOk result (self.new.version ≤ self.old.version + 1) }
-        ensures ups { OnOk result (AreOneMore self.old.ups self.new.ups) }
+        ensures { Stepped IsSound 1 (play order.now) result self.old self.new facts.old facts.new }
     {
         match order {
             Order::Up(n) => self.up(*n, facts),

@@ -15,16 +15,6 @@ pub(crate) fn is_down<B>(nodes: &Vec<Option<Node<B>>>, n: NodeNo) -> bool
     nodes[place].is_none()
 }
 
-/// Takes the node of this number out of its place, where it is up.
-pub(crate) fn take_node<B>(nodes: &mut Vec<Option<Node<B>>>, n: NodeNo) -> Option<Node<B>>
-    requires { n ≤ length nodes.old.items }
-    ensures node { result ≡ at nodes.old.items (n - 1) }
-    ensures nodes { nodes.new.items ≡ slice_set nodes.old.items (n - 1) None }
-{
-    let place = n.get() as usize - 1;
-    nodes[place].take()
-}
-
 /// Puts a node at the place of this number.
 pub(crate) fn put_node<B: Drop>(nodes: &mut Vec<Option<Node<B>>>, n: NodeNo, node: Node<B>)
     requires { n ≤ length nodes.old.items }

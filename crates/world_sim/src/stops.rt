@@ -6,12 +6,14 @@ ghost use Rattle.world_sim.specs.Played.{AreFreed};
 ghost use Rattle.world_sim.specs.Stopped.{IsStopped};
 ghost use Rattle.world_sim.specs.Yard.{IsFirm};
 
+use crate::laws::standing_is_kept;
 use crate::yard::Yard;
+use behaviour_core::Behaviour;
 use shard_store::Stores;
 use std::alloc::AllocError;
 use yard_model::{Facts, NodeNo};
 
-impl<B: Copy + Drop> Yard<B> {
+impl<B: Behaviour + Copy + Drop> Yard<B> {
     /// The stores of all slots, once every node that is up has stopped. The only error is want of
     /// memory.
     pub(crate) fn into_stores(self) -> Result<Stores, AllocError>
@@ -32,6 +34,7 @@ impl<B: Copy + Drop> Yard<B> {
         ensures stopped { OnOk result ((w : World) → IsFirm self.old w → (v : World) × IsStopped self.old.script.config.nodes w.lists self.new v) }
         ensures script { self.new.script ≡ self.old.script }
     {
+        standing_is_kept();
         let count = self.charter.config().nodes;
         let mut facts = Facts::new(self.alloc);
         for i in 0..count {

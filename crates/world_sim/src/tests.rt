@@ -3,6 +3,7 @@ ghost use Rattle.std.specs.Prelude.{◌≡◌, [], ◌∷◌, IfOk};
 ghost use Rattle.yard_model.specs.declared.charter.Order.TheVariants as order;
 
 use crate::{Mail, World};
+use behaviour_kinds::Counter;
 use std::alloc::{AllocError, Global};
 use std::test::Fail;
 use yard_model::{
@@ -71,7 +72,7 @@ fn one_up(alloc: Global) -> Result<Charter, AllocError>
 #[test]
 fn a_node_comes_up(rt: HostRuntime) -> Result<(), Fail> {
     let charter = one_up(rt.alloc())?;
-    let mut world = World::new(rt.alloc(), &charter, 0u8)?;
+    let mut world = World::new(rt.alloc(), &charter, Counter::new())?;
     let mut facts = Facts::new(rt.alloc());
     assert!(rt; world.step(&UP, &mut facts).is_ok());
     assert_eq!(rt; facts.as_slice().len(), 3);

@@ -1,30 +1,29 @@
 //! Nodes that come up and go down.
-ghost use Rattle.std.specs.Prelude.{◌≡◌, ℕ, ◌+◌, ◌-◌, ◌<◌, ◌≤◌, ◌++◌, true, false, Some, None, OnOk, OnErr, slice_index_or, slice_set};
+ghost use Rattle.std.specs.Prelude.{◌≡◌, ◌-◌, ◌<◌, true, None, slice_index_or};
 ghost use Rattle.yard_model.specs.Behaviour.{is_in};
 ghost use Rattle.yard_model.specs.Words.{at};
 ghost use Rattle.yard_model.specs.World.{World, views, come_up, go_down, up, crash_node};
-ghost use Rattle.world_laws.specs.Standing.{Stands};
-ghost use Rattle.world_sim.specs.Mail.{ToldSome};
-ghost use Rattle.world_sim.specs.Steps.{entered, AreOneMore};
-ghost use Rattle.world_sim.specs.Yard.{IsSeen, IsFirm, IsSound, IsSoundBut, Goes};
+ghost use Rattle.world_sim.specs.Stepped.{Stepped};
+ghost use Rattle.world_sim.specs.Steps.{entered};
+ghost use Rattle.world_sim.specs.Yard.{IsSeen, IsFirm, IsSound};
 
 use crate::members::{post_views, with, without};
-use crate::places::{is_down, next_number, put_node, set_number, take_node};
-use crate::turns::{end_node, make_room};
+use crate::places::{is_down, next_number, put_node, set_number};
+use crate::turns::end_at;
 use crate::yard::Yard;
+use behaviour_core::Behaviour;
 use node_core::Node;
 use std::alloc::AllocError;
 use yard_model::{Fact, Facts, Incarnation, NodeNo};
 
-impl<B: Copy + Drop> Yard<B> {
+/// The version of behaviours that is in force.
+const IN_FORCE: u8 = 1;
+
+impl<B: Behaviour + Copy + Drop> Yard<B> {
     /// A view of all members is posted to each, oldest first.
     fn views(&mut self, facts: &mut Facts) -> Result<(), AllocError>
-        requires world { (w : World) × IsSeen self.old w }
-        ensures goes { OnOk result ((w : World) → IsSeen self.old w → Goes facts.old facts.new self.new (views w)) }
-        ensures memory { OnErr result ((w : World) → IsSeen self.old w → ToldSome facts.old facts.new (views w).facts) }
-        ensures script { self.new.script ≡ self.old.script }
-        ensures version { OnOk result (self.new.version ≡ self.old.version) }
-        ensures ups { OnOk result (self.new.ups ≡ self.old.ups) }
+        requires { (w : World) × IsSeen self.old w }
+        ensures { Stepped IsSeen 0 views result self.old self.new facts.old facts.new }
     {
         self.mail.reserve(16)?;
         post_views(&mut self.mail, &self.members, self.version);
@@ -38,11 +37,7 @@ impl<B: Copy + Drop> Yard<B> {
         requires down { at self.old.nodes (n - 1) ≡ None }
         requires version { self.old.version < 4000000000 }
         requires ups { slice_index_or self.old.ups (n - 1) 0 < 4000000000 }
-        ensures goes { OnOk result ((w : World) → IsSound self.old w → Goes facts.old facts.new self.new (come_up n w)) }
-        ensures memory { OnErr result ((w : World) → IsSound self.old w → ToldSome facts.old facts.new (come_up n w).facts) }
-        ensures script { self.new.script ≡ self.old.script }
-        ensures version { OnOk result (self.new.version ≡ self.old.version + 1) }
-        ensures ups { OnOk result (self.new.ups ≡ slice_set self.old.ups (n - 1) (slice_index_or self.old.ups (n - 1) 0 + 1)) }
+        ensures { Stepped IsSound 1 (come_up n) result self.old self.new facts.old facts.new }
     {
         self.enter(n, facts)?;
         self.views(facts)
@@ -55,16 +50,13 @@ impl<B: Copy + Drop> Yard<B> {
         requires down { at self.old.nodes (n - 1) ≡ None }
         requires version { self.old.version < 4000000000 }
         requires ups { slice_index_or self.old.ups (n - 1) 0 < 4000000000 }
-        ensures goes { OnOk result ((w : World) → IsSound self.old w → Goes facts.old facts.new self.new (entered n w)) }
-        ensures memory { OnErr result ((w : World) → IsSound self.old w → ToldSome facts.old facts.new (entered n w).facts) }
-        ensures script { self.new.script ≡ self.old.script }
-        ensures version { OnOk result (self.new.version ≡ self.old.version + 1) }
-        ensures ups { OnOk result (self.new.ups ≡ slice_set self.old.ups (n - 1) (slice_index_or self.old.ups (n - 1) 0 + 1)) }
+        ensures { Stepped IsSound 1 (entered n) result self.old self.new facts.old facts.new }
     {
         let number = next_number(&self.ups, n);
         let version = self.version + 1;
         let who = &Incarnation { node: n, number };
-        let node = Node::new(self.alloc, *who, &self.charter, self.behaviour)?;
+        let behaviour = self.behaviour.at_version(IN_FORCE);
+        let node = Node::new(self.alloc, *who, &self.charter, behaviour)?;
         facts.push(Fact::Up(*who))?;
         self.members = with(&self.members, *who);
         self.version = version;
@@ -79,11 +71,7 @@ impl<B: Copy + Drop> Yard<B> {
         requires node { is_in 1 self.old.script.config.nodes n ≡ true }
         requires version { self.old.version < 4000000000 }
         requires ups { slice_index_or self.old.ups (n - 1) 0 < 4000000000 }
-        ensures goes { OnOk result ((w : World) → IsSound self.old w → Goes facts.old facts.new self.new (up n w)) }
-        ensures memory { OnErr result ((w : World) → IsSound self.old w → ToldSome facts.old facts.new (up n w).facts) }
-        ensures script { self.new.script ≡ self.old.script }
-        ensures version { OnOk result (self.new.version ≤ self.old.version + 1) }
-        ensures ups { OnOk result (AreOneMore self.old.ups self.new.ups) }
+        ensures { Stepped IsSound 1 (up n) result self.old self.new facts.old facts.new }
     {
         if is_down(&self.nodes, n) {
             self.come_up(n, facts)
@@ -92,21 +80,22 @@ impl<B: Copy + Drop> Yard<B> {
         }
     }
 
-    /// The node goes down, where it is up: it is gone, and what it held is freed.
+    /// The node goes down, where it is up: it is gone, and what it held is freed. Nobody is told yet.
     pub(crate) fn go_down(&mut self, n: NodeNo, facts: &mut Facts) -> Result<(), AllocError>
         requires world { (w : World) × IsFirm self.old w }
         requires node { is_in 1 self.old.script.config.nodes n ≡ true }
         requires version { self.old.version < 4000000000 }
-        ensures goes { OnOk result ((w : World) → IsFirm self.old w → Goes facts.old facts.new self.new (go_down n w)) }
-        ensures memory { OnErr result ((w : World) → IsFirm self.old w → ToldSome facts.old facts.new (go_down n w).facts) }
-        ensures script { self.new.script ≡ self.old.script }
-        ensures version { OnOk result (self.new.version ≤ self.old.version + 1) }
-        ensures ups { OnOk result (self.new.ups ≡ self.old.ups) }
+        ensures { Stepped IsFirm 1 (go_down n) result self.old self.new facts.old facts.new }
     {
-        match take_node(&mut self.nodes, n) {
-            Some(node) => self.end(n, node, facts),
-            None => Ok(()),
+        if is_down(&self.nodes, n) {
+            return Ok(());
         }
+        let _posted = self.mail.len();
+        let who = &end_at(&mut self.nodes, n, &mut self.book, &mut self.mail)?;
+        facts.push(Fact::Gone(*who))?;
+        self.members = without(&self.members, who);
+        self.version += 1;
+        self.mail.tell_items(facts)
     }
 
     /// A node crashes, where it is up; then the views.
@@ -114,38 +103,12 @@ impl<B: Copy + Drop> Yard<B> {
         requires world { (w : World) × IsSound self.old w }
         requires node { is_in 1 self.old.script.config.nodes n ≡ true }
         requires version { self.old.version < 4000000000 }
-        ensures goes { OnOk result ((w : World) → IsSound self.old w → Goes facts.old facts.new self.new (crash_node n w)) }
-        ensures memory { OnErr result ((w : World) → IsSound self.old w → ToldSome facts.old facts.new (crash_node n w).facts) }
-        ensures script { self.new.script ≡ self.old.script }
-        ensures version { OnOk result (self.new.version ≤ self.old.version + 1) }
-        ensures ups { OnOk result (AreOneMore self.old.ups self.new.ups) }
+        ensures { Stepped IsSound 1 (crash_node n) result self.old self.new facts.old facts.new }
     {
         if is_down(&self.nodes, n) {
             return facts.push(Fact::Nothing);
         }
         self.go_down(n, facts)?;
         self.views(facts)
-    }
-
-    /// A node that was up is gone, and what it held is freed; nobody is told yet.
-    fn end(&mut self, n: NodeNo, node: Node<B>, facts: &mut Facts) -> Result<(), AllocError>
-        requires world { (w : World) × IsSoundBut n node self.old w }
-        requires node { is_in 1 self.old.script.config.nodes n ≡ true }
-        requires version { self.old.version < 4000000000 }
-        ensures goes { OnOk result ((w : World) → IsSoundBut n node self.old w → Goes facts.old facts.new self.new (go_down n w)) }
-        ensures memory { OnErr result ((w : World) → IsSoundBut n node self.old w → ToldSome facts.old facts.new (go_down n w).facts) }
-        ensures script { self.new.script ≡ self.old.script }
-        ensures version { OnOk result (self.new.version ≡ self.old.version + 1) }
-        ensures ups { OnOk result (self.new.ups ≡ self.old.ups) }
-    {
-        let mut node = node;
-        let who = &node.who();
-        let _posted = self.mail.len();
-        make_room(&mut self.mail, &mut node)?;
-        facts.push(Fact::Gone(*who))?;
-        end_node(node, &mut self.book, &mut self.mail);
-        self.members = without(&self.members, who);
-        self.version += 1;
-        self.mail.tell_items(facts)
     }
 }

@@ -2,16 +2,18 @@
 ghost use Rattle.std.specs.Prelude.{◌≡◌, ◌≢◌, None, Some, IfOk, IfNone, IsTrue, replicate, slice_get};
 ghost use Rattle.yard_model.specs.Script.{IsScript};
 ghost use Rattle.yard_model.specs.World.{new_world, wire_limit};
-ghost use Rattle.world_laws.specs.Keeps.{are_built};
 ghost use Rattle.shard_store.specs.Stores.{lists_at};
 ghost use Rattle.world_sim.specs.declared.fault.StepFault.TheVariants as fault;
+ghost use Rattle.world_sim.specs.Built.{are_built};
 ghost use Rattle.world_sim.specs.Played.{Answers, Steps, AreFreed, made_of};
 ghost use Rattle.world_sim.specs.Yard.{IsSeen};
 
 use crate::fault::StepFault;
+use crate::laws::standing_is_kept;
 use crate::mail::Mail;
 use crate::places::{no_nodes, no_ups};
 use crate::yard::Yard;
+use behaviour_core::Behaviour;
 use shard_lease::LeaseBook;
 use shard_store::Stores;
 use std::alloc::{AllocError, Global};
@@ -38,12 +40,13 @@ impl<B> Model for World<B> {
     ghost invariant = { λ w. IsWorld w.yard w.count w.fault };
 }
 
-impl<B: Copy + Drop> World<B> {
+impl<B: Behaviour + Copy + Drop> World<B> {
     /// The world of a script before its first order. The only error is want of memory.
     pub fn new(alloc: Global, charter: &Charter, behaviour: B) -> Result<World<B>, AllocError>
         requires { IsTrue (are_built charter.now) }
         ensures { IfOk result (λ w. w ≡ record { script = charter.now; count = 0; fault = None }) }
     {
+        standing_is_kept();
         let yard = new_yard(alloc, charter, behaviour)?;
         Ok(World {
             yard,
@@ -70,6 +73,7 @@ impl<B: Copy + Drop> World<B> {
         requires next { slice_get self.old.script.orders self.old.count ≡ Some line.now }
         ensures { Answers self.old line.now out.old result self.new out.new }
     {
+        standing_is_kept();
         match self.yard.play_line(line, out) {
             Ok(()) => {}
             Err(_) => {

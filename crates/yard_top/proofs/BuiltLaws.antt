@@ -16,9 +16,8 @@ use Rattle.script_text.specs.Orders.{order_of}
 use Rattle.script_text.specs.Reading.{Spelled, Refused, reading, lines_read, line_read, next_line, first_line, with_words, with_line, plain, going_on, ended, is_too_long, is_late, is_over, is_kind_built, is_config_line, takes, is_built}
 use Rattle.script_text.specs.Settings.{settings}
 use Rattle.script_text.specs.Words.{words, is_blank, is_text}
-use Rattle.world_laws.specs.Built.{is_built_order}
-use Rattle.world_laws.specs.Keeps.{are_built}
-use Rattle.yard_laws.proofs.Booleans.{true_is_not_false, both}
+use Rattle.world_sim.specs.Built.{is_built_order, are_built}
+use Rattle.plain_laws.proofs.Booleans.{true_is_not_false, both}
 use Rattle.yard_top.specs.Ends.{mode_of, IsBuilt}
 use Rattle.yard_top.specs.declared.forms.Form.{Form}
 use Rattle.yard_top.specs.declared.forms.Form.TheVariants as form

@@ -1,9 +1,8 @@
 -- In a lawful list each journal leads to a state.
-use Rattle.std.proofs.Common.{◌≡◌, ℕ, ◌+◌, ◌-◌, sym, ap, ◌∙◌, refl, subst}
-use Rattle.std.specs.Prelude.{Bool, true, false, ◌==◌, ◌&&◌, nat_lt, ◌↔◌, List, [], ◌∷◌, ◌++◌, length, map, fold, Option, Some, None, if◌then◌else◌, IsTrue}
-use Rattle.std.specs.List.{list_all, slice_get}
+use Rattle.std.proofs.Common.{◌≡◌, ℕ, zero, suc, ◌+◌, ◌-◌, ◌≤◌, arith, sym, ap, ◌∙◌, refl, subst}
+use Rattle.std.specs.Prelude.{Bool, true, false, ◌==◌, ◌&&◌, ◌||◌, nat_lt, ◌↔◌, List, [], ◌∷◌, ◌++◌, length, map, fold, Option, Some, None, if◌then◌else◌, IsTrue}
+use Rattle.std.specs.List.{list_all, list_any, slice_get}
 use Rattle.std.specs.Option.{option_map_or}
-use Rattle.std.proofs.lemmas.List.{append_assoc, append-nil}
 use Rattle.std.proofs.lemmas.List.Sums.{fold-append}
 use Rattle.std.proofs.lemmas.List.Folds.{list_all-append}
 use Rattle.yard_model.specs.declared.charter.Line.{Line}
@@ -15,20 +14,24 @@ use Rattle.yard_model.specs.declared.event.Decision.{Decision}
 use Rattle.yard_model.specs.declared.event.Kind.{Kind}
 use Rattle.yard_model.specs.declared.fact.Fact.{Fact}
 use Rattle.yard_model.specs.declared.fact.Fact.TheVariants as fact
+use Rattle.yard_model.specs.declared.incarnation.Slot.{Slot}
 use Rattle.yard_model.specs.declared.incarnation.Slot.TheVariants as slot
 use Rattle.yard_model.specs.declared.packet.Record.{Record}
 use Rattle.yard_model.specs.declared.state.State.{State}
 use Rattle.yard_model.specs.Behaviour.{decide, folded, empty_state, are_applicable, is_of_kind, is_in}
 use Rattle.yard_model.specs.Equal.{is_command, is_decision}
-use Rattle.yard_model.specs.Follow.{each_follows}
-use Rattle.yard_model.specs.Genuine.{is_planned, is_producer}
-use Rattle.yard_model.specs.Lawful.{own, lawful, may_follow, is_leased, is_shard_entry, is_of_shard, is_folded_after, is_merged_after, confirmed_there}
-use Rattle.yard_model.specs.Script.{Script, IsScript, setting, sends, with_send, with_send_of, with_order, plan, is_name, is_order}
-use Rattle.yard_model.specs.Setting.{shards, producers, names_of}
-use Rattle.yard_model.specs.SlotLists.{SlotLists, shard_list, queue_list}
+use Rattle.yard_model.specs.Genuine.{is_planned, is_producer, is_slot_of}
+use Rattle.yard_model.specs.Lawful.{own, is_shard_entry, is_of_shard, is_decided, is_folded_after, is_merged_after}
+use Rattle.yard_model.specs.Opening.{begins}
+use Rattle.yard_model.specs.Script.{Script, IsScript, setting, sends, with_send, with_send_of, with_order, plan, is_name, is_order, versions}
+use Rattle.yard_model.specs.Setting.{names_of}
+use Rattle.yard_model.specs.Trace.{list_at}
+use Rattle.yard_model.specs.Words.{numbers}
+use Rattle.yard_model.specs.SlotLists.{SlotLists, shard_list}
 use Rattle.yard_model.specs.SlotReads.{journal, journal_step, position}
 use Rattle.trace_text.specs.Foldable.{are_foldable, is_foldable, is_foldable_shard, is_foldable_in_all}
-use Rattle.yard_laws.proofs.Booleans.{true_is_not_false, and_both, both, same_name, all_of, all_map, all_filter}
+use Rattle.yard_laws.proofs.Owned.{shard_to}
+use Rattle.plain_laws.proofs.Booleans.{true_is_not_false, and_both, both, same_name, is_below, all_of, all_filter}
 use Rattle.yard_top.proofs.KnownLaws.{all_at}
 use Rattle.yard_top.proofs.SoloLaws.{foldable_more}
 
@@ -36,7 +39,7 @@ use Rattle.yard_top.proofs.SoloLaws.{foldable_more}
 pub record Rules : Type 0 where
   pub commands : (a b : Command) → IsTrue (is_command a b) ↔ (a ≡ b)
   pub decisions : (a b : Decision) → IsTrue (is_decision a b) ↔ (a ≡ b)
-  pub applies : (k : Kind) (st : State) (x : Command) → IsTrue (is_of_kind k x) → IsTrue (are_applicable st (decide st x).events)
+  pub applies : (v : ℕ) (k : Kind) (st : State) (x : Command) → IsTrue (is_of_kind k x) → IsTrue (are_applicable st (decide v st x).events)
 
 -- A planned command is of the script's kind.
 
@@ -80,13 +83,21 @@ planned_of_kind c p e n k rules ok planned = at (slice_get (plan c p e) (n - 1))
 
 -- A record that is folded and merged after these.
 
+some_in : {A : Type 0} (p : A → Bool) (xs : List A) → list_any p xs ≡ true → (x : A) × (p x ≡ true)
+some_in p [] h = absurd (true_is_not_false (sym h))
+some_in p (x ∷ xs) h = elim (p x) as (λ b. p x ≡ b → (b || list_any p xs) ≡ true → (y : _) × (p y ≡ true)) [
+  | true ↦ λ t g. (x, t)
+  | false ↦ λ t g. some_in p xs g
+] refl h
+
 record_applies : (c : Script) (e : List ℕ) (before : List Record) (r : Record) → Rules → IsScript c → is_folded_after c before r ≡ true → is_merged_after c e before r ≡ true
     → are_applicable (folded c.config.kind before) r.events ≡ true
 record_applies c e before r rules ok folds merges =
     let st : State = folded c.config.kind before in
-    let decided : decide st r.command ≡ record { events = r.events; reply = r.reply } = (rules.decisions (decide st r.command) (record { events = r.events; reply = r.reply })).0 (and_both (r.number == length before + 1) _ folds).1 in
+    let some : (v : ℕ) × (is_decided v c before r ≡ true) = some_in (λ v. is_decided v c before r) (versions c) (and_both (r.number == length before + 1) _ folds).1 in
+    let decided : decide some.0 st r.command ≡ record { events = r.events; reply = r.reply } = (rules.decisions (decide some.0 st r.command) (record { events = r.events; reply = r.reply })).0 some.1 in
     let own : is_of_kind c.config.kind r.command ≡ true = planned_of_kind c r.producer e r.place r.command rules ok (and_both (r.place == position r.producer before + 1) _ merges).1 in
-    ap (λ (d : Decision). are_applicable st d.events) (sym decided) ∙ rules.applies c.config.kind st r.command own
+    ap (λ (d : Decision). are_applicable st d.events) (sym decided) ∙ rules.applies some.0 c.config.kind st r.command own
 
 -- A lawful list.
 
@@ -96,7 +107,7 @@ folds c e list = are_foldable (empty_state c.config.kind) (journal e list) ≡ t
 journal_next : (e : List ℕ) (list : List Fact) (f : Fact) → journal e (list ++ f ∷ []) ≡ journal_step e (journal e list) f
 journal_next e list f = fold-append (journal_step e) [] list (f ∷ [])
 
-entry_folds : (c : Script) (s : ℕ) (e : List ℕ) (list : List Fact) (f : Fact) → Rules → IsScript c → is_shard_entry c s list f ≡ true → folds c e list
+entry_folds : (c : Script) (s : ℕ) (e : List ℕ) (list : List Fact) (f : Fact) → Rules → IsScript c → (begins f || is_shard_entry c s list f) ≡ true → folds c e list
     → are_foldable (empty_state c.config.kind) (journal_step e (journal e list) f) ≡ true
 entry_folds c s e list (fact.Wrote x r) rules ok entry so_far = elim (is_name x e) as (λ v. is_name x e ≡ v → are_foldable (empty_state c.config.kind) (if v then journal e list ++ r ∷ [] else journal e list) ≡ true) [
   | true ↦ λ t.
@@ -111,32 +122,20 @@ entry_folds c s e list (fact.Wrote x r) rules ok entry so_far = elim (is_name x 
 ] refl
 entry_folds c s e list f rules ok entry so_far = so_far
 
-list_folds : (c : Script) (s : ℕ) (e : List ℕ) (before list : List Fact) → Rules → IsScript c → folds c e before → each_follows (may_follow c (slot.Shard s)) before list ≡ true → folds c e (before ++ list)
-list_folds c s e before [] rules ok so_far follows = subst (folds c e) (sym (append-nil before)) so_far
-list_folds c s e before (f ∷ fs) rules ok so_far follows =
-    let parts : (may_follow c (slot.Shard s) before f ≡ true) × (each_follows (may_follow c (slot.Shard s)) (before ++ f ∷ []) fs ≡ true) = and_both (may_follow c (slot.Shard s) before f) _ follows in
-    let entry : is_shard_entry c s before f ≡ true = (and_both (is_leased before f) (is_shard_entry c s before f) parts.0).1 in
-    let next : folds c e (before ++ f ∷ []) = subst (λ l. are_foldable (empty_state c.config.kind) l ≡ true) (sym (journal_next e before f)) (entry_folds c s e before f rules ok entry so_far) in
-    subst (folds c e) (append_assoc before (f ∷ []) fs) (list_folds c s e (before ++ f ∷ []) fs rules ok next parts.1)
+list_folds : (c : Script) (s : ℕ) (e : List ℕ) (list : List Fact) → Rules → IsScript c → own c (slot.Shard s) list ≡ true → folds c e list
+list_folds c s e list rules ok o = shard_to c s (folds c e) refl (λ before f so_far entry. subst (λ l. are_foldable (empty_state c.config.kind) l ≡ true) (sym (journal_next e before f)) (entry_folds c s e before f rules ok entry so_far)) list o
 
 -- All lists.
 
-own_in_shards : (c : Script) (lists : SlotLists) → lawful c lists ≡ true → list_all (λ s. own c (slot.Shard s) (shard_list lists s)) (shards (setting c)) ≡ true
-own_in_shards c lists all =
-    let a : Bool = length lists.shards == c.config.shards in
-    let b : Bool = length lists.queues == c.config.producers in
-    let d : Bool = list_all (λ s. own c (slot.Shard s) (shard_list lists s)) (shards (setting c)) in
-    let f : Bool = own c slot.Coordinator lists.coordinator in
-    let g : Bool = list_all (λ p. own c (slot.Queue p) (queue_list lists p)) (producers (setting c)) in
-    let five : (a && b && d && f && g) ≡ true = (and_both (a && b && d && f && g) (confirmed_there c lists) all).0 in
-    let four : (a && b && d && f) ≡ true = (and_both (a && b && d && f) g five).0 in
-    let three : (a && b && d) ≡ true = (and_both (a && b && d) f four).0 in
-    (and_both (a && b) d three).1
+shards_fold : (c : Script) (lists : SlotLists) → Rules → IsScript c → ((s : Slot) → is_slot_of c s ≡ true → own c s (list_at lists s) ≡ true) → (a n : ℕ) → a + n ≤ c.config.shards
+    → list_all (is_foldable_shard (setting c) lists) (numbers a n) ≡ true
+shards_fold c lists rules ok each a zero less = refl
+shards_fold c lists rules ok each a (suc n) less =
+    let here : own c (slot.Shard a) (shard_list lists a) ≡ true = each (slot.Shard a) (is_below a c.config.shards (omega (arith, less))) in
+    both (is_foldable_shard (setting c) lists a) (list_all (is_foldable_shard (setting c) lists) (numbers (a + 1) n))
+    (all_of (is_foldable c.config.kind (shard_list lists a)) (λ e. list_folds c a e (shard_list lists a) rules ok here) (names_of (setting c) a))
+    (shards_fold c lists rules ok each (a + 1) n (omega (arith, less)))
 
--- lists with the journals of lawful lists have journals that lead to a state
-pub lawful_folds : (c : Script) (lists new : SlotLists) → Rules → IsScript c → lawful c lists ≡ true → ((e : List ℕ) (s : ℕ) → journal e (shard_list new s) ≡ journal e (shard_list lists s))
-    → is_foldable_in_all (setting c) new ≡ true
-lawful_folds c lists new rules ok all same = all_map (λ s. own c (slot.Shard s) (shard_list lists s)) (is_foldable_shard (setting c) new) (λ s holds.
-    all_of (is_foldable c.config.kind (shard_list new s)) (λ e.
-    ap (are_foldable (empty_state c.config.kind)) (same e s) ∙ list_folds c s e [] (shard_list lists s) rules ok refl holds)
-    (names_of (setting c) s)) (shards (setting c)) (own_in_shards c lists all)
+-- where each list is lawful by itself, each journal leads to a state
+pub lists_fold : (c : Script) (lists : SlotLists) → Rules → IsScript c → ((s : Slot) → is_slot_of c s ≡ true → own c s (list_at lists s) ≡ true) → is_foldable_in_all (setting c) lists ≡ true
+lists_fold c lists rules ok each = shards_fold c lists rules ok each 0 c.config.shards (omega arith)

@@ -6,6 +6,7 @@ use Rattle.std.proofs.lemmas.List.Sums.{fold-append}
 use Rattle.yard_model.specs.declared.fact.Fact.{Fact}
 use Rattle.yard_model.specs.declared.fact.Fact.TheVariants as fact
 use Rattle.yard_model.specs.declared.incarnation.Cause.{Cause}
+use Rattle.yard_model.specs.declared.incarnation.Cause.TheVariants as cause
 use Rattle.yard_model.specs.declared.incarnation.Slot.{Slot}
 use Rattle.yard_model.specs.declared.incarnation.Slot.TheVariants as slot
 use Rattle.yard_model.specs.Script.{Script, Setting, setting}
@@ -47,15 +48,15 @@ queue_reads g f h old (slot.Queue q) p = set_reads g f h old.queues (q - 1) (p -
 shards_keep : {X : Type 0} (g : List Fact → X) → Passes g → (set : Setting) (old : SlotLists) (t : ℕ) (freed : List Fact) → list_all is_freed freed ≡ true
     → g (shard_list (fold (lists_step set) old freed) t) ≡ g (shard_list old t)
 shards_keep g h set old t [] all = refl
-shards_keep g h set old t (fact.Freed s n why ∷ fs) all =
-    shards_keep g h set (lists_step set old (fact.Freed s n why)) t fs all ∙ shard_reads g (fact.Freed s n why) (λ l. h l s n why) old s t
+shards_keep g h set old t (fact.Freed s n cause.Stopped ∷ fs) all =
+    shards_keep g h set (lists_step set old (fact.Freed s n cause.Stopped)) t fs all ∙ shard_reads g (fact.Freed s n cause.Stopped) (λ l. h l s n cause.Stopped) old s t
 shards_keep g h set old t (f ∷ fs) all = absurd (true_is_not_false (sym all))
 
 queues_keep : {X : Type 0} (g : List Fact → X) → Passes g → (set : Setting) (old : SlotLists) (p : ℕ) (freed : List Fact) → list_all is_freed freed ≡ true
     → g (queue_list (fold (lists_step set) old freed) p) ≡ g (queue_list old p)
 queues_keep g h set old p [] all = refl
-queues_keep g h set old p (fact.Freed s n why ∷ fs) all =
-    queues_keep g h set (lists_step set old (fact.Freed s n why)) p fs all ∙ queue_reads g (fact.Freed s n why) (λ l. h l s n why) old s p
+queues_keep g h set old p (fact.Freed s n cause.Stopped ∷ fs) all =
+    queues_keep g h set (lists_step set old (fact.Freed s n cause.Stopped)) p fs all ∙ queue_reads g (fact.Freed s n cause.Stopped) (λ l. h l s n cause.Stopped) old s p
 queues_keep g h set old p (f ∷ fs) all = absurd (true_is_not_false (sym all))
 
 journal_passes : (e : List ℕ) → Passes (journal e)
@@ -113,9 +114,9 @@ freed_same c old new freed = record {
 pub freed_report : (c : Script) (old new : SlotLists) → AreFreed c old new → report (setting c) new ≡ report (setting c) old
 freed_report c old new freed = report_same (setting c) old new (freed_same c old new freed)
 
--- and the same journals
-pub freed_journals : (c : Script) (old new : SlotLists) → AreFreed c old new → (e : List ℕ) (s : ℕ) → journal e (shard_list new s) ≡ journal e (shard_list old s)
-freed_journals c old new freed = (freed_same c old new freed).journals
+-- a world that is through has the number of shards of its script
+pub set_of : (c : Script) (world : Played) → IsDone c world → (made_of world.script world.count).world.set ≡ setting world.script → (played c wire_limit).world.set ≡ setting c
+set_of c world done is = subst (λ (m : Made). m.world.set ≡ setting c) done.made_is (subst (λ (s : Script). (made_of s world.count).world.set ≡ setting s) done.script_is is)
 
 -- the lists of the stores of a world that is through with its script
 pub freed_of : (c : Script) (world : Played) (stores : Shelves) → IsDone c world → stores.script ≡ world.script

@@ -1,9 +1,9 @@
 -- The journals of `solo`: one induction over the orders of a script.
 use Rattle.std.proofs.Common.{◌≡◌, ◌<◌, ◌≤◌, ℕ, ◌+◌, ◌-◌, sym, ap, ◌∙◌, refl, subst, arith, length-append}
-use Rattle.std.specs.Prelude.{Bool, true, false, ◌==◌, ◌&&◌, nat_lt, nat_le, cond, ◌↔◌, List, [], ◌∷◌, ◌++◌, length, map, filter, fold, slice_index_or, Option, Some, None, if◌then◌else◌, IsTrue}
-use Rattle.std.specs.List.{list_all, slice_get}
+use Rattle.std.specs.Prelude.{Bool, true, false, ◌==◌, ◌&&◌, ◌||◌, nat_lt, nat_le, cond, ◌↔◌, List, [], ◌∷◌, ◌++◌, length, map, filter, fold, slice_index_or, Option, Some, None, if◌then◌else◌, IsTrue}
+use Rattle.std.specs.List.{list_all, list_any, slice_get}
 use Rattle.std.specs.Option.{option_map_or}
-use Rattle.std.proofs.lemmas.Bool.Decides.{Decides-eqb}
+use Rattle.std.proofs.lemmas.Bool.Decides.{Decides-eqb, nat_tests}
 use Rattle.std.proofs.lemmas.List.{append-nil, append_assoc, map-append, length-map, length-set}
 use Rattle.std.proofs.lemmas.List.Elements.{filter-append}
 use Rattle.std.proofs.lemmas.List.Folds.{list_all-append}
@@ -22,14 +22,13 @@ use Rattle.yard_model.specs.declared.state.State.{State}
 use Rattle.yard_model.specs.Behaviour.{decide, folded, after_record, empty_state, are_applicable, is_of_kind, is_in}
 use Rattle.yard_model.specs.Equal.{is_command, is_decision}
 use Rattle.yard_model.specs.Genuine.{is_planned}
-use Rattle.yard_model.specs.Lawful.{is_folded, is_folded_after, is_merged, is_merged_after}
+use Rattle.yard_model.specs.Lawful.{is_decided, is_folded, is_folded_after, is_merged, is_merged_after}
 use Rattle.yard_model.proofs.FollowLaws.{follows_more}
-use Rattle.yard_model.specs.Script.{Script, IsScript, setting, sends, with_send_of, with_order, with_send, count_to, plan, is_name, is_order, is_config, names_in}
+use Rattle.yard_model.specs.Script.{Script, IsScript, setting, sends, with_send_of, with_order, with_send, count_to, plan, is_name, is_order, is_config, is_upgrade, versions, names_in}
 use Rattle.yard_model.specs.Shard.{shard, absolute, java_hash}
 use Rattle.yard_model.specs.Words.{numbers}
 use Rattle.std.proofs.Math.Nat.{mod-lt}
 use Rattle.std.specs.Cmp.Lexicographic.{nat_list_eq_equiv}
-use Rattle.std.proofs.lemmas.Bool.Decides.{nat_tests}
 use Rattle.yard_model.specs.SlotLists.{SlotLists, shard_list}
 use Rattle.yard_model.specs.SlotReads.{journal, position}
 use Rattle.yard_model.specs.Solo.{Solo, after_order, after_line, start, solo, count_of_pair, next_message, next_record, with_entry, with_delivered, with_delivery}
@@ -77,17 +76,24 @@ shard_below c ok e = mod-lt (absolute (java_hash e)) (above c ok.config)
 
 -- One record more.
 
+-- a script admits the first version
+first_version : (c : Script) (p : ℕ → Bool) → p 1 ≡ true → list_any p (versions c) ≡ true
+first_version c p h = elim (list_any (λ (l : Line). is_upgrade l.order) c.orders) as (λ b. list_any p (if b then 1 ∷ 2 ∷ [] else 1 ∷ []) ≡ true) [
+  | true ↦ ap (λ b. b || (p 2 || false)) h
+  | false ↦ ap (λ b. b || false) h
+]
+
 sound_more : (c : Script) (e : List ℕ) (records : List Record) (m : Message)
     → ((d : Decision) → is_decision d d ≡ true)
-    → ((k : Kind) (st : State) (x : Command) → is_of_kind k x ≡ true → are_applicable st (decide st x).events ≡ true)
+    → ((v : ℕ) (k : Kind) (st : State) (x : Command) → is_of_kind k x ≡ true → are_applicable st (decide v st x).events ≡ true)
     → IsSound c e records → (m.number == position m.producer records + 1) ≡ true → is_planned c m.producer e m.number m.command ≡ true → is_of_kind c.config.kind m.command ≡ true
     → IsSound c e (records ++ next_record c.config.kind records m ∷ [])
 sound_more c e records m same apply_all s next planned own =
     let r : Record = next_record c.config.kind records m in
     record {
-      folded_is = follows_more (is_folded_after c) [] records r ∙ both (is_folded c records) (is_folded_after c records r) s.folded_is (both (length records + 1 == length records + 1) _ ((Decides-eqb (length records + 1) (length records + 1)).1 refl) (same (decide (folded c.config.kind records) m.command)));
+      folded_is = follows_more (is_folded_after c) [] records r ∙ both (is_folded c records) (is_folded_after c records r) s.folded_is (both (length records + 1 == length records + 1) _ ((Decides-eqb (length records + 1) (length records + 1)).1 refl) (first_version c (λ v. is_decided v c records r) (same (decide 1 (folded c.config.kind records) m.command))));
       merged_is = follows_more (is_merged_after c e) [] records r ∙ both (is_merged c e records) (is_merged_after c e records r) s.merged_is (both (m.number == position m.producer records + 1) (is_planned c m.producer e m.number m.command) next planned);
-      foldable_is = foldable_more (empty_state c.config.kind) records r ∙ both (are_foldable (empty_state c.config.kind) records) _ s.foldable_is (apply_all c.config.kind (folded c.config.kind records) m.command own);
+      foldable_is = foldable_more (empty_state c.config.kind) records r ∙ both (are_foldable (empty_state c.config.kind) records) _ s.foldable_is (apply_all 1 c.config.kind (folded c.config.kind records) m.command own);
     }
 
 -- The sends of a producer, and its plans.
@@ -158,7 +164,7 @@ record Inv (c : Script) (s : ℕ → List Sending) (st : Solo) : Type 0 where
 record Laws : Type 0 where
   pub commands : (x : Command) → is_command x x ≡ true
   pub decisions : (d : Decision) → is_decision d d ≡ true
-  pub applies : (k : Kind) (st : State) (x : Command) → is_of_kind k x ≡ true → are_applicable st (decide st x).events ≡ true
+  pub applies : (v : ℕ) (k : Kind) (st : State) (x : Command) → is_of_kind k x ≡ true → are_applicable st (decide v st x).events ≡ true
 
 -- the count of a pair after a send
 count_kept : (p q : ℕ) (e f : List ℕ) (k : Command) (posted : List Message) (so_far : List Sending) → count_of_pair q f posted ≡ count_to f so_far
@@ -241,7 +247,7 @@ all_keep c s st (l ∷ ls) ok laws inv rest own =
 
 -- every journal of `solo` is sound
 pub solo_sound : ((a b : Command) → IsTrue (is_command a b) ↔ (a ≡ b)) → ((a b : Decision) → IsTrue (is_decision a b) ↔ (a ≡ b))
-    → ((k : Kind) (st : State) (x : Command) → IsTrue (is_of_kind k x) → IsTrue (are_applicable st (decide st x).events))
+    → ((v : ℕ) (k : Kind) (st : State) (x : Command) → IsTrue (is_of_kind k x) → IsTrue (are_applicable st (decide v st x).events))
     → (c : Script) → IsScript c → (e : List ℕ) → IsSound c e (solo_journal c e)
 solo_sound cmd dec apl c ok e =
     all_keep c (λ q. []) (start (setting c)) c.orders ok (record { commands = λ x. (cmd x x).1 refl; decisions = λ d. (dec d d).1 refl; applies = apl })

@@ -11,7 +11,7 @@ use Rattle.yard_model.specs.Safe.{safe}
 use Rattle.yard_model.specs.Solo.{solo_text}
 use Rattle.yard_model.specs.Text.{Bytes}
 use Rattle.yard_model.specs.World.{trace_of}
-use Rattle.world_laws.specs.Keeps.{are_built}
+use Rattle.world_sim.specs.Built.{are_built}
 use Rattle.yard_top.specs.Sound.{IsSound, solo_journal}
 use Rattle.yard_top.specs.Stops.{stop_in}
 use Rattle.yard_top.specs.declared.forms.Form.{Form}

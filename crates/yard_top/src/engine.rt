@@ -70,6 +70,7 @@ impl Engine {
     ) -> Result<(), AllocError>
         requires knows { KnowsAll self.old.config self.old.posted (facts_of self.old.lists.items) self.old.entities }
         requires kind { B.kind_of behaviour.now ≡ self.old.config.kind }
+        requires version { B.version_of behaviour.now ≡ 1 }
         requires posted { self.old.posted ≡ [] }
         requires lists { facts_of self.old.lists.items ≡ map held (numbers 0 self.old.config.shards) }
         requires orders { IsTrue (list_all (λ l. is_order self.old.config l.order) lines.now) }
@@ -93,6 +94,7 @@ impl Engine {
     ) -> Result<(), AllocError>
         requires knows { KnowsAll self.old.config self.old.posted (facts_of self.old.lists.items) self.old.entities }
         requires kind { B.kind_of behaviour.now ≡ self.old.config.kind }
+        requires version { B.version_of behaviour.now ≡ 1 }
         requires order { IsTrue (is_order self.old.config order.now) }
         requires posts { length self.old.posted < 1000000 }
         requires room { (e : List ℕ) → length (journal e (slice_index_or (facts_of self.old.lists.items) (shard self.old.config.shards e) [])) < 4294967295 }
@@ -117,6 +119,7 @@ impl Engine {
     ) -> Result<(), AllocError>
         requires knows { KnowsAll self.old.config self.old.posted (facts_of self.old.lists.items) self.old.entities }
         requires kind { B.kind_of behaviour.now ≡ self.old.config.kind }
+        requires version { B.version_of behaviour.now ≡ 1 }
         requires number { 0 < number }
         requires room { (e : List ℕ) → length (journal e (slice_index_or (facts_of self.old.lists.items) (shard self.old.config.shards e) [])) < 4294967295 }
         ensures knows { OnOk result (KnowsAll self.new.config self.new.posted (facts_of self.new.lists.items) self.new.entities) }
@@ -169,6 +172,7 @@ impl Engine {
     ) -> Result<(), AllocError>
         requires knows { KnowsAll self.old.config self.old.posted (facts_of self.old.lists.items) self.old.entities }
         requires kind { B.kind_of behaviour.now ≡ self.old.config.kind }
+        requires version { B.version_of behaviour.now ≡ 1 }
         requires command { IsTrue (is_of_kind self.old.config.kind message.now.command) }
         requires room { (e : List ℕ) → length (journal e (slice_index_or (facts_of self.old.lists.items) (shard self.old.config.shards e) [])) < 4294967295 }
         ensures knows { OnOk result (KnowsAll self.new.config self.new.posted (facts_of self.new.lists.items) self.new.entities) }

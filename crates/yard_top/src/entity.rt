@@ -65,6 +65,7 @@ impl Entity {
         behaviour: &B,
     ) -> Result<Option<Record>, AllocError>
         requires kind { B.kind_of behaviour.now ≡ self.old.kind }
+        requires version { B.version_of behaviour.now ≡ 1 }
         requires command { IsTrue (is_of_kind self.old.kind message.now.command) }
         requires room { length self.old.records < 4294967295 }
         ensures record_is { IfOk result (λ r. r ≡ taken_as self.old message.now) }

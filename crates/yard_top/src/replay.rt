@@ -8,12 +8,13 @@ ghost use Rattle.yard_model.specs.Text.{fact_line, report};
 ghost use Rattle.yard_model.specs.World.{played, trace_of, wire_limit};
 ghost use Rattle.shard_store.specs.Stores.{lists_at};
 ghost use Rattle.trace_text.specs.Foldable.{is_foldable_in_all};
-ghost use Rattle.world_laws.specs.Keeps.{are_built};
+ghost use Rattle.world_sim.specs.Built.{are_built};
 ghost use Rattle.yard_top.specs.Replays.{IsOn, IsDone, IsThrough, IsNext};
 ghost use Rattle.yard_top.specs.Stops.{stop_in};
 
 use crate::course::stop_in;
 use crate::text::Text;
+use behaviour_core::Behaviour;
 use behaviour_core::laws::decided_law;
 use behaviour_kinds::{Account, Cart, Counter};
 use play_laws::play::trace_is_safe;
@@ -22,8 +23,6 @@ use std::alloc::{AllocError, Global};
 use trace_text::{push_fact, push_report};
 use world_sim::laws::made_law;
 use world_sim::{StepFault, World};
-use yard_laws::safety::safe_is_safe_now;
-use yard_laws::trace::lists_are_of_the_trace;
 use yard_model::laws::{command_law, decision_law};
 use yard_model::{Charter, Fact, Facts, Kind, Line};
 
@@ -37,9 +36,9 @@ pub fn replay_report(alloc: Global, charter: &Charter) -> Result<Text, AllocErro
 {
     is_safe(charter);
     match charter.config().kind {
-        Kind::Counter => replayed(alloc, charter, Counter),
-        Kind::Account => replayed(alloc, charter, Account),
-        Kind::Cart => replayed(alloc, charter, Cart),
+        Kind::Counter => replayed(alloc, charter, Counter::new()),
+        Kind::Account => replayed(alloc, charter, Account::new()),
+        Kind::Cart => replayed(alloc, charter, Cart::new()),
     }
 }
 
@@ -52,13 +51,13 @@ fn is_safe(charter: &Charter)
 }
 
 /// The text of a script's trace, played in a world whose entities behave so.
-fn replayed<B: Copy + Drop>(
+fn replayed<B: Behaviour + Copy + Drop>(
     alloc: Global,
     charter: &Charter,
     behaviour: B,
 ) -> Result<Text, AllocError>
     requires built { IsTrue (are_built charter.now) }
-    requires safe { IsTrue (safe charter.now (trace_of charter.now)) }
+    requires version { B.version_of behaviour ≡ 1 }
     ensures bytes { IfOk result (λ t. t.bytes.items ≡ replay_text charter.now) }
     ensures stop { IfOk result (λ t. t.stop ≡ stop_in (trace_of charter.now)) }
 {
@@ -74,7 +73,7 @@ fn replayed<B: Copy + Drop>(
 }
 
 /// Plays all orders of the script, or up to the one with which its trace stops.
-fn play<B: Copy + Drop>(
+fn play<B: Behaviour + Copy + Drop>(
     world: &mut World<B>,
     charter: &Charter,
     facts: &mut Facts,
@@ -94,7 +93,7 @@ fn play<B: Copy + Drop>(
 
 /// Plays the next order, and tells its facts; whether the trace goes on. The only error is want of
 /// memory.
-fn play_next<B: Copy + Drop>(
+fn play_next<B: Behaviour + Copy + Drop>(
     world: &mut World<B>,
     line: &Line,
     facts: &mut Facts,
@@ -112,15 +111,15 @@ fn play_next<B: Copy + Drop>(
 }
 
 /// The stores of a world that is through with its script. The only error is want of memory.
-fn stores_of<B: Copy + Drop>(world: World<B>, charter: &Charter) -> Result<Stores, AllocError>
-    requires done { IsDone charter.now world }
-    requires safe { IsTrue (safe charter.now (trace_of charter.now)) }
-    ensures report { IfOk result (λ s. report (setting charter.now) (lists_at s.script.config s.places) ≡ report (setting charter.now) (played charter.now wire_limit).world.lists) }
+fn stores_of<B: Behaviour + Copy + Drop>(
+    world: World<B>,
+    charter: &Charter,
+) -> Result<Stores, AllocError>
+    requires { IsDone charter.now world }
+    ensures report { IfOk result (λ s. report (setting charter.now) (lists_at s.script.config s.places) ≡ report (played charter.now wire_limit).world.set (played charter.now wire_limit).world.lists) }
     ensures foldable { IfOk result (λ s. IsTrue (is_foldable_in_all (setting charter.now) (lists_at s.script.config s.places))) }
 {
     charter.config();
-    safe_is_safe_now();
-    lists_are_of_the_trace();
     command_law();
     decision_law();
     decided_law();

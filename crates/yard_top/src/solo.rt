@@ -33,9 +33,9 @@ fn engine_after(alloc: Global, charter: &Charter) -> Result<Engine, AllocError>
     ensures lists { IfOk result (λ e. lists_of e.config (facts_of e.lists.items) ≡ (solo charter.now).lists) }
 {
     match charter.config().kind {
-        Kind::Counter => played(alloc, charter, &Counter),
-        Kind::Account => played(alloc, charter, &Account),
-        Kind::Cart => played(alloc, charter, &Cart),
+        Kind::Counter => played(alloc, charter, &Counter::new()),
+        Kind::Account => played(alloc, charter, &Account::new()),
+        Kind::Cart => played(alloc, charter, &Cart::new()),
     }
 }
 
@@ -45,7 +45,8 @@ fn played<B: Behaviour>(
     charter: &Charter,
     behaviour: &B,
 ) -> Result<Engine, AllocError>
-    requires { B.kind_of behaviour.now ≡ charter.now.config.kind }
+    requires kind { B.kind_of behaviour.now ≡ charter.now.config.kind }
+    requires version { B.version_of behaviour.now ≡ 1 }
     ensures config { IfOk result (λ e. e.config ≡ charter.now.config) }
     ensures lists { IfOk result (λ e. lists_of e.config (facts_of e.lists.items) ≡ (solo charter.now).lists) }
 {

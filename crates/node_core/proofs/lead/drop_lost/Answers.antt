@@ -7,9 +7,9 @@ use Rattle.yard_model.specs.Script.{Script}
 use Rattle.coordinator_actor.specs.Held.{Held}
 use Rattle.node_core.specs.Standing.{node_of, IsOf}
 use Rattle.node_core.specs.Leased.{Rests}
-use Rattle.node_core.specs.Gave.{Gave}
+use Rattle.node_core.specs.Found.{none}
+use Rattle.node_core.specs.Gave.{Gave, moment}
 use Rattle.yard_model.specs.Node as rules
-use Rattle.node_core.proofs.LeadLaws.{lost_still}
 use Rattle.node_core.proofs.GaveLaws.{gave_nothing}
 use Rattle.node_core.proofs.StepLaws.{lost_gave}
 use Rattle.node_core.proofs.lead.drop_lost.Goals as goal
@@ -23,12 +23,10 @@ returns-in-Some-clause-parts c =
       who_is = c.requires.parts.who_is;
       region_script = c.requires.parts.region_script;
       region_set = c.requires.parts.region_set;
-      view_is = c.requires.parts.view_is;
       coordinator = record {
         script_is = c.view_taken.ensures.script ∙ office.script_is;
         who_is = ap (λ (s : Coordinator). s.who) c.view_taken.ensures.state ∙ (c.same_law.ensures.who k.state (terminate_lost c.view.result.now.members k.state) ∙ office.who_is);
         set_is = ap (λ (s : Coordinator). s.set) c.view_taken.ensures.state ∙ (c.same_law.ensures.set k.state (terminate_lost c.view.result.now.members k.state) ∙ office.set_is);
-        still_is = ap (λ (s : Coordinator). s.moving) c.view_taken.ensures.state ∙ lost_still c.view.result.now.members k.state office.still_is;
       };
     }
 
@@ -37,9 +35,9 @@ returns-in-Some-clause-gave c = λ m rests.
     let script : Script = c.args.charter.now in
     let r = c.args.region.now.state in
     let k : Held = c.in-Some.coordinator in
-    subst (λ (o : Option Held). Gave script (λ lists. rules.of_coordinator (terminate_lost r.view) (node_of script r o)) m (node_of script r o) c.args.out.now.items m (node_of script r (Some c.view_taken.new.self)) c.view_taken.new.out.items) (sym c.in-Some.is)
-    (lost_gave script m c.who.result r k c.view_taken.new.self c.args.out.now.items c.view_taken.new.out.items c.who.ensures.leased
-    (subst (λ (o : Option Held). Rests m script (node_of script r o)) c.in-Some.is rests)
+    subst (λ (o : Option Held). Gave script none (λ lists. rules.of_coordinator (terminate_lost r.view) (node_of script c.args.version r o)) (moment m (node_of script c.args.version r o) c.args.out.now.items) (moment m (node_of script c.args.version r (Some c.view_taken.new.self)) c.view_taken.new.out.items)) (sym c.in-Some.is)
+    (lost_gave script c.args.version m c.who.result r k c.view_taken.new.self c.args.out.now.items c.view_taken.new.out.items c.who.ensures.leased
+    (subst (λ (o : Option Held). Rests m script (node_of script c.args.version r o)) c.in-Some.is rests)
     (c.view_taken.ensures.state ∙ ap (λ v. fold coordinator_after k.state (terminate_lost v k.state)) c.view.ensures.members)
     (c.view_taken.ensures.items ∙ ap (λ v. c.args.out.now.items ++ flat_map item_of (terminate_lost v k.state)) c.view.ensures.members))
 
@@ -47,5 +45,5 @@ pub returns-in_default-clause-gave : goal.returns-in_default-clause-gave
 returns-in_default-clause-gave c = λ m rests.
     let script : Script = c.args.charter.now in
     let r = c.args.region.now.state in
-    subst (λ (o : Option Held). Gave script (λ lists. rules.of_coordinator (terminate_lost r.view) (node_of script r o)) m (node_of script r o) c.args.out.now.items m (node_of script r o) c.args.out.now.items) (sym c.in_default.is)
-    (gave_nothing script m (node_of script r None) c.args.out.now.items (subst (λ (o : Option Held). Rests m script (node_of script r o)) c.in_default.is rests))
+    subst (λ (o : Option Held). Gave script none (λ lists. rules.of_coordinator (terminate_lost r.view) (node_of script c.args.version r o)) (moment m (node_of script c.args.version r o) c.args.out.now.items) (moment m (node_of script c.args.version r o) c.args.out.now.items)) (sym c.in_default.is)
+    (gave_nothing script (moment m (node_of script c.args.version r None) c.args.out.now.items) (subst (λ (o : Option Held). Rests m script (node_of script c.args.version r o)) c.in_default.is rests))

@@ -7,7 +7,7 @@ use Rattle.yard_model.specs.Script.{Script}
 use Rattle.coordinator_actor.specs.Held.{Held}
 use Rattle.shard_lease.specs.Meaning.{Meaning, Acquired}
 use Rattle.node_core.specs.Standing.{node_of}
-use Rattle.node_core.specs.Gave.{Gave, take_lead}
+use Rattle.node_core.specs.Gave.{Gave, moment, take_lead, office}
 use Rattle.node_core.specs.Taken.{Took}
 use Rattle.node_core.proofs.LeadLaws.{took_gave}
 use Rattle.node_core.proofs.lead.take_slot.Goals as goal
@@ -21,7 +21,7 @@ returns-clause-gave g c =
     let before : List Item = c.args.out.now.items in
     let now : List Item = c.take.new.out.items in
     let k : Option Held = c.take.new.coordinator in
-    subst (λ (o : Option Held). Gave script (λ lists. take_lead lists (node_of script r o)) old (node_of script r o) before new (node_of script r k) now) (sym c.requires.none)
-    (took_gave script old new r c.acquire-answer.result k before now c.requires.oldest c.requires.rests c.acquire-answer.ensures.stays
+    subst (λ (o : Option Held). Gave script office (λ lists. take_lead lists (node_of script c.args.version r o)) (moment old (node_of script c.args.version r o) before) (moment new (node_of script c.args.version r k) now)) (sym c.requires.none)
+    (took_gave script c.args.version old new r c.acquire-answer.result k before now c.requires.oldest c.requires.rests c.acquire-answer.ensures.stays
     (subst (λ (x : Incarnation). Acquired old x slot.Coordinator c.acquire-answer.result new) c.who-who.ensures c.acquire-answer.ensures.answer)
     (subst (λ (x : Incarnation). Took script x c.acquire-answer.result k before now) c.who-who.ensures c.take.ensures.took))

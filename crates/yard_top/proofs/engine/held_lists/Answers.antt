@@ -1,5 +1,4 @@
-use Rattle.std.proofs.Common.{◌∷◌, [], length, arith, ap, ◌∙◌}
-use Rattle.std.proofs.Common.{length-append}
+use Rattle.std.proofs.Common.{◌∷◌, [], length, arith, ap, ◌∙◌, length-append}
 use Rattle.yard_top.proofs.FactsLaws.{held_more}
 use Rattle.yard_top.proofs.engine.held_lists.Goals as goal
 

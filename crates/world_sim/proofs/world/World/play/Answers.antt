@@ -20,15 +20,15 @@ returns-in-Err g c =
     let e = c.in-Err.ensures in
     subst (λ (v : Played). CutShort v c.args.line.now c.args.out.now (record { script = c.play_line.new.self.script; count = c.self.inside.count; fault = Some fault.OutOfMemory }) c.play_line.new.facts) c.self.view_is
     (cut_short c.self.inside.yard c.play_line.new.self c.self.inside.count c.self.inside.fault c.args.line.now c.args.out.now c.play_line.new.facts none
-    e.script (e.memory _ (sound_at c.self.inside.yard c.self.inside.count c.self.inside.fault c.self.invariant none)))
+    e.script_is (e.told _ (sound_at c.self.inside.yard c.self.inside.count c.self.inside.fault c.self.invariant none)))
 
 pub invariant_of-self-then-is_full : goal.invariant_of-self-then-is_full
 invariant_of-self-then-is_full g c =
     let none = ap (λ (v : Played). v.fault) c.self.view_is ∙ c.requires.going in
     let e = c.in-Ok.ensures in
-    world_full c.self.inside.yard c.play_line.new.self c.self.inside.count c.self.inside.fault c.args.line.now c.args.out.now c.play_line.new.facts c.self.invariant none
+    world_full c.standing_is_kept.ensures c.self.inside.yard c.play_line.new.self c.self.inside.count c.self.inside.fault c.args.line.now c.args.out.now c.play_line.new.facts c.self.invariant none
     (ap (λ (v : Played). slice_get v.script.orders v.count) c.self.view_is ∙ c.requires.next)
-    (record { script_is = e.script; version_is = e.version; ups_are = e.ups; goes = e.goes _ (sound_at c.self.inside.yard c.self.inside.count c.self.inside.fault c.self.invariant none) })
+    e
     (sym c.is_full.ensures ∙ c.if-is_full.true)
 
 pub returns-then-is_full : goal.returns-then-is_full
@@ -36,17 +36,17 @@ returns-then-is_full g c =
     let none = ap (λ (v : Played). v.fault) c.self.view_is ∙ c.requires.going in
     let e = c.in-Ok.ensures in
     subst (λ (v : Played). Filled v c.args.line.now c.args.out.now (record { script = c.play_line.new.self.script; count = c.self.inside.count + 1; fault = Some fault.WireFull }) c.play_line.new.facts) c.self.view_is
-    (filled c.self.inside.yard c.play_line.new.self c.self.inside.count c.self.inside.fault c.args.line.now c.args.out.now c.play_line.new.facts none
-    (record { script_is = e.script; version_is = e.version; ups_are = e.ups; goes = e.goes _ (sound_at c.self.inside.yard c.self.inside.count c.self.inside.fault c.self.invariant none) })
+    (filled c.self.inside.yard c.play_line.new.self c.self.inside.count c.self.inside.fault c.args.line.now c.args.out.now c.play_line.new.facts c.self.invariant none
+    e
     (sym c.is_full.ensures ∙ c.if-is_full.true))
 
 pub invariant_of-self-else-is_full : goal.invariant_of-self-else-is_full
 invariant_of-self-else-is_full g c =
     let none = ap (λ (v : Played). v.fault) c.self.view_is ∙ c.requires.going in
     let e = c.in-Ok.ensures in
-    world_going c.self.inside.yard c.play_line.new.self c.self.inside.count c.self.inside.fault c.self.inside.fault c.args.line.now c.args.out.now c.play_line.new.facts c.self.invariant none
+    world_going c.standing_is_kept.ensures c.self.inside.yard c.play_line.new.self c.self.inside.count c.self.inside.fault c.self.inside.fault c.args.line.now c.args.out.now c.play_line.new.facts c.self.invariant none
     (ap (λ (v : Played). slice_get v.script.orders v.count) c.self.view_is ∙ c.requires.next)
-    (record { script_is = e.script; version_is = e.version; ups_are = e.ups; goes = e.goes _ (sound_at c.self.inside.yard c.self.inside.count c.self.inside.fault c.self.invariant none) })
+    e
     (sym c.is_full.ensures ∙ c.if-is_full.false) none
 
 pub returns : goal.returns
@@ -54,6 +54,6 @@ returns g c =
     let none = ap (λ (v : Played). v.fault) c.self.view_is ∙ c.requires.going in
     let e = c.in-Ok.ensures in
     subst (λ (v : Played). Went v c.args.line.now c.args.out.now (record { script = c.play_line.new.self.script; count = c.self.inside.count + 1; fault = c.self.inside.fault }) c.play_line.new.facts) c.self.view_is
-    (went c.self.inside.yard c.play_line.new.self c.self.inside.count c.self.inside.fault c.self.inside.fault c.args.line.now c.args.out.now c.play_line.new.facts none
-    (record { script_is = e.script; version_is = e.version; ups_are = e.ups; goes = e.goes _ (sound_at c.self.inside.yard c.self.inside.count c.self.inside.fault c.self.invariant none) })
+    (went c.self.inside.yard c.play_line.new.self c.self.inside.count c.self.inside.fault c.self.inside.fault c.args.line.now c.args.out.now c.play_line.new.facts c.self.invariant none
+    e
     (sym c.is_full.ensures ∙ c.if-is_full.false) none)

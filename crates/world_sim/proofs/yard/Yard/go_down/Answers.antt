@@ -1,29 +1,34 @@
-use Rattle.std.proofs.Common.{ap, sym, ◌∙◌, subst, arith}
-use Rattle.yard_model.specs.Behaviour.{is_in}
+use Rattle.std.proofs.Common.{◌-◌, ap, sym, ◌∙◌, subst, refl}
+use Rattle.std.specs.Prelude.{is_none}
+use Rattle.yard_model.specs.Words.{at}
+use Rattle.yard_model.specs.World.{go_down}
 use Rattle.world_sim.specs.Yard.{Yard, IsFirm}
-use Rattle.world_sim.proofs.EndLaws.{sound_out}
-use Rattle.world_sim.proofs.SeenLaws.{on_ok, on_err}
-use Rattle.world_sim.proofs.UpLaws.{node_within, nodes_count}
+use Rattle.world_sim.proofs.DownLaws.{may_end, down_none, down_told}
+use Rattle.world_sim.proofs.SeenLaws.{all_told_is}
+use Rattle.world_sim.proofs.StepLaws.{cut_none, step_err, step_seen}
+use Rattle.world_sim.proofs.UpLaws.{node_within, yard_is}
 use Rattle.world_sim.proofs.yard.Yard.go_down.Goals as goal
 
-pub end-requires-clause-world : goal.end-requires-clause-world
-end-requires-clause-world g c =
+pub end_at-requires-clause-up : goal.end_at-requires-clause-up
+end_at-requires-clause-up g c =
     let w = c.requires.world.0 in
-    let s : IsFirm _ w = subst (λ v. IsFirm v w) (sym c.self.view_is) c.requires.world.1 in
-    let r = node_within c.args.n _ (ap (λ (v : Yard). is_in 1 v.script.config.nodes c.args.n) c.self.view_is ∙ c.requires.node) in
-    let size = nodes_count _ w s in
-    (w, sound_out _ w c.args.n c.in-Some.node c.take_node.new.nodes.items s r.0 (omega (arith, r.1, size)) (sym (sym c.in-Some.is ∙ c.take_node.ensures.node)) c.take_node.ensures.nodes)
+    may_end _ w c.args.n (subst (λ v. IsFirm v w) (sym c.self.view_is) c.requires.world.1) (sym c.is_down.ensures ∙ c.if-is_down.false)
 
-pub returns-in-Some-clause-goes : goal.returns-in-Some-clause-goes
-returns-in-Some-clause-goes g c = on_ok c.end.result c.end.ensures.goes (λ h w z.
-    let s : IsFirm _ w = subst (λ v. IsFirm v w) (sym c.self.view_is) z in
-    let r = node_within c.args.n _ (ap (λ (v : Yard). is_in 1 v.script.config.nodes c.args.n) c.self.view_is ∙ c.requires.node) in
-    let size = nodes_count _ w s in
-    h w (sound_out _ w c.args.n c.in-Some.node c.take_node.new.nodes.items s r.0 (omega (arith, r.1, size)) (sym (sym c.in-Some.is ∙ c.take_node.ensures.node)) c.take_node.ensures.nodes))
+pub returns-then-is_down : goal.returns-then-is_down
+returns-then-is_down g c = down_none c.args.self.now c.args.n c.args.facts.now (ap (λ (v : Yard). is_none (at v.nodes (c.args.n - 1))) (sym c.self.view_is) ∙ (sym c.is_down.ensures ∙ c.if-is_down.true))
 
-pub returns-in-Some-clause-memory : goal.returns-in-Some-clause-memory
-returns-in-Some-clause-memory g c = on_err c.end.result c.end.ensures.memory (λ h w z.
-    let s : IsFirm _ w = subst (λ v. IsFirm v w) (sym c.self.view_is) z in
-    let r = node_within c.args.n _ (ap (λ (v : Yard). is_in 1 v.script.config.nodes c.args.n) c.self.view_is ∙ c.requires.node) in
-    let size = nodes_count _ w s in
-    h w (sound_out _ w c.args.n c.in-Some.node c.take_node.new.nodes.items s r.0 (omega (arith, r.1, size)) (sym (sym c.in-Some.is ∙ c.take_node.ensures.node)) c.take_node.ensures.nodes))
+pub returns : goal.returns
+returns g c =
+    let t = c.tell_items.ensures in
+    let mid = c.end_at.new.mail in
+    let e = c.in_ok-who.ensures in
+    step_seen IsFirm 1 (go_down c.args.n) c.tell_items.result _ _ _ _ _ c.self.view_is
+    (down_told _ _ c.args.n c.in_ok-who.field-0 c.end_at.new.book mid c.tell_items.new.self c.tell_items.result c.args.facts.now c.push.new.self c.tell_items.new.facts
+    (yard_is _ _ refl refl c.end_at.ensures.nodes c.without-self-inside.ensures refl refl refl) (node_within c.args.n _ c.requires.node).0 c.len-posted.ensures.fits e.ended c.in_ok-push.ensures.ok
+    (all_told_is c.tell_items.result mid c.tell_items.new.self c.push.new.self c.tell_items.new.facts t.facts t.packets t.fresh t.full t.items) t.told)
+
+pub returns-in_err-who : goal.returns-in_err-who
+returns-in_err-who g c = step_err IsFirm 1 (go_down c.args.n) c.from_residual.result _ _ _ _ c.from_residual.ensures.0 (cut_none IsFirm (go_down c.args.n) _ _ _ _ (ap (λ (v : Yard). v.script) c.self.view_is) refl)
+
+pub returns-in_err-push : goal.returns-in_err-push
+returns-in_err-push g c = step_err IsFirm 1 (go_down c.args.n) c.from_residual-in_err-push.result _ _ _ _ c.from_residual-in_err-push.ensures.0 (cut_none IsFirm (go_down c.args.n) _ _ _ _ (ap (λ (v : Yard). v.script) c.self.view_is) c.in_err-push.ensures.err)

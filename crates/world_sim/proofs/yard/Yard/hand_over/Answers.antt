@@ -1,56 +1,34 @@
-use Rattle.std.proofs.Common.{sym, ap, ◌∙◌, subst}
+use Rattle.std.proofs.Common.{sym, ap, ◌∙◌, subst, refl}
+use Rattle.yard_model.specs.World.{hand_over}
 use Rattle.yard_model.specs.Words.{is_among}
-use Rattle.world_sim.specs.Steps.{IsGood}
-use Rattle.world_sim.specs.Yard.{Yard, IsSound}
-use Rattle.world_sim.proofs.SeenLaws.{on_ok, on_err}
-use Rattle.world_sim.proofs.DeliveryLaws.{here, here_inside, here_some, here_who, sound_but, goes_apart, goes_over, cut_over}
+use Rattle.world_sim.specs.Yard.{Yard, IsSoundFor}
+use Rattle.world_sim.proofs.DeliveryLaws.{here, here_inside, may_handle, over_apart, over_told}
+use Rattle.world_sim.proofs.SeenLaws.{all_told_is}
+use Rattle.world_sim.proofs.StepLaws.{cut_none, step_err, step_seen}
 use Rattle.world_sim.proofs.yard.Yard.hand_over.Goals as goal
 
-pub take_node-requires : goal.take_node-requires
-take_node-requires g c =
-    let w = c.requires.world.0 in
-    let s : IsSound _ w = subst (λ v. IsSound v w) (sym c.self.view_is) c.requires.world.1 in
-    here_inside _ c.args.packet.now.to (here _ w c.args.packet.now.to s (sym c.has.ensures ∙ c.if-not-has.false))
+pub hand_at-requires-clause-there : goal.hand_at-requires-clause-there
+hand_at-requires-clause-there g c =
+    let w = c.requires.0 in
+    let s : IsSoundFor c.args.packet.now _ w = subst (λ v. IsSoundFor c.args.packet.now v w) (sym c.self.view_is) c.requires.1 in
+    here_inside _ c.args.packet.now.to (here _ w c.args.packet.now.to s.sound (sym c.has.ensures ∙ c.if-not-has.false))
 
-pub unreachable-unreachable : goal.unreachable-unreachable
-unreachable-unreachable g c =
-    let w = c.requires.world.0 in
-    let s : IsSound _ w = subst (λ v. IsSound v w) (sym c.self.view_is) c.requires.world.1 in
-    here_some _ c.args.packet.now.to (here _ w c.args.packet.now.to s (sym c.has.ensures ∙ c.if-not-has.false)) (sym c.in_default.is ∙ c.take_node.ensures.node)
+pub hand_at-requires-clause-up : goal.hand_at-requires-clause-up
+hand_at-requires-clause-up g c =
+    let w = c.requires.0 in
+    let s : IsSoundFor c.args.packet.now _ w = subst (λ v. IsSoundFor c.args.packet.now v w) (sym c.self.view_is) c.requires.1 in
+    may_handle _ w c.args.packet.now s (sym c.has.ensures ∙ c.if-not-has.false)
 
-pub give-requires-clause-world : goal.give-requires-clause-world
-give-requires-clause-world g c =
-    let w = c.requires.world.0 in
-    let s : IsSound _ w = subst (λ v. IsSound v w) (sym c.self.view_is) c.requires.world.1 in
-    (w, sound_but _ w c.args.packet.now.to c.in-Some.node c.take_node.new.nodes.items s (sym c.has.ensures ∙ c.if-not-has.false) (sym c.in-Some.is ∙ c.take_node.ensures.node) c.take_node.ensures.nodes)
+pub returns-then-not-has : goal.returns-then-not-has
+returns-then-not-has g c k above = over_apart c.args.self.now k c.args.packet.now c.args.facts.now (ap (λ (v : Yard). is_among c.args.packet.now.to v.members) (sym c.self.view_is) ∙ (sym c.has.ensures ∙ c.if-not-has.true))
 
-pub give-requires-clause-packet : goal.give-requires-clause-packet
-give-requires-clause-packet g c = subst (λ (v : Yard). IsGood v.script c.args.packet.now) (sym c.self.view_is) c.requires.packet
+pub returns : goal.returns
+returns g c k above =
+    let t = c.tell_items.ensures in
+    let mid = c.hand_at.new.mail in
+    step_seen (IsSoundFor c.args.packet.now) 0 (hand_over k c.args.packet.now) c.tell_items.result _ _ _ _ _ c.self.view_is
+    (over_told _ c.args.packet.now k c.hand_at.new.nodes.items c.hand_at.new.book mid c.tell_items.new.self c.tell_items.result c.args.facts.now c.tell_items.new.facts above (sym c.has.ensures ∙ c.if-not-has.false) c.in_ok-hand_at.ensures
+    (all_told_is c.tell_items.result mid c.tell_items.new.self c.args.facts.now c.tell_items.new.facts t.facts t.packets t.fresh t.full t.items) t.told)
 
-pub give-requires-clause-addressed : goal.give-requires-clause-addressed
-give-requires-clause-addressed g c =
-    let w = c.requires.world.0 in
-    let s : IsSound _ w = subst (λ v. IsSound v w) (sym c.self.view_is) c.requires.world.1 in
-    here_who _ c.args.packet.now.to c.in-Some.node (here _ w c.args.packet.now.to s (sym c.has.ensures ∙ c.if-not-has.false)) (sym c.in-Some.is ∙ c.take_node.ensures.node)
-
-pub returns-then-not-has-clause-goes : goal.returns-then-not-has-clause-goes
-returns-then-not-has-clause-goes g c = λ w s.
-    goes_apart c.args.self.now w c.args.packet.now c.args.facts.now s.seen_is (ap (λ (v : Yard). is_among c.args.packet.now.to v.members) (sym c.self.view_is) ∙ (sym c.has.ensures ∙ c.if-not-has.true))
-
-pub returns-clause-goes : goal.returns-clause-goes
-returns-clause-goes g c =
-    on_ok c.give.result c.give.ensures.goes (λ h w s.
-    let t : IsSound _ w = subst (λ v. IsSound v w) (sym c.self.view_is) s in
-    let member = sym c.has.ensures ∙ c.if-not-has.false in
-    let taken = sym c.in-Some.is ∙ c.take_node.ensures.node in
-    goes_over _ c.give.new.self w c.args.packet.now c.in-Some.node c.args.facts.now c.give.new.facts t.seen_is member taken
-    (h w (sound_but _ w c.args.packet.now.to c.in-Some.node c.take_node.new.nodes.items t member taken c.take_node.ensures.nodes)))
-
-pub returns-clause-memory : goal.returns-clause-memory
-returns-clause-memory g c =
-    on_err c.give.result c.give.ensures.memory (λ h w s.
-    let t : IsSound _ w = subst (λ v. IsSound v w) (sym c.self.view_is) s in
-    let member = sym c.has.ensures ∙ c.if-not-has.false in
-    let taken = sym c.in-Some.is ∙ c.take_node.ensures.node in
-    cut_over _ w c.args.packet.now c.in-Some.node c.args.facts.now c.give.new.facts t.seen_is member taken
-    (h w (sound_but _ w c.args.packet.now.to c.in-Some.node c.take_node.new.nodes.items t member taken c.take_node.ensures.nodes)))
+pub returns-in_err-hand_at : goal.returns-in_err-hand_at
+returns-in_err-hand_at g c k above = step_err (IsSoundFor c.args.packet.now) 0 (hand_over k c.args.packet.now) c.from_residual.result _ _ _ _ c.from_residual.ensures.0 (cut_none (IsSoundFor c.args.packet.now) (hand_over k c.args.packet.now) _ _ _ _ (ap (λ (v : Yard). v.script) c.self.view_is) refl)

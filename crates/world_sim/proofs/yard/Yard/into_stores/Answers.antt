@@ -22,3 +22,8 @@ returns-clause-lists g c = λ w f.
     ∙ (ap (λ (x : Script). lists_at x.config c.yard.inside.book.places) c.stop.ensures.script
     ∙ ap (lists_at c.args.self.script.config) (sym c.into_stores.ensures.places)) in
     subst (AreFreed c.args.self.script w.lists) home (subst (λ (x : Script). AreFreed x w.lists r.0.lists) c.stop.ensures.script (all_free c.stop.new.self w.lists r.0 stopped))
+
+pub returns-clause-script : goal.returns-clause-script
+returns-clause-script g c =
+    let r = c.in_ok-stop.ensures.stopped c.requires.world.0 c.requires.world.1 in
+    c.into_stores.ensures.script ∙ (ap (λ (v : Yard). v.book.script) c.yard.view_is ∙ (r.1.firm_is.seen_is.book_is ∙ c.stop.ensures.script))

@@ -1,0 +1,154 @@
+//! The actors of a node.
+ghost use Rattle.std.specs.Prelude.{◌≡◌, ℕ, ◌-◌, ◌≤◌, true, is_some, IfOk, OnOk, Some, IfSome, MatchOption, length, slice_get};
+ghost use Rattle.yard_model.specs.declared.input.Phase.TheVariants as phase;
+ghost use Rattle.yard_model.specs.Entities.{is_in_phase};
+ghost use Rattle.yard_model.specs.Genuine.{is_node};
+ghost use Rattle.yard_model.specs.Node.{new_node};
+ghost use Rattle.yard_model.specs.Script.{setting};
+ghost use Rattle.yard_model.specs.Words.{at};
+ghost use Rattle.actor_laws.specs.Hands.{held_list};
+ghost use Rattle.shard_store.specs.Stores.{script_of_ref, slot_of_ref, entries_of_ref};
+ghost use Rattle.node_core.specs.Slots.{held_slots};
+ghost use Rattle.node_core.specs.Standing.{IsReady};
+
+use behaviour_core::Behaviour;
+use coordinator_actor::Coordinator;
+use region_actor::Region;
+use shard_store::StoreRef;
+use std::alloc::{AllocError, Global};
+use std::marker::{Model, PhantomData};
+use std::snapshot::Snapshot;
+use yard_model::{
+    Body, Charter, EntityName, Fact, Incarnation, Out, Packet, ProducerNo, Slot, State,
+};
+
+/// The actors of a node side by side, of one script and one incarnation: the region and, while the
+/// node holds its slot, the coordinator. Each step of an input is a call of its own, which changes
+/// the actors that it is about, tells its items, and says what it gave.
+#[derive(Drop)]
+pub(crate) struct Actors<B> {
+    pub(crate) alloc: Global,
+    pub(crate) script: Snapshot<Charter>,
+    pub(crate) buffer: u16,
+    pub(crate) version: u8,
+    pub(crate) behaviour: B,
+    pub(crate) region: Region,
+    pub(crate) coordinator: Option<Coordinator>,
+    pub(crate) holds: PhantomData<(Fact, Packet, Body, State, Slot, Incarnation)>,
+}
+
+impl<B> Model for Actors<B> {
+    ghost use Rattle.std.specs.Prelude.{◌≡◌};
+    ghost use Rattle.node_core.specs.Standing.{Standing, spare_in, places_in, node_of, AreParts};
+
+    ghost Value = { Standing };
+
+    ghost view = { λ n. record {
+      script = n.script.value;
+      state = node_of n.script.value n.version n.region.state n.coordinator;
+      spare = spare_in n.coordinator;
+      places = places_in n.coordinator;
+    } };
+
+    ghost invariant = { λ n. AreParts n.script.value n.region n.coordinator × (n.buffer ≡ n.script.value.config.buffer) };
+}
+
+impl<B: Behaviour + Drop> Actors<B> {
+    /// Those of a node that comes up. The only error is want of memory.
+    pub(crate) fn new(
+        alloc: Global,
+        who: Incarnation,
+        charter: &Charter,
+        behaviour: B,
+    ) -> Result<Actors<B>, AllocError>
+        requires { is_node charter.now who ≡ true }
+        ensures script { IfOk result (λ n. n.script ≡ charter.now) }
+        ensures state { IfOk result (λ n. n.state ≡ new_node (setting charter.now) (B.version_of behaviour) who) }
+    {
+        let buffer = charter.config().buffer;
+        let version = behaviour.version();
+        let region = Region::new(alloc, who, charter)?;
+        Ok(Actors {
+            alloc,
+            script: Snapshot::of(charter),
+            buffer,
+            version,
+            behaviour,
+            region,
+            coordinator: None,
+            holds: PhantomData,
+        })
+    }
+}
+
+impl<B: Drop> Actors<B> {
+    /// Whose they are.
+    pub(crate) fn who(&self) -> Incarnation
+        ensures { result ≡ self.now.state.who }
+    {
+        self.region.who()
+    }
+
+    /// Whether there is a coordinator.
+    pub(crate) fn is_coordinator(&self) -> bool
+        ensures { result ≡ is_some self.now.state.coordinator }
+    {
+        self.coordinator.is_some()
+    }
+
+    /// Makes room for any input, and for the end: in `out`, for as many pairs as a script may have,
+    /// in the store of each slot that is held, and for one region more that leaves. The only error is
+    /// want of memory; the state is as before then.
+    pub(crate) fn reserve(&mut self, out: &mut Out) -> Result<(), AllocError>
+        ensures script { self.new.script ≡ self.old.script }
+        ensures state { self.new.state ≡ self.old.state }
+        ensures items { out.new.items ≡ out.old.items }
+        ensures ready { OnOk result (IsReady self.new out.new.spare) }
+    {
+        let wanted = 28_000 + 5 * self.buffer as u32;
+        out.reserve(wanted)?;
+        match &mut self.coordinator {
+            Some(coordinator) => coordinator.reserve(),
+            None => Ok(()),
+        }
+    }
+
+    /// Whether an entity is active here.
+    pub(crate) fn is_active(&self, entity: &EntityName) -> bool
+        ensures { result ≡ is_in_phase phase.Active self.now.state.entities entity.now }
+    {
+        let _ = &self.region;
+        let _ = entity;
+        false
+    }
+
+    /// The held slot at this place, with its store: shards rising, the coordinator, queues rising.
+    /// None exactly past the last.
+    pub(crate) fn held(&self, at: u16) -> Option<(Slot, StoreRef<'_>)>
+        ensures slot { MatchOption result (length (held_slots self.now.script self.now.state) ≤ at) (λ x. slice_get (held_slots self.now.script self.now.state) at ≡ Some x.0) }
+        ensures store { IfSome result (λ x. held_list x.0 self.now.state ≡ Some (entries_of_ref x.1)) }
+        ensures kind { IfSome result (λ x. (slot_of_ref x.1 ≡ x.0) × (script_of_ref x.1 ≡ self.now.script)) }
+    {
+        match &self.coordinator {
+            Some(coordinator) => {
+                if at > 0 {
+                    return None;
+                }
+                Some((
+                    Slot::Coordinator,
+                    StoreRef::Coordinator(coordinator.store()),
+                ))
+            }
+            None => None,
+        }
+    }
+
+    /// Whether the queue of a producer is held.
+    pub(crate) fn holds_queue(&self, p: ProducerNo) -> bool
+        ensures { result ≡ is_some (at self.now.state.producers (p - 1)) }
+    {
+        let _ = &self.region;
+        let _ = p;
+        false
+    }
+}

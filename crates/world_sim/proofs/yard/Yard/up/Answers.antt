@@ -1,0 +1,12 @@
+use Rattle.std.proofs.Common.{◌-◌, ap, sym, ◌∙◌}
+use Rattle.std.specs.Prelude.{is_none}
+use Rattle.yard_model.specs.Words.{at}
+use Rattle.world_sim.specs.Yard.{Yard}
+use Rattle.world_sim.proofs.DownLaws.{up_stepped, up_nothing}
+use Rattle.world_sim.proofs.yard.Yard.up.Goals as goal
+
+pub returns-then-is_down : goal.returns-then-is_down
+returns-then-is_down g c = up_stepped c.args.self.now c.come_up.new.self c.args.n c.come_up.result c.args.facts.now c.come_up.new.facts (ap (λ (v : Yard). is_none (at v.nodes (c.args.n - 1))) (sym c.self.view_is) ∙ (sym c.is_down.ensures ∙ c.if-is_down.true)) c.come_up.ensures
+
+pub returns-else-is_down : goal.returns-else-is_down
+returns-else-is_down g c = up_nothing c.args.self.now c.args.n c.push.result c.args.facts.now c.push.new.self (ap (λ (v : Yard). is_none (at v.nodes (c.args.n - 1))) (sym c.self.view_is) ∙ (sym c.is_down.ensures ∙ c.if-is_down.false)) c.push.ensures.ok c.push.ensures.err

@@ -1,0 +1,10 @@
+mod NameLaws
+mod PairLaws
+mod RuleLaws
+mod BegunLaws
+mod ProducingLaws
+mod PlainLaws
+mod StoreLaws
+mod SentLaws
+mod SendLaws
+pub mod NodeLaws

@@ -1,0 +1,8 @@
+use Rattle.producer_ctl.proofs.PairLaws.{demanded_stands, demanded_moved}
+use Rattle.producer_ctl.proofs.producer.Producer.set_demand.Goals as goal
+
+pub invariant_of-self : goal.invariant_of-self
+invariant_of-self c = demanded_stands c.args.up_to c.self.invariant c.self.view_is c.requires.place c.index_mut.ensures.value c.ask.ensures c.requires.bounded
+
+pub returns : goal.returns
+returns c = demanded_moved c.args.up_to c.self.invariant c.self.view_is c.requires.place c.index_mut.ensures.value c.ask.ensures

@@ -1,0 +1,4 @@
+pub mod Paired
+pub mod Produced
+pub mod Producing
+pub mod Routed

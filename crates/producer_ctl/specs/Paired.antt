@@ -1,0 +1,44 @@
+-- What is kept of a pair of producer and entity.
+use Rattle.std.specs.Prelude.{◌≡◌, ℕ, ◌+◌, ◌<◌, ◌≤◌, List, [], length, min, max, slice_index_or}
+use Rattle.yard_model.specs.declared.fact.Fact.{Fact}
+use Rattle.yard_model.specs.Producer.{Progress}
+use Rattle.yard_model.specs.Script.{Script, setting}
+use Rattle.yard_model.specs.Setting.{place}
+use Rattle.yard_model.specs.SlotReads.{queued, confirmed}
+use Rattle.yard_model.specs.Words.{from_to}
+use Rattle.producer_ctl.specs.declared.pair.Pair.{Pair}
+use Rattle.producer_ctl.specs.declared.pair.Sends.{Sends}
+use Rattle.producer_ctl.specs.declared.place.Place.{Place}
+
+abbrev pub no_pair : Pair
+no_pair = record { demand = 0; sent = 0; queued = 0; confirmed = 0 }
+
+abbrev pub progress_of : Pair → Progress
+progress_of k = record { demand = k.demand; sent = k.sent }
+
+-- the number that may be sent up to
+abbrev pub allowed_of : Pair → ℕ
+allowed_of k = min k.queued (max k.demand (k.confirmed + 1))
+
+-- the numbers that are sent
+abbrev pub numbers_of : Sends → List ℕ
+numbers_of s = from_to (s.after + 1) s.last
+
+-- what the queue's list says of the pair is at hand; demand isn't above the confirmed number and the window
+pub record IsPair (window : ℕ) (e : List ℕ) (entries : List Fact) (k : Pair) : Type 0 where
+  pub queued_is : k.queued ≡ queued e entries
+  pub confirmed_is : k.confirmed ≡ confirmed e entries
+  pub bounded : k.demand ≤ k.confirmed + window
+
+-- once the queue is granted
+abbrev pub new_pair : List ℕ → List Fact → Pair
+new_pair e entries = record { demand = 0; sent = 0; queued = queued e entries; confirmed = confirmed e entries }
+
+abbrev pub name_at : List (List ℕ) → ℕ → List ℕ
+name_at names i = slice_index_or names i []
+
+-- where a name of the script stands among its names
+pub record IsPlace (c : Script) (p : Place) : Type 0 where
+  pub within : p.at < length (setting c).names
+  pub it : name_at (setting c).names p.at ≡ p.entity
+  pub at_is : p.at ≡ place (setting c) p.entity

@@ -1,0 +1,138 @@
+//! What a producer knows of one entity.
+ghost use Rattle.std.specs.Prelude.{◌≡◌, ℕ, ◌+◌, ◌-◌, ◌≤◌, min, max, nat_lt, [], ◌∷◌, if◌then◌else◌};
+ghost use Rattle.yard_model.specs.Words.{from_to};
+ghost use Rattle.producer_ctl.specs.Paired.{allowed_of, no_pair, numbers_of};
+
+/// What a producer knows of one entity (Akka 2.6, Reliable Delivery: the state of a producer's flow
+/// control). Numbers are those of its commands to this entity, from 1; each is 0 before the first.
+#[derive(Clone, Copy)]
+pub(crate) struct Pair {
+    /// The number that was asked up to.
+    pub demand: u32,
+    /// The number that was sent up to.
+    pub sent: u32,
+    /// How many commands are queued.
+    pub queued: u32,
+    /// The number that is confirmed up to.
+    pub confirmed: u32,
+}
+
+/// Numbers that are to be sent: those after the first up to the last.
+#[derive(Clone, Copy)]
+pub(crate) struct Sends {
+    /// The number before the first of them.
+    pub after: u32,
+    /// The last of them.
+    pub last: u32,
+}
+
+impl Pair {
+    /// Of an entity to which nothing is queued.
+    pub(crate) fn new() -> Pair
+        ensures { result ≡ no_pair }
+    {
+        Pair {
+            demand: 0,
+            sent: 0,
+            queued: 0,
+            confirmed: 0,
+        }
+    }
+
+    /// It is asked up to this number.
+    pub(crate) fn ask(&mut self, up_to: u32)
+        ensures { self.new ≡ record self.old { demand = max self.old.demand up_to } }
+    {
+        self.demand = larger(self.demand, up_to);
+    }
+
+    /// It is sent up to this number.
+    pub(crate) fn mark(&mut self, number: u32)
+        ensures { self.new ≡ record self.old { sent = max self.old.sent number } }
+    {
+        self.sent = larger(self.sent, number);
+    }
+
+    /// So many commands are queued.
+    pub(crate) fn queue(&mut self, number: u32)
+        ensures { self.new ≡ record self.old { queued = number } }
+    {
+        self.queued = number;
+    }
+
+    /// It is confirmed up to this number.
+    pub(crate) fn confirm(&mut self, number: u32)
+        ensures { self.new ≡ record self.old { confirmed = number } }
+    {
+        self.confirmed = number;
+    }
+
+    /// The number that may be sent up to: what is queued, up to what was asked, or to the first that
+    /// isn't confirmed.
+    pub(crate) fn allowed(&self) -> u32
+        ensures { result ≡ allowed_of self.now }
+    {
+        if self.queued <= self.confirmed {
+            return self.queued;
+        }
+        let up_to = larger(self.demand, self.confirmed + 1);
+        if self.queued < up_to {
+            self.queued
+        } else {
+            up_to
+        }
+    }
+
+    /// What may be sent and wasn't yet.
+    pub(crate) fn to_push(&self) -> Sends
+        ensures numbers { numbers_of result ≡ from_to (max self.now.sent self.now.confirmed + 1) (allowed_of self.now) }
+        ensures queued { result.last ≤ self.now.queued }
+    {
+        Sends {
+            after: larger(self.sent, self.confirmed),
+            last: self.allowed(),
+        }
+    }
+
+    /// What was sent from this number on and isn't confirmed.
+    pub(crate) fn to_resend(&self, from: u32) -> Sends
+        ensures numbers { numbers_of result ≡ from_to (max from (self.now.confirmed + 1)) (allowed_of self.now) }
+        ensures queued { result.last ≤ self.now.queued }
+    {
+        let before = if from > 0 { from - 1 } else { 0 };
+        Sends {
+            after: larger(before, self.confirmed),
+            last: self.allowed(),
+        }
+    }
+
+    /// Whether a command is queued that isn't confirmed.
+    pub(crate) fn waits(&self) -> bool
+        ensures { result ≡ nat_lt self.now.confirmed self.now.queued }
+    {
+        self.confirmed < self.queued
+    }
+
+    /// The first that isn't confirmed, where one waits.
+    pub(crate) fn to_repeat(&self) -> Sends
+        ensures numbers { numbers_of result ≡ (if nat_lt self.now.confirmed self.now.queued then (self.now.confirmed + 1) ∷ [] else []) }
+        ensures queued { result.last ≤ max self.now.queued self.now.confirmed }
+    {
+        let last = if self.waits() {
+            self.confirmed + 1
+        } else {
+            self.confirmed
+        };
+        Sends {
+            after: self.confirmed,
+            last,
+        }
+    }
+}
+
+/// The larger of two numbers.
+pub(crate) fn larger(a: u32, b: u32) -> u32
+    ensures { result ≡ max a b }
+{
+    if a < b { b } else { a }
+}

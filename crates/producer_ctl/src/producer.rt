@@ -1,0 +1,349 @@
+//! One producer whose queue the node holds.
+ghost use Rattle.std.specs.Prelude.{◌≡◌, ℕ, ◌+◌, ◌<◌, ◌≤◌, List, [], ◌∷◌, length, Some, OnOk, slice_index_or, max};
+ghost use Rattle.std.specs.List.Sorted.{IsStrictlySortedBy};
+ghost use Rattle.std.specs.Ordering.{nat_cmp};
+ghost use Rattle.std.specs.Cmp.Lexicographic.{slice_cmp};
+ghost use Rattle.yard_model.specs.declared.fact.Fact.TheVariants as fact;
+ghost use Rattle.yard_model.specs.Move.{told, made, demanded, pushed};
+ghost use Rattle.yard_model.specs.Producer.{new_producer, next_sending, queue, confirm, push_marks, to_push, to_resend, to_repeat, message_of};
+ghost use Rattle.yard_model.specs.Script.{setting, sends};
+ghost use Rattle.yard_model.specs.SlotReads.{holder, queued, confirmed};
+ghost use Rattle.producer_ctl.specs.Paired.{IsPlace, name_at, numbers_of, new_pair, no_pair};
+ghost use Rattle.producer_ctl.specs.Produced.{moved, given, acking, asking, queueing, repeating, IsPairOf, IsStoreOf, StandsAs};
+
+use crate::pair::{Pair, Sends, larger};
+use crate::place::Place;
+use durable_queue::QueueStore;
+use std::alloc::AllocError;
+use std::marker::{Model, PhantomData};
+use yard_model::{
+    Charter, Command, EntityName, Fact, Incarnation, Item, Message, Out, ProducerNo, Sending,
+};
+
+/// A producer whose queue the node holds: the queue and, of each name of the script, what was
+/// demanded and sent, with what is queued and confirmed at hand. Contracts see it as the definition's
+/// state and the queue's room.
+#[derive(Drop)]
+pub(crate) struct Producer {
+    who: Incarnation,
+    number: ProducerNo,
+    store: QueueStore,
+    pairs: Vec<Pair>,
+    holds: PhantomData<(Fact, Command, Message)>,
+}
+
+impl Model for Producer {
+    ghost use Rattle.producer_ctl.specs.Produced.{Produced, IsProduced, produced};
+
+    ghost Value = { Produced };
+
+    ghost view = { λ k. produced k.who k.number k.store k.pairs.items };
+
+    ghost invariant = { λ k. IsProduced k.who k.number k.store k.pairs.items };
+}
+
+/// One item more, for which there is room.
+pub(crate) fn push(out: &mut Out, item: Item)
+    requires { 0 < out.old.spare }
+    ensures { out.new ≡ given out.old (made item ∷ []) }
+{
+    out.push(item);
+}
+
+/// What a producer was made of.
+#[derive(Drop)]
+pub(crate) struct Parts {
+    /// The queue's store.
+    pub store: QueueStore,
+    /// The table of what is kept of each name.
+    pub table: Vec<Pair>,
+}
+
+impl Producer {
+    /// A producer whose queue is granted; the table has a place for each of the names.
+    pub(crate) fn begun(
+        who: Incarnation,
+        number: ProducerNo,
+        store: QueueStore,
+        table: Vec<Pair>,
+        names: &[EntityName],
+    ) -> Producer
+        requires number { store.producer ≡ number }
+        requires leased { holder store.entries ≡ Some who }
+        requires names { names.now ≡ (setting store.script).names }
+        requires sorted { IsStrictlySortedBy (slice_cmp nat_cmp) names.now }
+        requires table { length table.items ≡ length names.now }
+        ensures { result ≡ record { script = store.script; state = new_producer (setting store.script) who number store.entries; room = store.spare } }
+    {
+        let mut pairs = table;
+        read_all(&mut pairs, names, &store);
+        Producer {
+            who,
+            number,
+            store,
+            pairs,
+            holds: PhantomData,
+        }
+    }
+
+    /// What stands of it.
+    pub(crate) fn knows(&self)
+        ensures { StandsAs self.now }
+    {
+        let _who = self.who;
+    }
+
+    /// The queue's store, and the table.
+    pub(crate) fn into_parts(self) -> Parts
+        ensures store { IsStoreOf self result.store }
+        ensures table { length result.table.items ≡ length (setting self.script).names }
+    {
+        let Producer {
+            who: _,
+            number: _,
+            store,
+            pairs,
+            holds: _,
+        } = self;
+        Parts {
+            store,
+            table: pairs,
+        }
+    }
+
+    /// The queue's store.
+    pub(crate) fn store(&self) -> &QueueStore
+        ensures { IsStoreOf self.now result.now }
+    {
+        &self.store
+    }
+
+    /// Makes room for so many entries in the queue. The only error is want of memory; then nothing
+    /// changes.
+    pub(crate) fn reserve(&mut self, wanted: u32) -> Result<(), AllocError>
+        ensures state { self.new ≡ record self.old { room = self.new.room } }
+        ensures more { self.old.room ≤ self.new.room }
+        ensures ok { OnOk result (wanted ≤ self.new.room) }
+    {
+        self.store.reserve(wanted)
+    }
+
+    /// What is kept of an entity.
+    fn pair(&self, place: &Place) -> Pair
+        requires place { IsPlace self.now.script place.now }
+        ensures { IsPairOf self.now place.now.entity result }
+    {
+        self.pairs[place.at]
+    }
+
+    /// The next of the producer's sends that isn't queued; None exactly where all are.
+    pub(crate) fn next(&self, charter: &Charter) -> Option<Sending>
+        requires charter { charter.now ≡ self.now.script }
+        ensures { result ≡ next_sending (sends self.now.script self.now.state.number) self.now.state }
+    {
+        let queued = self.store.total() as usize;
+        charter.sends(self.number).get(queued).copied()
+    }
+
+    /// The message of a queued number.
+    pub(crate) fn message(&self, entity: &EntityName, number: u32) -> Message
+        requires some { 0 < number }
+        requires queued { number ≤ queued entity.now self.now.state.entries }
+        ensures { result ≡ message_of entity.now self.now.state number }
+    {
+        match self.store.command(entity, number) {
+            Some(command) => Message {
+                producer: self.number,
+                entity: *entity,
+                number,
+                command,
+                origin: self.who,
+            },
+            None => unreachable!(),
+        }
+    }
+
+    /// A move: a send is queued.
+    fn tell_queued(&mut self, place: &Place, charter: &Charter, sending: &Sending, out: &mut Out)
+        requires place { IsPlace self.old.script place.now }
+        requires entity { place.now.entity ≡ sending.now.entity }
+        requires charter { charter.now ≡ self.old.script }
+        requires next { next_sending (sends self.old.script self.old.state.number) self.old.state ≡ Some sending.now }
+        requires store { 0 < self.old.room }
+        requires room { 0 < out.old.spare }
+        ensures state { self.new ≡ moved self.old (queue sending.now self.old.state) }
+        ensures out { out.new ≡ given out.old (queue sending.now self.old.state) }
+    {
+        let sent = self.store.queue(charter);
+        self.pairs[place.at].queue(sent.number);
+        push(
+            out,
+            Item::Fact(Fact::Queued(self.number, sent.entity, sent.number, sent.command)),
+        );
+    }
+
+    /// A move: all numbers up to this one are confirmed.
+    fn tell_confirmed(&mut self, place: &Place, number: u32, out: &mut Out)
+        requires place { IsPlace self.old.script place.now }
+        requires queued { number ≤ queued place.now.entity self.old.state.entries }
+        requires above { confirmed place.now.entity self.old.state.entries < number }
+        requires store { 0 < self.old.room }
+        requires room { 0 < out.old.spare }
+        ensures state { self.new ≡ moved self.old (told (fact.Confirmed self.old.state.number place.now.entity number) ∷ []) }
+        ensures out { out.new ≡ given out.old (told (fact.Confirmed self.old.state.number place.now.entity number) ∷ []) }
+    {
+        self.store.confirm(&place.entity, number);
+        self.pairs[place.at].confirm(number);
+        push(
+            out,
+            Item::Fact(Fact::Confirmed(self.number, place.entity, number)),
+        );
+    }
+
+    /// A move: it is asked up to this number.
+    fn set_demand(&mut self, place: &Place, up_to: u32)
+        requires place { IsPlace self.old.script place.now }
+        requires bounded { up_to ≤ confirmed place.now.entity self.old.state.entries + self.old.script.config.window }
+        ensures { self.new ≡ moved self.old (demanded place.now.entity up_to ∷ []) }
+    {
+        self.pairs[place.at].ask(up_to);
+    }
+
+    /// A move: it is sent up to this number.
+    fn set_sent(&mut self, place: &Place, number: u32)
+        requires place { IsPlace self.old.script place.now }
+        ensures { self.new ≡ moved self.old (pushed place.now.entity number ∷ []) }
+    {
+        self.pairs[place.at].mark(number);
+    }
+}
+
+impl Producer {
+    /// Confirm: where the number is above the confirmed one it is confirmed.
+    fn confirm(&mut self, place: &Place, number: u32, out: &mut Out)
+        requires place { IsPlace self.old.script place.now }
+        requires queued { number ≤ queued place.now.entity self.old.state.entries }
+        requires store { 0 < self.old.room }
+        requires room { 0 < out.old.spare }
+        ensures state { self.new ≡ moved self.old (confirm place.now.entity number self.old.state) }
+        ensures out { out.new ≡ given out.old (confirm place.now.entity number self.old.state) }
+    {
+        let pair = self.pair(place);
+        if pair.confirmed < number {
+            self.tell_confirmed(place, number, out);
+        }
+    }
+
+    /// Push: what was sent is at least what may be sent. What is to be routed.
+    fn push(&mut self, place: &Place) -> Sends
+        requires place { IsPlace self.old.script place.now }
+        ensures state { self.new ≡ moved self.old (push_marks place.now.entity self.old.state) }
+        ensures numbers { numbers_of result ≡ to_push place.now.entity self.old.state }
+        ensures queued { result.last ≤ queued place.now.entity self.new.state.entries }
+    {
+        let pair = self.pair(place);
+        self.set_sent(place, larger(pair.confirmed, pair.allowed()));
+        pair.to_push()
+    }
+
+    /// Send: the next of the sends is queued; Push of its pair.
+    pub(crate) fn queue_next(
+        &mut self,
+        place: &Place,
+        charter: &Charter,
+        sending: &Sending,
+        out: &mut Out,
+    ) -> Sends
+        requires place { IsPlace self.old.script place.now }
+        requires entity { place.now.entity ≡ sending.now.entity }
+        requires charter { charter.now ≡ self.old.script }
+        requires next { next_sending (sends self.old.script self.old.state.number) self.old.state ≡ Some sending.now }
+        requires store { 0 < self.old.room }
+        requires room { 0 < out.old.spare }
+        ensures state { self.new ≡ moved self.old (queueing sending.now self.old.state).moves }
+        ensures out { out.new ≡ given out.old (queueing sending.now self.old.state).moves }
+        ensures numbers { numbers_of result ≡ (queueing sending.now self.old.state).numbers }
+        ensures queued { result.last ≤ queued sending.now.entity self.new.state.entries }
+    {
+        self.tell_queued(place, charter, sending, out);
+        self.push(place)
+    }
+
+    /// Request: Confirm; the demand; Push.
+    pub(crate) fn demand(
+        &mut self,
+        place: &Place,
+        confirmed: u32,
+        up_to: u32,
+        out: &mut Out,
+    ) -> Sends
+        requires place { IsPlace self.old.script place.now }
+        requires queued { confirmed ≤ queued place.now.entity self.old.state.entries }
+        requires bounded { up_to ≤ confirmed + self.old.script.config.window }
+        requires store { 0 < self.old.room }
+        requires room { 0 < out.old.spare }
+        ensures state { self.new ≡ moved self.old (asking place.now.entity confirmed up_to self.old.state).moves }
+        ensures out { out.new ≡ given out.old (asking place.now.entity confirmed up_to self.old.state).moves }
+        ensures numbers { numbers_of result ≡ (asking place.now.entity confirmed up_to self.old.state).numbers }
+        ensures queued { result.last ≤ queued place.now.entity self.new.state.entries }
+    {
+        self.confirm(place, confirmed, out);
+        self.set_demand(place, up_to);
+        self.push(place)
+    }
+
+    /// Ack: Confirm; Push.
+    pub(crate) fn ack(&mut self, place: &Place, confirmed: u32, out: &mut Out) -> Sends
+        requires place { IsPlace self.old.script place.now }
+        requires queued { confirmed ≤ queued place.now.entity self.old.state.entries }
+        requires store { 0 < self.old.room }
+        requires room { 0 < out.old.spare }
+        ensures state { self.new ≡ moved self.old (acking place.now.entity confirmed self.old.state).moves }
+        ensures out { out.new ≡ given out.old (acking place.now.entity confirmed self.old.state).moves }
+        ensures numbers { numbers_of result ≡ (acking place.now.entity confirmed self.old.state).numbers }
+        ensures queued { result.last ≤ queued place.now.entity self.new.state.entries }
+    {
+        self.confirm(place, confirmed, out);
+        self.push(place)
+    }
+
+    /// Resend: what was sent from this number on and isn't confirmed.
+    pub(crate) fn resend(&self, place: &Place, from: u32) -> Sends
+        requires place { IsPlace self.now.script place.now }
+        ensures numbers { numbers_of result ≡ to_resend place.now.entity from self.now.state }
+        ensures queued { result.last ≤ queued place.now.entity self.now.state.entries }
+    {
+        let pair = self.pair(place);
+        pair.to_resend(from)
+    }
+
+    /// The tick of a pair: the first queued number that isn't confirmed, where there is one.
+    pub(crate) fn tick(&mut self, place: &Place) -> Sends
+        requires place { IsPlace self.old.script place.now }
+        ensures state { self.new ≡ moved self.old (repeating place.now.entity self.old.state).moves }
+        ensures numbers { numbers_of result ≡ (repeating place.now.entity self.old.state).numbers }
+        ensures queued { result.after < result.last → result.last ≤ queued place.now.entity self.new.state.entries }
+    {
+        let pair = self.pair(place);
+        if pair.waits() {
+            self.set_sent(place, pair.confirmed + 1);
+        }
+        pair.to_repeat()
+    }
+}
+
+/// Of each name, what is queued and confirmed in this queue is read, and nothing was sent.
+fn read_all(pairs: &mut Vec<Pair>, names: &[EntityName], store: &QueueStore)
+    requires { length pairs.old.items ≡ length names.now }
+    ensures there { length pairs.new.items ≡ length names.now }
+    ensures each { (i : ℕ) → i < length names.now → slice_index_or pairs.new.items i no_pair ≡ new_pair (name_at names.now i) store.now.entries }
+{
+    for at in 0..names.len() {
+        pairs[at] = Pair {
+            demand: 0,
+            sent: 0,
+            queued: store.queued(&names[at]),
+            confirmed: store.confirmed(&names[at]),
+        };
+    }
+}

@@ -1,12 +1,11 @@
 -- What a delivery rests on: that a message's record may come next, and what stands after it is written.
-use Rattle.std.proofs.Common.{◌≡◌, ℕ, ◌+◌, ◌<◌, ◌≤◌, List, [], ◌∷◌, ◌++◌, length, length-append, map, sym, ap, subst, ◌∙◌, refl, true, false, arith, get_or-set_same}
-use Rattle.std.specs.Prelude.{Bool, is_some, zero, suc, ◌==◌, ◌&&◌, ◌||◌, ◌↔◌, Option, None, Some, IfSome, IsTrue}
+use Rattle.std.proofs.Common.{◌≡◌, ℕ, ◌+◌, ◌<◌, ◌≤◌, List, [], ◌∷◌, ◌++◌, length, length-append, sym, ap, subst, ◌∙◌, refl, true, false, arith, get_or-set_same}
+use Rattle.std.specs.Prelude.{Bool, is_some, ◌==◌, ◌&&◌, ◌||◌, ◌↔◌, Option, None, Some, IfSome, IsTrue}
 use Rattle.std.specs.Option.{option_map}
 use Rattle.std.specs.List.{list_any}
 use Rattle.std.specs.List.Sorted.{IsStrictlySortedBy}
 use Rattle.std.specs.Ordering.{nat_cmp}
 use Rattle.std.specs.Cmp.Lexicographic.{slice_cmp}
-use Rattle.std.proofs.lemmas.Bool.Decides.{Decides-eqb}
 use Rattle.std.proofs.lemmas.List.{length-map}
 use Rattle.std.proofs.lemmas.List.Sums.{fold-append}
 use Rattle.yard_model.specs.declared.charter.Config.{Config}
@@ -27,24 +26,22 @@ use Rattle.yard_model.specs.Script.{Script, IsScript, setting, is_name, is_versi
 use Rattle.yard_model.specs.Setting.{shard_of}
 use Rattle.yard_model.specs.SlotReads.{epoch, journal, journal_step, position, last_snapshot, snapshot_step}
 use Rattle.yard_model.specs.Words.{at}
-use Rattle.plain_laws.proofs.Booleans.{left_of, right_of, same_number}
+use Rattle.plain_laws.proofs.Booleans.{left_of, right_of, same_number, both, and_both, number_itself}
+use Rattle.plain_laws.proofs.Names.{name_itself}
 use Rattle.behaviour_core.specs.Laws.{decided_events_apply}
 use Rattle.shard_entities.specs.Celled.{Celled}
 use Rattle.shard_entities.specs.Delivered.{Stands, IsDelivery, IsNext}
-use Rattle.shard_entities.specs.Lodged.{Lodged, IsLodged, IsHosting, lodged, moved, lodged_after, hosted_of, room_of, cell_of, is_for}
+use Rattle.shard_entities.specs.Lodged.{Lodged, IsLodged, IsHosting, lodged, moved, hosted_of, room_of, cell_of, is_for}
 use Rattle.shard_entities.specs.Placed.{IsPlace}
 use Rattle.shard_entities.specs.declared.hosting.Hosting.{Hosting}
 use Rattle.shard_entities.specs.declared.place.Place.{Place}
 use Rattle.shard_entities.proofs.EntryLaws.{entered_hosted}
-use Rattle.shard_entities.proofs.LodgedLaws.{both}
-use Rattle.shard_entities.proofs.NameLaws.{name_itself}
-use Rattle.shard_entities.proofs.PlannedLaws.{SameCommand, and_both, planned_of_kind, planned_few}
+use Rattle.shard_entities.proofs.HostLaws.{at_seen}
+use Rattle.shard_entities.proofs.PlannedLaws.{SameCommand, planned_of_kind, planned_few}
+use Rattle.shard_entities.proofs.WayLaws.{script_moved}
 
 abbrev pub SameDecision : Type 0
 SameDecision = (a b : Decision) → IsTrue (is_decision a b) ↔ (a ≡ b)
-
-number_itself : (a b : ℕ) → a ≡ b → (a == b) ≡ true
-number_itself a b e = (Decides-eqb a b).1 e
 
 -- of a message for an entity
 pub for_planned : (c : Script) (e : List ℕ) (m : Message) → is_for c e m ≡ true → (is_planned c m.producer m.entity m.number m.command ≡ true) × (is_producer c m.producer ≡ true)
@@ -59,18 +56,13 @@ command_is {v} {p} {m} same s d = planned_of_kind v.script m.producer m.entity m
 pub number_few : {v : Lodged} {p : Place} {m : Message} → Stands v → IsDelivery v p m → m.number ≤ 200000
 number_few {v} {p} {m} s d = planned_few v.script m.producer m.entity m.number m.command s.script_is (for_planned v.script p.entity m d.for_it).0
 
-at_map : (items : List (Option Hosting)) (s : ℕ) → at (map (option_map hosted_of) items) s ≡ option_map hosted_of (at items s)
-at_map [] s = refl
-at_map (x ∷ xs) zero = refl
-at_map (x ∷ xs) (suc s) = at_map xs s
-
 -- the list of a hosted shard is held
 pub leased_is : {c : Script} {version : ℕ} {who : Incarnation} {config : Config} {places : Script} {cells : List Celled} {items : List (Option Hosting)} {running : ℕ} {v : Lodged} → IsLodged c version who config places cells items running → lodged c version who items cells ≡ v
     → (s : ℕ) → (hosted v.state s ≡ None → ⊥) → is_held (entries_in (hosted v.state s)) ≡ true
 leased_is {c} {version} {who} {config} {places} {cells} {items} {running} {v} t seen s there = held (at items s) refl (t.hosts s)
   where
     here : hosted v.state s ≡ option_map hosted_of (at items s)
-    here = subst (λ (v : Lodged). hosted v.state s ≡ option_map hosted_of (at items s)) seen (at_map items s)
+    here = subst (λ (v : Lodged). hosted v.state s ≡ option_map hosted_of (at items s)) seen (at_seen items s)
 
     held : (o : Option Hosting) → at items s ≡ o → IfSome o (IsHosting c who s) → is_held (entries_in (hosted v.state s)) ≡ true
     held None is k = absurd (there (here ∙ ap (option_map hosted_of) is))
@@ -146,12 +138,8 @@ next_is {v} {p} {m} commands decisions s d next last = record {
 
 -- After a record is written.
 
-pub script_stays : (v : Lodged) (ms : List Move) → (moved v ms).script ≡ v.script
-script_stays v [] = refl
-script_stays v (m ∷ ms) = script_stays (lodged_after v m) ms
-
 pub place_stays : (v : Lodged) (ms : List Move) {w : Lodged} {p : Place} → w ≡ moved v ms → IsPlace v.script p → IsPlace w.script p
-place_stays v ms {w} {p} step is = subst (λ c. IsPlace c p) (sym (ap (λ (x : Lodged). x.script) step ∙ script_stays v ms)) is
+place_stays v ms {w} {p} step is = subst (λ c. IsPlace c p) (sym (ap (λ (x : Lodged). x.script) step ∙ script_moved v ms)) is
 
 -- its list has it
 pub list_grown : {v w : Lodged} {p : Place} (r : Record) → Stands v → IsPlace v.script p → (hosted v.state p.shard ≡ None → ⊥) → w ≡ moved v (told (fact.Wrote p.entity r) ∷ []) → entries w.state p.entity ≡ entries v.state p.entity ++ fact.Wrote p.entity r ∷ []

@@ -16,6 +16,7 @@ use Rattle.yard_model.specs.Genuine.{is_genuine, is_producer}
 use Rattle.yard_model.specs.Move.{told}
 use Rattle.yard_model.specs.Script.{Script, setting, is_name}
 use Rattle.yard_model.specs.Words.{at}
+use Rattle.plain_laws.proofs.Booleans.{and_both, same_name}
 use Rattle.shard_entities.specs.Celled.{Celled, celled, celled_after}
 use Rattle.shard_entities.specs.Placed.{IsPlace}
 use Rattle.shard_entities.specs.declared.place.Place.{Place}
@@ -23,8 +24,6 @@ use Rattle.shard_entities.specs.declared.hosting.Hosting.{Hosting}
 use Rattle.shard_entities.specs.Lodged.{Lodged, lodged, moved, cleared, IsLodged, IsCell, is_for, cell_of, hosted_of, room_of}
 use Rattle.shard_entities.proofs.LodgedLaws.{placed, cell_at, cell_is, cell_put, cell_moved}
 use Rattle.shard_entities.proofs.MoveLaws.{of_dropped}
-use Rattle.shard_entities.proofs.NameLaws.{same_name}
-use Rattle.shard_entities.proofs.PlannedLaws.{and_both}
 
 absent_not_active : {q : Phase} → q ≡ phase.Absent → q ≡ phase.Active → ⊥
 absent_not_active a b = cc

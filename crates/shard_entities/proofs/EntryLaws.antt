@@ -19,6 +19,7 @@ use Rattle.yard_model.specs.Setting.{shard_of}
 use Rattle.yard_model.specs.ShardSet.{has}
 use Rattle.yard_model.specs.SlotReads.{holder, holder_step, journal, journal_step}
 use Rattle.yard_model.specs.Words.{at}
+use Rattle.plain_laws.proofs.Names.{name_itself}
 use Rattle.shard_store.specs.Shelved.{name_at}
 use Rattle.shard_entities.specs.Celled.{Celled}
 use Rattle.shard_entities.specs.Placed.{IsPlace}
@@ -26,7 +27,7 @@ use Rattle.shard_entities.specs.Written.{entered}
 use Rattle.shard_entities.specs.declared.place.Place.{Place}
 use Rattle.shard_entities.specs.declared.hosting.Hosting.{Hosting}
 use Rattle.shard_entities.specs.Lodged.{Lodged, lodged, moved, less, rooms_step, IsLodged, IsCell, IsHosting, host_of, cell_of, new_celled, hosted_of, room_of}
-use Rattle.shard_entities.proofs.NameLaws.{another_name, name_itself}
+use Rattle.shard_entities.proofs.NameLaws.{another_name}
 use Rattle.shard_entities.proofs.LodgedLaws.{is_same, is_other, placed, within, cell_is}
 
 abbrev pub entered_hosted : Fact → Hosted → Hosted

@@ -20,14 +20,13 @@ use Rattle.yard_model.specs.Lawful.{own, is_shard_entry, is_of_shard, is_decided
 use Rattle.yard_model.specs.Opening.{begins}
 use Rattle.yard_model.specs.Script.{Script, IsScript, is_name, versions}
 use Rattle.yard_model.specs.SlotReads.{journal, journal_step, position}
+use Rattle.plain_laws.proofs.Booleans.{and_both, both, same_name}
 use Rattle.behaviour_core.specs.Laws.{decided_events_apply, valid_after_all, empty_is_valid}
 use Rattle.entity_snapshot.specs.declared.snapshot.Snapshot.{Snapshot}
 use Rattle.shard_store.specs.Shelved.{IsSnapshot}
 use Rattle.shard_entities.specs.Foldable.{are_foldable}
 use Rattle.shard_entities.proofs.DeliverLaws.{SameDecision}
-use Rattle.shard_entities.proofs.LodgedLaws.{both}
-use Rattle.shard_entities.proofs.NameLaws.{same_name}
-use Rattle.shard_entities.proofs.PlannedLaws.{SameCommand, and_both, planned_of_kind}
+use Rattle.shard_entities.proofs.PlannedLaws.{SameCommand, planned_of_kind}
 
 foldable_more : (st : State) (rs : List Record) (r : Record) → are_foldable st (rs ++ r ∷ []) ≡ (are_foldable st rs && are_applicable (fold after_record st rs) r.events)
 foldable_more st [] r = and-true (are_applicable st r.events)

@@ -226,7 +226,7 @@ reserved_more {c} {version} {who} cells {items} {new} {v} seen r = subst (λ (v 
   each = λ s. rw (room_at items s) (rw (room_at new s) (r.each s).more);
 }
 
-at_seen : (items : List (Option Hosting)) (s : ℕ) → at (map (option_map hosted_of) items) s ≡ option_map hosted_of (at items s)
+pub at_seen : (items : List (Option Hosting)) (s : ℕ) → at (map (option_map hosted_of) items) s ≡ option_map hosted_of (at items s)
 at_seen [] s = refl
 at_seen (x ∷ xs) zero = refl
 at_seen (x ∷ xs) (suc s) = at_seen xs s

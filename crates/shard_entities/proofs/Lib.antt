@@ -14,3 +14,5 @@ mod TickLaws
 mod DropLaws
 mod SettleLaws
 mod LoopLaws
+mod FreedLaws
+mod RoomLaws

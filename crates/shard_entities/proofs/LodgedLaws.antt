@@ -20,6 +20,7 @@ use Rattle.std.proofs.lemmas.List.Folds.{list_all-append}
 use Rattle.yard_model.specs.Script.{Script, Setting, setting}
 use Rattle.yard_model.specs.Setting.{place}
 use Rattle.yard_model.specs.Words.{at}
+use Rattle.plain_laws.proofs.Booleans.{both}
 use Rattle.shard_store.specs.Shelved.{name_at}
 use Rattle.shard_entities.specs.Celled.{Celled, celled_after}
 use Rattle.shard_entities.specs.Placed.{IsPlace}
@@ -133,9 +134,6 @@ pub stands : {c : Script} {version : ℕ} {who : Incarnation} {config : Config} 
     → IsLodged c version who config places cells items running → lodged c version who items cells ≡ v → IsPlace v.script p → was ≡ slice_index_or cells p.at was → now ≡ celled_after was m
     → IsLodged c version who config places (slice_set cells p.at now) items running
 stands k t seen is read step = cell_put t seen is (cell_kept k step (cell_is t seen is read))
-
-pub both : (a b : Bool) → a ≡ true → b ≡ true → (a && b) ≡ true
-both a b e f = ap (λ x. x && b) e ∙ f
 
 and_true : (a : Bool) → a ≡ true → (a && true) ≡ true
 and_true a h = ap (λ b. b && true) h

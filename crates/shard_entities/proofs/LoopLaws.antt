@@ -1,6 +1,6 @@
 -- The loops' steps, and rules in turn.
 use Rattle.std.proofs.Common.{◌≡◌, ℕ, ◌+◌, ◌-◌, ◌<◌, ◌≤◌, List, [], ◌∷◌, ◌++◌, length, map, sym, ap, subst, ◌∙◌, refl, true, false, arith, drop, get_or-set_same, get_or-set_other}
-use Rattle.std.specs.Prelude.{Bool, ◌*◌, ◌==◌, zero, suc, ◌&&◌, ◌||◌, not, cond, filter, fold, take, Option, None, Some, MatchOption, slice_set, slice_index_or, if◌then◌else◌, nat_lt}
+use Rattle.std.specs.Prelude.{Bool, ◌*◌, ◌==◌, zero, suc, ◌&&◌, ◌||◌, not, filter, fold, take, Option, None, Some, MatchOption, slice_set, slice_index_or, if◌then◌else◌, nat_lt}
 use Rattle.std.specs.Option.{option_map, option_and_then}
 use Rattle.std.specs.List.{flat_map, list_any, list_all}
 use Rattle.std.proofs.lemmas.Bool.Decides.{nat_tests}
@@ -30,6 +30,7 @@ use Rattle.shard_store.specs.Shelved.{name_at}
 use Rattle.shard_entities.specs.Delivered.{Stands}
 use Rattle.yard_model.specs.ShardSet.{has}
 use Rattle.yard_model.specs.declared.charter.Config.{Config}
+use Rattle.plain_laws.proofs.Booleans.{and_both, same_name}
 use Rattle.shard_entities.specs.Celled.{Celled}
 use Rattle.shard_entities.specs.declared.hosting.Hosting.{Hosting}
 use Rattle.shard_entities.proofs.DeliverLaws.{stands_of}
@@ -37,16 +38,16 @@ use Rattle.shard_entities.proofs.LodgedLaws.{is_same, is_other}
 use Rattle.shard_entities.proofs.TakenLaws.{running_are}
 use Rattle.shard_entities.specs.Lodged.{Lodged, lodged, IsLodged, hosting, moved, lodged_after, given, given_step, HasRoom, RoomIfHosted, IsStore, is_for}
 use Rattle.shard_entities.specs.Placed.{IsPlace}
+use Rattle.shard_entities.specs.Roomy.{Takes}
 use Rattle.shard_entities.specs.Settled.{IsSettled, IsSettledBut, IsIdle, IsStopped, frees}
 use Rattle.shard_entities.specs.declared.handoff.Stopped.{Stopped}
 use Rattle.shard_entities.specs.declared.place.Place.{Place}
 use Rattle.shard_entities.proofs.EntryLaws.{entered_hosted, entry_remembered, entry_forgotten}
 use Rattle.shard_entities.proofs.MoveLaws.{of_active, of_stop, of_dropped}
-use Rattle.shard_entities.proofs.NameLaws.{same_name}
-use Rattle.shard_entities.proofs.PlannedLaws.{and_both}
+use Rattle.shard_entities.proofs.PlannedLaws.{picked_few}
 use Rattle.shard_entities.proofs.TickLaws.{of_shard, of_names, names_next, shards_next, room_next}
 use Rattle.shard_entities.proofs.WayLaws.{IsOnTheWay, way_goes, state_moved, script_moved, version_moved, spare_left, picked_next, all_dropped}
-use Rattle.shard_entities.proofs.WalkLaws.{IsOn, on_of, named_within, Walk, then_walk, stay, walk_entry, cell_entry, Reach, reach_here, reach_one, reach_entry, quiet_at, quiet_reached, settled_after, but_settled, IsSame, same_here, then_same, starts_same, stops_same, SamePhases, stops_phases, then_phases, exists_same, Delivers, delivers, stop_of, not_absent, stops_not_absent}
+use Rattle.shard_entities.proofs.WalkLaws.{IsOn, on_of, named_within, Walk, then_walk, stay, walk_entry, cell_entry, Reach, reach_here, reach_one, reach_entry, quiet_at, quiet_reached, settled_after, but_settled, IsSame, same_here, then_same, starts_same, stops_same, SamePhases, stops_phases, then_phases, exists_same, Delivers, delivers, stop_of, not_absent, stops_not_absent, takes_here, takes_of, then_takes}
 
 -- where a name of a shard stands, as the loop's value and its first one see it
 at_first : (P : Setting → Type 0) {first now : Lodged} → Stands now → IsSame first now → P (setting now.script) → P first.state.set
@@ -181,6 +182,7 @@ pub record Delivering (p : Place) (first : Lodged) (first_out : Spared Item) (wh
   pub room : 4 * length pending.messages ≤ out.spare
   pub window_is : pending.window ≡ whole.window
   pub count : length pending.messages + n ≡ length whole.messages
+  pub takes : Takes first now p.shard (2 * n)
 
 pub first_for : (c : Script) (e : List ℕ) {m : Message} {l rest : List Message} → list_all (is_for c e) l ≡ true → l ≡ m ∷ rest → is_for c e m ≡ true
 first_for c e {m} {l} {rest} all is = (and_both (is_for c e m) (list_all (is_for c e) rest) (subst (λ x. list_all (is_for c e) x ≡ true) is all)).0
@@ -211,6 +213,7 @@ deliver_next {p} {first} {now} {next} {first_out} {out} {next_out} {whole} {pend
   room = let left : out.spare ≤ (given out (deliver m now.state)).spare + length (deliver m now.state) = spare_left out (deliver m now.state) in let few : length (deliver m now.state) ≤ 4 = goes.few in let spare_is : next_out.spare ≡ (given out (deliver m now.state)).spare = ap (λ (o : Spared Item). o.spare) said in let old : 4 * length pending.messages ≤ out.spare = d.room in omega (arith, long, left, few, spare_is, old);
   window_is = window ∙ d.window_is;
   count = let old : length pending.messages + n ≡ length whole.messages = d.count in omega (arith, long, old);
+  takes = then_takes d.takes (takes_of goes.walk) (omega arith);
 }
   where
     long : length pending.messages ≡ suc (length rest.messages)
@@ -373,6 +376,7 @@ pub record Ended (p : Place) (v w : Lodged) : Type 0 where
   pub walk : Walk p v w 1
   pub stopping_is : option_and_then (λ (h : Hosted). h.stopping) (hosted w.state p.shard) ≡ option_and_then (λ (h : Hosted). h.stopping) (hosted v.state p.shard)
   pub gone : (cell w.state p.entity).phase ≡ phase.Absent
+  pub stash_is : (cell w.state p.entity).stash ≡ (cell v.state p.entity).stash
 
 pub tell_ended : {v w : Lodged} {p : Place} → IsOn p v → w ≡ moved v (told (fact.Stop v.state.who p.entity) ∷ forget_passivated p.entity v.state) → Ended p v w
 tell_ended {v} {w} {p} on step = subst (Ended p v) (sym step) (by_test ((cell v.state p.entity).passivating && is_remembered p.entity (entries v.state p.entity)))
@@ -384,7 +388,7 @@ tell_ended {v} {w} {p} on step = subst (Ended p v) (sym step) (by_test ((cell v.
     by_test true =
         let r : Reach p v (moved v (told (fact.Stop v.state.who p.entity) ∷ told (fact.Forgotten p.entity) ∷ [])) 1 (cell_after (cell v.state p.entity) (told (fact.Stop v.state.who p.entity))) =
         record { walk = then_walk stop.walk (walk_entry (entry_forgotten p.entity) stop.walk.on) (omega arith); cell_is = cell_entry p (lodged_after v (told (fact.Stop v.state.who p.entity))) (entry_forgotten p.entity) ∙ stop.cell_is } in
-        record { walk = r.walk; stopping_is = kept; gone = ap (λ (x : Cell). x.phase) r.cell_is }
+        record { walk = r.walk; stopping_is = kept; gone = ap (λ (x : Cell). x.phase) r.cell_is; stash_is = ap (λ (x : Cell). x.stash) r.cell_is }
       where
         s : ℕ
         s = shard_of v.state.set p.entity
@@ -396,11 +400,11 @@ tell_ended {v} {w} {p} on step = subst (Ended p v) (sym step) (by_test ((cell v.
         kept : option_and_then (λ (h : Hosted). h.stopping) (hosted (moved v (told (fact.Stop v.state.who p.entity) ∷ told (fact.Forgotten p.entity) ∷ [])).state p.shard) ≡ option_and_then (λ (h : Hosted). h.stopping) (hosted v.state p.shard)
         kept = subst (λ n. option_and_then (λ (h : Hosted). h.stopping) (hosted (moved v (told (fact.Stop v.state.who p.entity) ∷ told (fact.Forgotten p.entity) ∷ [])).state n) ≡ option_and_then (λ (h : Hosted). h.stopping) (hosted v.state n)) on.shard_is
             (ap (λ o. option_and_then (λ (h : Hosted). h.stopping) o) (get_or-set_same v.state.hosted (shard_of v.state.set p.entity) (option_map (entered_hosted (fact.Forgotten p.entity)) (at v.state.hosted (shard_of v.state.set p.entity))) None (subst (λ n. n < length v.state.hosted) (sym on.shard_is) on.shard_in)) ∙ entered_keeps (at v.state.hosted (shard_of v.state.set p.entity)))
-    by_test false = record { walk = then_walk stop.walk (stay stop.walk.on) (omega arith); stopping_is = refl; gone = ap (λ (x : Cell). x.phase) stop.cell_is }
+    by_test false = record { walk = then_walk stop.walk (stay stop.walk.on) (omega arith); stopping_is = refl; gone = ap (λ (x : Cell). x.phase) stop.cell_is; stash_is = ap (λ (x : Cell). x.stash) stop.cell_is }
 
 -- A shard that is handed off.
 
-stops_all_same : (v : Lodged) (a b : Incarnation) (es : List (List ℕ)) → IsSame v (moved v (map (λ e. post a b (body.StopEntity e)) es))
+pub stops_all_same : (v : Lodged) (a b : Incarnation) (es : List (List ℕ)) → IsSame v (moved v (map (λ e. post a b (body.StopEntity e)) es))
 stops_all_same v a b [] = same_here v
 stops_all_same v a b (e ∷ es) = then_same record { script_is = refl; who_is = refl; set_is = refl; hosted_is = refl; rooms_is = refl } (stops_all_same (lodged_after v (post a b (body.StopEntity e))) a b es)
 
@@ -448,7 +452,7 @@ pub home_there : {first now : Lodged} {s t : ℕ} → IsSame first now → t ≡
 home_there {first} {now} {s} {t} same it there none = there (sym (ap (λ (h : List (Option Hosted)). at h s) same.hosted_is) ∙ (ap (hosted now.state) (sym it) ∙ none))
 
 pub delivering_first : {p : Place} {v : Lodged} {out : Spared Item} {pending : Held} → list_all (is_for v.script p.entity) pending.messages ≡ true → (hosted v.state p.shard ≡ None → ⊥) → 2 * length pending.messages ≤ slice_index_or v.rooms p.shard 0 → IsSettled v → 4 * length pending.messages ≤ out.spare → Delivering p v out pending v out pending 0
-delivering_first {p} {v} {out} {pending} for there space settled room = record { way = record { state_is = refl; out_is = refl }; script_is = refl; version_is = refl; for_it = for; there = there; space = space; settled = settled; room = room; window_is = refl; count = omega arith }
+delivering_first {p} {v} {out} {pending} for there space settled room = record { way = record { state_is = refl; out_is = refl }; script_is = refl; version_is = refl; for_it = for; there = there; space = space; settled = settled; room = room; window_is = refl; count = omega arith; takes = takes_here v p.shard (2 * 0) }
 
 pub delivering_some : {p : Place} {first now : Lodged} {first_out out : Spared Item} {whole pending : Held} {n m : ℕ} → Delivering p first first_out whole now out pending n → n < m → m ≡ length whole.messages → pending.messages ≡ [] → ⊥
 delivering_some {p} {first} {now} {first_out} {out} {whole} {pending} {n} {m} d below all none = let zero_long : length pending.messages ≡ 0 = ap length none in let count : length pending.messages + n ≡ length whole.messages = d.count in omega (arith, below, all, zero_long, count)
@@ -464,6 +468,11 @@ delivering_out {p} {first} {now} d end all = way_out d.way (ap (λ l. for_each e
 
 pub delivering_pending : {p : Place} {first now : Lodged} {first_out out : Spared Item} {whole pending : Held} {n m : ℕ} → Delivering p first first_out whole now out pending n → m ≤ n → m ≡ length whole.messages → pending ≡ record { messages = []; window = whole.window }
 delivering_pending {p} {first} {now} {first_out} {out} {whole} {pending} {n} {m} d end all = ap (λ l. record { messages = l; window = pending.window }) (delivering_none d end all) ∙ ap (λ n. record { messages = []; window = n }) d.window_is
+
+pub delivering_takes : {p : Place} {first now : Lodged} {first_out out : Spared Item} {whole pending : Held} {n m : ℕ} → Delivering p first first_out whole now out pending n → m ≤ n → m ≡ length whole.messages → Takes first now p.shard (2 * length whole.messages)
+delivering_takes {p} {first} {now} {first_out} {out} {whole} {pending} {n} {m} d end all =
+    let count : length pending.messages + n ≡ length whole.messages = d.count in
+    then_takes d.takes (takes_here now p.shard 0) (omega (arith, count, end, all))
 
 pub pending_for : (v : Lodged) (p : Place) {w : Lodged} {pending : Held} {n : ℕ} → w ≡ moved v (activate p.entity v.state) → pending ≡ record { messages = (cell v.state p.entity).stash; window = n } → list_all (is_for v.script p.entity) (cell v.state p.entity).stash ≡ true → list_all (is_for w.script p.entity) pending.messages ≡ true
 pending_for v p {w} {pending} {n} step is own =
@@ -557,18 +566,10 @@ handed_there {v} {w} s stamp to st lt there step none = there (hosted_handed v s
 pub handed_shard : (v : Lodged) (ms : List Move) {w : Lodged} (s : ℕ) (stamp : Stamp) (to : Incarnation) → w ≡ moved v ms → s < v.script.config.shards → s < w.script.config.shards
 handed_shard v ms {w} s stamp to step lt = subst (λ (c : Script). s < c.config.shards) (sym (ap (λ (x : Lodged). x.script) step ∙ script_moved v ms)) lt
 
-few_picked : (p : List ℕ → Bool) (xs : List (List ℕ)) → length (filter p xs) ≤ length xs
-few_picked p [] = omega arith
-few_picked p (x ∷ xs) = step (p x) (few_picked p xs)
-  where
-    step : (b : Bool) → length (filter p xs) ≤ length xs → length (cond b (x ∷ filter p xs) (filter p xs)) ≤ length (x ∷ xs)
-    step true h = omega (arith, h)
-    step false h = omega (arith, h)
-
 pub handed_room : (v : Lodged) (stamp : Stamp) (to : Incarnation) (out : Spared Item) {mid : Lodged} (s : ℕ) {new_out : Spared Item} → mid ≡ moved v (handed_off s stamp to ∷ []) → new_out ≡ given out (map (λ e. post mid.state.who mid.state.who (body.StopEntity e)) (entities_of mid.state s)) → 2 + length (names_of v.state.set s) ≤ out.spare → 2 ≤ new_out.spare
 handed_room v stamp to out {mid} s {new_out} step told_is room =
     let long : length (map (λ e. post mid.state.who mid.state.who (body.StopEntity e)) (entities_of mid.state s)) ≡ length (entities_of mid.state s) = length-map (entities_of mid.state s) (λ e. post mid.state.who mid.state.who (body.StopEntity e)) in
-    let few : length (entities_of mid.state s) ≤ length (names_of mid.state.set s) = few_picked (λ e. not (is_in_phase phase.Absent mid.state e)) (names_of mid.state.set s) in
+    let few : length (entities_of mid.state s) ≤ length (names_of mid.state.set s) = picked_few (λ e. not (is_in_phase phase.Absent mid.state e)) (names_of mid.state.set s) in
     let names : length (names_of mid.state.set s) ≡ length (names_of v.state.set s) = ap (λ (x : Lodged). length (names_of x.state.set s)) step in
     let left : out.spare ≤ (given out (map (λ e. post mid.state.who mid.state.who (body.StopEntity e)) (entities_of mid.state s))).spare + length (map (λ e. post mid.state.who mid.state.who (body.StopEntity e)) (entities_of mid.state s)) = spare_left out (map (λ e. post mid.state.who mid.state.who (body.StopEntity e)) (entities_of mid.state s)) in
     let spare : new_out.spare ≡ (given out (map (λ e. post mid.state.who mid.state.who (body.StopEntity e)) (entities_of mid.state s))).spare = ap (λ (o : Spared Item). o.spare) told_is in

@@ -22,9 +22,11 @@ use Rattle.shard_entities.specs.Placed.{IsPlace, AreFirst, AreCounts, AreByShard
 use Rattle.shard_entities.specs.declared.place.Place.{Place}
 use Rattle.yard_model.specs.Behaviour.{is_in}
 use Rattle.yard_model.specs.Shard.{shard, absolute, java_hash}
+use Rattle.plain_laws.proofs.Booleans.{and_both}
+use Rattle.plain_laws.proofs.Names.{name_itself}
 use Rattle.std.proofs.Math.Nat.{mod-lt}
-use Rattle.shard_entities.proofs.PlannedLaws.{and_both}
-use Rattle.shard_entities.proofs.NameLaws.{placed, picked_place, name_itself}
+use Rattle.shard_entities.proofs.PlannedLaws.{picked_few}
+use Rattle.shard_entities.proofs.NameLaws.{placed, picked_place}
 use Rattle.shard_entities.proofs.LodgedLaws.{is_same, is_other}
 
 list_any_at : (names : List (List ℕ)) (k : ℕ) → k < length names → list_any (is_name (name_at names k)) names ≡ true
@@ -319,16 +321,8 @@ nth_of {c} {v} {names} {places} all {s} {i} {k} {x} {p} are seen lt same read wi
       ap (λ (y : Place). y.entity) (sym at_it) ∙ (its.names_are k long ∙ ap (λ v. name_at (names_of (setting v) s) k) seen),
     )
 
-few_picked : (p : List ℕ → Bool) (xs : List (List ℕ)) → length (filter p xs) ≤ length xs
-few_picked p [] = omega arith
-few_picked p (x ∷ xs) = step (p x) (few_picked p xs)
-  where
-    step : (b : Bool) → length (filter p xs) ≤ length xs → length (cond b (x ∷ filter p xs) (filter p xs)) ≤ length (x ∷ xs)
-    step true h = omega (arith, h)
-    step false h = omega (arith, h)
-
 pub count_few : {c v : Script} {names : List (List ℕ)} {places : List Place} {lists : List (List Place)} (s : ℕ) {n : ℕ} → ArePlaces c names places lists → c ≡ v → n ≡ length (names_of (setting v) s) → n ≤ 1000
 count_few {c} {v} {names} {places} {lists} s {n} k seen is =
-    let most : length (names_of (setting v) s) ≤ length (setting v).names = few_picked (λ e. shard_of (setting v) e == s) (setting v).names in
+    let most : length (names_of (setting v) s) ≤ length (setting v).names = picked_few (λ e. shard_of (setting v) e == s) (setting v).names in
     let few : length (setting v).names ≤ 1000 = subst (λ (v : Script). length (setting v).names ≤ 1000) seen k.script_is.names in
     omega (arith, is, most, few)

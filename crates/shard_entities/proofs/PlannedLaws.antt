@@ -1,6 +1,6 @@
 -- What stands of a planned message: its command is of the script's kind, and its number isn't great.
 use Rattle.std.proofs.Common.{◌≡◌, ℕ, ◌+◌, ◌-◌, ◌≤◌, ◌<◌, sym, ap, ◌∙◌, refl, arith, length-append}
-use Rattle.std.specs.Prelude.{Bool, true, false, ◌==◌, ◌&&◌, nat_lt, ◌↔◌, List, [], ◌∷◌, zero, suc, length, map, filter, fold, Option, Some, None, if◌then◌else◌, cond, IsTrue}
+use Rattle.std.specs.Prelude.{Bool, true, false, ◌==◌, nat_lt, ◌↔◌, List, [], ◌∷◌, length, map, filter, fold, Option, Some, None, if◌then◌else◌, cond, IsTrue}
 use Rattle.std.specs.List.{list_all, slice_get}
 use Rattle.std.specs.Option.{option_map_or}
 use Rattle.std.proofs.lemmas.Option.{slice_get_within}
@@ -16,30 +16,11 @@ use Rattle.yard_model.specs.Behaviour.{is_of_kind, is_in}
 use Rattle.yard_model.specs.Equal.{is_command}
 use Rattle.yard_model.specs.Genuine.{is_planned}
 use Rattle.yard_model.specs.Script.{Script, IsScript, sends, with_send, with_send_of, with_order, plan, is_name, is_order}
-use Rattle.shard_entities.proofs.LodgedLaws.{both}
+use Rattle.plain_laws.proofs.Booleans.{true_is_not_false, and_both, both, all_filter}
+use Rattle.plain_laws.proofs.Lists.{all_got}
 
 abbrev pub SameCommand : Type 0
 SameCommand = (a b : Command) → IsTrue (is_command a b) ↔ (a ≡ b)
-
-pub true_is_not_false : true ≡ false → ⊥
-true_is_not_false e = cc
-
-pub and_both : (a b : Bool) → (a && b) ≡ true → (a ≡ true) × (b ≡ true)
-and_both true b e = (refl, e)
-and_both false b e = absurd (true_is_not_false (sym e))
-
-all_at : {X : Type 0} (p : X → Bool) (xs : List X) (i : ℕ) (x : X) → list_all p xs ≡ true → slice_get xs i ≡ Some x → p x ≡ true
-all_at p [] i x all e = cc
-all_at p (y ∷ ys) zero x all e = let same : y ≡ x = cc in ap p (sym same) ∙ (and_both (p y) (list_all p ys) all).0
-all_at p (y ∷ ys) (suc i) x all e = all_at p ys i x (and_both (p y) (list_all p ys) all).1 e
-
-all_filter : {X : Type 0} (p pick : X → Bool) → (xs : List X) → list_all p xs ≡ true → list_all p (filter pick xs) ≡ true
-all_filter p pick [] e = refl
-all_filter {X} p pick (x ∷ xs) e = step (pick x) (all_filter p pick xs (and_both (p x) (list_all p xs) e).1)
-  where
-    step : (b : Bool) → list_all p (filter pick xs) ≡ true → list_all p (cond b (x ∷ filter pick xs) (filter pick xs)) ≡ true
-    step true h = both (p x) (list_all p (filter pick xs)) (and_both (p x) (list_all p xs) e).0 h
-    step false h = h
 
 -- A planned command is of the script's kind.
 
@@ -79,11 +60,11 @@ planned_of_kind c p e n k rules ok planned = at (slice_get (plan c p e) (n - 1))
     at None is found = absurd (true_is_not_false (sym found))
     at (Some x) is found =
         let same : k ≡ x = (rules k x).0 found in
-        ap (is_of_kind c.config.kind) same ∙ all_at (is_of_kind c.config.kind) (plan c p e) (n - 1) x (plan_of_kind c p e ok) is
+        ap (is_of_kind c.config.kind) same ∙ all_got (is_of_kind c.config.kind) (plan c p e) (n - 1) x (plan_of_kind c p e ok) is
 
 -- Its number is at most the number of orders.
 
-picked_few : {X : Type 0} (pick : X → Bool) → (xs : List X) → length (filter pick xs) ≤ length xs
+pub picked_few : {X : Type 0} (pick : X → Bool) → (xs : List X) → length (filter pick xs) ≤ length xs
 picked_few pick [] = omega arith
 picked_few {X} pick (x ∷ xs) = step (pick x) (picked_few pick xs)
   where

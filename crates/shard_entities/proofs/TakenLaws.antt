@@ -16,12 +16,12 @@ use Rattle.yard_model.specs.Script.{Script, IsScript, setting}
 use Rattle.yard_model.specs.Setting.{shard_of}
 use Rattle.yard_model.specs.ShardSet.{has}
 use Rattle.yard_model.specs.Words.{at}
+use Rattle.plain_laws.proofs.Booleans.{and_both}
 use Rattle.shard_store.specs.Shelved.{name_at}
 use Rattle.shard_entities.specs.Celled.{Celled}
 use Rattle.shard_entities.specs.declared.hosting.Hosting.{Hosting}
 use Rattle.shard_entities.specs.Lodged.{Lodged, lodged, moved, IsLodged, IsCell, IsHosting, IsStore, host_of, cell_of, new_celled, hosted_of, room_of}
 use Rattle.shard_entities.proofs.LodgedLaws.{is_same, is_other}
-use Rattle.shard_entities.proofs.PlannedLaws.{and_both}
 
 pub shards_most : (c : Script) → IsScript c → c.config.shards ≤ 128
 shards_most c k =

@@ -23,6 +23,7 @@ use Rattle.shard_store.specs.Shelved.{name_at}
 use Rattle.shard_entities.specs.Delivered.{Stands}
 use Rattle.shard_entities.specs.Lodged.{Lodged, moved, lodged_after, less, rooms_step, HasRoom}
 use Rattle.shard_entities.specs.Placed.{IsPlace}
+use Rattle.shard_entities.specs.Roomy.{Takes}
 use Rattle.shard_entities.specs.Settled.{IsQuiet, IsSettled, IsSettledBut}
 use Rattle.shard_entities.specs.declared.place.Place.{Place}
 use Rattle.shard_entities.proofs.LodgedLaws.{is_same, is_other, IsOf}
@@ -60,9 +61,10 @@ pub record Walk (p : Place) (v w : Lodged) (n : ℕ) : Type 0 where
   pub others : (j : ℕ) → j ≢ p.at → slice_index_or w.state.cells j (new_cell v.state.set) ≡ slice_index_or v.state.cells j (new_cell v.state.set)
   pub hosted_are : (t : ℕ) → hosted w.state t ≡ None → hosted v.state t ≡ None
   pub room_is : slice_index_or v.rooms p.shard 0 ≤ slice_index_or w.rooms p.shard 0 + n
+  pub rooms_are : (t : ℕ) → t ≢ p.shard → slice_index_or w.rooms t 0 ≡ slice_index_or v.rooms t 0
 
 pub stay : {p : Place} {v : Lodged} → IsOn p v → Walk p v v 0
-stay on = record { script_is = refl; set_is = refl; on = on; others = λ j other. refl; hosted_are = λ t none. none; room_is = omega arith }
+stay on = record { script_is = refl; set_is = refl; on = on; others = λ j other. refl; hosted_are = λ t none. none; room_is = omega arith; rooms_are = λ t other. refl }
 
 pub then_walk : {p : Place} {v w x : Lodged} {a b n : ℕ} → Walk p v w a → Walk p w x b → a + b ≤ n → Walk p v x n
 then_walk {p} {v} {w} {x} {a} {b} {n} one two most = record {
@@ -72,6 +74,7 @@ then_walk {p} {v} {w} {x} {a} {b} {n} one two most = record {
   others = λ j other. subst (λ (s : Setting). slice_index_or x.state.cells j (new_cell s) ≡ slice_index_or w.state.cells j (new_cell s)) one.set_is (two.others j other) ∙ one.others j other;
   hosted_are = λ t none. one.hosted_are t (two.hosted_are t none);
   room_is = let first : slice_index_or v.rooms p.shard 0 ≤ slice_index_or w.rooms p.shard 0 + a = one.room_is in let next : slice_index_or w.rooms p.shard 0 ≤ slice_index_or x.rooms p.shard 0 + b = two.room_is in omega (arith, first, next, most);
+  rooms_are = λ t other. two.rooms_are t other ∙ one.rooms_are t other;
 }
 
 pub walk_to : {p : Place} {v w x : Lodged} {n : ℕ} → x ≡ w → Walk p v w n → Walk p v x n
@@ -111,6 +114,7 @@ walk_one {p} {v} {m} k on = walk_to (one_is p v k) record {
   others = λ j other. get_or-set_other v.state.cells (place v.state.set p.entity) j (cell_after (cell v.state p.entity) m) (new_cell v.state.set) (λ same. other (same ∙ on.at_is));
   hosted_are = λ t none. none;
   room_is = omega arith;
+  rooms_are = λ t other. refl;
 }
 
 pub cell_one : {p : Place} {v : Lodged} {m : Move} → IsOf p.entity m → IsOn p v → cell (lodged_after v m).state p.entity ≡ cell_after (cell v.state p.entity) m
@@ -128,6 +132,7 @@ walk_entry {p} {v} {f} k on = walk_to (entry_is p v k) record {
   others = λ j other. refl;
   hosted_are = λ t none. hosted_at t (t == s) refl none;
   room_is = let now : slice_index_or (less s v.rooms) p.shard 0 ≡ slice_index_or v.rooms p.shard 0 - 1 = ap (λ n. slice_index_or (less s v.rooms) n 0) (sym on.shard_is) ∙ (get_or-set_same v.rooms s (slice_index_or v.rooms s 0 - 1) 0 (subst (λ n. n < length v.rooms) (sym on.shard_is) on.room_in) ∙ ap (λ n. slice_index_or v.rooms n 0 - 1) on.shard_is) in omega (arith, now);
+  rooms_are = λ t other. get_or-set_other v.rooms s t (slice_index_or v.rooms s 0 - 1) 0 (λ same. other (same ∙ on.shard_is));
 }
   where
     s : ℕ
@@ -181,6 +186,7 @@ room_left {v} {w} {p} {n} {a} {b} walk room most = record {
 
 pub record Delivers (p : Place) (v w : Lodged) (ms : List Move) : Type 0 where
   pub walk : Walk p v w 2
+  pub waits : ((cell v.state p.entity).phase ≡ phase.Active → ⊥) → Walk p v w 0  -- one that doesn't take commands writes nothing
   pub quiet : IsQuiet (hosted w.state p.shard) (cell w.state p.entity)
   pub few : length ms ≤ 4
 
@@ -214,8 +220,8 @@ reach_entry {p} {v} {w} {n} {x} f entry r = record { walk = then_walk r.walk (wa
 pub quiet_reached : {p : Place} {v w : Lodged} {n : ℕ} {x : Cell} → Reach p v w n x → (hosted v.state p.shard ≡ None → ⊥) → (x.phase ≡ phase.Absent → x.stash ≡ []) → (x.phase ≡ phase.Active → x.stash ≡ []) → IsQuiet (hosted w.state p.shard) (cell w.state p.entity)
 quiet_reached {p} {v} {w} {n} {x} r there gone clear = subst (IsQuiet (hosted w.state p.shard)) (sym r.cell_is) record { at_home = λ none. absurd (there (r.walk.hosted_are p.shard none)); gone = gone; clear = clear }
 
-delivered : {p : Place} {v w : Lodged} {n : ℕ} {x : Cell} (ms : List Move) → Reach p v w n x → n ≤ 2 → (hosted v.state p.shard ≡ None → ⊥) → (x.phase ≡ phase.Absent → x.stash ≡ []) → (x.phase ≡ phase.Active → x.stash ≡ []) → length ms ≤ 4 → Delivers p v w ms
-delivered {p} {v} {w} {n} {x} ms r most there gone clear few = record { walk = then_walk r.walk (stay r.walk.on) (omega (arith, most)); quiet = quiet_reached r there gone clear; few = few }
+delivered : {p : Place} {v w : Lodged} {n : ℕ} {x : Cell} (ms : List Move) → Reach p v w n x → (((cell v.state p.entity).phase ≡ phase.Active → ⊥) → n ≡ 0) → n ≤ 2 → (hosted v.state p.shard ≡ None → ⊥) → (x.phase ≡ phase.Absent → x.stash ≡ []) → (x.phase ≡ phase.Active → x.stash ≡ []) → length ms ≤ 4 → Delivers p v w ms
+delivered {p} {v} {w} {n} {x} ms r none most there gone clear few = record { walk = then_walk r.walk (stay r.walk.on) (omega (arith, most)); waits = λ idle. subst (Walk p v w) (none idle) r.walk; quiet = quiet_reached r there gone clear; few = few }
 
 pub not_absent : {q : Phase} → q ≡ phase.Loading → q ≡ phase.Absent → ⊥
 not_absent a b = cc
@@ -245,14 +251,14 @@ module _ {v : Lodged} {p : Place} (m : Message) (on : IsOn p v) (same : m.entity
   first_delivered : Delivers p v (moved v (deliver_by m v.state phase.Absent)) (deliver_by m v.state phase.Absent)
   first_delivered = delivered (deliver_by m v.state phase.Absent)
       (reach_one (told (fact.Stashed v.state.who m)) (of_stashed v.state.who same) (reach_silent (post v.state.who v.state.who (body.Recovered m.entity)) (silent_recovered v.state.who v.state.who m.entity) (reach_one (told (fact.Start v.state.who m.entity)) starts (reach_here on))))
-      (omega arith) there (λ gone. absurd (not_absent refl gone)) (λ active. absurd (not_active refl active)) (omega arith)
+      (λ idle. refl) (omega arith) there (λ gone. absurd (not_absent refl gone)) (λ active. absurd (not_active refl active)) (omega arith)
 
   waiting_delivered : ((cell v.state p.entity).phase ≡ phase.Absent → ⊥) → ((cell v.state p.entity).phase ≡ phase.Active → ⊥) → Delivers p v (moved v (stash_message m v.state)) (stash_message m v.state)
   waiting_delivered here idle = by_room (nat_lt (length (cell v.state m.entity).stash) v.state.set.config.window)
     where
       by_room : (b : Bool) → Delivers p v (moved v (if b then told (fact.Stashed v.state.who m) ∷ [] else told (fact.Dropped v.state.who m) ∷ [])) (if b then told (fact.Stashed v.state.who m) ∷ [] else told (fact.Dropped v.state.who m) ∷ [])
-      by_room true = delivered (told (fact.Stashed v.state.who m) ∷ []) (reach_one (told (fact.Stashed v.state.who m)) (of_stashed v.state.who same) (reach_here on)) (omega arith) there (λ gone. absurd (here gone)) (λ active. absurd (idle active)) (omega arith)
-      by_room false = delivered (told (fact.Dropped v.state.who m) ∷ []) (reach_one (told (fact.Dropped v.state.who m)) (of_dropped v.state.who same) (reach_here on)) (omega arith) there (λ gone. absurd (here gone)) (λ active. absurd (idle active)) (omega arith)
+      by_room true = delivered (told (fact.Stashed v.state.who m) ∷ []) (reach_one (told (fact.Stashed v.state.who m)) (of_stashed v.state.who same) (reach_here on)) (λ idle. refl) (omega arith) there (λ gone. absurd (here gone)) (λ active. absurd (idle active)) (omega arith)
+      by_room false = delivered (told (fact.Dropped v.state.who m) ∷ []) (reach_one (told (fact.Dropped v.state.who m)) (of_dropped v.state.who same) (reach_here on)) (λ idle. refl) (omega arith) there (λ gone. absurd (here gone)) (λ active. absurd (idle active)) (omega arith)
 
   active_delivered : (cell v.state p.entity).phase ≡ phase.Active → (pos : ℕ) (records : List Record) → Delivers p v (moved v (deliver_at m pos records v.state)) (deliver_at m pos records v.state)
   active_delivered active pos records = by_old (nat_le m.number pos)
@@ -268,8 +274,8 @@ module _ {v : Lodged} {p : Place} (m : Message) (on : IsOn p v) (same : m.entity
 
       by_ask : (ms : List Move) {w : Lodged} {n : ℕ} → Reach p v w n (cell v.state p.entity) → n ≤ 2 → length ms ≤ 3 → (k u : ℕ) (b : Bool) → Delivers p v (moved w (if b then post v.state.who m.origin (body.Request m.producer m.entity k u) ∷ [] else [])) (ms ++ (if b then post v.state.who m.origin (body.Request m.producer m.entity k u) ∷ [] else []))
       by_ask ms reach most few k u true =
-          delivered (ms ++ post v.state.who m.origin (body.Request m.producer m.entity k u) ∷ []) (reach_one (post v.state.who m.origin (body.Request m.producer m.entity k u)) (of_request v.state.who m.origin m.producer k u same) reach) most there (λ gone. empty) (λ active. empty) (let long : _ = length-append ms (post v.state.who m.origin (body.Request m.producer m.entity k u) ∷ []) in omega (arith, long, few))
-      by_ask ms reach most few k u false = delivered (ms ++ []) reach most there (λ gone. empty) (λ active. empty) (let long : _ = length-append ms [] in omega (arith, long, few))
+          delivered (ms ++ post v.state.who m.origin (body.Request m.producer m.entity k u) ∷ []) (reach_one (post v.state.who m.origin (body.Request m.producer m.entity k u)) (of_request v.state.who m.origin m.producer k u same) reach) (λ idle. absurd (idle active)) most there (λ gone. empty) (λ active. empty) (let long : _ = length-append ms (post v.state.who m.origin (body.Request m.producer m.entity k u) ∷ []) in omega (arith, long, few))
+      by_ask ms reach most few k u false = delivered (ms ++ []) reach (λ idle. absurd (idle active)) most there (λ gone. empty) (λ active. empty) (let long : _ = length-append ms [] in omega (arith, long, few))
 
       by_saved : (b : Bool) → Delivers p v (moved v (told (fact.Wrote m.entity r) ∷ (if b then told (fact.Snapshot m.entity r.number) ∷ [] else []) ++ ack (pos + 1) ∷ ask_more m (pos + 1) v.state)) (told (fact.Wrote m.entity r) ∷ (if b then told (fact.Snapshot m.entity r.number) ∷ [] else []) ++ ack (pos + 1) ∷ ask_more m (pos + 1) v.state)
       by_saved true =
@@ -282,16 +288,16 @@ module _ {v : Lodged} {p : Place} (m : Message) (on : IsOn p v) (same : m.entity
           (omega arith) (omega arith) (pos + 1) (pos + 1 + v.state.set.config.window) (nat_le (slice_index_or (cell v.state m.entity).reach (m.producer - 1) 0) (pos + 1 + v.state.set.config.window / 2))
 
       by_arm : (o : Option Keep) → Delivers p v (moved v (write m r (pos + 1) v.state o)) (write m r (pos + 1) v.state o)
-      by_arm (Some keep.Lost) = delivered (told (fact.WriteFailed v.state.who m.entity) ∷ []) (reach_one (told (fact.WriteFailed v.state.who m.entity)) fails (reach_here on)) (omega arith) there (λ gone. empty) (λ active. empty) (omega arith)
-      by_arm (Some keep.Kept) = delivered (told (fact.Wrote m.entity r) ∷ told (fact.WriteFailed v.state.who m.entity) ∷ []) (reach_one (told (fact.WriteFailed v.state.who m.entity)) fails (reach_entry (fact.Wrote m.entity r) (writes r) (reach_here on))) (omega arith) there (λ gone. empty) (λ active. empty) (omega arith)
+      by_arm (Some keep.Lost) = delivered (told (fact.WriteFailed v.state.who m.entity) ∷ []) (reach_one (told (fact.WriteFailed v.state.who m.entity)) fails (reach_here on)) (λ idle. absurd (idle active)) (omega arith) there (λ gone. empty) (λ active. empty) (omega arith)
+      by_arm (Some keep.Kept) = delivered (told (fact.Wrote m.entity r) ∷ told (fact.WriteFailed v.state.who m.entity) ∷ []) (reach_one (told (fact.WriteFailed v.state.who m.entity)) fails (reach_entry (fact.Wrote m.entity r) (writes r) (reach_here on))) (λ idle. absurd (idle active)) (omega arith) there (λ gone. empty) (λ active. empty) (omega arith)
       by_arm None = by_saved (r.number % v.state.set.config.snapshot == 0)
 
       by_gap : (b : Bool) → Delivers p v (moved v (if b then post v.state.who m.origin (body.Resend m.producer m.entity (pos + 1)) ∷ [] else write m r (pos + 1) v.state (cell v.state m.entity).armed)) (if b then post v.state.who m.origin (body.Resend m.producer m.entity (pos + 1)) ∷ [] else write m r (pos + 1) v.state (cell v.state m.entity).armed)
-      by_gap true = delivered (post v.state.who m.origin (body.Resend m.producer m.entity (pos + 1)) ∷ []) (reach_silent (post v.state.who m.origin (body.Resend m.producer m.entity (pos + 1))) (silent_resend v.state.who m.origin m.producer m.entity (pos + 1)) (reach_here on)) (omega arith) there (λ gone. empty) (λ active. empty) (omega arith)
+      by_gap true = delivered (post v.state.who m.origin (body.Resend m.producer m.entity (pos + 1)) ∷ []) (reach_silent (post v.state.who m.origin (body.Resend m.producer m.entity (pos + 1))) (silent_resend v.state.who m.origin m.producer m.entity (pos + 1)) (reach_here on)) (λ idle. absurd (idle active)) (omega arith) there (λ gone. empty) (λ active. empty) (omega arith)
       by_gap false = by_arm (cell v.state m.entity).armed
 
       by_old : (b : Bool) → Delivers p v (moved v (if b then ack pos ∷ [] else if nat_lt (pos + 1) m.number then post v.state.who m.origin (body.Resend m.producer m.entity (pos + 1)) ∷ [] else write m r (pos + 1) v.state (cell v.state m.entity).armed)) (if b then ack pos ∷ [] else if nat_lt (pos + 1) m.number then post v.state.who m.origin (body.Resend m.producer m.entity (pos + 1)) ∷ [] else write m r (pos + 1) v.state (cell v.state m.entity).armed)
-      by_old true = delivered (ack pos ∷ []) (reach_silent (ack pos) (silent_ack v.state.who m.origin m.producer m.entity pos) (reach_here on)) (omega arith) there (λ gone. empty) (λ active. empty) (omega arith)
+      by_old true = delivered (ack pos ∷ []) (reach_silent (ack pos) (silent_ack v.state.who m.origin m.producer m.entity pos) (reach_here on)) (λ idle. absurd (idle active)) (omega arith) there (λ gone. empty) (λ active. empty) (omega arith)
       by_old false = by_gap (nat_lt (pos + 1) m.number)
 
   pub deliver_goes : Delivers p v (moved v (deliver m v.state)) (deliver m v.state)
@@ -302,6 +308,33 @@ module _ {v : Lodged} {p : Place} (m : Message) (on : IsOn p v) (same : m.entity
       by_phase phase.Loading is = waiting_delivered (not_absent is) (not_active is)
       by_phase phase.Active is = active_delivered is (position m.producer (journal m.entity (entries v.state m.entity))) (journal m.entity (entries v.state m.entity))
       by_phase phase.Stopping is = waiting_delivered (stops_not_absent is) (stops_not_active is)
+
+-- What a call takes of the room.
+
+pub takes_here : (v : Lodged) (s n : ℕ) → Takes v v s n
+takes_here v s n = record { room_is = omega arith; others_are = λ t other. refl; hosted_are = λ t none. none }
+
+pub takes_of : {p : Place} {v w : Lodged} {n : ℕ} → Walk p v w n → Takes v w p.shard n
+takes_of walk = record { room_is = walk.room_is; others_are = walk.rooms_are; hosted_are = walk.hosted_are }
+
+pub then_takes : {v w x : Lodged} {s a b n : ℕ} → Takes v w s a → Takes w x s b → a + b ≤ n → Takes v x s n
+then_takes {v} {w} {x} {s} {a} {b} {n} one two most = record {
+  room_is = let first : slice_index_or v.rooms s 0 ≤ slice_index_or w.rooms s 0 + a = one.room_is in let next : slice_index_or w.rooms s 0 ≤ slice_index_or x.rooms s 0 + b = two.room_is in omega (arith, first, next, most);
+  others_are = λ t other. two.others_are t other ∙ one.others_are t other;
+  hosted_are = λ t none. one.hosted_are t (two.hosted_are t none);
+}
+
+pub deliver_takes : {p : Place} {v w : Lodged} {ms : List Move} → Delivers p v w ms → Takes v w p.shard (if is_in_phase phase.Active v.state p.entity then 2 else 0)
+deliver_takes {p} {v} {w} {ms} d = by_phase (cell v.state p.entity).phase refl
+  where
+    by_phase : (q : Phase) → (cell v.state p.entity).phase ≡ q → Takes v w p.shard (if is_phase phase.Active q then 2 else 0)
+    by_phase phase.Absent is = takes_of (d.waits (λ active. absent_not_active is active))
+      where
+        absent_not_active : {q : Phase} → q ≡ phase.Absent → q ≡ phase.Active → ⊥
+        absent_not_active a b = cc
+    by_phase phase.Loading is = takes_of (d.waits (λ active. not_active is active))
+    by_phase phase.Active is = takes_of d.walk
+    by_phase phase.Stopping is = takes_of (d.waits (λ active. stops_not_active is active))
 
 -- Where the hosted shards stay.
 

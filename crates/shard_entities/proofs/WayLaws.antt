@@ -37,6 +37,10 @@ pub script_moved : (v : Lodged) (ms : List Move) → (moved v ms).script ≡ v.s
 script_moved v [] = refl
 script_moved v (m ∷ ms) = script_moved (lodged_after v m) ms
 
+pub who_moved : (v : Lodged) (ms : List Move) → (moved v ms).state.who ≡ v.state.who
+who_moved v [] = refl
+who_moved v (m ∷ ms) = who_moved (lodged_after v m) ms
+
 pub version_moved : (v : Lodged) (ms : List Move) → (moved v ms).state.version ≡ v.state.version
 version_moved v [] = refl
 version_moved v (m ∷ ms) = version_moved (lodged_after v m) ms

@@ -1,12 +1,18 @@
 -- What stands of a node's entities between their calls.
-use Rattle.std.specs.Prelude.{◌≡◌, ◌≢◌, ℕ, ◌<◌, Bool, true, false, [], length, slice_index_or, Option, None, Some}
+use Rattle.std.specs.Prelude.{◌≡◌, ◌≢◌, ℕ, ◌<◌, Bool, true, false, List, [], ◌∷◌, ◌++◌, length, slice_index_or, Option, None, Some}
+use Rattle.std.specs.List.{list_any}
 use Rattle.std.specs.Option.{option_and_then}
 use Rattle.yard_model.specs.declared.fact.Fact.TheVariants as fact
+use Rattle.yard_model.specs.declared.incarnation.Cause.TheVariants as cause
+use Rattle.yard_model.specs.declared.incarnation.Incarnation.{Incarnation}
+use Rattle.yard_model.specs.declared.incarnation.Slot.TheVariants as slot
 use Rattle.yard_model.specs.declared.input.Phase.TheVariants as phase
 use Rattle.yard_model.specs.declared.out.Item.TheVariants as item
+use Rattle.yard_model.specs.declared.packet.Body.TheVariants as body
 use Rattle.yard_model.specs.Entities.{Cell, Hosted, hosted, new_cell}
-use Rattle.yard_model.specs.Move.{Move, made}
+use Rattle.yard_model.specs.Move.{Move, made, told, post}
 use Rattle.yard_model.specs.Setting.{shard_of}
+use Rattle.yard_model.specs.SlotReads.{epoch}
 use Rattle.consumer_ctl.specs.Held.{Held}
 use Rattle.shard_store.specs.Shelved.{name_at}
 use Rattle.shard_entities.specs.declared.handoff.Stopped.{Stopped}
@@ -32,6 +38,11 @@ pub record IsStopped (v w : Lodged) (s : ℕ) (x : Stopped) : Type 0 where
   pub shard_is : x.shard ≡ s
   pub store_is : IsStore w s x.store
   pub kept_is : option_and_then (λ h. h.stopping) (hosted v.state s) ≡ Some (record { stamp = x.stamp; to = x.to })
+
+-- the moves of a rule that lets a shard go: after these the shard is freed, at the epoch of the list that is let go, as released; last, the addressee that was kept is posted that it stopped, with the stamp that was kept
+pub record IsFreed (before all : List Move) (who : Incarnation) (x : Stopped) : Type 0 where
+  pub frees_is : list_any frees all ≡ true
+  pub moves_are : all ≡ before ++ told (fact.Freed (slot.Shard x.shard) (epoch x.store.entries) cause.Released) ∷ post who x.to (body.ShardStopped x.shard x.stamp) ∷ []
 
 -- the same, but for the cell at a place
 abbrev pub IsSettledBut : ℕ → Lodged → Type 0

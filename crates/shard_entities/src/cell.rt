@@ -92,6 +92,7 @@ impl Cell {
     }
 
     /// What its journal leads to, while it takes commands.
+    #[inline(always)]
     pub(crate) fn state(&self) -> State
         ensures { result ≡ self.now.state }
     {
@@ -99,6 +100,7 @@ impl Cell {
     }
 
     /// Its journal leads to this from now on.
+    #[inline(always)]
     pub(crate) fn set_state(&mut self, state: &State)
         ensures { self.new ≡ record self.old { state = state.now } }
     {

@@ -1,10 +1,10 @@
 //! Delivery.
-ghost use Rattle.std.specs.Prelude.{◌≡◌, ℕ, ◌+◌, ◌<◌, ◌≤◌, ◌↔◌, List, [], ◌∷◌, ◌++◌, Some, None, IsTrue, true};
+ghost use Rattle.std.specs.Prelude.{◌≡◌, ℕ, ◌+◌, ◌<◌, ◌≤◌, ◌↔◌, List, [], ◌∷◌, ◌++◌, Some, None, IsTrue, true, if◌then◌else◌};
 ghost use Rattle.yard_model.specs.declared.fact.Fact.TheVariants as fact;
 ghost use Rattle.yard_model.specs.declared.input.Phase.TheVariants as phase;
 ghost use Rattle.yard_model.specs.declared.packet.Body.TheVariants as body;
 ghost use Rattle.yard_model.specs.Behaviour.{folded};
-ghost use Rattle.yard_model.specs.Entities.{cell, entries, deliver, deliver_at, stash_message, start_entity, write, record_of, snapshot_at, ask_more};
+ghost use Rattle.yard_model.specs.Entities.{cell, entries, deliver, deliver_at, stash_message, start_entity, is_in_phase, write, record_of, snapshot_at, ask_more};
 ghost use Rattle.yard_model.specs.Lawful.{may_follow};
 ghost use Rattle.yard_model.specs.Move.{told, post};
 ghost use Rattle.yard_model.specs.SlotReads.{journal, position, last_snapshot};
@@ -12,6 +12,7 @@ ghost use Rattle.consumer_ctl.specs.declared.numbers.Seen.{Seen};
 ghost use Rattle.shard_entities.specs.Delivered.{Stands, IsDelivery, standing_of};
 ghost use Rattle.shard_entities.specs.Lodged.{HasRoom, is_for, moved, given};
 ghost use Rattle.shard_entities.specs.Placed.{IsPlace};
+ghost use Rattle.shard_entities.specs.Roomy.{Takes};
 ghost use Rattle.shard_entities.specs.Settled.{IsSettled};
 
 use crate::moves::push;
@@ -75,6 +76,7 @@ impl Shards {
         requires room { 4 ≤ out.old.spare }
         ensures state { self.new ≡ moved self.old (deliver message.now self.old.state) }
         ensures out { out.new ≡ given out.old (deliver message.now self.old.state) }
+        ensures takes { Takes self.old self.new place.now.shard (if is_in_phase phase.Active self.old.state place.now.entity then 2 else 0) }
         ensures settled { IsSettled self.new }
     {
         self.knows();
@@ -158,6 +160,7 @@ impl Shards {
     }
 
     /// What is read of its journal.
+    #[inline(always)]
     fn standing(&self, place: &Place, producer: ProducerNo) -> Standing
         requires place { IsPlace self.now.script place.now }
         requires there { HasRoom self.now place.now.shard 0 }
@@ -179,6 +182,7 @@ impl Shards {
     }
 
     /// What is recorded is acknowledged.
+    #[inline(always)]
     pub(crate) fn acknowledge(&self, message: &Message, confirmed: u32, out: &mut Out)
         requires room { 0 < out.old.spare }
         ensures { out.new ≡ given out.old (post self.now.state.who message.now.origin (body.Ack message.now.producer message.now.entity confirmed) ∷ []) }

@@ -1,18 +1,20 @@
 //! The entities of a node, by name.
-ghost use Rattle.std.specs.Prelude.{◌≡◌, ℕ, ◌+◌, ◌*◌, ◌<◌, ◌≤◌, List, [], ◌∷◌, length, replicate, true, false, None, Some, IfOk, OnOk, MatchOption, IsTrue, slice_index_or};
+ghost use Rattle.std.specs.Prelude.{◌≡◌, ℕ, ◌+◌, ◌*◌, ◌<◌, ◌≤◌, List, [], ◌∷◌, ◌++◌, length, map, replicate, true, false, None, Some, IfOk, IfSome, OnOk, if◌then◌else◌, MatchOption, IsTrue, slice_index_or};
 ghost use Rattle.std.specs.List.{list_any};
 ghost use Rattle.yard_model.specs.declared.fact.Fact.TheVariants as fact;
 ghost use Rattle.yard_model.specs.declared.input.Phase.TheVariants as phase;
-ghost use Rattle.yard_model.specs.Entities.{new_entities, hosted, is_hosted, is_running, is_in_phase, deliver, recovered, passivate, start_remembered, hand_off, stop, forget_passivated, tick_entities};
+ghost use Rattle.yard_model.specs.declared.packet.Body.TheVariants as body;
+ghost use Rattle.yard_model.specs.Entities.{new_entities, hosted, is_hosted, is_running, is_in_phase, deliver, recovered, passivate, start_remembered, hand_off, stop, forget_passivated, drop_stash, entities_of, tick_entities};
 ghost use Rattle.yard_model.specs.Genuine.{is_brought, is_genuine, is_producer};
-ghost use Rattle.yard_model.specs.Move.{told};
+ghost use Rattle.yard_model.specs.Move.{told, post, handed_off};
 ghost use Rattle.yard_model.specs.Script.{setting, is_version};
 ghost use Rattle.yard_model.specs.Setting.{shard_of, names_of};
 ghost use Rattle.yard_model.specs.ShardSet.{has};
 ghost use Rattle.yard_model.specs.SlotReads.{holder};
+ghost use Rattle.shard_entities.specs.Delivered.{Stands};
 ghost use Rattle.shard_entities.specs.Lodged.{IsStore, HasRoom, RoomIfHosted, moved, given, hosting, without};
-ghost use Rattle.shard_entities.specs.Roomy.{AreMore, room_wanted};
-ghost use Rattle.shard_entities.specs.Settled.{IsSettled, IsStopped, frees};
+ghost use Rattle.shard_entities.specs.Roomy.{AreMore, IsRoomy, Takes, room_wanted};
+ghost use Rattle.shard_entities.specs.Settled.{IsSettled, IsStopped, IsFreed, frees};
 
 use crate::handoff::Stopped;
 use crate::shards::Shards;
@@ -71,6 +73,14 @@ impl Entities {
         self.shards.who()
     }
 
+    /// What stands of any entities between their calls. It does nothing.
+    pub fn stands(&self)
+        ensures stands { Stands self.now }
+        ensures settled { IsSettled self.now }
+    {
+        self.shards.knows();
+    }
+
     /// The shards that are hosted and aren't being handed off.
     pub fn running(&self) -> ShardSet
         ensures { (s : ℕ) → s < self.now.script.config.shards → has result s ≡ is_running self.now.state s }
@@ -107,6 +117,7 @@ impl Entities {
         ensures state { self.new ≡ record self.old { rooms = self.new.rooms } }
         ensures more { AreMore self.old.rooms self.new.rooms }
         ensures ok { OnOk result ((s : ℕ) → (hosted self.old.state s ≡ None → ⊥) → room_wanted self.old.script s ≤ slice_index_or self.new.rooms s 0) }
+        ensures roomy { OnOk result ((s : ℕ) → (hosted self.old.state s ≡ None → ⊥) → IsRoomy self.new s) }
     {
         self.shards.reserve()
     }
@@ -122,6 +133,7 @@ impl Entities {
         requires room { 2 * length (names_of self.old.state.set s) ≤ out.old.spare }
         ensures state { self.new ≡ moved (hosting self.old s store) (start_remembered s (hosting self.old s store).state) }
         ensures out { out.new ≡ given out.old (start_remembered s (hosting self.old s store).state) }
+        ensures takes { Takes (hosting self.old s store) self.new s 0 }
     {
         self.shards.start(s, store, out);
     }
@@ -139,6 +151,7 @@ impl Entities {
         requires room { 4 ≤ out.old.spare }
         ensures state { self.new ≡ moved self.old (deliver message self.old.state) }
         ensures out { out.new ≡ given out.old (deliver message self.old.state) }
+        ensures takes { Takes self.old self.new (shard_of (setting self.old.script) message.entity) (if is_in_phase phase.Active self.old.state message.entity then 2 else 0) }
     {
         let place = self.shards.find(&message.entity);
         self.shards.deliver_to(behaviour, &place, &message, out);
@@ -154,6 +167,7 @@ impl Entities {
         requires room { 2 + 4 * self.old.script.config.window ≤ out.old.spare }
         ensures state { self.new ≡ moved self.old (recovered entity.now self.old.state) }
         ensures out { out.new ≡ given out.old (recovered entity.now self.old.state) }
+        ensures takes { Takes self.old self.new (shard_of (setting self.old.script) entity.now) (1 + 2 * self.old.script.config.window) }
     {
         self.shards.knows();
         let place = self.shards.find(entity);
@@ -168,6 +182,7 @@ impl Entities {
         requires room { 0 < out.old.spare }
         ensures state { self.new ≡ moved self.old (passivate entity.now self.old.state) }
         ensures out { out.new ≡ given out.old (passivate entity.now self.old.state) }
+        ensures takes { Takes self.old self.new (shard_of (setting self.old.script) entity.now) 0 }
     {
         self.shards.knows();
         let place = self.shards.find(entity);
@@ -180,6 +195,7 @@ impl Entities {
         requires room { 0 < out.old.spare }
         ensures state { self.new ≡ moved self.old (told (fact.Armed entity.now keep) ∷ []) }
         ensures out { out.new ≡ given out.old (told (fact.Armed entity.now keep) ∷ []) }
+        ensures takes { Takes self.old self.new (shard_of (setting self.old.script) entity.now) 0 }
     {
         self.shards.knows();
         let place = self.shards.find(entity);
@@ -201,6 +217,7 @@ impl Entities {
         ensures state { self.new ≡ moved self.old (hand_off s stamp to self.old.state) }
         ensures out { out.new ≡ given out.old (hand_off s stamp to self.old.state) }
         ensures store { MatchOption result (list_any frees (hand_off s stamp to self.old.state) ≡ false) (IsStore self.old s) }
+        ensures freed { IfSome result (λ x. IsFreed (handed_off s stamp to ∷ map (λ e. post self.old.state.who self.old.state.who (body.StopEntity e)) (entities_of self.old.state s)) (hand_off s stamp to self.old.state) self.old.state.who (record { shard = s; store = x; stamp = stamp; to = to })) }
     {
         self.shards.hand_off(s, stamp, to, out)
     }
@@ -215,6 +232,7 @@ impl Entities {
         ensures state { self.new ≡ moved self.old (stop entity.now self.old.state) }
         ensures out { out.new ≡ given out.old (stop entity.now self.old.state) }
         ensures stopped { MatchOption result (list_any frees (stop entity.now self.old.state) ≡ false) (IsStopped self.old (moved self.old (told (fact.Stop self.old.state.who entity.now) ∷ forget_passivated entity.now self.old.state)) (shard_of (setting self.old.script) entity.now)) }
+        ensures freed { IfSome result (IsFreed (told (fact.Stop self.old.state.who entity.now) ∷ forget_passivated entity.now self.old.state ++ drop_stash entity.now self.old.state) (stop entity.now self.old.state) self.old.state.who) }
     {
         self.shards.knows();
         let place = self.shards.find(entity);

@@ -1,5 +1,5 @@
 //! A shard is handed off.
-ghost use Rattle.std.specs.Prelude.{◌≡◌, ℕ, ◌+◌, ◌<◌, ◌≤◌, List, [], ◌∷◌, length, map, filter, not, true, false, None, Some, MatchOption, if◌then◌else◌};
+ghost use Rattle.std.specs.Prelude.{◌≡◌, ℕ, ◌+◌, ◌<◌, ◌≤◌, List, [], ◌∷◌, length, map, filter, not, true, false, None, Some, MatchOption, IfSome, if◌then◌else◌};
 ghost use Rattle.std.specs.List.{list_any};
 ghost use Rattle.std.specs.Option.{option_map, option_and_then};
 ghost use Rattle.yard_model.specs.declared.fact.Fact.TheVariants as fact;
@@ -8,13 +8,13 @@ ghost use Rattle.yard_model.specs.declared.incarnation.Cause.TheVariants as caus
 ghost use Rattle.yard_model.specs.declared.incarnation.Slot.TheVariants as slot;
 ghost use Rattle.yard_model.specs.Entities.{hosted, entries_in, entities_of, is_in_phase, free_if_left, hand_off};
 ghost use Rattle.yard_model.specs.declared.input.Phase.TheVariants as phase;
-ghost use Rattle.yard_model.specs.Move.{told, post};
+ghost use Rattle.yard_model.specs.Move.{told, post, handed_off};
 ghost use Rattle.yard_model.specs.Setting.{names_of};
 ghost use Rattle.yard_model.specs.SlotReads.{epoch};
 ghost use Rattle.yard_model.specs.Words.{is_empty};
 ghost use Rattle.shard_entities.specs.Lodged.{IsStore, HasRoom, moved, given, stopping_of};
 ghost use Rattle.shard_entities.specs.Placed.{IsPlace};
-ghost use Rattle.shard_entities.specs.Settled.{IsSettled, IsStopped, frees};
+ghost use Rattle.shard_entities.specs.Settled.{IsSettled, IsStopped, IsFreed, frees};
 
 use crate::hosting::Ending;
 use crate::moves::push;
@@ -53,6 +53,7 @@ impl Shards {
         ensures state { self.new ≡ moved self.old (hand_off s stamp to self.old.state) }
         ensures out { out.new ≡ given out.old (hand_off s stamp to self.old.state) }
         ensures store { MatchOption result (list_any frees (hand_off s stamp to self.old.state) ≡ false) (IsStore self.old s) }
+        ensures freed { IfSome result (λ x. IsFreed (handed_off s stamp to ∷ map (λ e. post self.old.state.who self.old.state.who (body.StopEntity e)) (entities_of self.old.state s)) (hand_off s stamp to self.old.state) self.old.state.who (record { shard = s; store = x; stamp = stamp; to = to })) }
         ensures settled { IsSettled self.new }
     {
         self.knows();
@@ -102,6 +103,7 @@ impl Shards {
         ensures state { self.new ≡ moved self.old (free_if_left s self.old.state) }
         ensures out { out.new ≡ given out.old (free_if_left s self.old.state) }
         ensures stopped { MatchOption result (list_any frees (free_if_left s self.old.state) ≡ false) (IsStopped self.old self.old s) }
+        ensures freed { IfSome result (IsFreed [] (free_if_left s self.old.state) self.old.state.who) }
         ensures settled { IsSettled self.new }
     {
         match self.ending(s) {
@@ -130,6 +132,7 @@ impl Shards {
         ensures state { self.new ≡ moved self.old (free_if_left s self.old.state) }
         ensures out { out.new ≡ given out.old (free_if_left s self.old.state) }
         ensures stopped { MatchOption result (list_any frees (free_if_left s self.old.state) ≡ false) (IsStopped self.old self.old s) }
+        ensures freed { IfSome result (IsFreed [] (free_if_left s self.old.state) self.old.state.who) }
         ensures settled { IsSettled self.new }
     {
         self.knows();

@@ -25,6 +25,7 @@ use yard_model::{
 };
 
 /// One item more.
+#[inline(always)]
 pub(crate) fn push(out: &mut Out, item: Item)
     requires { 0 < out.old.spare }
     ensures { out.new ≡ given out.old (made item ∷ []) }
@@ -139,6 +140,7 @@ impl Shards {
     }
 
     /// It is posted to a node, about an entity of which it changes nothing.
+    #[inline(always)]
     pub(crate) fn post(&self, to: &Incarnation, body: Body, out: &mut Out)
         requires room { 0 < out.old.spare }
         ensures { out.new ≡ given out.old (post self.now.state.who to.now body ∷ []) }
@@ -183,6 +185,7 @@ impl Shards {
     }
 
     /// A record of an entity is written, which leads to this state.
+    #[inline(always)]
     pub(crate) fn tell_wrote(&mut self, place: &Place, entry: &Record, state: &State, out: &mut Out)
         requires place { IsPlace self.old.script place.now }
         requires there { HasRoom self.old place.now.shard 0 }

@@ -11,6 +11,7 @@ ghost use Rattle.shard_store.specs.Shelved.{IsThere};
 ghost use Rattle.shard_entities.specs.Lodged.{HasRoom, is_for, moved, given};
 ghost use Rattle.shard_entities.specs.Placed.{IsPlace};
 ghost use Rattle.shard_entities.specs.Foldable.{are_foldable};
+ghost use Rattle.shard_entities.specs.Roomy.{Takes};
 ghost use Rattle.shard_entities.specs.Settled.{IsSettled};
 
 use crate::place::Place;
@@ -51,6 +52,7 @@ impl Shards {
         requires room { 2 + 4 * self.old.script.config.window ≤ out.old.spare }
         ensures state { self.new ≡ moved self.old (recovered place.now.entity self.old.state) }
         ensures out { out.new ≡ given out.old (recovered place.now.entity self.old.state) }
+        ensures takes { Takes self.old self.new place.now.shard (1 + 2 * self.old.script.config.window) }
         ensures settled { IsSettled self.new }
         ensures pending { pending.new ≡ pending.old }
     {
@@ -140,6 +142,7 @@ impl Shards {
         requires room { 4 * length pending.old.messages ≤ out.old.spare }
         ensures state { self.new ≡ moved self.old (for_each entities_after deliver pending.old.messages self.old.state) }
         ensures out { out.new ≡ given out.old (for_each entities_after deliver pending.old.messages self.old.state) }
+        ensures takes { Takes self.old self.new place.now.shard (2 * length pending.old.messages) }
         ensures settled { IsSettled self.new }
         ensures pending { pending.new ≡ record { messages = []; window = pending.old.window } }
     {

@@ -345,6 +345,7 @@ impl Shards {
     }
 
     /// What its journal leads to, of one that takes commands.
+    #[inline(always)]
     pub(crate) fn state(&self, place: &Place) -> State
         requires place { IsPlace self.now.script place.now }
         requires active { (cell self.now.state place.now.entity).phase ≡ phase.Active }

@@ -1,5 +1,5 @@
 //! An entity stops.
-ghost use Rattle.std.specs.Prelude.{◌≡◌, ℕ, ◌+◌, ◌<◌, ◌≤◌, List, [], ◌∷◌, ◌++◌, length, map, true, false, None, Some, MatchOption, if◌then◌else◌};
+ghost use Rattle.std.specs.Prelude.{◌≡◌, ℕ, ◌+◌, ◌<◌, ◌≤◌, List, [], ◌∷◌, ◌++◌, length, map, true, false, None, Some, MatchOption, IfSome, if◌then◌else◌};
 ghost use Rattle.std.specs.List.{list_any};
 ghost use Rattle.yard_model.specs.declared.fact.Fact.TheVariants as fact;
 ghost use Rattle.yard_model.specs.declared.input.Phase.TheVariants as phase;
@@ -11,7 +11,7 @@ ghost use Rattle.yard_model.specs.Setting.{shard_of};
 ghost use Rattle.yard_model.specs.Words.{is_empty};
 ghost use Rattle.shard_entities.specs.Lodged.{HasRoom, moved, given};
 ghost use Rattle.shard_entities.specs.Placed.{IsPlace};
-ghost use Rattle.shard_entities.specs.Settled.{IsSettled, IsSettledBut, IsStopped, frees};
+ghost use Rattle.shard_entities.specs.Settled.{IsSettled, IsSettledBut, IsStopped, IsFreed, frees};
 
 use crate::handoff::Stopped;
 use crate::place::Place;
@@ -30,6 +30,7 @@ impl Shards {
         ensures state { self.new ≡ moved self.old (stop place.now.entity self.old.state) }
         ensures out { out.new ≡ given out.old (stop place.now.entity self.old.state) }
         ensures stopped { MatchOption result (list_any frees (stop place.now.entity self.old.state) ≡ false) (IsStopped self.old (moved self.old (told (fact.Stop self.old.state.who place.now.entity) ∷ forget_passivated place.now.entity self.old.state)) place.now.shard) }
+        ensures freed { IfSome result (IsFreed (told (fact.Stop self.old.state.who place.now.entity) ∷ forget_passivated place.now.entity self.old.state ++ drop_stash place.now.entity self.old.state) (stop place.now.entity self.old.state) self.old.state.who) }
         ensures settled { IsSettled self.new }
     {
         self.knows();
@@ -68,6 +69,7 @@ impl Shards {
         ensures state { self.new ≡ moved self.old (after_stop place.now.entity self.old.state) }
         ensures out { out.new ≡ given out.old (after_stop place.now.entity self.old.state) }
         ensures stopped { MatchOption result (list_any frees (after_stop place.now.entity self.old.state) ≡ false) (IsStopped self.old self.old place.now.shard) }
+        ensures freed { IfSome result (IsFreed (drop_stash place.now.entity self.old.state) (after_stop place.now.entity self.old.state) self.old.state.who) }
         ensures settled { IsSettled self.new }
     {
         self.knows();
@@ -88,6 +90,7 @@ impl Shards {
         ensures state { self.new ≡ moved self.old (in_turn entities_after (drop_stash place.now.entity) (free_if_left (shard_of self.old.state.set place.now.entity)) self.old.state) }
         ensures out { out.new ≡ given out.old (in_turn entities_after (drop_stash place.now.entity) (free_if_left (shard_of self.old.state.set place.now.entity)) self.old.state) }
         ensures stopped { MatchOption result (list_any frees (in_turn entities_after (drop_stash place.now.entity) (free_if_left (shard_of self.old.state.set place.now.entity)) self.old.state) ≡ false) (IsStopped self.old self.old place.now.shard) }
+        ensures freed { IfSome result (IsFreed (drop_stash place.now.entity self.old.state) (in_turn entities_after (drop_stash place.now.entity) (free_if_left (shard_of self.old.state.set place.now.entity)) self.old.state) self.old.state.who) }
         ensures settled { IsSettled self.new }
     {
         self.knows();

@@ -56,6 +56,7 @@ impl Shards {
     }
 
     /// The record that a message gives.
+    #[inline(always)]
     fn next_record<B: Behaviour>(
         &self,
         behaviour: &B,
@@ -93,6 +94,7 @@ impl Shards {
 
     /// A record is written; then a snapshot where one is due, what is recorded is acknowledged, and
     /// more is asked for where that is due.
+    #[inline(always)]
     fn write_on(
         &mut self,
         place: &Place,

@@ -1,6 +1,6 @@
 use Rattle.std.proofs.Common.{subst, sym, ◌∙◌}
 use Rattle.shard_entities.specs.Placed.{IsPlace}
-use Rattle.shard_entities.proofs.LoopLaws.{delivering_first, deliver_next, deliver_room, deliver_spare, first_for, for_entity, delivering_some, delivering_state, delivering_out, delivering_pending}
+use Rattle.shard_entities.proofs.LoopLaws.{delivering_first, deliver_next, deliver_room, deliver_spare, first_for, for_entity, delivering_some, delivering_state, delivering_out, delivering_pending, delivering_takes}
 use Rattle.shard_entities.proofs.shards.Shards.deliver_all.Goals as goal
 
 pub loop-init : goal.loop-init
@@ -44,3 +44,6 @@ returns-clause-settled g c = c.loop.invariant.settled
 
 pub returns-clause-pending : goal.returns-clause-pending
 returns-clause-pending g c = delivering_pending c.loop.invariant c.loop-test.false c.len-end.ensures.len
+
+pub returns-clause-takes : goal.returns-clause-takes
+returns-clause-takes g c = delivering_takes c.loop.invariant c.loop-test.false c.len-end.ensures.len

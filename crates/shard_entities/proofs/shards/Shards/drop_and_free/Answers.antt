@@ -2,6 +2,7 @@ use Rattle.std.proofs.Common.{◌≡◌, subst, sym}
 use Rattle.yard_model.specs.Entities.{drop_stash, free_if_left}
 use Rattle.yard_model.specs.Setting.{shard_of}
 use Rattle.shard_entities.specs.Lodged.{moved, given}
+use Rattle.shard_entities.proofs.FreedLaws.{dropped_freed}
 use Rattle.shard_entities.proofs.LoopLaws.{turn_state, turn_out, turn_stopped, drop_same, shard_left, drop_room}
 use Rattle.shard_entities.proofs.WalkLaws.{on_of}
 use Rattle.shard_entities.proofs.shards.Shards.drop_and_free.Goals as goal
@@ -20,3 +21,6 @@ returns-clause-out c = turn_out c.args.self.now c.args.out.now (drop_stash c.arg
 
 pub returns-clause-stopped : goal.returns-clause-stopped
 returns-clause-stopped c = turn_stopped c.free_if_left.result c.args.place.now (on_of c.knows.ensures c.requires.place) c.drop_stash.ensures.state c.free_if_left.ensures.stopped
+
+pub returns-clause-freed : goal.returns-clause-freed
+returns-clause-freed c = dropped_freed c.free_if_left.result c.args.place.now (on_of c.knows.ensures c.requires.place) c.drop_stash.ensures.state c.free_if_left.ensures.freed

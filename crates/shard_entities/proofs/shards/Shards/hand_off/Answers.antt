@@ -2,6 +2,7 @@ use Rattle.std.proofs.Common.{◌∷◌, map}
 use Rattle.yard_model.specs.declared.packet.Body.TheVariants as body
 use Rattle.yard_model.specs.Entities.{entities_of, free_if_left}
 use Rattle.yard_model.specs.Move.{post, handed_off}
+use Rattle.shard_entities.proofs.FreedLaws.{handed_freed}
 use Rattle.shard_entities.proofs.LoopLaws.{turn_state, turn_out, each_stopped, each_told, handed_answers, handed_settled, handed_there, handed_shard, handed_room}
 use Rattle.shard_entities.proofs.shards.Shards.hand_off.Goals as goal
 
@@ -25,3 +26,6 @@ returns-clause-out c = turn_out c.args.self.now c.args.out.now (λ st. handed_of
 
 pub returns-clause-store : goal.returns-clause-store
 returns-clause-store c = handed_answers c.free_if_left-stopped.result c.args.s c.args.stamp c.args.to c.knows.ensures c.requires.shard (each_stopped c.args.self.now c.args.s c.args.stamp c.args.to c.set_stopping.ensures c.stop_each.ensures.state) c.free_if_left-stopped.ensures.stopped c.store_of.ensures
+
+pub returns-clause-freed : goal.returns-clause-freed
+returns-clause-freed c = handed_freed c.free_if_left-stopped.result c.args.s c.args.stamp c.args.to c.knows.ensures c.requires.shard (each_stopped c.args.self.now c.args.s c.args.stamp c.args.to c.set_stopping.ensures c.stop_each.ensures.state) c.free_if_left-stopped.ensures.stopped c.free_if_left-stopped.ensures.freed c.store_of.ensures

@@ -1,0 +1,5 @@
+pub mod Closes
+pub mod Steadies
+pub mod Queues
+pub mod Runs
+pub mod Closed

@@ -27,13 +27,18 @@ use Rattle.play_laws.specs.Sound.{Sound, LeadsOn}
 use Rattle.play_laws.proofs.Lines.{lines_still, orders_played}
 use Rattle.play_laws.proofs.Orders.{of_placed, active_placed}
 use Rattle.play_laws.proofs.Steps.{up_leads, go_down_leads}
-use Rattle.query_laws.specs.Known.{is_settle, are_told, OrdersAreKnown}
+use Rattle.settle_laws.specs.Settles.{AreSettled, SettlesLeaveNone}
+use Rattle.query_laws.specs.Known.{OrdersAreKnown}
 use Rattle.query_laws.proofs.Along.{KnowsViews}
 use Rattle.query_laws.proofs.KnownNear.{Near, all_none, none_agrees, line_near}
 use Rattle.query_laws.proofs.KnownOrders.{give_or_knows, silent_knows, fail_knows, produce_knows, waits_knows, AllListed, all_listed, listed_take, line_knows, given_line}
 use Rattle.query_laws.proofs.KnownSteps.{Knows, Any, NoPacket, then_knows, if_knows, nothing_knows, views_knows, come_up_knows, go_down_knows, drain_knows, deliver_knows}
 use Rattle.query_laws.proofs.KnownTurn.{Shows, Fits}
 use Rattle.query_laws.proofs.Steps.{agree_still, nobody_acts, still_known}
+
+abbrev is_settle : Order → Bool
+is_settle order.Settle = true
+is_settle o = false
 
 -- Orders after which nothing is asked of the packet that was got last.
 
@@ -127,6 +132,30 @@ line_is_known shows crashes c orders number (order.Ping p) w e fits named short 
 
 -- Scripts.
 
+-- whether the facts still tell the words of nodes after these lines, where they did before: the ticks inside a settle are told by no fact, so after it they do once no node is up
+abbrev are_told : List Line → World → Bool → Bool
+are_told [] w b = b
+are_told (l ∷ ls) w b = let v : World = (play_line l w).world in are_told ls v (not (is_any_up v) || (b && not (is_settle l.order)))
+
+-- after a settle no node is up, so they always do
+any_told : (a b : Bool) → (b ≡ false → a ≡ false) → (not a || (true && b)) ≡ true
+any_told a true h = by a
+  where
+    by : (x : Bool) → (not x || true) ≡ true
+    by true = refl
+    by false = refl
+any_told a false h = ap (λ x. not x || false) (h refl)
+
+settled_none : (o : Order) (P : Type 0) → (o ≡ order.Settle → P) → not (is_settle o) ≡ false → P
+settled_none order.Settle P h e = h refl
+settled_none o P h e = absurd (true≢false e)
+
+all_told : (ls : List Line) (w : World) → AreSettled ls w → are_told ls w true ≡ true
+all_told [] w s = refl
+all_told (l ∷ ls) w s =
+    let v : World = (play_line l w).world in
+    subst (λ b. are_told ls v b ≡ true) (sym (any_told (is_any_up v) (not (is_settle l.order)) (settled_none l.order (is_any_up v ≡ false) s.1))) (all_told ls v s.2)
+
 -- what the queries answer after these steps: all but the nodes; these, where the facts tell them
 abbrev Ends : List Line → Known → Made → Bool → Type 0
 Ends orders k m b = Near orders (fold know k m.facts) m.world × (m.world.full ≡ false → b ≡ true → Fits orders (fold know k m.facts) m.world)
@@ -170,9 +199,9 @@ lines_end shows crashes leads orders (l ∷ ls) w era k b listed fits going s ne
         let t : (b ≡ true) × (not (is_settle l.order) ≡ true) = and_both b (not (is_settle l.order)) h in
         (line_is_known shows crashes era.script orders l.number l.order w listed.0 ours.0 ours.1 (of_not (is_settle l.order) t.1) going era.trace s k (fit t.0) tt e).0
 
-pub orders_are_known : Shows → CrashStands → LineLeadsOn → PlayedIsSound → OrdersAreKnown
-orders_are_known shows crashes leads sound c limit n script different =
-    (done.0.rest_is, λ full told. let fit : Fits c.orders (known c.orders first m.facts) m.world = done.1 full told in fit.agree.world_is)
+pub orders_are_known : Shows → CrashStands → LineLeadsOn → PlayedIsSound → SettlesLeaveNone → OrdersAreKnown
+orders_are_known shows crashes leads sound settles c limit n script different =
+    (done.0.rest_is, λ full. let fit : Fits c.orders (known c.orders first m.facts) m.world = done.1 full (all_told (take n c.orders) first (settles c limit n script full)) in fit.agree.world_is)
   where
     first : World
     first = new_world c limit

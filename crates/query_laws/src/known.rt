@@ -13,10 +13,11 @@ use node_laws::cluster::{
 use node_laws::hand::{recorded_stays, turn_is_guarded};
 use node_laws::node::crash_stands;
 use play_laws::play::{line_leads_on, played_is_sound};
+use settle_laws::worlds::settles_leave_none;
 
 /// After any number of the orders of any script whose lines have different numbers, every word of the world
 /// but those of nodes is what the queries answer of the facts; and so is every word of each node, where the
-/// wire isn't full then, and no settle was stopped before its end with a node up since.
+/// wire isn't full then.
 pub fn orders_are_known()
     ensures { OrdersAreKnown }
 {
@@ -40,4 +41,5 @@ pub fn orders_are_known()
     reshaped_is_lawful();
     reshaped_keeps_journals();
     shards_are_there();
+    settles_leave_none();
 }

@@ -22,4 +22,4 @@ returns c = play.orders_are_known (record {
     there = c.shards_are_there.ensures;
   };
   shown = c.turn_shown.ensures;
-}) c.crash_stands.ensures c.line_leads_on.ensures c.played_is_sound.ensures
+}) c.crash_stands.ensures c.line_leads_on.ensures c.played_is_sound.ensures c.settles_leave_none.ensures

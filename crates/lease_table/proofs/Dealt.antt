@@ -1,0 +1,138 @@
+-- The passes that a new table deals.
+use Rattle.std.proofs.Common.{false, ◌≡◌, ℕ, zero, suc, ◌+◌, ◌-◌, ◌<◌, ◌≤◌, true, List, [], ◌∷◌, ◌++◌, length, map, replicate, refl, sym, ap, ◌∙◌, subst, arith, append_assoc, length-append, get_or}
+use Rattle.std.specs.Prelude.{Option, None, Some, is_some}
+use mathlib.Core.Option as maybe
+use Rattle.atomic_table.specs.Seated.{TableId}
+use Rattle.atomic_table.specs.Table.{opening}
+use Rattle.yard_model.specs.Script.{Script}
+use Rattle.yard_model.specs.declared.fact.Fact.{Fact}
+use Rattle.shard_store.specs.declared.store.Store.{Store}
+use Rattle.shard_store.specs.Stores.{slot_at, entries_of, entries_in, entries_at, IsHome, IsThere, AreHomes}
+use Rattle.lease_table.specs.Lists.{at, Has}
+use Rattle.lease_table.specs.Rule.{down, IsTable}
+use Rattle.lease_table.specs.Tells.{SeatState, fresh_view, opening_view, first_of, rest_of, dealt_left, dealt_right}
+use Rattle.lease_table.specs.Leasing.{Pass, pass, counted, IsPass, fresh, dealt_from, dealt, Ready, words_of, length_in, lists_in}
+use Rattle.lease_table.proofs.Places.{at-replicate, down-le}
+use Rattle.lease_table.proofs.Seats.{got_at, begins}
+use Rattle.yard_model.specs.Words as words
+use Rattle.yard_model.specs.Lawful.{is_held}
+use Rattle.lease_table.specs.Fits.{slot_count, Fits}
+
+pub length-replicate : {A : Type 0} (n : ℕ) (a : A) → length (replicate n a) ≡ n
+length-replicate zero a = refl
+length-replicate (suc n) a = ap suc (length-replicate n a)
+
+counted_fresh : (n : ℕ) → counted (replicate n None) ≡ 0
+counted_fresh zero = refl
+counted_fresh (suc n) = counted_fresh n
+
+not_some : (o : Option (List Fact)) → o ≡ None → is_some o ≡ true → ⊥
+not_some None e h = cc
+not_some (Some x) e h = cc
+
+pub fresh_ok : (c : Script) (ls : List (List Fact)) (m : SeatState) (n : ℕ) (order : List ℕ) (room : ℕ) → length ls ≡ slot_count c → m ≡ (fresh c ls n, []) → order ≡ [] → (slot_count c) ≤ room → IsPass c m order room
+fresh_ok c ls m n order room long is none wide = subst (λ (y : SeatState). IsPass c y order room) (sym is) (subst (λ (o : List ℕ). IsPass c (fresh c ls n, []) o room) (sym none) record {
+  carried = refl;
+  charter = refl;
+  live = refl;
+  helds = length-replicate (slot_count c) None;
+  seens = long;
+  oldss = length-replicate (slot_count c) [];
+  listed = λ k e. absurd (not_some (at None (replicate (slot_count c) None) k) (at-replicate None (slot_count c) k) e);
+  count = sym (counted_fresh (slot_count c));
+  room = wide;
+})
+
+-- the loop that deals
+pub record Dealing (z : TableId) (c : Script) (ls : List (List Fact)) (left : ℕ) (now : TableId) (m : SeatState) (passes : List Pass) : Type 0 where
+  pub table : now ≡ z
+  pub some : 1 ≤ left
+  pub me : m ≡ (fresh_view c ls (down left), [])
+  pub passed : passes ++ dealt_from z c ls left ≡ dealt z c ls
+
+pub down_first : (n : ℕ) → 1 ≤ n → first_of (down n) ≡ n
+down_first zero h = absurd (omega arith)
+down_first (suc n) h = refl
+
+pub down_rest : (n : ℕ) → 1 ≤ n → rest_of (down n) ≡ down (n - 1)
+down_rest zero h = absurd (omega arith)
+down_rest (suc n) h = ap down (let e : n ≡ suc n - 1 = omega arith in e)
+
+pub down_split : (n : ℕ) → 1 ≤ n → down n ≡ n ∷ down (n - 1)
+down_split zero h = absurd (omega arith)
+down_split (suc n) h = ap (λ (k : ℕ). suc n ∷ down k) (let e : n ≡ suc n - 1 = omega arith in e)
+
+pub down_apart : (n : ℕ) → 1 ≤ n → Has n (down (n - 1)) → ⊥
+down_apart n h p = let t = down-le (n - 1) n p in let a : n ≤ n - 1 = t.1 in omega arith
+
+pub deals_on : (z : TableId) (c : Script) (ls : List (List Fact)) (left : ℕ) (now now' : TableId) (m m' : SeatState) (passes passes' : List Pass) (p : Pass) → Dealing z c ls left now m passes → 1 < left → now' ≡ now → m' ≡ (dealt_left m.0, m.1) → p ≡ pass z (dealt_right m.0) → passes' ≡ passes ++ p ∷ []
+    → Dealing z c ls (left - 1) now' m' passes'
+deals_on z c ls left now now' m m' passes passes' p d more table is made pushed = record {
+  table = table ∙ d.table;
+  some = omega arith;
+  me = is ∙ ap (λ (x : SeatState). (dealt_left x.0, x.1)) d.me ∙ ap (λ (ns : List ℕ). (fresh_view c ls ns, [])) (down_rest left d.some);
+  passed = ap (λ l. l ++ dealt_from z c ls (left - 1)) pushed ∙ append_assoc passes (p ∷ []) (dealt_from z c ls (left - 1)) ∙ ap (λ (q : Pass). passes ++ q ∷ dealt_from z c ls (left - 1)) (made ∙ ap (λ (x : SeatState). pass z (dealt_right x.0)) d.me ∙ ap (λ (n : ℕ). pass z (fresh c ls n)) (down_first left d.some))
+      ∙ ap (λ (ns : List ℕ). passes ++ map (λ n. pass z (fresh c ls n)) ns) (sym (down_split left d.some)) ∙ d.passed;
+}
+
+pub right_fresh : (z : TableId) (c : Script) (ls : List (List Fact)) (left : ℕ) (now : TableId) (m : SeatState) (passes : List Pass) → Dealing z c ls left now m passes → dealt_right m.0 ≡ fresh c ls left
+right_fresh z c ls left now m passes d = ap (λ (x : SeatState). dealt_right x.0) d.me ∙ ap (λ (n : ℕ). fresh c ls n) (down_first left d.some)
+
+pub last_fresh : (z : TableId) (c : Script) (ls : List (List Fact)) (left : ℕ) (now : TableId) (m : SeatState) (passes : List Pass) → Dealing z c ls left now m passes → left ≤ 1 → m ≡ (fresh c ls 1, [])
+last_fresh z c ls left now m passes d few = d.me ∙ ap (λ (n : ℕ). (fresh_view c ls (down n), [])) (let a : 1 ≤ left = d.some in let e : left ≡ 1 = omega arith in e)
+
+pub ends_dealt : (z : TableId) (c : Script) (ls : List (List Fact)) (left : ℕ) (now : TableId) (m : SeatState) (passes passes' : List Pass) (p : Pass) → Dealing z c ls left now m passes → left ≤ 1 → p ≡ pass z m.0 → passes' ≡ passes ++ p ∷ [] → passes' ≡ dealt z c ls
+ends_dealt z c ls left now m passes passes' p d few made pushed =
+    let one : left ≡ 1 = let a : 1 ≤ left = d.some in omega arith in
+    pushed ∙ ap (λ (q : Pass). passes ++ q ∷ []) (made ∙ ap (λ (x : SeatState). pass z x.0) (last_fresh z c ls left now m passes d few)) ∙ ap (λ (n : ℕ). passes ++ dealt_from z c ls n) (sym one) ∙ d.passed
+
+-- the words and the slots at the start
+at_zeros : (n k : ℕ) (ys : List ℕ) → k < n → get_or (replicate n 0 ++ ys) k 0 ≡ 0
+at_zeros zero k ys h = absurd (omega arith)
+at_zeros (suc n) zero ys h = refl
+at_zeros (suc n) (suc k) ys h = at_zeros n k ys (omega arith)
+
+at_later : (n k : ℕ) (ys : List ℕ) → get_or (replicate n 0 ++ ys) (n + k) 0 ≡ get_or ys k 0
+at_later zero k ys = ap (λ (i : ℕ). get_or ys i 0) (let e : 0 + k ≡ k = omega arith in e)
+at_later (suc n) k ys = ap (λ (i : ℕ). get_or (0 ∷ replicate n 0 ++ ys) i 0) (let e : suc n + k ≡ suc (n + k) = omega arith in e) ∙ at_later n k ys
+
+at_lengths : (xs : List (Option Store)) (k : ℕ) → get_or (map length_in xs) k 0 ≡ length_in (words.at xs k)
+at_lengths [] k = refl
+at_lengths (y ∷ ys) zero = refl
+at_lengths (y ∷ ys) (suc k) = at_lengths ys k
+
+length_map : (xs : List (Option Store)) → length (map length_in xs) ≡ length xs
+length_map [] = refl
+length_map (x ∷ xs) = ap suc (length_map xs)
+
+pub length_lists : (xs : List (Option Store)) → length (lists_in xs) ≡ length xs
+length_lists [] = refl
+length_lists (x ∷ xs) = ap suc (length_lists xs)
+
+wide_words : (c : Script) (xs : List (Option Store)) → length xs ≡ slot_count c → length (words_of (length xs) xs) ≡ slot_count c + slot_count c
+wide_words c xs long = length-append (replicate (length xs) 0) (map length_in xs) ∙ ap (λ (n : ℕ). n + length (map length_in xs)) (length-replicate (length xs) 0 ∙ long) ∙ ap (λ (n : ℕ). (slot_count c) + n) (length_map xs ∙ long)
+
+record Home (c : Script) (k : ℕ) (o : Option Store) : Type 0 where
+  pub store : Store
+  pub is : o ≡ Some store
+  pub home : IsHome c (slot_at c.config k) store
+
+home_there : (c : Script) (k : ℕ) (o : Option Store) → IsThere c (slot_at c.config k) o → Home c k o
+home_there c k None h = absurd h
+home_there c k (Some x) h = record { store = x; is = refl; home = h }
+
+pub opens : (c : Script) (xs : List (Option Store)) (ws : List ℕ) → AreHomes c xs → Ready c xs → ws ≡ words_of (length xs) xs → IsTable c (opening ws xs (opening_view c (lists_in xs)))
+opens c xs ws homes ready is = subst (λ (l : List ℕ). IsTable c (opening l xs (opening_view c (lists_in xs)))) (sym is)
+    (let long : length xs ≡ slot_count c = homes.all in begins c (words_of (length xs) xs) xs homes.script_is
+    (wide_words c xs long)
+    (λ k lt. let t = home_there c k (words.at xs k) (homes.each k (omega arith)) in
+    let log : entries_at xs k ≡ entries_of t.store = ap entries_in t.is in
+    let free : is_held (entries_of t.store) ≡ false = ap is_held (sym log) ∙ ready.free k lt in record {
+      store = t.store;
+      there = got_at xs k (omega arith) ∙ ap maybe.some t.is;
+      rests = record { log = refl; spare = t.home.spare_is free; script = t.home.script_is; slot = t.home.slot_is; closed = free };
+      own = subst (λ (l : List Fact). Fits c k l) log (ready.own k lt);
+      free = at_zeros (length xs) k (map length_in xs) (omega arith);
+      head = ap (λ (n : ℕ). get_or (words_of (length xs) xs) (n + k) 0) (sym long) ∙ at_later (length xs) k (map length_in xs) ∙ at_lengths xs k ∙ ap length log;
+    })
+    ready.confirmed)

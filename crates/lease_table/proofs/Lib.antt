@@ -1,0 +1,13 @@
+pub mod Places
+pub mod Changes
+pub mod Records
+pub mod Steps
+pub mod Charters
+pub mod Taken
+pub mod Turns
+pub mod Given
+pub mod Seats
+pub mod Ties
+pub mod United
+pub mod Dealt
+pub mod Meant

@@ -1,0 +1,10 @@
+pub mod Lists
+pub mod Fits
+pub mod Rule
+pub mod Tells
+pub mod Leasing
+pub mod Belongs
+pub mod Fronts
+pub mod Means
+pub mod Rights
+pub mod Left

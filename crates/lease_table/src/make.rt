@@ -1,0 +1,134 @@
+//! How a table is made.
+ghost use Rattle.std.specs.Prelude.{◌≡◌, ℕ, ◌+◌, ◌<◌, ◌≤◌, ◌++◌, map, replicate, length, None, Some, IfOk, MatchOption, true, false, vec_capacity, vec_len, [], ◌∷◌, List};
+ghost use Rattle.yard_model.specs.declared.fact.Fact.{Fact};
+ghost use Rattle.lease_table.specs.Fits.{slot_count};
+ghost use Rattle.lease_table.specs.Tells.{opening_view};
+ghost use Rattle.lease_table.specs.Leasing.{Ready, dealt, words_of, length_in, lists_in, fresh, pass};
+ghost use Rattle.lease_table.specs.Belongs.{id_of, charter_of};
+ghost use Rattle.lease_table.specs.Left.{left_of};
+
+use crate::View;
+use crate::pass::LeasePass;
+use crate::plays::{About, Deals};
+use crate::table::LeaseTable;
+use atomic_table::{Seat, Table};
+use shard_store::{Parts, Store, Stores};
+use std::alloc::{AllocError, Global};
+use std::snapshot::Snapshot;
+use yard_model::Charter;
+
+/// The passes of the nodes that are left, by rising number of the node.
+#[derive(Drop)]
+pub struct Passes {
+    pub(crate) left: Vec<LeasePass>,
+}
+
+impl Passes {
+    /// The next one. None exactly where all are out.
+    pub fn next(&mut self) -> Option<LeasePass>
+        ensures { MatchOption result ((left_of self.old ≡ []) × (left_of self.new ≡ [])) (λ p. left_of self.old ≡ left_of self.new ++ p ∷ []) }
+    {
+        self.left.pop()
+    }
+}
+
+// How long a list is.
+fn entries_of(store: &Option<Store>) -> u64
+    ensures { result ≡ length_in store.now }
+{
+    match store {
+        Some(store) => store.len() as u64,
+        None => 0,
+    }
+}
+
+fn heads(alloc: Global, places: &[Option<Store>]) -> Result<Vec<u64>, AllocError>
+    ensures { IfOk result (λ v. v.items ≡ words_of (length places.now) places.now) }
+{
+    let mut words = Vec::from_elem(alloc, 0u64, places.len())?;
+    words.reserve(places.len())?;
+    for store in places {
+        words.push(entries_of(store))?;
+    }
+    Ok(words)
+}
+
+impl LeaseTable {
+    // A pass with this one number.
+    fn deal_one(
+        &self,
+        alloc: Global,
+        charter: &Charter,
+        seat: Seat<Option<Store>, View>,
+    ) -> Result<LeasePass, AllocError>
+        requires charter { charter.now ≡ charter_of self.now }
+        requires seat { (seat.table_id ≡ id_of self.now) × ((n : ℕ) × (length seat.me.0.seen ≡ slot_count charter.now) × (seat.me ≡ (fresh charter.now seat.me.0.seen n, []))) }
+        ensures { IfOk result (λ p. p ≡ pass (id_of self.now) seat.me.0) }
+    {
+        let order = Vec::with_capacity(alloc, self.slots)?;
+        Ok(LeasePass {
+            seat,
+            order,
+            charter: Snapshot::of(charter),
+        })
+    }
+
+    fn deal(
+        &self,
+        alloc: Global,
+        charter: &Charter,
+        mut seat: Seat<Option<Store>, View>,
+    ) -> Result<Vec<LeasePass>, AllocError>
+        requires charter { charter.now ≡ charter_of self.now }
+        requires seat { (length seat.me.0.seen ≡ slot_count charter.now) × (seat.table_id ≡ id_of self.now) × (seat.me ≡ (opening_view charter.now seat.me.0.seen, [])) }
+        ensures { IfOk result (λ v. v.items ≡ dealt (id_of self.now) charter.now seat.me.0.seen) }
+    {
+        let mut passes = Vec::new(alloc);
+        let mut left = charter.config().nodes;
+        while left > 1 {
+            let other = self.table.shared.split_seat::<Deals>(&mut seat);
+            passes.push(self.deal_one(alloc, charter, other)?)?;
+            left -= 1;
+        }
+        passes.push(self.deal_one(alloc, charter, seat)?)?;
+        Ok(passes)
+    }
+
+    /// A table of these stores, with a pass for each node. The only error is want of memory.
+    pub fn make(
+        alloc: Global,
+        charter: &Charter,
+        stores: Stores,
+    ) -> Result<(LeaseTable, Passes), AllocError>
+        requires script { stores.script ≡ charter.now }
+        requires ready { Ready charter.now stores.places }
+        ensures table { IfOk result (λ r. charter_of r.0 ≡ charter.now) }
+        ensures passes { IfOk result (λ r. left_of r.1 ≡ dealt (id_of r.0) charter.now (lists_in stores.places)) }
+    {
+        let Parts {
+            script: _,
+            shards,
+            places,
+        } = stores.into_parts();
+        charter.config();
+        let slots = places.len();
+        let words = heads(alloc, places.as_slice())?;
+        let spare = Vec::with_capacity(alloc, slots)?;
+        let about = About {
+            charter: Snapshot::of(charter),
+            opening: Snapshot::of(&places),
+        };
+        let Ok((table, seat)) = Table::new(alloc, words.as_slice(), places, &about) else {
+            return Err(AllocError);
+        };
+        let table = LeaseTable {
+            table,
+            charter: Snapshot::of(charter),
+            shards,
+            slots,
+            spare,
+        };
+        let left = table.deal(alloc, charter, seat)?;
+        Ok((table, Passes { left }))
+    }
+}

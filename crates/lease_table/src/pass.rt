@@ -1,0 +1,43 @@
+//! A pass: a seat at the table, with the slots that are out with it in their order.
+use crate::View;
+use atomic_table::Seat;
+use shard_store::Store;
+use std::marker::Model;
+use std::snapshot::Snapshot;
+use yard_model::Charter;
+
+/// The right to act for nodes at a table, and what was seen there; it holds the slots that it leased.
+#[derive(Drop)]
+pub struct LeasePass {
+    pub(crate) seat: Seat<Option<Store>, View>,
+    pub(crate) order: Vec<usize>,
+    pub(crate) charter: Snapshot<Charter>,
+}
+
+impl Model for LeasePass {
+    ghost use Rattle.std.specs.Prelude.{vec_capacity};
+    ghost use Rattle.lease_table.specs.Leasing.{Pass, pass, IsPass};
+
+    ghost Value = { Pass };
+
+    ghost view = { λ p. pass p.seat.table_id p.seat.me.0 };
+
+    ghost invariant = { λ p. IsPass p.charter.value p.seat.me p.order.items (vec_capacity p.order) };
+}
+
+/// What another may be shown: it has seen what a pass had, and has no number.
+#[derive(Drop)]
+pub struct Note {
+    pub(crate) seat: Seat<Option<Store>, View>,
+}
+
+impl Model for Note {
+    ghost use Rattle.std.specs.Prelude.{◌≡◌, false, []};
+    ghost use Rattle.lease_table.specs.Leasing.{Pass, pass, IsNote};
+
+    ghost Value = { Pass };
+
+    ghost view = { λ p. pass p.seat.table_id p.seat.me.0 };
+
+    ghost invariant = { λ p. IsNote p.seat.me };
+}

@@ -1,0 +1,100 @@
+//! The calls of a table.
+ghost use Rattle.std.specs.Prelude.{◌≡◌, ◌+◌, ◌<◌, ◌≤◌, ◌++◌, None, Some, [], ◌∷◌, length, true, IsTrue};
+ghost use Rattle.yard_model.specs.declared.fact.Fact.TheVariants as fact;
+ghost use Rattle.yard_model.specs.Genuine.{is_slot_of};
+ghost use Rattle.yard_model.specs.SlotReads.{epoch};
+ghost use Rattle.shard_store.specs.Stores.{place_of, entries_of, entries_of_ref};
+ghost use Rattle.shard_lease.specs.Meaning.{Begins};
+ghost use Rattle.lease_table.specs.Lists.{at};
+ghost use Rattle.lease_table.specs.Fits.{slot_count};
+ghost use Rattle.lease_table.specs.Tells.{published, freed, looked};
+ghost use Rattle.lease_table.specs.Leasing.{MayAct, Answers, MayPublish, MayRelease, Met};
+ghost use Rattle.lease_table.specs.Belongs.{id_of, charter_of};
+
+use crate::pass::{LeasePass, Note};
+use crate::table::LeaseTable;
+use shard_lease::Acquire;
+use shard_store::{Store, StoreRef};
+use yard_model::{Cause, Incarnation, Slot};
+
+impl LeaseTable {
+    // The place of a slot.
+    fn place(&self, slot: Slot) -> usize
+        requires { IsTrue (is_slot_of (charter_of self.now) slot) }
+        ensures place { result ≡ place_of (charter_of self.now).config slot }
+        ensures within { result < slot_count (charter_of self.now) }
+    {
+        match slot {
+            Slot::Shard(s) => s.get() as usize,
+            Slot::Coordinator => self.shards as usize,
+            Slot::Queue(p) => self.shards as usize + p.get() as usize,
+        }
+    }
+
+    /// One claim. Where it wins, the slot's store is handed out with a new grant; else it is told which
+    /// node held the slot at that step.
+    pub fn acquire(&self, pass: &mut LeasePass, who: Incarnation, slot: Slot) -> Acquire
+        requires table { pass.old.table ≡ id_of self.now }
+        requires charter { pass.old.view.charter ≡ charter_of self.now }
+        requires slot { IsTrue (is_slot_of (charter_of self.now) slot) }
+        requires may { MayAct pass.old.view who (place_of (charter_of self.now).config slot) }
+        requires free { at None pass.old.view.held (place_of (charter_of self.now).config slot) ≡ None }
+        ensures table { pass.new.table ≡ pass.old.table }
+        ensures answer { Answers pass.old.view who (place_of (charter_of self.now).config slot) result pass.new.view }
+    {
+        let place = self.place(slot);
+        self.acquire_at(pass, who, place)
+    }
+
+    /// One store of the slot's head: the list of the store is published.
+    pub fn publish(&self, pass: &mut LeasePass, slot: Slot, store: StoreRef<'_>)
+        requires table { pass.old.table ≡ id_of self.now }
+        requires charter { pass.old.view.charter ≡ charter_of self.now }
+        requires slot { IsTrue (is_slot_of (charter_of self.now) slot) }
+        requires store { MayPublish pass.old.view (place_of (charter_of self.now).config slot) (entries_of_ref store) }
+        ensures table { pass.new.table ≡ pass.old.table }
+        ensures now { pass.new.view ≡ published pass.old.view (place_of (charter_of self.now).config slot) (entries_of_ref store.entry) }
+        ensures seen { Begins (at [] pass.old.view.seen (place_of (charter_of self.now).config slot)) (entries_of_ref store.entry) }
+    {
+        let place = self.place(slot);
+        self.publish_at(pass, place, store)
+    }
+
+    /// Publishes the end of the lease, moves the store back and frees the slot.
+    pub fn release(&self, pass: &mut LeasePass, slot: Slot, store: Store, cause: Cause)
+        requires table { pass.old.table ≡ id_of self.now }
+        requires charter { pass.old.view.charter ≡ charter_of self.now }
+        requires slot { IsTrue (is_slot_of (charter_of self.now) slot) }
+        requires store { MayRelease pass.old.view (place_of (charter_of self.now).config slot) store }
+        ensures table { pass.new.table ≡ pass.old.table }
+        ensures seen { Begins (at [] pass.old.view.seen (place_of (charter_of self.now).config slot)) (entries_of store ++ fact.Freed slot (epoch (entries_of store)) cause ∷ []) }
+        ensures now { pass.new.view ≡ freed (published pass.old.view (place_of (charter_of self.now).config slot) (entries_of store ++ fact.Freed slot (epoch (entries_of store)) cause ∷ [])) (place_of (charter_of self.now).config slot) }
+    {
+        let place = self.place(slot);
+        self.release_at(pass, place, store, cause)
+    }
+
+    /// How many entries of the slot are published, at least those that the pass has seen.
+    pub fn check(&self, pass: &mut LeasePass, slot: Slot) -> u64
+        requires table { pass.old.table ≡ id_of self.now }
+        requires slot { IsTrue (is_slot_of (charter_of self.now) slot) }
+        ensures table { pass.new.table ≡ pass.old.table }
+        ensures now { pass.new.view ≡ looked pass.old.view result }
+        ensures least { length (at [] pass.old.view.seen (place_of (charter_of self.now).config slot)) ≤ result }
+    {
+        let place = self.place(slot);
+        self.check_at(pass, place)
+    }
+
+    /// The pass has seen of the slot what either had.
+    pub fn meet(&self, pass: LeasePass, note: Note, slot: Slot) -> LeasePass
+        requires table { (pass.table ≡ id_of self.now) × (note.table ≡ id_of self.now) }
+        requires charter { pass.view.charter ≡ charter_of self.now }
+        requires slot { IsTrue (is_slot_of (charter_of self.now) slot) }
+        ensures table { result.table ≡ pass.table }
+        ensures met { Met pass.view note.view (place_of (charter_of self.now).config slot) result.view }
+    {
+        let place = self.place(slot);
+        self.meet_at(pass, note, place)
+    }
+}

@@ -10,7 +10,8 @@ use Rattle.shard_store.specs.declared.store.Store.{Store}
 use Rattle.lease_table.specs.Fits.{slot_count, Fits, AreConfirmed}
 use Rattle.shard_lease.specs.Meaning.{Begins}
 use Rattle.lease_table.specs.declared.View.{View}
-use Rattle.lease_table.specs.Lists.{at, Has}
+use Rattle.lease_table.specs.Lists.{seen_at, Has}
+use Rattle.yard_model.specs.Words.{at}
 use Rattle.lease_table.specs.Rule.{TableState, IsFree, LeasedTo, IsSlot, Holds, IsView, IsTable}
 use Rattle.lease_table.proofs.Places.{same_or_not, begins_on, there_inside}
 
@@ -32,14 +33,14 @@ module _ (c : Script) (s : TableState) (id : ℕ) (v w : View) (ws : List ℕ) (
   Then = at_state ws hs (set s.views id w)
 
   -- where the seat n is this one, its view is w, else as before
-  leased_stays : (j n : ℕ) → get_elem? s.views id ≡ maybe.some v → get_elem? hs j ≡ get_elem? s.homes j → hist' j ≡ hist j → w.numbers ≡ v.numbers → at None w.held j ≡ at None v.held j
+  leased_stays : (j n : ℕ) → get_elem? s.views id ≡ maybe.some v → get_elem? hs j ≡ get_elem? s.homes j → hist' j ≡ hist j → w.numbers ≡ v.numbers → at w.held j ≡ at v.held j
       → LeasedTo c s seat j (hist j) n → LeasedTo c Then seat j (hist' j) n
   leased_stays j n here home same nums helds x = ⊎_elim
       (λ (e : seat n ≡ id). let is : v ≡ x.view = maybe.some-injective v x.view (sym here ∙ ap (λ (i : ℕ). get_elem? s.views i) (sym e) ∙ x.there) in record {
         away = home ∙ x.away;
         view = w;
         there = ap (λ (i : ℕ). get_elem? (set s.views id w) i) e ∙ set_here s.views id w (there_inside s.views id v here);
-        held = helds ∙ ap (λ (u : View). at None u.held j) is ∙ x.held ∙ ap (λ (l : List Fact). Some l) (sym same);
+        held = helds ∙ ap (λ (u : View). at u.held j) is ∙ x.held ∙ ap (λ (l : List Fact). Some l) (sym same);
         number = subst (λ (l : List ℕ). Has n l) (ap (λ (u : View). u.numbers) (sym is) ∙ sym nums) x.number;
         admitted = x.admitted;
       })
@@ -54,7 +55,7 @@ module _ (c : Script) (s : TableState) (id : ℕ) (v w : View) (ws : List ℕ) (
       (same_or_not (seat n) id)
 
   -- a slot where nothing happened
-  slot_stays : (j : ℕ) → get_elem? s.views id ≡ maybe.some v → Same c s ws hs hist hist' j → w.numbers ≡ v.numbers → at None w.held j ≡ at None v.held j → IsSlot c s seat j (hist j) → IsSlot c Then seat j (hist' j)
+  slot_stays : (j : ℕ) → get_elem? s.views id ≡ maybe.some v → Same c s ws hs hist hist' j → w.numbers ≡ v.numbers → at w.held j ≡ at v.held j → IsSlot c s seat j (hist j) → IsSlot c Then seat j (hist' j)
   slot_stays j here same nums helds old = record {
     head = same.head ∙ old.head ∙ ap (λ (l : List Fact). length l) (sym same.hist);
     own = subst (λ (l : List Fact). Fits c j l) (sym same.hist) old.own;
@@ -86,7 +87,7 @@ module _ (c : Script) (s : TableState) (id : ℕ) (v w : View) (ws : List ℕ) (
 
 -- the slot k alone changes, and it is free or leased to a number of this seat
 pub changes : (c : Script) (s : TableState) (r : IsTable c s) (id : ℕ) (v w : View) (k : ℕ) (ws : List ℕ) (hs : Homes) (hist' : ℕ → List Fact) → get_elem? s.views id ≡ maybe.some v
-    → length ws ≡ slot_count c + slot_count c → ((j : ℕ) → j < slot_count c → j ≢ k → Same c s ws hs r.hist hist' j) → w.numbers ≡ v.numbers → ((j : ℕ) → j ≢ k → at None w.held j ≡ at None v.held j)
+    → length ws ≡ slot_count c + slot_count c → ((j : ℕ) → j < slot_count c → j ≢ k → Same c s ws hs r.hist hist' j) → w.numbers ≡ v.numbers → ((j : ℕ) → j ≢ k → at w.held j ≡ at v.held j)
     → ((j : ℕ) → j < slot_count c → Begins (r.hist j) (hist' j)) → (k < slot_count c → (slice_index s.words k ≡ 0) ⊎ (r.seat (slice_index s.words k) ≡ id))
     → (k < slot_count c → IsSlot c (at_state ws hs (set s.views id w)) r.seat k (hist' k)) → IsView c (at_state ws hs (set s.views id w)) hist' r.seat id w → AreConfirmed c hist'
     → IsTable c (at_state ws hs (set s.views id w))
@@ -108,15 +109,15 @@ changes c s r id v w k ws hs hist' here wide same nums helds grows mine slot vie
 
 -- what the seat's own new view owes: its held and seen lists are as before but at k, and it has no other old lists
 pub own_view : (c : Script) (s : TableState) (id : ℕ) (v w : View) (k : ℕ) (ws : List ℕ) (hs : Homes) (hist hist' : ℕ → List Fact) (seat : ℕ → ℕ) → IsView c s hist seat id v → w.spent ≡ v.spent → w.charter ≡ v.charter → w.numbers ≡ v.numbers
-    → ((j : ℕ) → j ≢ k → at None w.held j ≡ at None v.held j) → ((j : ℕ) → j ≢ k → at [] w.seen j ≡ at [] v.seen j) → ((j : ℕ) (y : List Fact) → Has y (at [] w.olds j) → Has y (at [] v.olds j))
+    → ((j : ℕ) → j ≢ k → at w.held j ≡ at v.held j) → ((j : ℕ) → j ≢ k → seen_at w.seen j ≡ seen_at v.seen j) → ((j : ℕ) (y : List Fact) → Has y (seen_at w.olds j) → Has y (seen_at v.olds j))
     → ((j : ℕ) → j < slot_count c → j ≢ k → Same c s ws hs hist hist' j) → ((j : ℕ) → j < slot_count c → Begins (hist j) (hist' j))
-    → ((l : List Fact) → at None w.held k ≡ Some l → Holds c (at_state ws hs (set s.views id w)) hist' seat id k w l) → (k < slot_count c → Begins (at [] w.seen k) (hist' k))
+    → ((l : List Fact) → at w.held k ≡ Some l → Holds c (at_state ws hs (set s.views id w)) hist' seat id k w l) → (k < slot_count c → Begins (seen_at w.seen k) (hist' k))
     → IsView c (at_state ws hs (set s.views id w)) hist' seat id w
 own_view c s id v w k ws hs hist hist' seat old spent charter nums helds seens oldss same grows here_held here_seen = record {
   charter = λ e. charter ∙ old.charter (sym spent ∙ e);
   numbers = λ n h. old.numbers n (subst (λ (l : List ℕ). Has n l) nums h);
   held = λ j l h. ⊎_elim
-      (λ (e : j ≡ k). subst (λ (i : ℕ). Holds c (at_state ws hs (set s.views id w)) hist' seat id i w l) (sym e) (here_held l (subst (λ (i : ℕ). at None w.held i ≡ Some l) e h)))
+      (λ (e : j ≡ k). subst (λ (i : ℕ). Holds c (at_state ws hs (set s.views id w)) hist' seat id i w l) (sym e) (here_held l (subst (λ (i : ℕ). at w.held i ≡ Some l) e h)))
       (λ (n : j ≢ k). let o = old.held j l (sym (helds j n) ∙ h) in let t = same j o.inside n in record {
         inside = o.inside;
         leased = λ e. o.leased (sym t.owner ∙ e);
@@ -126,7 +127,7 @@ own_view c s id v w k ws hs hist hist' seat old spent charter nums helds seens o
       })
       (same_or_not j k);
   seen = λ j lt. ⊎_elim
-      (λ (e : j ≡ k). subst (λ (i : ℕ). Begins (at [] w.seen i) (hist' i)) (sym e) (here_seen (subst (λ (y : ℕ). y < slot_count c) e lt)))
+      (λ (e : j ≡ k). subst (λ (i : ℕ). Begins (seen_at w.seen i) (hist' i)) (sym e) (here_seen (subst (λ (y : ℕ). y < slot_count c) e lt)))
       (λ (n : j ≢ k). subst (λ (l : List Fact). Begins l (hist' j)) (sym (seens j n)) (begins_on _ _ _ (old.seen j lt) (grows j lt)))
       (same_or_not j k);
   olds = λ j lt y h. begins_on _ _ _ (old.olds j lt y (oldss j y h)) (grows j lt);

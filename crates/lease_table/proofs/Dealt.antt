@@ -1,6 +1,9 @@
 -- The passes that a new table deals.
-use Rattle.std.proofs.Common.{false, ◌≡◌, ℕ, zero, suc, ◌+◌, ◌-◌, ◌<◌, ◌≤◌, true, List, [], ◌∷◌, ◌++◌, length, map, replicate, refl, sym, ap, ◌∙◌, subst, arith, append_assoc, length-append, get_or}
-use Rattle.std.specs.Prelude.{Option, None, Some, is_some}
+use Rattle.std.proofs.Common.{false, ◌≡◌, ℕ, zero, suc, ◌+◌, ◌-◌, ◌<◌, ◌≤◌, true, List, [], ◌∷◌, ◌++◌, length, map, replicate, refl, sym, ap, ◌∙◌, subst, arith, append_assoc, length-append, get_or, true≢false}
+use Rattle.plain_laws.proofs.Booleans.{get_replicate}
+use Rattle.std.specs.Prelude.{Option, None, Some, is_some, reverse}
+use Rattle.std.proofs.Math.ListN.{get_or-map}
+use Rattle.std.proofs.lemmas.List.{length-map, map-append, reverse-append, length-replicate, get_or_append_left, get_or-append-add}
 use mathlib.Core.Option as maybe
 use Rattle.atomic_table.specs.Seated.{TableId}
 use Rattle.atomic_table.specs.Table.{opening}
@@ -8,27 +11,20 @@ use Rattle.yard_model.specs.Script.{Script}
 use Rattle.yard_model.specs.declared.fact.Fact.{Fact}
 use Rattle.shard_store.specs.declared.store.Store.{Store}
 use Rattle.shard_store.specs.Stores.{slot_at, entries_of, entries_in, entries_at, IsHome, IsThere, AreHomes}
-use Rattle.lease_table.specs.Lists.{at, Has}
+use Rattle.lease_table.specs.Lists.{Has}
+use Rattle.yard_model.specs.Words.{at, numbers}
 use Rattle.lease_table.specs.Rule.{down, IsTable}
 use Rattle.lease_table.specs.Tells.{SeatState, fresh_view, opening_view, first_of, rest_of, dealt_left, dealt_right}
-use Rattle.lease_table.specs.Leasing.{Pass, pass, counted, IsPass, fresh, dealt_from, dealt, Ready, words_of, length_in, lists_in}
-use Rattle.lease_table.proofs.Places.{at-replicate, down-le}
+use Rattle.lease_table.specs.Leasing.{Pass, pass, counted, IsPass, fresh, dealt_from, Ready, words_of, length_in, lists_in}
+use Rattle.lease_table.proofs.Places.{down-le, not_some}
 use Rattle.lease_table.proofs.Seats.{got_at, begins}
-use Rattle.yard_model.specs.Words as words
 use Rattle.yard_model.specs.Lawful.{is_held}
+use Rattle.shard_lease.specs.Meaning.{confirms}
 use Rattle.lease_table.specs.Fits.{slot_count, Fits}
-
-pub length-replicate : {A : Type 0} (n : ℕ) (a : A) → length (replicate n a) ≡ n
-length-replicate zero a = refl
-length-replicate (suc n) a = ap suc (length-replicate n a)
 
 counted_fresh : (n : ℕ) → counted (replicate n None) ≡ 0
 counted_fresh zero = refl
 counted_fresh (suc n) = counted_fresh n
-
-not_some : (o : Option (List Fact)) → o ≡ None → is_some o ≡ true → ⊥
-not_some None e h = cc
-not_some (Some x) e h = cc
 
 pub fresh_ok : (c : Script) (ls : List (List Fact)) (m : SeatState) (n : ℕ) (order : List ℕ) (room : ℕ) → length ls ≡ slot_count c → m ≡ (fresh c ls n, []) → order ≡ [] → (slot_count c) ≤ room → IsPass c m order room
 fresh_ok c ls m n order room long is none wide = subst (λ (y : SeatState). IsPass c y order room) (sym is) (subst (λ (o : List ℕ). IsPass c (fresh c ls n, []) o room) (sym none) record {
@@ -38,7 +34,7 @@ fresh_ok c ls m n order room long is none wide = subst (λ (y : SeatState). IsPa
   helds = length-replicate (slot_count c) None;
   seens = long;
   oldss = length-replicate (slot_count c) [];
-  listed = λ k e. absurd (not_some (at None (replicate (slot_count c) None) k) (at-replicate None (slot_count c) k) e);
+  listed = λ k e. absurd (not_some (at (replicate (slot_count c) None) k) (get_replicate (slot_count c) k None) e);
   count = sym (counted_fresh (slot_count c));
   room = wide;
 })
@@ -48,7 +44,7 @@ pub record Dealing (z : TableId) (c : Script) (ls : List (List Fact)) (left : �
   pub table : now ≡ z
   pub some : 1 ≤ left
   pub me : m ≡ (fresh_view c ls (down left), [])
-  pub passed : passes ++ dealt_from z c ls left ≡ dealt z c ls
+  pub passed : passes ++ dealt_from z c ls left ≡ dealt_from z c ls c.config.nodes
 
 pub down_first : (n : ℕ) → 1 ≤ n → first_of (down n) ≡ n
 down_first zero h = absurd (omega arith)
@@ -81,36 +77,40 @@ right_fresh z c ls left now m passes d = ap (λ (x : SeatState). dealt_right x.0
 pub last_fresh : (z : TableId) (c : Script) (ls : List (List Fact)) (left : ℕ) (now : TableId) (m : SeatState) (passes : List Pass) → Dealing z c ls left now m passes → left ≤ 1 → m ≡ (fresh c ls 1, [])
 last_fresh z c ls left now m passes d few = d.me ∙ ap (λ (n : ℕ). (fresh_view c ls (down n), [])) (let a : 1 ≤ left = d.some in let e : left ≡ 1 = omega arith in e)
 
-pub ends_dealt : (z : TableId) (c : Script) (ls : List (List Fact)) (left : ℕ) (now : TableId) (m : SeatState) (passes passes' : List Pass) (p : Pass) → Dealing z c ls left now m passes → left ≤ 1 → p ≡ pass z m.0 → passes' ≡ passes ++ p ∷ [] → passes' ≡ dealt z c ls
+pub ends_dealt : (z : TableId) (c : Script) (ls : List (List Fact)) (left : ℕ) (now : TableId) (m : SeatState) (passes passes' : List Pass) (p : Pass) → Dealing z c ls left now m passes → left ≤ 1 → p ≡ pass z m.0 → passes' ≡ passes ++ p ∷ [] → passes' ≡ dealt_from z c ls c.config.nodes
 ends_dealt z c ls left now m passes passes' p d few made pushed =
     let one : left ≡ 1 = let a : 1 ≤ left = d.some in omega arith in
     pushed ∙ ap (λ (q : Pass). passes ++ q ∷ []) (made ∙ ap (λ (x : SeatState). pass z x.0) (last_fresh z c ls left now m passes d few)) ∙ ap (λ (n : ℕ). passes ++ dealt_from z c ls n) (sym one) ∙ d.passed
 
+numbers_last : (a n b : ℕ) → b ≡ a + n → numbers a (suc n) ≡ numbers a n ++ b ∷ []
+numbers_last a zero b e = ap (λ k. k ∷ []) (let same : a ≡ b = omega arith in same)
+numbers_last a (suc n) b e = ap (λ l. a ∷ l) (numbers_last (a + 1) n b (omega arith))
+
+-- by rising node
+pub in_order : (z : TableId) (c : Script) (ls : List (List Fact)) (n : ℕ) → reverse (dealt_from z c ls n) ≡ map (λ m. pass z (fresh c ls m)) (numbers 1 n)
+in_order z c ls zero = refl
+in_order z c ls (suc n) =
+    let f : ℕ → Pass = λ m. pass z (fresh c ls m) in
+    reverse-append (f (suc n) ∷ []) (dealt_from z c ls n)
+    ∙ ap (λ l. l ++ f (suc n) ∷ []) (in_order z c ls n)
+    ∙ sym (map-append f (numbers 1 n) (suc n ∷ []))
+    ∙ ap (map f) (sym (numbers_last 1 n (suc n) (omega arith)))
+
+pub popped : (old new : List Pass) (p : Pass) → old ≡ new ++ p ∷ [] → reverse old ≡ p ∷ reverse new
+popped old new p e = ap reverse e ∙ reverse-append new (p ∷ [])
+
 -- the words and the slots at the start
 at_zeros : (n k : ℕ) (ys : List ℕ) → k < n → get_or (replicate n 0 ++ ys) k 0 ≡ 0
-at_zeros zero k ys h = absurd (omega arith)
-at_zeros (suc n) zero ys h = refl
-at_zeros (suc n) (suc k) ys h = at_zeros n k ys (omega arith)
+at_zeros n k ys h = get_or_append_left (replicate n 0) ys 0 k (omega (arith, length-replicate n 0)) ∙ get_replicate n k 0
 
 at_later : (n k : ℕ) (ys : List ℕ) → get_or (replicate n 0 ++ ys) (n + k) 0 ≡ get_or ys k 0
-at_later zero k ys = ap (λ (i : ℕ). get_or ys i 0) (let e : 0 + k ≡ k = omega arith in e)
-at_later (suc n) k ys = ap (λ (i : ℕ). get_or (0 ∷ replicate n 0 ++ ys) i 0) (let e : suc n + k ≡ suc (n + k) = omega arith in e) ∙ at_later n k ys
-
-at_lengths : (xs : List (Option Store)) (k : ℕ) → get_or (map length_in xs) k 0 ≡ length_in (words.at xs k)
-at_lengths [] k = refl
-at_lengths (y ∷ ys) zero = refl
-at_lengths (y ∷ ys) (suc k) = at_lengths ys k
-
-length_map : (xs : List (Option Store)) → length (map length_in xs) ≡ length xs
-length_map [] = refl
-length_map (x ∷ xs) = ap suc (length_map xs)
+at_later n k ys = ap (λ (z : ℕ). get_or (replicate n 0 ++ ys) (z + k) 0) (sym (length-replicate n 0)) ∙ get_or-append-add (replicate n 0) ys k 0
 
 pub length_lists : (xs : List (Option Store)) → length (lists_in xs) ≡ length xs
-length_lists [] = refl
-length_lists (x ∷ xs) = ap suc (length_lists xs)
+length_lists xs = length-map xs entries_in
 
 wide_words : (c : Script) (xs : List (Option Store)) → length xs ≡ slot_count c → length (words_of (length xs) xs) ≡ slot_count c + slot_count c
-wide_words c xs long = length-append (replicate (length xs) 0) (map length_in xs) ∙ ap (λ (n : ℕ). n + length (map length_in xs)) (length-replicate (length xs) 0 ∙ long) ∙ ap (λ (n : ℕ). (slot_count c) + n) (length_map xs ∙ long)
+wide_words c xs long = length-append (replicate (length xs) 0) (map length_in xs) ∙ ap (λ (n : ℕ). n + length (map length_in xs)) (length-replicate (length xs) 0 ∙ long) ∙ ap (λ (n : ℕ). (slot_count c) + n) (length-map xs length_in ∙ long)
 
 record Home (c : Script) (k : ℕ) (o : Option Store) : Type 0 where
   pub store : Store
@@ -125,7 +125,7 @@ pub opens : (c : Script) (xs : List (Option Store)) (ws : List ℕ) → AreHomes
 opens c xs ws homes ready is = subst (λ (l : List ℕ). IsTable c (opening l xs (opening_view c (lists_in xs)))) (sym is)
     (let long : length xs ≡ slot_count c = homes.all in begins c (words_of (length xs) xs) xs homes.script_is
     (wide_words c xs long)
-    (λ k lt. let t = home_there c k (words.at xs k) (homes.each k (omega arith)) in
+    (λ k lt. let t = home_there c k (at xs k) (homes.each k (omega arith)) in
     let log : entries_at xs k ≡ entries_of t.store = ap entries_in t.is in
     let free : is_held (entries_of t.store) ≡ false = ap is_held (sym log) ∙ ready.free k lt in record {
       store = t.store;
@@ -133,6 +133,13 @@ opens c xs ws homes ready is = subst (λ (l : List ℕ). IsTable c (opening l xs
       rests = record { log = refl; spare = t.home.spare_is free; script = t.home.script_is; slot = t.home.slot_is; closed = free };
       own = subst (λ (l : List Fact). Fits c k l) log (ready.own k lt);
       free = at_zeros (length xs) k (map length_in xs) (omega arith);
-      head = ap (λ (n : ℕ). get_or (words_of (length xs) xs) (n + k) 0) (sym long) ∙ at_later (length xs) k (map length_in xs) ∙ at_lengths xs k ∙ ap length log;
+      head = ap (λ (n : ℕ). get_or (words_of (length xs) xs) (n + k) 0) (sym long) ∙ at_later (length xs) k (map length_in xs) ∙ get_or-map length_in xs k None ∙ ap length log;
     })
     ready.confirmed)
+
+pub empty_ready : (c : Script) (xs : List (Option Store)) → ((k : ℕ) → entries_at xs k ≡ []) → Ready c xs
+empty_ready c xs none = record {
+  free = λ k lt. ap is_held (none k);
+  own = λ k lt. subst (Fits c k) (sym (none k)) record { lawful = refl; fit = refl };
+  confirmed = λ k x p n lt h. absurd (true≢false (sym h ∙ ap (confirms x p n) (none k)));
+}

@@ -1,14 +1,15 @@
 -- What a pass keeps where it gives a slot back, and what a closed table has.
 use Rattle.std.proofs.Common.{◌&&◌, ◌≡◌, ◌≢◌, ℕ, zero, suc, ◌-◌, ◌<◌, ◌≤◌, ⊎_elim, Bool, true, false, ◌||◌, List, [], ◌∷◌, ◌++◌, length, map, refl, sym, ap, ◌∙◌, subst, arith, eqb, ne_eqb}
+use Rattle.std.proofs.lemmas.List.{get_or-set_same, get_or-set_other, length-set}
 use Rattle.std.specs.Prelude.{Option, None, Some, is_some, slice_index}
 use Rattle.std.specs.List.{list_any, list_all}
 use Rattle.std.proofs.lemmas.List.Folds.{list_any-append, list_all-append}
 use Rattle.std.proofs.lemmas.List.Sums.{fold-append}
 use Rattle.plain_laws.proofs.Booleans.{both}
+use Rattle.plain_laws.proofs.Lists.{some_is, none_is_not_some}
 use Rattle.yard_model.specs.declared.incarnation.Incarnation.{Incarnation}
 use Rattle.yard_model.specs.declared.incarnation.Slot.{Slot}
-use Rattle.yard_model.specs.Words as words
-use Rattle.lease_table.proofs.Records.{home_inside}
+use Rattle.lease_table.proofs.Records.{home_inside, confirms_before}
 use Rattle.lease_table.proofs.Seats.{got_at}
 use mathlib.Core.Option as maybe
 use lib.ListN.{get_elem?}
@@ -24,12 +25,14 @@ use Rattle.yard_model.specs.Lawful.{own, is_held}
 use Rattle.yard_model.specs.SlotReads.{epoch, holder_step}
 use Rattle.shard_store.specs.Stores.{script_of, slot_of, entries_of, spare_of, slot_at, entries_in, entries_at, IsHome, IsThere, AreHomes}
 use Rattle.lease_table.specs.declared.View.{View}
-use Rattle.lease_table.specs.Lists.{at, put, Has}
+use Rattle.lease_table.specs.Lists.{seen_at, Has}
+use Rattle.yard_model.specs.Words.{at}
+use Rattle.std.specs.Prelude.{slice_set}
 use Rattle.lease_table.specs.Rule.{IsTable, IsFree}
 use Rattle.lease_table.specs.Tells.{SeatState, published, freed}
 use Rattle.lease_table.specs.Leasing.{empty, counted, IsPass, MayRelease, MayPublish, Closes, Closed, ClosedAt}
 use Rattle.lease_table.specs.Fronts.{Brought}
-use Rattle.lease_table.proofs.Places.{same_or_not, put_here, put_else, length-put, begins_on, at_snoc_place}
+use Rattle.lease_table.proofs.Places.{same_or_not, begins_on, at_snoc_place, not_some}
 use Rattle.lease_table.proofs.Steps.{nothing_held}
 use Rattle.lease_table.proofs.Charters.{admitted_some}
 use Rattle.lease_table.proofs.Taken.{counted_put_again}
@@ -37,20 +40,13 @@ use Rattle.lease_table.proofs.Taken.{counted_put_again}
 abbrev ended : Slot → List Fact → Cause → List Fact
 ended s h cause = h ++ fact.Freed s (epoch h) cause ∷ []
 
-confirms_more : (e : List ℕ) (p n : ℕ) (s : Slot) (list : List Fact) (m : ℕ) (cause : Cause) → confirms e p n (list ++ fact.Freed s m cause ∷ []) ≡ true → confirms e p n list ≡ true
-confirms_more e p n s list m cause h = no_more (confirms e p n list) (sym (list_any-append (is_confirmed e p n) list (fact.Freed s m cause ∷ [])) ∙ h)
-  where
-    no_more : (b : Bool) → (b || (false || false)) ≡ true → b ≡ true
-    no_more true k = refl
-    no_more false k = k
-
 pub may_end : (v : View) (k : ℕ) (x : Store) (cause : Cause) (new : List Fact) → MayRelease v k x → own v.charter (slot_at v.charter.config k) new ≡ true → new ≡ ended (slot_at v.charter.config k) (entries_of x) cause → MayPublish v k new
 may_end v k x cause new may lawful is =
     let s : Slot = slot_at v.charter.config k in record {
       old = may.old;
       held = may.held;
       extends = subst (λ (l : List Fact). Begins may.old l) (sym is) (begins_on may.old (entries_of x) (ended s (entries_of x) cause) may.extends record { rest = fact.Freed s (epoch (entries_of x)) cause ∷ []; is = refl });
-      vouched = λ e p n h. may.vouched e p n (confirms_more e p n s (entries_of x) (epoch (entries_of x)) cause (subst (λ (l : List Fact). confirms e p n l ≡ true) is h));
+      vouched = λ e p n h. may.vouched e p n (confirms_before e p n (entries_of x) (fact.Freed s (epoch (entries_of x)) cause) refl (subst (λ (l : List Fact). confirms e p n l ≡ true) is h));
       own = record {
         lawful = lawful;
         fit = subst (λ (l : List Fact). list_all (is_fit v.charter s) l ≡ true) (sym is) (list_all-append (is_fit v.charter s) (entries_of x) (fact.Freed s (epoch (entries_of x)) cause ∷ []) ∙ both (list_all (is_fit v.charter s) (entries_of x)) (true && true) may.fit refl);
@@ -70,44 +66,40 @@ rests_ended c v k x y cause is may log spare script slot = record {
   closed = ap is_held log ∙ not_held_then (slot_of x) (entries_of x) (epoch (entries_of x)) cause;
 }
 
-pub counted_out : (l : List (Option (List Fact))) (k : ℕ) (old : List Fact) → at None l k ≡ Some old → suc (counted (put l k None)) ≡ counted l
+pub counted_out : (l : List (Option (List Fact))) (k : ℕ) (old : List Fact) → at l k ≡ Some old → suc (counted (slice_set l k None)) ≡ counted l
 counted_out [] k old e = cc
 counted_out (None ∷ xs) zero old e = cc
 counted_out (Some x ∷ xs) zero old e = refl
 counted_out (None ∷ xs) (suc k) old e = counted_out xs k old e
 counted_out (Some x ∷ xs) (suc k) old e = ap suc (counted_out xs k old e)
 
-not_some : (o : Option (List Fact)) → o ≡ None → is_some o ≡ true → ⊥
-not_some None e h = cc
-not_some (Some x) e h = cc
-
 or_then : (a b : Bool) → a ≡ false → (a || b) ≡ true → b ≡ true
 or_then true b e h = cc
 or_then false b e h = h
 
 -- m at entry, w after the publish, n at the end
-pub gave_ok : (c : Script) (m n : SeatState) (order now last : List ℕ) (cs : List (ℕ × Option Store)) (room room' k : ℕ) (old h : List Fact) → IsPass c m order room → at None m.0.held k ≡ Some old → k < slot_count c → (b : Brought k order now cs) → last ≡ b.tail
+pub gave_ok : (c : Script) (m n : SeatState) (order now last : List ℕ) (cs : List (ℕ × Option Store)) (room room' k : ℕ) (old h : List Fact) → IsPass c m order room → at m.0.held k ≡ Some old → k < slot_count c → (b : Brought k order now cs) → last ≡ b.tail
     → n ≡ (freed (published m.0 k h) k, rest cs) → room' ≡ room → IsPass c n last room'
 gave_ok c m n order now last cs room room' k old h ok has lt b is_last is same =
     let w : View = freed (published m.0 k h) k in
-    let held1 : List (Option (List Fact)) = put m.0.held k (Some h) in
+    let held1 : List (Option (List Fact)) = slice_set m.0.held k (Some h) in
     let wide : length m.0.held ≡ slot_count c = ok.helds in
-    let in1 : at None held1 k ≡ Some h = put_here None m.0.held k (Some h) (omega arith) in
-    let none : at None (put held1 k None) k ≡ None = put_here None held1 k None (let e : length held1 ≡ length m.0.held = length-put m.0.held k (Some h) in omega arith) in
-    let other : (j : ℕ) → j ≢ k → at None (put held1 k None) j ≡ at None m.0.held j = λ j p. put_else None held1 k j None p ∙ put_else None m.0.held k j (Some h) p in
+    let in1 : at held1 k ≡ Some h = get_or-set_same m.0.held k (Some h) None (omega arith) in
+    let none : at (slice_set held1 k None) k ≡ None = get_or-set_same held1 k None None (let e : length held1 ≡ length m.0.held = length-set m.0.held k (Some h) in omega arith) in
+    let other : (j : ℕ) → j ≢ k → at (slice_set held1 k None) j ≡ at m.0.held j = λ j p. get_or-set_other held1 k j None None p ∙ get_or-set_other m.0.held k j (Some h) None p in
     let carried : rest cs ≡ map empty b.tail = ap (λ (l : List (ℕ × Option Store)). rest l) (b.all ∙ ap (λ (l : List ℕ). map empty l) b.is) in
     let long : suc (length b.tail) ≡ length order = ap (λ (l : List ℕ). length l) (sym b.is) ∙ b.long in
     let count1 : counted held1 ≡ counted m.0.held = counted_put_again m.0.held k h old has in
-    let count2 : suc (counted (put held1 k None)) ≡ counted held1 = counted_out held1 k h in1 in
+    let count2 : suc (counted (slice_set held1 k None)) ≡ counted held1 = counted_out held1 k h in1 in
     let count0 : length order ≡ counted m.0.held = ok.count in
     subst (λ (y : SeatState). IsPass c y last room') (sym is) (subst (λ (y : List ℕ). IsPass c (w, rest cs) y room') (sym is_last) record {
       carried = carried;
       charter = ok.charter;
       live = ok.live;
-      helds = length-put held1 k None ∙ length-put m.0.held k (Some h) ∙ ok.helds;
-      seens = length-put m.0.seen k h ∙ ok.seens;
+      helds = length-set held1 k None ∙ length-set m.0.held k (Some h) ∙ ok.helds;
+      seens = length-set m.0.seen k h ∙ ok.seens;
       oldss = ok.oldss;
-      listed = λ j e. ⊎_elim (λ (p : j ≡ k). absurd (not_some _ (subst (λ (y : ℕ). at None (put held1 k None) y ≡ None) (sym p) none) e))
+      listed = λ j e. ⊎_elim (λ (p : j ≡ k). absurd (not_some _ (subst (λ (y : ℕ). at (slice_set held1 k None) y ≡ None) (sym p) none) e))
           (λ (p : j ≢ k). or_then (eqb j k) (list_any (eqb j) b.tail) (ne_eqb j k p)
           (ap (λ (l : List ℕ). list_any (eqb j) l) (sym b.is) ∙ b.same j ∙ ok.listed j (ap (λ (o : Option (List Fact)). is_some o) (sym (other j p)) ∙ e))) (same_or_not j k);
       count = omega arith;
@@ -121,11 +113,11 @@ not_out c id v ws xs f all k lt n =
     let t = sl.out n in let a = admitted_some c (slice_index s.words k) (slot_at c.config k) t.admitted in
     let to : r.seat (slice_index s.words k) ≡ id = me.numbers _ (all.numbers (slice_index s.words k) a.0 a.1) in
     let u : v ≡ t.view = maybe.some-injective v t.view (sym here ∙ ap (λ (i : ℕ). get_elem? s.views i) (sym to) ∙ t.there) in
-    nothing_held (at None v.held k) (r.hist k) (all.nothing k) (ap (λ (y : View). at None y.held k) u ∙ t.held)
+    nothing_held (at v.held k) (r.hist k) (all.nothing k) (ap (λ (y : View). at y.held k) u ∙ t.held)
 
 -- each slot's store at the end
 pub final_store : (c : Script) (id : ℕ) (v : View) (ws : List ℕ) (xs : List (Option Store)) → Final (Seen (IsTable c) id v) ws xs → Closes c v → (k : ℕ) → k < slot_count c
-    → (x : Store) × (get_elem? xs k ≡ maybe.some (Some x)) × IsFree c k (entries_of x) x × Fits c k (entries_of x) × Begins (at [] v.seen k) (entries_of x) × ((y : List Fact) → Has y (at [] v.olds k) → Begins y (entries_of x))
+    → (x : Store) × (get_elem? xs k ≡ maybe.some (Some x)) × IsFree c k (entries_of x) x × Fits c k (entries_of x) × Begins (seen_at v.seen k) (entries_of x) × ((y : List Fact) → Has y (seen_at v.olds k) → Begins y (entries_of x))
 final_store c id v ws xs f all k lt =
     let s = f.0 in let r = f.1.0 in let here = f.1.1 in let sl = r.slots k lt in let me = r.views id v here in ⊎_elim
     (λ (e : slice_index s.words k ≡ 0). let x = sl.free e in let log : (entries_of x.0) ≡ r.hist k = x.2.log in (
@@ -133,14 +125,11 @@ final_store c id v ws xs f all k lt =
       f.4 k (Some x.0) x.1,
       subst (λ (l : List Fact). IsFree c k l x.0) (sym log) x.2,
       subst (λ (l : List Fact). Fits c k l) (sym log) sl.own,
-      subst (λ (l : List Fact). Begins (at [] v.seen k) l) (sym log) (me.seen k lt),
-      subst (λ (l : List Fact). (y : List Fact) → Has y (at [] v.olds k) → Begins y l) (sym log) (me.olds k lt),
+      subst (λ (l : List Fact). Begins (seen_at v.seen k) l) (sym log) (me.seen k lt),
+      subst (λ (l : List Fact). (y : List Fact) → Has y (seen_at v.olds k) → Begins y l) (sym log) (me.olds k lt),
     ))
     (λ (n : slice_index s.words k ≢ 0). absurd (not_out c id v ws xs f all k lt n))
     (same_or_not (slice_index s.words k) 0)
-
-pub some_stored : (x y : Store) → maybe.some (Some x) ≡ maybe.some (Some y) → x ≡ y
-some_stored x y e = cc
 
 -- what was pushed so far is what lies in the slots
 pub got_more : (xs ys : List (Option Store)) (x : Option Store) (i : ℕ) → length xs ≡ i → ((k : ℕ) (y : Option Store) → get_elem? xs k ≡ maybe.some y → get_elem? ys k ≡ maybe.some y) → get_elem? ys i ≡ maybe.some x
@@ -150,10 +139,10 @@ got_more xs ys x i long got here k y e = ⊎_elim (λ h. got k y h) (λ (t : (k 
 -- a closed table's lists are those of the rule
 module _ (c : Script) (id : ℕ) (v : View) (ws : List ℕ) (xs ys : List (Option Store)) (f : Final (Seen (IsTable c) id v) ws ys) (all : Closes c v) (long : length xs ≡ slot_count c)
     (got : (k : ℕ) (y : Option Store) → get_elem? xs k ≡ maybe.some y → get_elem? ys k ≡ maybe.some y) where
-  pub closed_at : (k : ℕ) → k < slot_count c → ClosedAt c v k (words.at xs k)
+  pub closed_at : (k : ℕ) → k < slot_count c → ClosedAt c v k (at xs k)
   closed_at k lt =
       let t = final_store c id v ws ys f all k lt in let there = got_at xs k (omega arith) in
-      let is : words.at xs k ≡ Some t.0 = maybe.some-injective (words.at xs k) (Some t.0) (sym (got k (words.at xs k) there) ∙ t.1) in record {
+      let is : at xs k ≡ Some t.0 = maybe.some-injective (at xs k) (Some t.0) (sym (got k (at xs k) there) ∙ t.1) in record {
         store = t.0;
         there = is;
         rests = t.2;
@@ -166,7 +155,7 @@ module _ (c : Script) (id : ℕ) (v : View) (ws : List ℕ) (xs ys : List (Optio
   final_list k lt =
       let s = f.0 in let r = f.1.0 in let here = f.1.1 in let sl = r.slots k lt in let there = got_at xs k (omega arith) in ⊎_elim
       (λ (e : slice_index s.words k ≡ 0). let x = sl.free e in
-      let is : words.at xs k ≡ Some x.0 = maybe.some-injective (words.at xs k) (Some x.0) (sym (got k (words.at xs k) there) ∙ f.4 k (Some x.0) x.1) in
+      let is : at xs k ≡ Some x.0 = maybe.some-injective (at xs k) (Some x.0) (sym (got k (at xs k) there) ∙ f.4 k (Some x.0) x.1) in
       sym (ap entries_in is ∙ x.2.log))
       (λ (n : slice_index s.words k ≢ 0). absurd (not_out c id v ws ys f all k lt n))
       (same_or_not (slice_index s.words k) 0)
@@ -181,20 +170,14 @@ module _ (c : Script) (id : ℕ) (v : View) (ws : List ℕ) (xs ys : List (Optio
   }
 
 there_home : (c : Script) (v : View) (k : ℕ) (o : Option Store) → ClosedAt c v k o → IsThere c (slot_at c.config k) o
-there_home c v k None h = absurd (no_store h.store h.there)
-  where
-    no_store : (x : Store) → None ≡ Some x → ⊥
-    no_store x e = cc
+there_home c v k None h = absurd (none_is_not_some h.store h.there)
 there_home c v k (Some x) h =
-    let is : h.store ≡ x = some_is x h.store h.there in
+    let is : h.store ≡ x = sym (some_is x h.store h.there) in
     subst (λ (y : Store). IsHome c (slot_at c.config k) y) is record { script_is = h.rests.script; slot_is = h.rests.slot; spare_is = λ e. h.rests.spare }
-  where
-    some_is : (x y : Store) → Some x ≡ Some y → y ≡ x
-    some_is x y e = cc
 
 pub homes_closed : (c : Script) (v : View) (xs : List (Option Store)) → Closed c v xs → AreHomes c xs
 homes_closed c v xs h = record {
   script_is = h.script;
   all = h.all;
-  each = λ k lt. there_home c v k (words.at xs k) (h.each k (let e : length xs ≡ slot_count c = h.all in omega arith));
+  each = λ k lt. there_home c v k (at xs k) (h.each k (let e : length xs ≡ slot_count c = h.all in omega arith));
 }

@@ -1,8 +1,9 @@
 -- A record that was seen stays in every longer list; the shard of a name is one of the script's.
 use Rattle.std.proofs.Common.{◌≡◌, ℕ, ◌<◌, ◌≤◌, List, [], ◌∷◌, ◌++◌, refl, sym, ap, ◌∙◌, subst, arith}
-use Rattle.std.specs.Prelude.{Bool, true, false, ◌%◌, ◌&&◌, nat_le, fold, if◌then◌else◌}
+use Rattle.std.specs.Prelude.{Bool, true, false, ◌%◌, ◌&&◌, ◌||◌, nat_le, fold, if◌then◌else◌}
 use Rattle.std.proofs.lemmas.Bool.Decides.{nat_tests}
 use Rattle.std.proofs.lemmas.List.Sums.{fold-append}
+use Rattle.std.proofs.lemmas.List.Folds.{list_any-append}
 use Rattle.plain_laws.proofs.Booleans.{and_both, at_most}
 use Rattle.yard_laws.proofs.Places.{position_more}
 use Rattle.yard_model.specs.declared.fact.Fact.{Fact}
@@ -12,7 +13,7 @@ use Rattle.yard_model.specs.Behaviour.{is_in}
 use Rattle.yard_model.specs.Script.{Script, IsScript, is_name}
 use Rattle.yard_model.specs.Shard.{absolute, java_hash}
 use Rattle.yard_model.specs.SlotReads.{journal, journal_step, position}
-use Rattle.shard_lease.specs.Meaning.{Begins}
+use Rattle.shard_lease.specs.Meaning.{Begins, confirms, is_confirmed}
 use Rattle.lease_table.specs.Fits.{slot_count, recorded, home_of}
 
 step_rises : (p : ℕ) (e : List ℕ) (old : List Record) (f : Fact) → position p old ≤ position p (journal_step e old f)
@@ -33,6 +34,15 @@ at_most_more n a b h e = let k : n ≤ a = at_most n a e in grind (arith, nat_te
 pub recorded_begins : (e : List ℕ) (p n : ℕ) (xs ys : List Fact) → Begins xs ys → recorded e p n xs ≡ true → recorded e p n ys ≡ true
 recorded_begins e p n xs ys b h = at_most_more n (position p (journal e xs)) (position p (journal e ys))
     (subst (λ (l : List Record). position p (journal e xs) ≤ position p l) (sym (ap (journal e) b.is ∙ fold-append (journal_step e) [] xs b.rest)) (all_rise p e (journal e xs) b.rest)) h
+
+-- what a list confirms with an entry more that confirms nothing
+pub confirms_before : (e : List ℕ) (p n : ℕ) (list : List Fact) (f : Fact) → is_confirmed e p n f ≡ false → confirms e p n (list ++ f ∷ []) ≡ true → confirms e p n list ≡ true
+confirms_before e p n list f no h = no_more (confirms e p n list) (is_confirmed e p n f) no (sym (list_any-append (is_confirmed e p n) list (f ∷ [])) ∙ h)
+  where
+    no_more : (a b : Bool) → b ≡ false → (a || (b || false)) ≡ true → a ≡ true
+    no_more true b e k = refl
+    no_more false true e k = sym e
+    no_more false false e k = k
 
 rest_of : (a b : ℕ) → 1 ≤ b → a % b < b
 rest_of a b h = omega arith

@@ -14,20 +14,19 @@ use Rattle.shard_store.specs.declared.store.Store.{Store}
 use Rattle.lease_table.specs.Fits.{slot_count, admits, Fits, recorded}
 use Rattle.shard_lease.specs.Meaning.{Begins, confirms}
 use Rattle.lease_table.specs.declared.View.{View}
-use Rattle.lease_table.specs.Lists.{at, Has}
+use Rattle.lease_table.specs.Lists.{seen_at, Has}
+use Rattle.yard_model.specs.Words.{at}
 use Rattle.lease_table.specs.Rule.{TableState, IsFree, LeasedTo, IsSlot, IsView, IsTable}
 use Rattle.lease_table.specs.Tells.{SeatState, won, missed, published, freed, looked, Won, Missed, Claimed, Published, Freed, Looked}
+use Rattle.plain_laws.proofs.Lists.{some_is}
 use Rattle.lease_table.proofs.Records.{recorded_begins, home_inside}
 use Rattle.yard_model.specs.Lawful.{own}
 use Rattle.lease_table.specs.Fits.{home_of, AreConfirmed}
-use Rattle.lease_table.proofs.Places.{same_or_not, put_here, put_else, begins_here, begins_length, there_inside, edit, edit_here, edit_else}
+use Rattle.lease_table.proofs.Places.{same_or_not, begins_here, begins_length, there_inside, edit, edit_here, edit_else}
 use Rattle.lease_table.proofs.Changes.{Homes, at_state, Same, changes, own_view}
 
 pub nothing_held : (o : Option (List Fact)) (l : List Fact) → o ≡ None → o ≡ Some l → ⊥
 nothing_held o l p q = cc
-
-pub some_is : (x y : List Fact) → Some x ≡ Some y → x ≡ y
-some_is x y p = cc
 
 -- what a step has to give, where the word becomes x
 abbrev Gives : (c : Script) → TableState → ℕ → ℕ → SeatState → (SeatState → Type 0) → ℕ → Type 0
@@ -54,8 +53,8 @@ module _ (c : Script) (s : TableState) (r : IsTable c s) (id : ℕ) (m : SeatSta
         hist = refl;
       } in
       let grows : (j : ℕ) → j < slot_count c → Begins (r.hist j) (r.hist j) = λ j _. begins_here (r.hist j) in
-      let held_now : at None w.held k ≡ Some h = put_here None m.0.held k (Some h) (omega arith) in
-      let seen_now : at [] w.seen k ≡ h = put_here [] m.0.seen k h (omega arith) in
+      let held_now : at w.held k ≡ Some h = get_or-set_same m.0.held k (Some h) None (omega arith) in
+      let seen_now : seen_at w.seen k ≡ h = get_or-set_same m.0.seen k h [] (omega arith) in
       let slot : IsSlot c (at_state ws hs (set s.views id w)) r.seat k h = record {
         head = get_or-set_other s.words k (slot_count c + k) node 0 (λ e. omega arith) ∙ sl.head;
         own = sl.own;
@@ -72,8 +71,8 @@ module _ (c : Script) (s : TableState) (r : IsTable c s) (id : ℕ) (m : SeatSta
         w,
         takes k (Some x.0),
         x.1,
-        changes c s r id m.0 w k ws hs r.hist here (length-set s.words k node ∙ long) same refl (λ j n. put_else None m.0.held k j (Some h) n) grows (λ _. inl free) (λ _. slot)
-            (own_view c s id m.0 w k ws hs r.hist r.hist r.seat me refl refl refl (λ j n. put_else None m.0.held k j (Some h) n) (λ j n. put_else [] m.0.seen k j h n) (λ j y p. p) same grows
+        changes c s r id m.0 w k ws hs r.hist here (length-set s.words k node ∙ long) same refl (λ j n. get_or-set_other m.0.held k j (Some h) None n) grows (λ _. inl free) (λ _. slot)
+            (own_view c s id m.0 w k ws hs r.hist r.hist r.seat me refl refl refl (λ j n. get_or-set_other m.0.held k j (Some h) None n) (λ j n. get_or-set_other m.0.seen k j h [] n) (λ j y p. p) same grows
             (λ l e. record {
               inside = lt;
               leased = λ z. some_node (sym word_here ∙ z);
@@ -100,13 +99,13 @@ module _ (c : Script) (s : TableState) (r : IsTable c s) (id : ℕ) (m : SeatSta
       let grows : (j : ℕ) → j < slot_count c → Begins (r.hist j) (r.hist j) = λ j _. begins_here (r.hist j) in
       let me = r.views id m.0 here in
       let no_slot : slot_count c < slot_count c → ⊥ = λ (h : slot_count c < slot_count c). omega arith in
-      let held_same : (j : ℕ) → at None w.held j ≡ at None m.0.held j = λ j. ap (λ l. at None l j) helds in
+      let held_same : (j : ℕ) → at w.held j ≡ at m.0.held j = λ j. ap (λ l. at l j) helds in
       subst (λ (ws : List ℕ). IsTable c (at_state ws s.homes (set s.views id w))) (sym (set-get_or s.words i 0))
       (changes c s r id m.0 w (slot_count c) s.words s.homes r.hist here r.wide same nums (λ j _. held_same j) grows (λ h. absurd (no_slot h)) (λ h. absurd (no_slot h))
-      (own_view c s id m.0 w (slot_count c) s.words s.homes r.hist r.hist r.seat me refl' charter nums (λ j _. held_same j) (λ j _. ap (λ l. at [] l j) seens) (λ j y p. subst (λ l. Has y (at [] l j)) oldss p) same grows
+      (own_view c s id m.0 w (slot_count c) s.words s.homes r.hist r.hist r.seat me refl' charter nums (λ j _. held_same j) (λ j _. ap (λ l. seen_at l j) seens) (λ j y p. subst (λ l. Has y (seen_at l j)) oldss p) same grows
       (λ l e. absurd (no_slot (me.held (slot_count c) l (sym (held_same (slot_count c)) ∙ e)).inside)) (λ h. absurd (no_slot h))) r.confirmed)
 
-  misses : (k : ℕ) → m.0.spent ≡ false → k < slot_count c → at None m.0.held k ≡ None → slice_index s.words k ≢ 0 → Gives c s k id m (Missed m.0 m.1 k (slice_index s.words k)) (slice_index s.words k)
+  misses : (k : ℕ) → m.0.spent ≡ false → k < slot_count c → at m.0.held k ≡ None → slice_index s.words k ≢ 0 → Gives c s k id m (Missed m.0 m.1 k (slice_index s.words k)) (slice_index s.words k)
   misses k live lt none taken =
       let me = r.views id m.0 here in let is : m.0.charter ≡ c = me.charter live in let n : ℕ = slice_index s.words k in let t = (r.slots k lt).out taken in (
         missed m.0 n,
@@ -118,12 +117,12 @@ module _ (c : Script) (s : TableState) (r : IsTable c s) (id : ℕ) (m : SeatSta
           admitted = subst (λ (y : Script). admits y n (slot_at y.config k) ≡ true) (sym is) t.admitted;
           other = λ h. let e : r.seat n ≡ id = me.numbers n h in
               let u : m.0 ≡ t.view = maybe.some-injective m.0 t.view (sym here ∙ ap (λ (i : ℕ). get_elem? s.views i) (sym e) ∙ t.there) in
-              nothing_held (at None m.0.held k) (r.hist k) none (ap (λ (y : View). at None y.held k) u ∙ t.held);
+              nothing_held (at m.0.held k) (r.hist k) none (ap (λ (y : View). at y.held k) u ∙ t.held);
         },
       )
 
 -- one compare-exchange of the owner word, which also takes the slot where it wins
-pub claims : (c : Script) (slots id : ℕ) (m : SeatState) (k node : ℕ) → m.0.spent ≡ false → slots ≡ slot_count c → k < slot_count c → node ≢ 0 → Has node m.0.numbers → admits c node (slot_at c.config k) ≡ true → at None m.0.held k ≡ None → length m.0.held ≡ slot_count c → length m.0.seen ≡ slot_count c
+pub claims : (c : Script) (slots id : ℕ) (m : SeatState) (k node : ℕ) → m.0.spent ≡ false → slots ≡ slot_count c → k < slot_count c → node ≢ 0 → Has node m.0.numbers → admits c node (slot_at c.config k) ≡ true → at m.0.held k ≡ None → length m.0.held ≡ slot_count c → length m.0.seen ≡ slot_count c
     → Allows (IsTable c) slots id m k (λ n. either (eqb n 0) node n) (Claimed (step slots k 0 node maybe.none) m)
 claims c slots id m k node live is lt some_node has may none helds seens s r wide here _ =
     let n : ℕ = slice_index s.words k in
@@ -135,20 +134,20 @@ pub looks : (c : Script) (slots id : ℕ) (m : SeatState) (k : ℕ) → slots �
 looks c slots id m k is lt s r wide here _ =
     let i : ℕ = slots + k in let n : ℕ = slice_index s.words i in
     let head : n ≡ length (r.hist k) = ap (λ (z : ℕ). slice_index s.words (z + k)) is ∙ (r.slots k lt).head in
-    let least : length (at [] m.0.seen k) ≤ n = let b = begins_length _ _ ((r.views id m.0 here).seen k lt) in omega arith in
+    let least : length (seen_at m.0.seen k) ≤ n = let b = begins_length _ _ ((r.views id m.0 here).seen k lt) in omega arith in
     let which : slots + k - slots ≡ k = omega arith in (
       looked m.0 n,
       keeps,
       tt,
       counts c s r id m here i (looked m.0 n) refl refl refl refl refl refl,
-      record { now = refl; least = subst (λ (z : ℕ). length (at [] m.0.seen z) ≤ n) (sym which) least },
+      record { now = refl; least = subst (λ (z : ℕ). length (seen_at m.0.seen z) ≤ n) (sym which) least },
     )
 
 abbrev Announced : SeatState → List Fact → View → ℕ → Type 0
-Announced m new w y = let a : SeatState = (w, m.1) in let b : SeatState = (published m.0 y new, m.1) in (a ≡ b) × Begins (at [] m.0.seen y) new
+Announced m new w y = let a : SeatState = (w, m.1) in let b : SeatState = (published m.0 y new, m.1) in (a ≡ b) × Begins (seen_at m.0.seen y) new
 
 -- one store of the head word
-pub publishes : (c : Script) (slots id : ℕ) (m : SeatState) (k : ℕ) (old new : List Fact) → ((e : List ℕ) (p n : ℕ) → confirms e p n new ≡ true → (confirms e p n old ≡ true) ⊎ (recorded e p n (at [] m.0.seen (home_of c e)) ≡ true)) → slots ≡ slot_count c → at None m.0.held k ≡ Some old → length m.0.held ≡ slot_count c → length m.0.seen ≡ slot_count c → Begins old new → Fits c k new
+pub publishes : (c : Script) (slots id : ℕ) (m : SeatState) (k : ℕ) (old new : List Fact) → ((e : List ℕ) (p n : ℕ) → confirms e p n new ≡ true → (confirms e p n old ≡ true) ⊎ (recorded e p n (seen_at m.0.seen (home_of c e)) ≡ true)) → slots ≡ slot_count c → at m.0.held k ≡ Some old → length m.0.held ≡ slot_count c → length m.0.seen ≡ slot_count c → Begins old new → Fits c k new
     → Allows (IsTable c) slots id m (slots + k) (λ _. length new) (λ _. Published new (step slots (slots + k) (length new) 0 maybe.none) m (length new))
 publishes c slots id m k old new vouched is has helds seens more own s r wide here _ =
     let me = r.views id m.0 here in let o = me.held k old has in let lt : k < slot_count c = o.inside in let sl = r.slots k lt in let long : length s.words ≡ slot_count c + slot_count c = r.wide in
@@ -171,12 +170,12 @@ publishes c slots id m k old new vouched is has helds seens more own s r wide he
     λ e p n h. recorded_begins e p n (r.hist (home_of c e)) (hist' (home_of c e)) (grows (home_of c e) (home_inside c e r.script)) h in
     let shown : AreConfirmed c hist' = λ i e p n li x. ⊎_elim
     (λ (z : i ≡ k). ⊎_elim (λ h. on e p n (r.confirmed k e p n lt (subst (λ (l : List Fact). confirms e p n l ≡ true) old_is h)))
-    (λ h. on e p n (recorded_begins e p n (at [] m.0.seen (home_of c e)) (r.hist (home_of c e)) (me.seen (home_of c e) (home_inside c e r.script)) h))
+    (λ h. on e p n (recorded_begins e p n (seen_at m.0.seen (home_of c e)) (r.hist (home_of c e)) (me.seen (home_of c e) (home_inside c e r.script)) h))
     (vouched e p n (subst (λ (l : List Fact). confirms e p n l ≡ true) (ap hist' z ∙ now) x)))
     (λ (z : i ≢ k). on e p n (r.confirmed i e p n li (subst (λ (l : List Fact). confirms e p n l ≡ true) (edit_else r.hist k new i z) x)))
     (same_or_not i k) in
-    let held_now : at None w.held k ≡ Some (hist' k) = put_here None m.0.held k (Some new) (omega arith) ∙ ap (λ (l : List Fact). Some l) (sym now) in
-    let seen_now : at [] w.seen k ≡ hist' k = put_here [] m.0.seen k new (omega arith) ∙ sym now in
+    let held_now : at w.held k ≡ Some (hist' k) = get_or-set_same m.0.held k (Some new) None (omega arith) ∙ ap (λ (l : List Fact). Some l) (sym now) in
+    let seen_now : seen_at w.seen k ≡ hist' k = get_or-set_same m.0.seen k new [] (omega arith) ∙ sym now in
     let t = sl.out o.leased in let to : r.seat (slice_index s.words k) ≡ id = o.mine in
     let is_view : m.0 ≡ t.view = maybe.some-injective m.0 t.view (sym here ∙ ap (λ (y : ℕ). get_elem? s.views y) (sym to) ∙ t.there) in
     let slot : IsSlot c (at_state ws s.homes (set s.views id w)) r.seat k (hist' k) = record {
@@ -195,8 +194,8 @@ publishes c slots id m k old new vouched is has helds seens more own s r wide he
       w,
       keeps,
       tt,
-      changes c s r id m.0 w k ws s.homes hist' here (length-set s.words i (length new) ∙ long) same refl (λ j n. put_else None m.0.held k j (Some new) n) grows (λ _. inr to) (λ _. slot)
-          (own_view c s id m.0 w k ws s.homes r.hist hist' r.seat me refl refl refl (λ j n. put_else None m.0.held k j (Some new) n) (λ j n. put_else [] m.0.seen k j new n) (λ j y p. p) same grows
+      changes c s r id m.0 w k ws s.homes hist' here (length-set s.words i (length new) ∙ long) same refl (λ j n. get_or-set_other m.0.held k j (Some new) None n) grows (λ _. inr to) (λ _. slot)
+          (own_view c s id m.0 w k ws s.homes r.hist hist' r.seat me refl refl refl (λ j n. get_or-set_other m.0.held k j (Some new) None n) (λ j n. get_or-set_other m.0.seen k j new [] n) (λ j y p. p) same grows
           (λ l e. record {
             inside = lt;
             leased = λ z. o.leased (sym (owners k lt) ∙ z);
@@ -209,7 +208,7 @@ publishes c slots id m k old new vouched is has helds seens more own s r wide he
     )
 
 -- one store of the owner word, which also gives the slot back
-pub frees : (c : Script) (slots id : ℕ) (m : SeatState) (k : ℕ) (h : List Fact) (x : Store) (cs : List (ℕ × Option Store)) → slots ≡ slot_count c → at None m.0.held k ≡ Some h → length m.0.held ≡ slot_count c → m.1 ≡ (k, Some x) ∷ cs → IsFree c k h x
+pub frees : (c : Script) (slots id : ℕ) (m : SeatState) (k : ℕ) (h : List Fact) (x : Store) (cs : List (ℕ × Option Store)) → slots ≡ slot_count c → at m.0.held k ≡ Some h → length m.0.held ≡ slot_count c → m.1 ≡ (k, Some x) ∷ cs → IsFree c k h x
     → Allows (IsTable c) slots id m k (λ _. 0) (λ _. Freed (step slots k 0 0 maybe.none) m 0)
 frees c slots id m k h x cs is has helds carried rests s r wide here _ =
     let me = r.views id m.0 here in let o = me.held k h has in let lt : k < slot_count c = o.inside in let sl = r.slots k lt in let long : length s.words ≡ slot_count c + slot_count c = r.wide in
@@ -222,7 +221,7 @@ frees c slots id m k h x cs is has helds carried rests s r wide here _ =
       hist = refl;
     } in
     let grows : (j : ℕ) → j < slot_count c → Begins (r.hist j) (r.hist j) = λ j _. begins_here (r.hist j) in
-    let none_now : at None w.held k ≡ None = put_here None m.0.held k None (omega arith) in
+    let none_now : at w.held k ≡ None = get_or-set_same m.0.held k None None (omega arith) in
     let slot : IsSlot c (at_state ws hs (set s.views id w)) r.seat k (r.hist k) = record {
       head = get_or-set_other s.words k (slot_count c + k) 0 0 (λ e. omega arith) ∙ sl.head;
       own = sl.own;
@@ -233,8 +232,8 @@ frees c slots id m k h x cs is has helds carried rests s r wide here _ =
       gives,
       tt,
       subst (λ (l : List (ℕ × Option Store)). IsTable c (stepped s k 0 id l w gives)) (sym carried)
-          (changes c s r id m.0 w k ws hs r.hist here (length-set s.words k 0 ∙ long) same refl (λ j n. put_else None m.0.held k j None n) grows (λ _. inr o.mine) (λ _. slot)
-          (own_view c s id m.0 w k ws hs r.hist r.hist r.seat me refl refl refl (λ j n. put_else None m.0.held k j None n) (λ j n. refl) (λ j y p. p) same grows
+          (changes c s r id m.0 w k ws hs r.hist here (length-set s.words k 0 ∙ long) same refl (λ j n. get_or-set_other m.0.held k j None None n) grows (λ _. inr o.mine) (λ _. slot)
+          (own_view c s id m.0 w k ws hs r.hist r.hist r.seat me refl refl refl (λ j n. get_or-set_other m.0.held k j None None n) (λ j n. refl) (λ j y p. p) same grows
           (λ l e. absurd (nothing_held _ l none_now e)) (λ lk. me.seen k lk)) r.confirmed),
       refl,
     )

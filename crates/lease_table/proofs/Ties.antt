@@ -1,5 +1,6 @@
 -- The tie: what was seen of a slot becomes the longest of what was seen and of what joins brought.
 use Rattle.lease_table.specs.Fits.{slot_count}
+use Rattle.std.proofs.lemmas.List.{get_or-set_same, get_or-set_other}
 use Rattle.std.proofs.Common.{◌≡◌, ◌≢◌, ℕ, zero, suc, ◌+◌, ◌-◌, ◌<◌, ◌≤◌, inl, inr, ⊎_elim, Bool, true, false, List, [], ◌∷◌, length, set, refl, sym, ap, ◌∙◌, subst, arith}
 use Rattle.std.proofs.lemmas.List.{set-get_or}
 use Rattle.std.proofs.lemmas.Bool.Decides.{nat_tests}
@@ -10,10 +11,11 @@ use Rattle.yard_model.specs.Script.{Script}
 use Rattle.yard_model.specs.declared.fact.Fact.{Fact}
 use Rattle.shard_lease.specs.Meaning.{Begins}
 use Rattle.lease_table.specs.declared.View.{View}
-use Rattle.lease_table.specs.Lists.{at, put, Has}
+use Rattle.lease_table.specs.Lists.{seen_at, Has}
+use Rattle.std.specs.Prelude.{slice_set}
 use Rattle.lease_table.specs.Rule.{IsView, IsTable}
 use Rattle.lease_table.specs.Tells.{SeatState, longest, tied, Tied}
-use Rattle.lease_table.proofs.Places.{put_here, put_else, begins_here, begins_on, begins_length, begins_both}
+use Rattle.lease_table.proofs.Places.{begins_here, begins_on, begins_length, begins_both}
 use Rattle.lease_table.proofs.Changes.{at_state, Same, changes, own_view}
 
 abbrev pub longer : List Fact → List Fact → List Fact
@@ -56,7 +58,7 @@ pub longest_whole : (l : List Fact) (ys : List (List Fact)) → ((y : List Fact)
 longest_whole l [] q = refl
 longest_whole l (y ∷ ys) q = ap (λ (x : List Fact). longest x ys) (stays_by (nat_lt (length l) (length y)) l y refl (begins_length y l (q y (inl refl)))) ∙ longest_whole l ys (λ z e. q z (inr e))
 
-fewer : (os : List (List (List Fact))) (k j : ℕ) (y : List Fact) → Has y (at [] (put os k []) j) → Has y (at [] os j)
+fewer : (os : List (List (List Fact))) (k j : ℕ) (y : List Fact) → Has y (seen_at (slice_set os k []) j) → Has y (seen_at os j)
 fewer [] k j y h = h
 fewer (o ∷ os) zero zero y h = elim h [ ]
 fewer (o ∷ os) zero (suc j) y h = h
@@ -64,20 +66,20 @@ fewer (o ∷ os) (suc k) zero y h = h
 fewer (o ∷ os) (suc k) (suc j) y h = fewer os k j y h
 
 abbrev Told : SeatState → View → ℕ → Type 0
-Told m w z = let n : SeatState = (w, m.1) in let t : SeatState = (tied m.0 z, m.1) in (n ≡ t) × Begins (at [] m.0.seen z) (longest (at [] m.0.seen z) (at [] m.0.olds z)) × ((y : List Fact) → Has y (at [] m.0.olds z) → Begins y (longest (at [] m.0.seen z) (at [] m.0.olds z)))
+Told m w z = let n : SeatState = (w, m.1) in let t : SeatState = (tied m.0 z, m.1) in (n ≡ t) × Begins (seen_at m.0.seen z) (longest (seen_at m.0.seen z) (seen_at m.0.olds z)) × ((y : List Fact) → Has y (seen_at m.0.olds z) → Begins y (longest (seen_at m.0.seen z) (seen_at m.0.olds z)))
 
 pub ties : (c : Script) (slots id : ℕ) (m : SeatState) (k : ℕ) → slots ≡ slot_count c → k < slot_count c → length m.0.seen ≡ slot_count c → Allows (IsTable c) slots id m (slots + k) (λ n. n) (Tied (step slots (slots + k) 0 0 maybe.none) m)
 ties c slots id m k is lt seens s r wide here _ =
     let i : ℕ = slots + k in let me = r.views id m.0 here in let w : View = tied m.0 k in
-    let old : List Fact = at [] m.0.seen k in let os : List (List Fact) = at [] m.0.olds k in let l = is_longest old os (r.hist k) (me.seen k lt) (me.olds k lt) in
+    let old : List Fact = seen_at m.0.seen k in let os : List (List Fact) = seen_at m.0.olds k in let l = is_longest old os (r.hist k) (me.seen k lt) (me.olds k lt) in
     let same : (j : ℕ) → j < slot_count c → j ≢ k → Same c s s.words s.homes r.hist r.hist j = λ j lj n. record { owner = refl; head = refl; home = refl; hist = refl } in
     let same' : (j : ℕ) → j < slot_count c → j ≢ (slot_count c) → Same c s s.words s.homes r.hist r.hist j = λ j lj n. record { owner = refl; head = refl; home = refl; hist = refl } in
     let grows : (j : ℕ) → j < slot_count c → Begins (r.hist j) (r.hist j) = λ j _. begins_here (r.hist j) in
     let no_slot : slot_count c < slot_count c → ⊥ = λ (h : slot_count c < slot_count c). omega arith in
-    let seen_now : at [] w.seen k ≡ longest old os = put_here [] m.0.seen k (longest old os) (omega arith) in
+    let seen_now : seen_at w.seen k ≡ longest old os = get_or-set_same m.0.seen k (longest old os) [] (omega arith) in
     let which : slots + k - slots ≡ k = omega arith in
     let view : IsView c (at_state s.words s.homes (set s.views id w)) r.hist r.seat id w =
-    own_view c s id m.0 w k s.words s.homes r.hist r.hist r.seat me refl refl refl (λ j n. refl) (λ j n. put_else [] m.0.seen k j (longest old os) n) (λ j y h. fewer m.0.olds k j y h) same grows
+    own_view c s id m.0 w k s.words s.homes r.hist r.hist r.seat me refl refl refl (λ j n. refl) (λ j n. get_or-set_other m.0.seen k j (longest old os) [] n) (λ j y h. fewer m.0.olds k j y h) same grows
     (λ x e. let o = me.held k x e in record {
       inside = o.inside;
       leased = o.leased;

@@ -16,8 +16,8 @@ use Rattle.yard_model.specs.Lawful.{is_held}
 use Rattle.yard_model.specs.SlotReads.{epoch}
 use Rattle.shard_store.specs.Stores.{script_of, slot_of, entries_of, spare_of, slot_at, entries_in, entries_at}
 use Rattle.lease_table.specs.declared.View.{View}
-use Rattle.lease_table.specs.Lists.{at, Has}
-use Rattle.yard_model.specs.Words as words
+use Rattle.lease_table.specs.Lists.{seen_at, Has}
+use Rattle.yard_model.specs.Words.{at, numbers}
 use Rattle.lease_table.specs.Rule.{IsFree, down}
 use Rattle.lease_table.specs.Tells.{won, missed, tied, united, fresh_view}
 
@@ -45,7 +45,7 @@ pub record IsPass (c : Script) (me : Me (Option Store) View) (order : List ℕ) 
   pub helds : length me.0.held ≡ slot_count c
   pub seens : length me.0.seen ≡ slot_count c
   pub oldss : length me.0.olds ≡ slot_count c
-  pub listed : (k : ℕ) → is_some (at None me.0.held k) ≡ true → list_any (eqb k) order ≡ true
+  pub listed : (k : ℕ) → is_some (at me.0.held k) ≡ true → list_any (eqb k) order ≡ true
   pub count : length order ≡ counted me.0.held
   pub room : slot_count c ≤ capacity
 
@@ -59,9 +59,9 @@ pub record MayAct (v : View) (who : Incarnation) (k : ℕ) : Type 0 where
 pub record Took (v : View) (who : Incarnation) (k : ℕ) (x : Store) (w : View) : Type 0 where
   pub hist : List Fact
   pub now : w ≡ won v k hist
-  pub held : at None w.held k ≡ Some hist
-  pub seen : Begins (at [] v.seen k) hist
-  pub olds : (y : List Fact) → Has y (at [] v.olds k) → Begins y hist
+  pub held : at w.held k ≡ Some hist
+  pub seen : Begins (seen_at v.seen k) hist
+  pub olds : (y : List Fact) → Has y (seen_at v.olds k) → Begins y hist
   pub closed : is_held hist ≡ false
   pub log : (entries_of x) ≡ hist ++ fact.Granted (slot_at v.charter.config k) (epoch hist + 1) who ∷ []
   pub spare : 99 ≤ (spare_of x)
@@ -82,17 +82,17 @@ Answers v who k (answer.Held h) w = Refused v k h w
 -- the pass may publish this list
 pub record MayPublish (v : View) (k : ℕ) (log : List Fact) : Type 0 where
   pub old : List Fact
-  pub held : at None v.held k ≡ Some old
+  pub held : at v.held k ≡ Some old
   pub extends : Begins old log
-  pub vouched : (e : List ℕ) (p n : ℕ) → confirms e p n log ≡ true → (confirms e p n old ≡ true) ⊎ (recorded e p n (at [] v.seen (home_of v.charter e)) ≡ true)
+  pub vouched : (e : List ℕ) (p n : ℕ) → confirms e p n log ≡ true → (confirms e p n old ≡ true) ⊎ (recorded e p n (seen_at v.seen (home_of v.charter e)) ≡ true)
   pub own : Fits v.charter k log
 
 -- the pass may give the store back
 pub record MayRelease (v : View) (k : ℕ) (x : Store) : Type 0 where
   pub old : List Fact
-  pub held : at None v.held k ≡ Some old
+  pub held : at v.held k ≡ Some old
   pub extends : Begins old (entries_of x)
-  pub vouched : (e : List ℕ) (p n : ℕ) → confirms e p n (entries_of x) ≡ true → (confirms e p n old ≡ true) ⊎ (recorded e p n (at [] v.seen (home_of v.charter e)) ≡ true)
+  pub vouched : (e : List ℕ) (p n : ℕ) → confirms e p n (entries_of x) ≡ true → (confirms e p n old ≡ true) ⊎ (recorded e p n (seen_at v.seen (home_of v.charter e)) ≡ true)
   pub fit : list_all (is_fit v.charter (slot_at v.charter.config k)) (entries_of x) ≡ true
   pub leased : is_held (entries_of x) ≡ true
   pub script : script_of x ≡ v.charter
@@ -102,7 +102,7 @@ pub record MayRelease (v : View) (k : ℕ) (x : Store) : Type 0 where
 -- every number is the pass's, and it holds nothing
 pub record Closes (c : Script) (v : View) : Type 0 where
   pub numbers : (n : ℕ) → n ≢ 0 → n ≤ c.config.nodes → Has n v.numbers
-  pub nothing : (k : ℕ) → at None v.held k ≡ None
+  pub nothing : (k : ℕ) → at v.held k ≡ None
 
 -- each slot's store lies at rest, lawful, and extends what the pass has seen
 pub record ClosedAt (c : Script) (v : View) (k : ℕ) (o : Option Store) : Type 0 where
@@ -110,14 +110,14 @@ pub record ClosedAt (c : Script) (v : View) (k : ℕ) (o : Option Store) : Type 
   pub there : o ≡ Some store
   pub rests : IsFree c k (entries_of store) store
   pub own : Fits c k (entries_of store)
-  pub seen : Begins (at [] v.seen k) (entries_of store)
-  pub olds : (y : List Fact) → Has y (at [] v.olds k) → Begins y (entries_of store)
+  pub seen : Begins (seen_at v.seen k) (entries_of store)
+  pub olds : (y : List Fact) → Has y (seen_at v.olds k) → Begins y (entries_of store)
 
 pub record Closed (c : Script) (v : View) (xs : List (Option Store)) : Type 0 where
   pub script : IsScript c
   pub all : length xs ≡ slot_count c
   pub confirmed : AreConfirmed c (entries_at xs)
-  pub each : (k : ℕ) → k < slot_count c → ClosedAt c v k (words.at xs k)
+  pub each : (k : ℕ) → k < slot_count c → ClosedAt c v k (at xs k)
 
 pub record IsNote (me : Me (Option Store) View) : Type 0 where
   pub carried : me.1 ≡ []
@@ -128,8 +128,8 @@ pub record IsNote (me : Me (Option Store) View) : Type 0 where
 -- the seen list of a slot after a meet
 pub record Met (v w : View) (k : ℕ) (u : View) : Type 0 where
   pub now : u ≡ tied (united v w) k
-  pub mine : Begins (at [] v.seen k) (at [] u.seen k)
-  pub theirs : Begins (at [] w.seen k) (at [] u.seen k)
+  pub mine : Begins (seen_at v.seen k) (seen_at u.seen k)
+  pub theirs : Begins (seen_at w.seen k) (seen_at u.seen k)
 
 -- the lists are lawful, and none is leased
 pub record Ready (c : Script) (xs : List (Option Store)) : Type 0 where
@@ -144,12 +144,13 @@ lists_in xs = map entries_in xs
 abbrev pub fresh : Script → List (List Fact) → ℕ → View
 fresh c ls n = fresh_view c ls (n ∷ [])
 
+-- the passes of the first n nodes, the last node's first
 abbrev pub dealt_from : TableId → Script → List (List Fact) → ℕ → List Pass
 dealt_from z c ls n = map (λ m. pass z (fresh c ls m)) (down n)
 
--- the passes of the nodes, from the last node to the first
+-- the passes of the nodes, by rising node
 abbrev pub dealt : TableId → Script → List (List Fact) → List Pass
-dealt z c ls = dealt_from z c ls c.config.nodes
+dealt z c ls = map (λ n. pass z (fresh c ls n)) (numbers 1 c.config.nodes)
 
 abbrev pub length_in : Option Store → ℕ
 length_in o = length (entries_in o)
@@ -162,4 +163,4 @@ pub record Idle (z : TableId) (c : Script) (n : ℕ) (p : Pass) : Type 0 where
   pub table : p.table ≡ z
   pub charter : p.view.charter ≡ c
   pub numbers : p.view.numbers ≡ n ∷ []
-  pub nothing : (k : ℕ) → at None p.view.held k ≡ None
+  pub nothing : (k : ℕ) → at p.view.held k ≡ None

@@ -1,7 +1,7 @@
--- The passes that aren't out yet, the last node's first.
-use Rattle.std.specs.Prelude.{List}
+-- The passes that aren't out yet, by rising node.
+use Rattle.std.specs.Prelude.{List, reverse}
 use Rattle.lease_table.specs.declared.make.Passes.{Passes}
 use Rattle.lease_table.specs.Leasing.{Pass}
 
 abbrev pub left_of : Passes → List Pass
-left_of p = p.left.items
+left_of p = reverse p.left.items

@@ -7,7 +7,8 @@ use Rattle.shard_lease.specs.Meaning.{Meaning}
 use Rattle.shard_store.specs.Stores.{place_of}
 use Rattle.lease_table.specs.Fits.{is_within, admits, recorded, home_of}
 use Rattle.lease_table.specs.declared.View.{View}
-use Rattle.lease_table.specs.Lists.{at}
+use Rattle.lease_table.specs.Lists.{seen_at}
+use Rattle.yard_model.specs.Words.{at}
 
 abbrev pub told_list : Option (List Fact) → List Fact
 told_list None = []
@@ -24,9 +25,9 @@ meaning_of z v n = record {
   within = is_within;
   serves = λ x. x.node == n;
   admits = admits v.charter;
-  holds = λ m s. (m == n) && (is_slot_of v.charter s && is_some (at None v.held (place_of v.charter.config s)));
-  told = λ s. if is_slot_of v.charter s then told_list (at None v.held (place_of v.charter.config s)) else [];
-  seen = λ s. if is_slot_of v.charter s then at [] v.seen (place_of v.charter.config s) else [];
-  vouches = λ e p i. recorded e p i (at [] v.seen (home_of v.charter e));
+  holds = λ m s. (m == n) && (is_slot_of v.charter s && is_some (at v.held (place_of v.charter.config s)));
+  told = λ s. if is_slot_of v.charter s then told_list (at v.held (place_of v.charter.config s)) else [];
+  seen = λ s. if is_slot_of v.charter s then seen_at v.seen (place_of v.charter.config s) else [];
+  vouches = λ e p i. recorded e p i (seen_at v.seen (home_of v.charter e));
   tells = λ s. None;
 }

@@ -12,7 +12,8 @@ use Rattle.shard_lease.specs.Meaning.{Begins}
 use Rattle.yard_model.specs.Lawful.{is_held}
 use Rattle.shard_store.specs.Stores.{script_of, slot_of, entries_of, spare_of, slot_at}
 use Rattle.lease_table.specs.declared.View.{View}
-use Rattle.lease_table.specs.Lists.{at, Has}
+use Rattle.lease_table.specs.Lists.{seen_at, Has}
+use Rattle.yard_model.specs.Words.{at}
 
 abbrev pub TableState : Type 0
 TableState = State (Option Store) View
@@ -39,7 +40,7 @@ pub record LeasedTo (c : Script) (s : TableState) (seat : ℕ → ℕ) (k : ℕ)
   pub away : get_elem? s.homes k ≡ maybe.some maybe.none
   pub view : View
   pub there : get_elem? s.views (seat n) ≡ maybe.some view
-  pub held : at None view.held k ≡ Some h
+  pub held : at view.held k ≡ Some h
   pub number : Has n view.numbers
   pub admitted : admits c n (slot_at c.config k) ≡ true
 
@@ -55,14 +56,14 @@ pub record Holds (c : Script) (s : TableState) (hist : ℕ → List Fact) (seat 
   pub leased : slice_index s.words k ≢ 0
   pub mine : seat (slice_index s.words k) ≡ id
   pub whole : l ≡ hist k
-  pub seen : at [] v.seen k ≡ hist k
+  pub seen : seen_at v.seen k ≡ hist k
 
 pub record IsView (c : Script) (s : TableState) (hist : ℕ → List Fact) (seat : ℕ → ℕ) (id : ℕ) (v : View) : Type 0 where
   pub charter : v.spent ≡ false → v.charter ≡ c
   pub numbers : (n : ℕ) → Has n v.numbers → seat n ≡ id
-  pub held : (k : ℕ) (l : List Fact) → at None v.held k ≡ Some l → Holds c s hist seat id k v l
-  pub seen : (k : ℕ) → k < slot_count c → Begins (at [] v.seen k) (hist k)
-  pub olds : (k : ℕ) → k < slot_count c → (y : List Fact) → Has y (at [] v.olds k) → Begins y (hist k)
+  pub held : (k : ℕ) (l : List Fact) → at v.held k ≡ Some l → Holds c s hist seat id k v l
+  pub seen : (k : ℕ) → k < slot_count c → Begins (seen_at v.seen k) (hist k)
+  pub olds : (k : ℕ) → k < slot_count c → (y : List Fact) → Has y (seen_at v.olds k) → Begins y (hist k)
 
 -- there is one list for each slot, and a seat for each number
 pub record IsTable (c : Script) (s : TableState) : Type 0 where

@@ -9,7 +9,8 @@ use Rattle.shard_lease.specs.Meaning.{Begins}
 use Rattle.shard_store.specs.Stores.{slot_at}
 use Rattle.yard_model.specs.declared.event.Kind.TheVariants as kind
 use Rattle.lease_table.specs.declared.View.{View}
-use Rattle.lease_table.specs.Lists.{at, put, Has}
+use Rattle.lease_table.specs.Lists.{seen_at, Has}
+use Rattle.std.specs.Prelude.{slice_set}
 use Rattle.lease_table.specs.Rule.{IsFree, down}
 
 abbrev pub SeatState : Type 0
@@ -24,16 +25,16 @@ abbrev pub opening_view : Script → List (List Fact) → View
 opening_view c ls = fresh_view c ls (down c.config.nodes)
 
 abbrev pub won : View → ℕ → List Fact → View
-won v k h = record v { held = put v.held k (Some h); seen = put v.seen k h; claims = v.claims + 1; found = 0 }
+won v k h = record v { held = slice_set v.held k (Some h); seen = slice_set v.seen k h; claims = v.claims + 1; found = 0 }
 
 abbrev pub missed : View → ℕ → View
 missed v n = record v { claims = v.claims + 1; found = n }
 
 abbrev pub published : View → ℕ → List Fact → View
-published v k h = record v { held = put v.held k (Some h); seen = put v.seen k h }
+published v k h = record v { held = slice_set v.held k (Some h); seen = slice_set v.seen k h }
 
 abbrev pub freed : View → ℕ → View
-freed v k = record v { held = put v.held k None }
+freed v k = record v { held = slice_set v.held k None }
 
 abbrev pub looked : View → ℕ → View
 looked v n = record v { looks = v.looks + 1; found = n }
@@ -45,8 +46,8 @@ pub record Won (v : View) (c : List (ℕ × Option Store)) (k : ℕ) (m' : SeatS
   pub now : m' ≡ (won v k hist, (k, Some store) ∷ c)
   pub rests : IsFree v.charter k hist store
   pub own : Fits v.charter k hist
-  pub seen : Begins (at [] v.seen k) hist
-  pub olds : (y : List Fact) → Has y (at [] v.olds k) → Begins y hist
+  pub seen : Begins (seen_at v.seen k) hist
+  pub olds : (y : List Fact) → Has y (seen_at v.olds k) → Begins y hist
 
 pub record Missed (v : View) (c : List (ℕ × Option Store)) (k found : ℕ) (m' : SeatState) : Type 0 where
   pub now : m' ≡ (missed v found, c)
@@ -58,14 +59,14 @@ pub record Claimed (s : Step (Option Store)) (m : SeatState) (found : ℕ) (m' :
   pub miss : found ≢ 0 → Missed m.0 m.1 s.word found m'
 
 abbrev pub Published : List Fact → Step (Option Store) → SeatState → ℕ → SeatState → Type 0
-Published h s m found m' = (m' ≡ (published m.0 (s.word - s.slots) h, m.1)) × Begins (at [] m.0.seen (s.word - s.slots)) h
+Published h s m found m' = (m' ≡ (published m.0 (s.word - s.slots) h, m.1)) × Begins (seen_at m.0.seen (s.word - s.slots)) h
 
 abbrev pub Freed : Step (Option Store) → SeatState → ℕ → SeatState → Type 0
 Freed s m found m' = m' ≡ (freed m.0 s.word, rest m.1)
 
 pub record Looked (s : Step (Option Store)) (m : SeatState) (found : ℕ) (m' : SeatState) : Type 0 where
   pub now : m' ≡ (looked m.0 found, m.1)
-  pub least : length (at [] m.0.seen (s.word - s.slots)) ≤ found
+  pub least : length (seen_at m.0.seen (s.word - s.slots)) ≤ found
 
 abbrev pub first_of : List ℕ → ℕ
 first_of [] = 0
@@ -89,7 +90,7 @@ noted v = record { spent = v.spent; charter = v.charter; numbers = []; held = []
 -- the old lists of a slot, and what another has seen and was told of it
 abbrev pub gathered : List (List (List Fact)) → List (List Fact) → List (List (List Fact)) → List (List (List Fact))
 gathered [] ss ps = []
-gathered (o ∷ os) ss ps = (o ++ at [] ss 0 ∷ at [] ps 0) ∷ gathered os (rest_of ss) (rest_of ps)
+gathered (o ∷ os) ss ps = (o ++ seen_at ss 0 ∷ seen_at ps 0) ∷ gathered os (rest_of ss) (rest_of ps)
 
 abbrev pub united : View → View → View
 united v w = record v { numbers = v.numbers ++ w.numbers; olds = gathered v.olds w.seen w.olds }
@@ -106,10 +107,10 @@ longest l [] = l
 longest l (y ∷ ys) = longest (if nat_lt (length l) (length y) then y else l) ys
 
 abbrev pub tied : View → ℕ → View
-tied v k = record v { seen = put v.seen k (longest (at [] v.seen k) (at [] v.olds k)); olds = put v.olds k [] }
+tied v k = record v { seen = slice_set v.seen k (longest (seen_at v.seen k) (seen_at v.olds k)); olds = slice_set v.olds k [] }
 
 abbrev pub TiedAt : SeatState → SeatState → ℕ → Type 0
-TiedAt m m' k = (m' ≡ (tied m.0 k, m.1)) × Begins (at [] m.0.seen k) (longest (at [] m.0.seen k) (at [] m.0.olds k)) × ((y : List Fact) → Has y (at [] m.0.olds k) → Begins y (longest (at [] m.0.seen k) (at [] m.0.olds k)))
+TiedAt m m' k = (m' ≡ (tied m.0 k, m.1)) × Begins (seen_at m.0.seen k) (longest (seen_at m.0.seen k) (seen_at m.0.olds k)) × ((y : List Fact) → Has y (seen_at m.0.olds k) → Begins y (longest (seen_at m.0.seen k) (seen_at m.0.olds k)))
 
 abbrev pub Tied : Step (Option Store) → SeatState → ℕ → SeatState → Type 0
 Tied s m found m' = TiedAt m m' (s.word - s.slots)

@@ -4,7 +4,8 @@ ghost use mathlib.Core.Option.{none};
 ghost use Rattle.atomic_table.specs.Table.{step};
 ghost use Rattle.lease_table.specs.Fits.{slot_count, admits};
 ghost use Rattle.shard_lease.specs.Meaning.{Begins};
-ghost use Rattle.lease_table.specs.Lists.{at, Has};
+ghost use Rattle.lease_table.specs.Lists.{seen_at, Has};
+ghost use Rattle.yard_model.specs.Words.{at};
 ghost use Rattle.lease_table.specs.Tells.{Claimed, published, looked, noted, united};
 ghost use Rattle.lease_table.specs.Leasing.{MayAct, Answers, MayPublish, Met};
 ghost use Rattle.shard_store.specs.Stores.{entries_of_ref, slot_at};
@@ -21,11 +22,12 @@ use std::marker::Brand;
 use yard_model::{Incarnation, NodeNo};
 
 impl LeaseTable {
+    /// One compare-exchange of the owner word; what it found.
     fn claim(&self, seat: &mut Seat<Option<Store>, View>, node: NodeNo, slot: usize) -> u64
         requires table { seat.old.table_id ≡ id_of self.now }
         requires live { (seat.old.me.0.spent ≡ false) × (length seat.old.me.0.held ≡ slot_count (charter_of self.now)) × (length seat.old.me.0.seen ≡ slot_count (charter_of self.now)) }
         requires may { (slot < slot_count (charter_of self.now)) × Has node seat.old.me.0.numbers × (admits (charter_of self.now) node (slot_at (charter_of self.now).config slot) ≡ true) }
-        requires free { at None seat.old.me.0.held slot ≡ None }
+        requires free { at seat.old.me.0.held slot ≡ None }
         ensures seat { (seat.new.table_id ≡ seat.old.table_id) × (seat.new.id ≡ seat.old.id) }
         ensures told { Claimed (step (slot_count (charter_of self.now)) slot 0 node none) seat.old.me result seat.new.me }
     {
@@ -39,7 +41,7 @@ impl LeaseTable {
         requires table { pass.old.table ≡ id_of self.now }
         requires charter { pass.old.view.charter ≡ charter_of self.now }
         requires may { MayAct pass.old.view who slot }
-        requires free { at None pass.old.view.held slot ≡ None }
+        requires free { at pass.old.view.held slot ≡ None }
         ensures table { pass.new.table ≡ pass.old.table }
         ensures answer { Answers pass.old.view who slot result pass.new.view }
     {
@@ -58,7 +60,7 @@ impl LeaseTable {
         Acquire::Granted(store)
     }
 
-    // One store of the head word.
+    /// One store of the head word.
     pub(crate) fn announce<B: Told>(
         &self,
         seat: &mut Seat<Option<Store>, View>,
@@ -71,7 +73,7 @@ impl LeaseTable {
         requires rule { MayPublish seat.old.me.0 slot B.list }
         ensures seat { (seat.new.table_id ≡ seat.old.table_id) × (seat.new.id ≡ seat.old.id) }
         ensures told { seat.new.me ≡ (published seat.old.me.0 slot B.list, seat.old.me.1) }
-        ensures seen { Begins (at [] seat.old.me.0.seen slot) B.list }
+        ensures seen { Begins (seen_at seat.old.me.0.seen slot) B.list }
     {
         self.table
             .shared
@@ -86,7 +88,7 @@ impl LeaseTable {
         requires store { MayPublish pass.old.view slot (entries_of_ref store) }
         ensures table { pass.new.table ≡ pass.old.table }
         ensures now { pass.new.view ≡ published pass.old.view slot (entries_of_ref store.entry) }
-        ensures seen { Begins (at [] pass.old.view.seen slot) (entries_of_ref store.entry) }
+        ensures seen { Begins (seen_at pass.old.view.seen slot) (entries_of_ref store.entry) }
     {
         self.announce::<Brand>(&mut pass.seat, slot, store);
     }
@@ -97,14 +99,14 @@ impl LeaseTable {
         requires slot { slot < slot_count (charter_of self.now) }
         ensures table { pass.new.table ≡ pass.old.table }
         ensures now { pass.new.view ≡ looked pass.old.view result }
-        ensures least { length (at [] pass.old.view.seen slot) ≤ result }
+        ensures least { length (seen_at pass.old.view.seen slot) ≤ result }
     {
         self.table
             .shared
             .load::<Looks>(&mut pass.seat, self.slots + slot)
     }
 
-    /// A note has seen what the pass has.
+    /// A note that has seen what the pass has, to be shown to another; it holds nothing and has no number.
     pub fn note(&self, pass: LeasePass) -> (LeasePass, Note)
         requires table { pass.table ≡ id_of self.now }
         ensures pass { result.0 ≡ pass }
@@ -149,10 +151,11 @@ impl LeaseTable {
         }
     }
 
-    /// One pass with the numbers of both.
+    /// One pass with the numbers of both, where the other holds nothing; it remembers what either has
+    /// seen.
     pub fn unite(&self, pass: LeasePass, other: LeasePass) -> LeasePass
         requires table { (pass.table ≡ id_of self.now) × (other.table ≡ id_of self.now) }
-        requires nothing { (k : ℕ) → at None other.view.held k ≡ None }
+        requires nothing { (k : ℕ) → at other.view.held k ≡ None }
         ensures table { result.table ≡ pass.table }
         ensures view { result.view ≡ united pass.view other.view }
     {
@@ -175,7 +178,7 @@ impl LeaseTable {
     }
 }
 
-// The node whose number an owner word is.
+/// The node whose number an owner word is.
 fn node_of(word: u64) -> NodeNo
     requires some { 0 < word }
     requires few { word ≤ 16 }

@@ -11,7 +11,8 @@ ghost use Rattle.atomic_table.specs.Table.{rest};
 ghost use Rattle.yard_model.specs.declared.fact.Fact.{Fact};
 ghost use Rattle.yard_model.specs.declared.fact.Fact.TheVariants as fact;
 ghost use Rattle.shard_store.specs.declared.store.Store.{Store};
-ghost use Rattle.lease_table.specs.Lists.{at, Has};
+ghost use Rattle.lease_table.specs.Lists.{seen_at};
+ghost use Rattle.yard_model.specs.Words.{at};
 ghost use Rattle.lease_table.specs.Rule.{IsFree};
 ghost use Rattle.lease_table.specs.Tells.{published, freed};
 ghost use Rattle.lease_table.specs.Leasing.{MayRelease, Closes, Closed};
@@ -28,12 +29,12 @@ use std::marker::Brand;
 use yard_model::Cause;
 
 impl LeaseTable {
-    // One store of the owner word, which also gives the slot back.
+    /// One store of the owner word, which also gives the slot back.
     fn give(&self, seat: &mut Seat<Option<Store>, View>, slot: usize)
         requires table { seat.old.table_id ≡ id_of self.now }
         requires slot { slot < slot_count (charter_of self.now) }
         requires live { length seat.old.me.0.held ≡ slot_count (charter_of self.now) }
-        requires rests { (h : List Fact) × (x : Store) × (cs : List (ℕ × Option Store)) × (at None seat.old.me.0.held slot ≡ Some h) × (seat.old.me.1 ≡ (slot, Some x) ∷ cs) × IsFree (charter_of self.now) slot h x }
+        requires rests { (h : List Fact) × (x : Store) × (cs : List (ℕ × Option Store)) × (at seat.old.me.0.held slot ≡ Some h) × (seat.old.me.1 ≡ (slot, Some x) ∷ cs) × IsFree (charter_of self.now) slot h x }
         ensures seat { (seat.new.table_id ≡ seat.old.table_id) × (seat.new.id ≡ seat.old.id) }
         ensures told { seat.new.me ≡ (freed seat.old.me.0 slot, rest seat.old.me.1) }
     {
@@ -53,7 +54,7 @@ impl LeaseTable {
         requires slot { slot < slot_count (charter_of self.now) }
         requires store { MayRelease pass.old.view slot store }
         ensures table { pass.new.table ≡ pass.old.table }
-        ensures seen { Begins (at [] pass.old.view.seen slot) (entries_of store ++ fact.Freed (slot_at (charter_of self.now).config slot) (epoch (entries_of store)) cause ∷ []) }
+        ensures seen { Begins (seen_at pass.old.view.seen slot) (entries_of store ++ fact.Freed (slot_at (charter_of self.now).config slot) (epoch (entries_of store)) cause ∷ []) }
         ensures now { pass.new.view ≡ freed (published pass.old.view slot (entries_of store ++ fact.Freed (slot_at (charter_of self.now).config slot) (epoch (entries_of store)) cause ∷ [])) slot }
     {
         store.free(cause);
@@ -67,7 +68,9 @@ impl LeaseTable {
         pass.order.remove(0);
     }
 
-    /// The stores. All numbers are the pass's, and nothing is held.
+    /// The stores, where the pass has the numbers of all nodes and holds nothing: no slot is held. Each
+    /// list is lawful by itself and extends all that the pass has seen, and what the queues confirm is
+    /// recorded. It takes no memory.
     pub fn close(self, pass: LeasePass) -> Stores
         requires table { pass.table ≡ id_of self }
         requires all { Closes (charter_of self) pass.view }

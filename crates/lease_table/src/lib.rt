@@ -12,7 +12,7 @@ mod slots;
 mod table;
 mod table_pass;
 
-pub use make::Passes;
+pub use make::{Passes, empty_stores_are_ready};
 pub use pass::{LeasePass, Note};
 use std::collections::LinkedList;
 pub use table::LeaseTable;

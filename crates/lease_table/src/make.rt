@@ -1,9 +1,12 @@
 //! How a table is made.
-ghost use Rattle.std.specs.Prelude.{◌≡◌, ℕ, ◌+◌, ◌<◌, ◌≤◌, ◌++◌, map, replicate, length, None, Some, IfOk, MatchOption, true, false, vec_capacity, vec_len, [], ◌∷◌, List};
+ghost use Rattle.std.specs.Prelude.{◌≡◌, ℕ, ◌+◌, ◌<◌, ◌≤◌, ◌++◌, map, replicate, length, None, Some, IfOk, MatchOption, true, false, vec_capacity, vec_len, [], ◌∷◌, List, Option};
+ghost use Rattle.yard_model.specs.Script.{Script};
 ghost use Rattle.yard_model.specs.declared.fact.Fact.{Fact};
+ghost use Rattle.shard_store.specs.declared.store.Store.{Store};
+ghost use Rattle.shard_store.specs.Stores.{entries_at};
 ghost use Rattle.lease_table.specs.Fits.{slot_count};
 ghost use Rattle.lease_table.specs.Tells.{opening_view};
-ghost use Rattle.lease_table.specs.Leasing.{Ready, dealt, words_of, length_in, lists_in, fresh, pass};
+ghost use Rattle.lease_table.specs.Leasing.{Ready, dealt, dealt_from, words_of, length_in, lists_in, fresh, pass};
 ghost use Rattle.lease_table.specs.Belongs.{id_of, charter_of};
 ghost use Rattle.lease_table.specs.Left.{left_of};
 
@@ -25,14 +28,21 @@ pub struct Passes {
 
 impl Passes {
     /// The next one. None exactly where all are out.
+    #[tactic(auto, using(crate::proofs::Dealt::popped))]
     pub fn next(&mut self) -> Option<LeasePass>
-        ensures { MatchOption result ((left_of self.old ≡ []) × (left_of self.new ≡ [])) (λ p. left_of self.old ≡ left_of self.new ++ p ∷ []) }
+        ensures { MatchOption result ((left_of self.old ≡ []) × (left_of self.new ≡ [])) (λ p. left_of self.old ≡ p ∷ left_of self.new) }
     {
         self.left.pop()
     }
 }
 
-// How long a list is.
+/// A law: empty stores are ready for a table.
+#[tactic(auto, using(crate::proofs::Dealt::empty_ready))]
+pub fn empty_stores_are_ready()
+    ensures { (c : Script) (places : List (Option Store)) → ((k : ℕ) → entries_at places k ≡ []) → Ready c places }
+{}
+
+/// How long the list of a place is.
 fn entries_of(store: &Option<Store>) -> u64
     ensures { result ≡ length_in store.now }
 {
@@ -42,6 +52,7 @@ fn entries_of(store: &Option<Store>) -> u64
     }
 }
 
+/// The words of a new table: no owner, and how long each list is.
 fn heads(alloc: Global, places: &[Option<Store>]) -> Result<Vec<u64>, AllocError>
     ensures { IfOk result (λ v. v.items ≡ words_of (length places.now) places.now) }
 {
@@ -54,7 +65,7 @@ fn heads(alloc: Global, places: &[Option<Store>]) -> Result<Vec<u64>, AllocError
 }
 
 impl LeaseTable {
-    // A pass with this one number.
+    /// A pass with this one number.
     fn deal_one(
         &self,
         alloc: Global,
@@ -73,6 +84,7 @@ impl LeaseTable {
         })
     }
 
+    /// A pass for each node, the last node's first.
     fn deal(
         &self,
         alloc: Global,
@@ -81,7 +93,7 @@ impl LeaseTable {
     ) -> Result<Vec<LeasePass>, AllocError>
         requires charter { charter.now ≡ charter_of self.now }
         requires seat { (length seat.me.0.seen ≡ slot_count charter.now) × (seat.table_id ≡ id_of self.now) × (seat.me ≡ (opening_view charter.now seat.me.0.seen, [])) }
-        ensures { IfOk result (λ v. v.items ≡ dealt (id_of self.now) charter.now seat.me.0.seen) }
+        ensures { IfOk result (λ v. v.items ≡ dealt_from (id_of self.now) charter.now seat.me.0.seen charter.now.config.nodes) }
     {
         let mut passes = Vec::new(alloc);
         let mut left = charter.config().nodes;
@@ -94,7 +106,10 @@ impl LeaseTable {
         Ok(passes)
     }
 
-    /// A table of these stores, with a pass for each node. The only error is want of memory.
+    /// A table of these stores, with a pass for each node. The stores are lawful lists of the charter, no
+    /// slot of which is held, and no incarnation in them has a number above 4,000,000,000. The only error
+    /// is want of memory.
+    #[tactic(auto, using(crate::proofs::Dealt::in_order))]
     pub fn make(
         alloc: Global,
         charter: &Charter,

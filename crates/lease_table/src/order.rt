@@ -8,6 +8,7 @@ use crate::View;
 use atomic_table::Seat;
 use shard_store::Store;
 
+/// Where the slot stands in the order.
 fn place_of(order: &[usize], slot: usize) -> usize
     requires { list_any (eqb slot) order.now ≡ true }
     ensures { (result < length order.now) × (slice_index order.now result ≡ slot) }
@@ -19,7 +20,7 @@ fn place_of(order: &[usize], slot: usize) -> usize
     at
 }
 
-// The slot comes to the front, and the others keep their order behind it.
+/// The slot comes to the front, and the others keep their order behind it.
 pub(crate) fn bring(seat: &mut Seat<Option<Store>, View>, order: &mut Vec<usize>, slot: usize)
     requires carried { seat.old.me.1 ≡ map empty order.old.items }
     requires there { list_any (eqb slot) order.old.items ≡ true }

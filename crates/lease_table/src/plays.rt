@@ -12,6 +12,7 @@ use std::marker::{Brand, PhantomData};
 use std::snapshot::Snapshot;
 use yard_model::Charter;
 
+/// The rule of a table of leases.
 pub struct Leased;
 
 /// What a table is made for: its charter, and the stores as they were given.
@@ -27,6 +28,7 @@ impl TableRule<Option<Store>, View, About> for Leased {
     ghost first = { λ a. opening_view a.charter.value (map entries_in a.opening.value.items) };
 }
 
+/// A claim of a slot.
 pub struct Claims;
 
 impl Play<Option<Store>, View> for Claims {
@@ -47,6 +49,7 @@ impl Told for Brand {
     ghost list = { [] };
 }
 
+/// A list is published.
 pub struct Publishes<B> {
     told: PhantomData<B>,
 }
@@ -55,18 +58,21 @@ impl<B: Told> Play<Option<Store>, View> for Publishes<B> {
     ghost then = { Published B.list };
 }
 
+/// A slot is freed.
 pub struct Frees;
 
 impl Play<Option<Store>, View> for Frees {
     ghost then = { Freed };
 }
 
+/// A look at a head.
 pub struct Looks;
 
 impl Play<Option<Store>, View> for Looks {
     ghost then = { Looked };
 }
 
+/// What was seen of a slot becomes the longest of what was seen and of what was brought.
 pub struct Ties;
 
 impl Play<Option<Store>, View> for Ties {
@@ -82,6 +88,7 @@ impl Split<View> for Deals {
     ghost right = { dealt_right };
 }
 
+/// A note is made.
 pub struct Notes;
 
 impl Split<View> for Notes {
@@ -90,6 +97,7 @@ impl Split<View> for Notes {
     ghost right = { noted };
 }
 
+/// Two seats become one.
 pub struct Unites;
 
 impl Join<View> for Unites {

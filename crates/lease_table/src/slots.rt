@@ -1,11 +1,12 @@
-//! The calls of a table.
+//! The calls of a table, by slots. None takes memory, none waits, and none tries again.
 ghost use Rattle.std.specs.Prelude.{◌≡◌, ◌+◌, ◌<◌, ◌≤◌, ◌++◌, None, Some, [], ◌∷◌, length, true, IsTrue};
 ghost use Rattle.yard_model.specs.declared.fact.Fact.TheVariants as fact;
 ghost use Rattle.yard_model.specs.Genuine.{is_slot_of};
 ghost use Rattle.yard_model.specs.SlotReads.{epoch};
 ghost use Rattle.shard_store.specs.Stores.{place_of, entries_of, entries_of_ref};
 ghost use Rattle.shard_lease.specs.Meaning.{Begins};
-ghost use Rattle.lease_table.specs.Lists.{at};
+ghost use Rattle.lease_table.specs.Lists.{seen_at};
+ghost use Rattle.yard_model.specs.Words.{at};
 ghost use Rattle.lease_table.specs.Fits.{slot_count};
 ghost use Rattle.lease_table.specs.Tells.{published, freed, looked};
 ghost use Rattle.lease_table.specs.Leasing.{MayAct, Answers, MayPublish, MayRelease, Met};
@@ -18,7 +19,7 @@ use shard_store::{Store, StoreRef};
 use yard_model::{Cause, Incarnation, Slot};
 
 impl LeaseTable {
-    // The place of a slot.
+    /// The place of a slot: the shards, the coordinator, the queues.
     fn place(&self, slot: Slot) -> usize
         requires { IsTrue (is_slot_of (charter_of self.now) slot) }
         ensures place { result ≡ place_of (charter_of self.now).config slot }
@@ -31,14 +32,16 @@ impl LeaseTable {
         }
     }
 
-    /// One claim. Where it wins, the slot's store is handed out with a new grant; else it is told which
-    /// node held the slot at that step.
+    /// One claim, for an incarnation of one of the pass's nodes, of a slot that the pass doesn't hold and
+    /// that the charter lets this node have. Where it wins, the slot's store is handed out with a grant
+    /// more; its list extends all that the pass has seen of it. Else it is told which node held the
+    /// slot at that step.
     pub fn acquire(&self, pass: &mut LeasePass, who: Incarnation, slot: Slot) -> Acquire
         requires table { pass.old.table ≡ id_of self.now }
         requires charter { pass.old.view.charter ≡ charter_of self.now }
         requires slot { IsTrue (is_slot_of (charter_of self.now) slot) }
         requires may { MayAct pass.old.view who (place_of (charter_of self.now).config slot) }
-        requires free { at None pass.old.view.held (place_of (charter_of self.now).config slot) ≡ None }
+        requires free { at pass.old.view.held (place_of (charter_of self.now).config slot) ≡ None }
         ensures table { pass.new.table ≡ pass.old.table }
         ensures answer { Answers pass.old.view who (place_of (charter_of self.now).config slot) result pass.new.view }
     {
@@ -46,7 +49,9 @@ impl LeaseTable {
         self.acquire_at(pass, who, place)
     }
 
-    /// One store of the slot's head: the list of the store is published.
+    /// Publishes the list of the store, which the pass holds and keeps: from here on the others may see
+    /// it. It extends what was published, is lawful by itself, and confirms only what the pass has seen
+    /// recorded.
     pub fn publish(&self, pass: &mut LeasePass, slot: Slot, store: StoreRef<'_>)
         requires table { pass.old.table ≡ id_of self.now }
         requires charter { pass.old.view.charter ≡ charter_of self.now }
@@ -54,39 +59,40 @@ impl LeaseTable {
         requires store { MayPublish pass.old.view (place_of (charter_of self.now).config slot) (entries_of_ref store) }
         ensures table { pass.new.table ≡ pass.old.table }
         ensures now { pass.new.view ≡ published pass.old.view (place_of (charter_of self.now).config slot) (entries_of_ref store.entry) }
-        ensures seen { Begins (at [] pass.old.view.seen (place_of (charter_of self.now).config slot)) (entries_of_ref store.entry) }
+        ensures seen { Begins (seen_at pass.old.view.seen (place_of (charter_of self.now).config slot)) (entries_of_ref store.entry) }
     {
         let place = self.place(slot);
         self.publish_at(pass, place, store)
     }
 
-    /// Publishes the end of the lease, moves the store back and frees the slot.
+    /// Gives the slot back: publishes its list with the entry that frees it, moves the store home and
+    /// frees the slot, in this order. The store has a spare of at least 101 entries.
     pub fn release(&self, pass: &mut LeasePass, slot: Slot, store: Store, cause: Cause)
         requires table { pass.old.table ≡ id_of self.now }
         requires charter { pass.old.view.charter ≡ charter_of self.now }
         requires slot { IsTrue (is_slot_of (charter_of self.now) slot) }
         requires store { MayRelease pass.old.view (place_of (charter_of self.now).config slot) store }
         ensures table { pass.new.table ≡ pass.old.table }
-        ensures seen { Begins (at [] pass.old.view.seen (place_of (charter_of self.now).config slot)) (entries_of store ++ fact.Freed slot (epoch (entries_of store)) cause ∷ []) }
+        ensures seen { Begins (seen_at pass.old.view.seen (place_of (charter_of self.now).config slot)) (entries_of store ++ fact.Freed slot (epoch (entries_of store)) cause ∷ []) }
         ensures now { pass.new.view ≡ freed (published pass.old.view (place_of (charter_of self.now).config slot) (entries_of store ++ fact.Freed slot (epoch (entries_of store)) cause ∷ [])) (place_of (charter_of self.now).config slot) }
     {
         let place = self.place(slot);
         self.release_at(pass, place, store, cause)
     }
 
-    /// How many entries of the slot are published, at least those that the pass has seen.
+    /// How many entries of the slot's list are published: at least as many as the pass has seen.
     pub fn check(&self, pass: &mut LeasePass, slot: Slot) -> u64
         requires table { pass.old.table ≡ id_of self.now }
         requires slot { IsTrue (is_slot_of (charter_of self.now) slot) }
         ensures table { pass.new.table ≡ pass.old.table }
         ensures now { pass.new.view ≡ looked pass.old.view result }
-        ensures least { length (at [] pass.old.view.seen (place_of (charter_of self.now).config slot)) ≤ result }
+        ensures least { length (seen_at pass.old.view.seen (place_of (charter_of self.now).config slot)) ≤ result }
     {
         let place = self.place(slot);
         self.check_at(pass, place)
     }
 
-    /// The pass has seen of the slot what either had.
+    /// The pass has seen of the slot what it or the note had, whichever is longer; one begins the other.
     pub fn meet(&self, pass: LeasePass, note: Note, slot: Slot) -> LeasePass
         requires table { (pass.table ≡ id_of self.now) × (note.table ≡ id_of self.now) }
         requires charter { pass.view.charter ≡ charter_of self.now }

@@ -5,7 +5,7 @@ use Rattle.yard_model.specs.Script.{Script}
 use Rattle.atomic_table.specs.Table.{rest}
 use Rattle.shard_store.specs.declared.store.Store.{Store}
 use Rattle.lease_table.specs.Tells.{SeatState}
-use Rattle.lease_table.specs.Lists.{at}
+use Rattle.yard_model.specs.Words.{at}
 use Rattle.lease_table.specs.Leasing.{Pass, counted}
 use Rattle.lease_table.proofs.Taken.{front, counted_room, rotated, took_ok, took}
 use Rattle.shard_store.specs.Stores.{slot_at}
@@ -21,7 +21,7 @@ exchange-taken-requires c =
 pub push_reserved-requires : goal.push_reserved-requires
 push_reserved-requires c =
     let ok = c.pass.invariant in
-    let free : at None c.pass.inside.seat.me.0.held c.args.slot ≡ None = ap (λ (p : Pass). at None p.view.held c.args.slot) c.pass.view_is ∙ c.requires.free in
+    let free : at c.pass.inside.seat.me.0.held c.args.slot ≡ None = ap (λ (p : Pass). at p.view.held c.args.slot) c.pass.view_is ∙ c.requires.free in
     let charter : slot_count c.pass.inside.charter.value ≡ slot_count c.args.pass.now.view.charter = ap (λ (y : Script). slot_count y) (sym ok.charter) ∙ ap (λ (p : Pass). (slot_count p.view.charter)) c.pass.view_is in
     let inside : c.args.slot < slot_count c.args.pass.now.view.charter = c.requires.may.slot in
     let wide : length c.pass.inside.seat.me.0.held ≡ slot_count c.pass.inside.charter.value = ok.helds in
@@ -34,7 +34,7 @@ pub invariant_of-pass-2 : goal.invariant_of-pass-2
 invariant_of-pass-2 c =
     let ok = c.pass.invariant in
     let told = c.claim-found.ensures.told.hit c.if-found-ne0.false in
-    let free : at None c.pass.inside.seat.me.0.held c.args.slot ≡ None = ap (λ (p : Pass). at None p.view.held c.args.slot) c.pass.view_is ∙ c.requires.free in
+    let free : at c.pass.inside.seat.me.0.held c.args.slot ≡ None = ap (λ (p : Pass). at p.view.held c.args.slot) c.pass.view_is ∙ c.requires.free in
     let charter : slot_count c.pass.inside.charter.value ≡ slot_count c.args.pass.now.view.charter = ap (λ (y : Script). slot_count y) (sym ok.charter) ∙ ap (λ (p : Pass). (slot_count p.view.charter)) c.pass.view_is in
     let inside : c.args.slot < slot_count c.args.pass.now.view.charter = c.requires.may.slot in
     let now : c.push_reserved.new.self.items ≡ c.pass.inside.order.items ++ c.args.slot ∷ [] = c.push_reserved.ensures.items in

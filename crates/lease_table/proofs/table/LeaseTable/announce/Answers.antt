@@ -5,7 +5,7 @@ use Rattle.yard_model.specs.Script.{Script}
 use Rattle.yard_model.specs.declared.fact.Fact.{Fact}
 use Rattle.lease_table.specs.Fits.{slot_count, Fits, recorded, home_of}
 use Rattle.shard_lease.specs.Meaning.{confirms}
-use Rattle.lease_table.specs.Lists.{at}
+use Rattle.lease_table.specs.Lists.{seen_at}
 use Rattle.lease_table.specs.Rule.{IsTable}
 use Rattle.lease_table.specs.Tells.{Published}
 use Rattle.lease_table.proofs.Steps.{publishes}
@@ -28,5 +28,5 @@ store-requires g c =
       omega arith,
       subst (λ (w : ℕ). Allows (IsTable t.key.charter.value) t.table_id.slots c.args.seat.now.id m (w + c.args.slot) (λ _. c.len.result) (λ _. Published new (step t.table_id.slots (w + c.args.slot) c.len.result 0 none) m c.len.result)) slots
           (subst (λ (n : ℕ). Allows (IsTable t.key.charter.value) t.table_id.slots c.args.seat.now.id m (t.table_id.slots + c.args.slot) (λ _. n) (λ _. Published new (step t.table_id.slots (t.table_id.slots + c.args.slot) n 0 none) m n)) len
-          (publishes t.key.charter.value t.table_id.slots c.args.seat.now.id m c.args.slot c.requires.rule.old new (subst (λ (y : Script). (e : List ℕ) (p n : ℕ) → confirms e p n new ≡ true → (confirms e p n c.requires.rule.old ≡ true) ⊎ (recorded e p n (at [] m.0.seen (home_of y e)) ≡ true)) (c.requires.live.2 ∙ sym z.2) c.requires.rule.vouched) (z.1 ∙ wide) c.requires.rule.held (c.requires.live.0 ∙ wide) (c.requires.live.1 ∙ wide) c.requires.rule.extends own)),
+          (publishes t.key.charter.value t.table_id.slots c.args.seat.now.id m c.args.slot c.requires.rule.old new (subst (λ (y : Script). (e : List ℕ) (p n : ℕ) → confirms e p n new ≡ true → (confirms e p n c.requires.rule.old ≡ true) ⊎ (recorded e p n (seen_at m.0.seen (home_of y e)) ≡ true)) (c.requires.live.2 ∙ sym z.2) c.requires.rule.vouched) (z.1 ∙ wide) c.requires.rule.held (c.requires.live.0 ∙ wide) (c.requires.live.1 ∙ wide) c.requires.rule.extends own)),
     )

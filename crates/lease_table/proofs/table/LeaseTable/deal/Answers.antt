@@ -1,4 +1,5 @@
 use Rattle.lease_table.specs.Fits.{slot_count}
+use Rattle.plain_laws.proofs.Booleans.{get_replicate}
 use Rattle.std.proofs.Common.{◌≤◌, ℕ, List, length, sym, arith, None, ◌++◌, ◌≡◌, ◌<◌, ◌+◌, ◌-◌, [], ap, ◌∙◌}
 use Rattle.lease_table.specs.declared.View.{View}
 use Rattle.lease_table.specs.Belongs.{id_of}
@@ -7,8 +8,8 @@ use Rattle.yard_model.specs.declared.fact.Fact.{Fact}
 use Rattle.lease_table.specs.Tells.{SeatState, fresh_view}
 use Rattle.lease_table.specs.Leasing.{pass, dealt_from, fresh}
 use Rattle.lease_table.specs.Rule.{down}
-use Rattle.lease_table.specs.Lists.{at}
-use Rattle.lease_table.proofs.Places.{at-replicate}
+use Rattle.yard_model.specs.Words.{at}
+
 use Rattle.lease_table.proofs.Records.{some_nodes}
 use Rattle.lease_table.proofs.Seats.{deals}
 use Rattle.lease_table.proofs.Dealt.{deals_on, right_fresh, last_fresh, ends_dealt, down_split, down_apart}
@@ -30,7 +31,7 @@ split_seat-other-requires c =
       d.table,
       omega arith,
       deals _ _ c.loop-left.seat.me.0 c.loop-left.left (down (c.loop-left.left - 1)) (ap (λ (m : SeatState). m.0.numbers) d.me ∙ down_split c.loop-left.left d.some) (down_apart c.loop-left.left d.some)
-          (λ k. ap (λ (m : SeatState). at None m.0.held k) d.me ∙ at-replicate None (slot_count c.args.charter.now) k),
+          (λ k. ap (λ (m : SeatState). at m.0.held k) d.me ∙ get_replicate (slot_count c.args.charter.now) k None),
     )
 
 pub deal_one-requires-clause-seat : goal.deal_one-requires-clause-seat

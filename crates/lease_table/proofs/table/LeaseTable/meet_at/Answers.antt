@@ -4,7 +4,7 @@ use mathlib.Core.Option.{none}
 use Rattle.atomic_table.specs.Table.{step, Allows}
 use Rattle.yard_model.specs.Script.{Script}
 use Rattle.lease_table.specs.declared.View.{View}
-use Rattle.lease_table.specs.Lists.{at}
+use Rattle.yard_model.specs.Words.{at}
 use Rattle.lease_table.specs.Rule.{IsTable}
 use Rattle.lease_table.specs.Tells.{SeatState, Tied, TiedAt, united}
 use Rattle.lease_table.specs.Leasing.{Pass}
@@ -21,7 +21,7 @@ join_seat-requires c =
       ap (λ (p : Pass). p.table) c.note.view_is ∙ c.requires.table.1,
       c.note.invariant.carried,
       omega arith,
-      joins _ _ _ _ _ (λ k. ap (λ l. at None l k) c.note.invariant.nothing),
+      joins _ _ _ _ _ (λ k. ap (λ l. at l k) c.note.invariant.nothing),
     )
 
 pub load-requires : goal.load-requires

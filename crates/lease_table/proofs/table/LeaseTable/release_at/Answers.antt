@@ -1,4 +1,5 @@
 use Rattle.lease_table.specs.Fits.{slot_count}
+use Rattle.std.proofs.lemmas.List.{get_or-set_same}
 use Rattle.std.proofs.Common.{true, [], ◌++◌, arith, ◌≡◌, ℕ, ◌<◌, List, ◌∷◌, length, map, None, Some, Option, sym, ap, ◌∙◌, subst}
 use Rattle.yard_model.specs.Script.{Script}
 use Rattle.yard_model.specs.declared.fact.Fact.{Fact}
@@ -11,11 +12,11 @@ use Rattle.yard_model.specs.SlotReads.{epoch}
 use Rattle.std.specs.List.{remove}
 use Rattle.atomic_table.specs.Table.{rest}
 use Rattle.lease_table.specs.declared.View.{View}
-use Rattle.lease_table.specs.Lists.{at}
+use Rattle.yard_model.specs.Words.{at}
 use Rattle.lease_table.specs.Tells.{SeatState, freed, published}
 use Rattle.lease_table.specs.Leasing.{Pass, MayRelease, empty}
 use Rattle.lease_table.proofs.Given.{may_end, rests_ended, gave_ok}
-use Rattle.lease_table.proofs.Places.{put_here}
+
 use Rattle.lease_table.proofs.table.LeaseTable.release_at.Goals as goal
 
 pub announce-requires-clause-rule : goal.announce-requires-clause-rule
@@ -43,7 +44,7 @@ give-requires-clause-rests c =
       (entries_of c.free.new.self),
       c.free.new.self,
       map empty b.tail,
-      ap (λ (v : View). at None v.held k) view ∙ put_here None m.0.held k (Some l) (omega arith) ∙ ap (λ (h : List Fact). Some h) (sym log),
+      ap (λ (v : View). at v.held k) view ∙ get_or-set_same m.0.held k (Some l) None (omega arith) ∙ ap (λ (h : List Fact). Some h) (sym log),
       ap (λ (x : SeatState). x.1) c.exchange.ensures.3 ∙ ap (λ (cs : List (ℕ × Option Store)). (k, Some c.free.new.self) ∷ rest cs) (b.all ∙ ap (λ (o : List ℕ). map empty o) b.is),
       rests_ended c.args.self.now.charter.value c.args.pass.now.view k c.args.store c.free.new.self c.args.cause c.requires.charter c.requires.store c.free.ensures.entries c.free.ensures.spare c.free.ensures.script c.free.ensures.slot,
     )
@@ -59,6 +60,6 @@ invariant_of-pass c =
     let lt : k < slot_count c.args.self.now.charter.value = c.requires.slot in
     let view : c.bring.new.seat.me.0 ≡ published m.0 k l = c.bring.ensures.seat.2 ∙ ap (λ (x : SeatState). x.0) c.announce.ensures.told in
     gave_ok c.pass.inside.charter.value m c.give.new.seat.me c.pass.inside.order.items c.bring.new.order.items c.remove.new.self.items c.bring.new.seat.me.1 _ _ k c.requires.store.old l ok
-    (ap (λ (p : Pass). at None p.view.held k) c.pass.view_is ∙ c.requires.store.held) (omega arith) b (c.remove.ensures.items ∙ ap (λ (o : List ℕ). remove o 0) b.is)
+    (ap (λ (p : Pass). at p.view.held k) c.pass.view_is ∙ c.requires.store.held) (omega arith) b (c.remove.ensures.items ∙ ap (λ (o : List ℕ). remove o 0) b.is)
     (c.give.ensures.told ∙ ap (λ (x : SeatState). (freed x.0 k, rest x.1)) c.exchange.ensures.3 ∙ ap (λ (v : View). (freed v k, rest c.bring.new.seat.me.1)) view)
     (c.remove.ensures.capacity ∙ c.bring.ensures.room)

@@ -3,7 +3,7 @@ use Rattle.std.specs.Prelude.{None}
 use Rattle.yard_model.specs.Genuine.{is_slot_of}
 use Rattle.yard_model.specs.Script.{Script}
 use Rattle.shard_store.specs.Stores.{place_of}
-use Rattle.lease_table.specs.Lists.{at}
+use Rattle.yard_model.specs.Words.{at}
 use Rattle.lease_table.specs.Leasing.{MayAct, Answers}
 use Rattle.lease_table.proofs.Meant.{acquired, acquired_stays, serves_is, free_there, may_act}
 use Rattle.lease_table.proofs.table_pass.TablePassLeases.acquire.Goals as goal
@@ -16,7 +16,7 @@ acquire-requires-clause-may c = let p = c.args.self.now in subst (λ (y : Script
 
 pub acquire-requires-clause-free : goal.acquire-requires-clause-free
 acquire-requires-clause-free c = let p = c.args.self.now in
-    ap (λ (y : Script). at None p.pass.view.held (place_of y.config c.args.slot)) (sym p.charter) ∙ free_there p.pass.table p.pass.view p.node c.args.who.node c.args.slot (serves_is p.pass.table p.pass.view p.node c.args.who c.args.slot c.requires.serves) c.requires.serves.slot_is c.requires.free
+    ap (λ (y : Script). at p.pass.view.held (place_of y.config c.args.slot)) (sym p.charter) ∙ free_there p.pass.table p.pass.view p.node c.args.who.node c.args.slot (serves_is p.pass.table p.pass.view p.node c.args.who c.args.slot c.requires.serves) c.requires.serves.slot_is c.requires.free
 
 pub returns-clause-answer : goal.returns-clause-answer
 returns-clause-answer c = let p = c.args.self.now in

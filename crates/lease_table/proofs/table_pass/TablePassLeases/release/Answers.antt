@@ -6,7 +6,7 @@ use Rattle.yard_model.specs.Script.{Script}
 use Rattle.yard_model.specs.SlotReads.{epoch}
 use Rattle.shard_lease.specs.Meaning.{Begins}
 use Rattle.shard_store.specs.Stores.{place_of, entries_of}
-use Rattle.lease_table.specs.Lists.{at}
+use Rattle.lease_table.specs.Lists.{seen_at}
 use Rattle.lease_table.specs.Tells.{freed, published}
 use Rattle.lease_table.specs.Leasing.{MayRelease}
 use Rattle.lease_table.proofs.Meant.{released, released_stays, serves_is, may_release}
@@ -31,4 +31,4 @@ returns-clause-stays c =
     let l : List Fact = entries_of c.args.store ++ fact.Freed c.args.slot (epoch (entries_of c.args.store)) c.args.cause ∷ [] in
     released_stays p.pass.table c.release.new.pass.table p.pass.view c.release.new.pass.view p.node (place_of (p.pass.view.charter).config c.args.slot) l c.release.ensures.table
     (c.release.ensures.now ∙ ap (λ (y : Script). freed (published p.pass.view (place_of y.config c.args.slot) l) (place_of y.config c.args.slot)) (sym p.charter))
-    (subst (λ (y : Script). Begins (at [] p.pass.view.seen (place_of y.config c.args.slot)) l) (sym p.charter) c.release.ensures.seen)
+    (subst (λ (y : Script). Begins (seen_at p.pass.view.seen (place_of y.config c.args.slot)) l) (sym p.charter) c.release.ensures.seen)

@@ -1,5 +1,5 @@
 -- A step that changes one slot and one view keeps the rule.
-use Rattle.std.proofs.Common.{◌≡◌, ◌≢◌, ℕ, ◌+◌, ◌<◌, ◌⊎◌, ⊎_elim, List, [], length, set, sym, ap, ◌∙◌, subst}
+use Rattle.std.proofs.Common.{◌≡◌, ◌≢◌, ℕ, ◌+◌, ◌<◌, ◌^◌, ◌⊎◌, ⊎_elim, List, [], length, set, sym, ap, ◌∙◌, subst}
 use Rattle.std.specs.Prelude.{slice_index, Option, None, Some}
 use mathlib.Core.Option as maybe
 use lib.ListN.{get_elem?}
@@ -58,6 +58,7 @@ module _ (c : Script) (s : TableState) (id : ℕ) (v w : View) (ws : List ℕ) (
   slot_stays : (j : ℕ) → get_elem? s.views id ≡ maybe.some v → Same c s ws hs hist hist' j → w.numbers ≡ v.numbers → at w.held j ≡ at v.held j → IsSlot c s seat j (hist j) → IsSlot c Then seat j (hist' j)
   slot_stays j here same nums helds old = record {
     head = same.head ∙ old.head ∙ ap (λ (l : List Fact). length l) (sym same.hist);
+    few = subst (λ (l : List Fact). length l < 2 ^ 32) (sym same.hist) old.few;
     own = subst (λ (l : List Fact). Fits c j l) (sym same.hist) old.own;
     free = λ e. let x = old.free (sym same.owner ∙ e) in (x.0, same.home ∙ x.1, subst (λ (l : List Fact). IsFree c j l x.0) (sym same.hist) x.2);
     out = λ n. subst (λ (o : ℕ). LeasedTo c Then seat j (hist' j) o) (sym same.owner)

@@ -1,9 +1,10 @@
 -- The passes that a new table deals.
-use Rattle.std.proofs.Common.{false, ◌≡◌, ℕ, zero, suc, ◌+◌, ◌-◌, ◌<◌, ◌≤◌, true, List, [], ◌∷◌, ◌++◌, length, map, replicate, refl, sym, ap, ◌∙◌, subst, arith, append_assoc, length-append, get_or, true≢false}
-use Rattle.plain_laws.proofs.Booleans.{get_replicate}
+use Rattle.std.proofs.Common.{false, ◌≡◌, ℕ, zero, suc, ◌+◌, ◌-◌, ◌<◌, ◌≤◌, ◌^◌, true, List, [], ◌∷◌, ◌++◌, length, map, replicate, refl, sym, ap, ◌∙◌, subst, arith, append_assoc, length-append, get_or, true≢false}
+use Rattle.plain_laws.proofs.Booleans.{get_replicate, below, all_get}
 use Rattle.std.specs.Prelude.{Option, None, Some, is_some, reverse}
 use Rattle.std.proofs.Math.ListN.{get_or-map}
 use Rattle.std.proofs.lemmas.List.{length-map, map-append, reverse-append, length-replicate, get_or_append_left, get_or-append-add}
+use Rattle.std.specs.List.{list_all}
 use mathlib.Core.Option as maybe
 use Rattle.atomic_table.specs.Seated.{TableId}
 use Rattle.atomic_table.specs.Table.{opening}
@@ -15,7 +16,7 @@ use Rattle.lease_table.specs.Lists.{Has}
 use Rattle.yard_model.specs.Words.{at, numbers}
 use Rattle.lease_table.specs.Rule.{down, IsTable}
 use Rattle.lease_table.specs.Tells.{SeatState, fresh_view, opening_view, first_of, rest_of, dealt_left, dealt_right}
-use Rattle.lease_table.specs.Leasing.{Pass, pass, counted, IsPass, fresh, dealt_from, Ready, words_of, length_in, lists_in}
+use Rattle.lease_table.specs.Leasing.{Pass, pass, counted, IsPass, fresh, dealt_from, Ready, words_of, length_in, is_short, lists_in}
 use Rattle.lease_table.proofs.Places.{down-le, not_some}
 use Rattle.lease_table.proofs.Seats.{got_at, begins}
 use Rattle.yard_model.specs.Lawful.{is_held}
@@ -101,7 +102,7 @@ popped old new p e = ap reverse e ∙ reverse-append new (p ∷ [])
 
 -- the words and the slots at the start
 at_zeros : (n k : ℕ) (ys : List ℕ) → k < n → get_or (replicate n 0 ++ ys) k 0 ≡ 0
-at_zeros n k ys h = get_or_append_left (replicate n 0) ys 0 k (omega (arith, length-replicate n 0)) ∙ get_replicate n k 0
+at_zeros n k ys h = get_or_append_left (replicate n 0) ys 0 k (subst (λ z. k < z) (sym (length-replicate n 0)) h) ∙ get_replicate n k 0
 
 at_later : (n k : ℕ) (ys : List ℕ) → get_or (replicate n 0 ++ ys) (n + k) 0 ≡ get_or ys k 0
 at_later n k ys = ap (λ (z : ℕ). get_or (replicate n 0 ++ ys) (z + k) 0) (sym (length-replicate n 0)) ∙ get_or-append-add (replicate n 0) ys k 0
@@ -121,8 +122,8 @@ home_there : (c : Script) (k : ℕ) (o : Option Store) → IsThere c (slot_at c.
 home_there c k None h = absurd h
 home_there c k (Some x) h = record { store = x; is = refl; home = h }
 
-pub opens : (c : Script) (xs : List (Option Store)) (ws : List ℕ) → AreHomes c xs → Ready c xs → ws ≡ words_of (length xs) xs → IsTable c (opening ws xs (opening_view c (lists_in xs)))
-opens c xs ws homes ready is = subst (λ (l : List ℕ). IsTable c (opening l xs (opening_view c (lists_in xs)))) (sym is)
+pub opens : (c : Script) (xs : List (Option Store)) (ws : List ℕ) → AreHomes c xs → Ready c xs → list_all is_short xs ≡ true → ws ≡ words_of (length xs) xs → IsTable c (opening ws xs (opening_view c (lists_in xs)))
+opens c xs ws homes ready short is = subst (λ (l : List ℕ). IsTable c (opening l xs (opening_view c (lists_in xs)))) (sym is)
     (let long : length xs ≡ slot_count c = homes.all in begins c (words_of (length xs) xs) xs homes.script_is
     (wide_words c xs long)
     (λ k lt. let t = home_there c k (at xs k) (homes.each k (omega arith)) in
@@ -134,6 +135,7 @@ opens c xs ws homes ready is = subst (λ (l : List ℕ). IsTable c (opening l xs
       own = subst (λ (l : List Fact). Fits c k l) log (ready.own k lt);
       free = at_zeros (length xs) k (map length_in xs) (omega arith);
       head = ap (λ (n : ℕ). get_or (words_of (length xs) xs) (n + k) 0) (sym long) ∙ at_later (length xs) k (map length_in xs) ∙ get_or-map length_in xs k None ∙ ap length log;
+      few = subst (λ (l : List Fact). length l < 2 ^ 32) log (below (length_in (at xs k)) 4294967296 (all_get is_short xs k None short refl));
     })
     ready.confirmed)
 

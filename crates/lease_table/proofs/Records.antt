@@ -37,7 +37,7 @@ recorded_begins e p n xs ys b h = at_most_more n (position p (journal e xs)) (po
 
 -- what a list confirms with an entry more that confirms nothing
 pub confirms_before : (e : List ℕ) (p n : ℕ) (list : List Fact) (f : Fact) → is_confirmed e p n f ≡ false → confirms e p n (list ++ f ∷ []) ≡ true → confirms e p n list ≡ true
-confirms_before e p n list f no h = no_more (confirms e p n list) (is_confirmed e p n f) no (sym (list_any-append (is_confirmed e p n) list (f ∷ [])) ∙ h)
+confirms_before e p n list f nothing h = no_more (confirms e p n list) (is_confirmed e p n f) nothing (sym (list_any-append (is_confirmed e p n) list (f ∷ [])) ∙ h)
   where
     no_more : (a b : Bool) → b ≡ false → (a || (b || false)) ≡ true → a ≡ true
     no_more true b e k = refl

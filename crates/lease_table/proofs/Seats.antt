@@ -1,5 +1,5 @@
 -- How seats are made and joined.
-use Rattle.std.proofs.Common.{arith, ◌≡◌, ◌≢◌, ℕ, zero, suc, ◌+◌, ◌<◌, ◌⊎◌, inl, inr, ⊎_elim, List, [], ◌∷◌, ◌++◌, length, set, replicate, refl, sym, ap, ◌∙◌, subst, true≢false, length-set}
+use Rattle.std.proofs.Common.{arith, ◌≡◌, ◌≢◌, ℕ, zero, suc, ◌+◌, ◌<◌, ◌^◌, ◌⊎◌, inl, inr, ⊎_elim, List, [], ◌∷◌, ◌++◌, length, set, replicate, refl, sym, ap, ◌∙◌, subst, true≢false, length-set}
 use Rattle.plain_laws.proofs.Booleans.{get_replicate}
 use Rattle.std.specs.Prelude.{slice_index, Option, None, Some}
 use mathlib.Core.Option as maybe
@@ -103,7 +103,7 @@ module _ (c : Script) (s : TableState) (r : IsTable c s) (id : ℕ) (v left righ
     confirmed = r.confirmed;
     seat = seat';
     wide = r.wide;
-    slots = λ j lt. let old = r.slots j lt in record { head = old.head; own = old.own; free = old.free; out = λ n. split_leased j (old.out n) };
+    slots = λ j lt. let old = r.slots j lt in record { head = old.head; few = old.few; own = old.own; free = old.free; out = λ n. split_leased j (old.out n) };
     views = split_view;
   }
 
@@ -219,7 +219,7 @@ module _ (c : Script) (s : TableState) (r : IsTable c s) (id : ℕ) (v : View) (
     confirmed = r.confirmed;
     seat = seat';
     wide = r.wide;
-    slots = λ j lt. let old = r.slots j lt in record { head = old.head; own = old.own; free = old.free; out = λ n. join_leased j (old.out n) };
+    slots = λ j lt. let old = r.slots j lt in record { head = old.head; few = old.few; own = old.own; free = old.free; out = λ n. join_leased j (old.out n) };
     views = join_view;
   }
 
@@ -234,6 +234,7 @@ pub record Lies (c : Script) (ws : List ℕ) (xs : List (Option Store)) (k : ℕ
   pub own : Fits c k (entries_of store)
   pub free : slice_index ws k ≡ 0
   pub head : slice_index ws (slot_count c + k) ≡ length (entries_of store)
+  pub few : length (entries_of store) < 2 ^ 32
 
 pub at_got : (l : List (Option Store)) (k : ℕ) (x : Option Store) → get_elem? l k ≡ maybe.some x → at l k ≡ x
 at_got [] k x e = absurd (maybe.some-ne-none x (sym e))
@@ -264,6 +265,7 @@ begins c ws xs script wide lies told =
       wide = wide;
       slots = λ k lt. let l = lies k lt in let is : hist k ≡ (entries_of l.store) = ap entries_in (at_got xs k (Some l.store) l.there) in record {
         head = l.head ∙ ap (λ (z : List Fact). length z) (sym is);
+        few = subst (λ (z : List Fact). length z < 2 ^ 32) (sym is) l.few;
         own = subst (λ (z : List Fact). Fits c k z) (sym is) l.own;
         free = λ _. (l.store, at_map maybe.some xs k (Some l.store) l.there, subst (λ (z : List Fact). IsFree c k z l.store) (sym is) l.rests);
         out = λ n. absurd (n l.free);

@@ -1,6 +1,6 @@
 -- The steps that keep the rule: claim, free, publish and look.
 use Rattle.shard_store.specs.Stores.{slot_at}
-use Rattle.std.proofs.Common.{◌≡◌, ◌≢◌, ℕ, ◌+◌, ◌-◌, ◌<◌, ◌≤◌, ◌⊎◌, inl, inr, ⊎_elim, List, [], ◌∷◌, length, set, refl, sym, ap, ◌∙◌, subst, arith, true, false, eqb, length-set}
+use Rattle.std.proofs.Common.{◌≡◌, ◌≢◌, ℕ, ◌+◌, ◌-◌, ◌<◌, ◌≤◌, ◌^◌, ◌⊎◌, inl, inr, ⊎_elim, List, [], ◌∷◌, length, set, refl, sym, ap, ◌∙◌, subst, arith, true, false, eqb, length-set}
 use Rattle.std.proofs.lemmas.List.{set-get_or, get_or-set_same, get_or-set_other}
 use Rattle.std.specs.Prelude.{slice_index, Option, None, Some}
 use mathlib.Core.Option as maybe
@@ -57,6 +57,7 @@ module _ (c : Script) (s : TableState) (r : IsTable c s) (id : ℕ) (m : SeatSta
       let seen_now : seen_at w.seen k ≡ h = get_or-set_same m.0.seen k h [] (omega arith) in
       let slot : IsSlot c (at_state ws hs (set s.views id w)) r.seat k h = record {
         head = get_or-set_other s.words k (slot_count c + k) node 0 (λ e. omega arith) ∙ sl.head;
+        few = sl.few;
         own = sl.own;
         free = λ e. absurd (some_node (sym word_here ∙ e));
         out = λ _. subst (λ (o : ℕ). LeasedTo c (at_state ws hs (set s.views id w)) r.seat k h o) (sym word_here) record {
@@ -135,21 +136,22 @@ looks c slots id m k is lt s r wide here _ =
     let i : ℕ = slots + k in let n : ℕ = slice_index s.words i in
     let head : n ≡ length (r.hist k) = ap (λ (z : ℕ). slice_index s.words (z + k)) is ∙ (r.slots k lt).head in
     let least : length (seen_at m.0.seen k) ≤ n = let b = begins_length _ _ ((r.views id m.0 here).seen k lt) in omega arith in
+    let few : n < 2 ^ 32 = subst (λ (z : ℕ). z < 2 ^ 32) (sym head) (r.slots k lt).few in
     let which : slots + k - slots ≡ k = omega arith in (
       looked m.0 n,
       keeps,
       tt,
       counts c s r id m here i (looked m.0 n) refl refl refl refl refl refl,
-      record { now = refl; least = subst (λ (z : ℕ). length (seen_at m.0.seen z) ≤ n) (sym which) least },
+      record { now = refl; least = subst (λ (z : ℕ). length (seen_at m.0.seen z) ≤ n) (sym which) least; few = few },
     )
 
 abbrev Announced : SeatState → List Fact → View → ℕ → Type 0
 Announced m new w y = let a : SeatState = (w, m.1) in let b : SeatState = (published m.0 y new, m.1) in (a ≡ b) × Begins (seen_at m.0.seen y) new
 
 -- one store of the head word
-pub publishes : (c : Script) (slots id : ℕ) (m : SeatState) (k : ℕ) (old new : List Fact) → ((e : List ℕ) (p n : ℕ) → confirms e p n new ≡ true → (confirms e p n old ≡ true) ⊎ (recorded e p n (seen_at m.0.seen (home_of c e)) ≡ true)) → slots ≡ slot_count c → at m.0.held k ≡ Some old → length m.0.held ≡ slot_count c → length m.0.seen ≡ slot_count c → Begins old new → Fits c k new
+pub publishes : (c : Script) (slots id : ℕ) (m : SeatState) (k : ℕ) (old new : List Fact) → ((e : List ℕ) (p n : ℕ) → confirms e p n new ≡ true → (confirms e p n old ≡ true) ⊎ (recorded e p n (seen_at m.0.seen (home_of c e)) ≡ true)) → slots ≡ slot_count c → at m.0.held k ≡ Some old → length m.0.held ≡ slot_count c → length m.0.seen ≡ slot_count c → Begins old new → Fits c k new → length new < 2 ^ 32
     → Allows (IsTable c) slots id m (slots + k) (λ _. length new) (λ _. Published new (step slots (slots + k) (length new) 0 maybe.none) m (length new))
-publishes c slots id m k old new vouched is has helds seens more own s r wide here _ =
+publishes c slots id m k old new vouched is has helds seens more own short s r wide here _ =
     let me = r.views id m.0 here in let o = me.held k old has in let lt : k < slot_count c = o.inside in let sl = r.slots k lt in let long : length s.words ≡ slot_count c + slot_count c = r.wide in
     let i : ℕ = slots + k in let w : View = published m.0 k new in let ws : List ℕ = set s.words i (length new) in
     let hist' : ℕ → List Fact = edit r.hist k new in let now : hist' k ≡ new = edit_here r.hist k new in
@@ -180,6 +182,7 @@ publishes c slots id m k old new vouched is has helds seens more own s r wide he
     let is_view : m.0 ≡ t.view = maybe.some-injective m.0 t.view (sym here ∙ ap (λ (y : ℕ). get_elem? s.views y) (sym to) ∙ t.there) in
     let slot : IsSlot c (at_state ws s.homes (set s.views id w)) r.seat k (hist' k) = record {
       head = ap (λ (y : ℕ). slice_index ws y) (sym i_is) ∙ get_or-set_same s.words i (length new) 0 (omega arith) ∙ ap (λ (l : List Fact). length l) (sym now);
+      few = subst (λ (l : List Fact). length l < 2 ^ 32) (sym now) short;
       own = subst (λ (l : List Fact). Fits c k l) (sym now) own;
       free = λ e. absurd (o.leased (sym (owners k lt) ∙ e));
       out = λ _. subst (λ (y : ℕ). LeasedTo c (at_state ws s.homes (set s.views id w)) r.seat k (hist' k) y) (sym (owners k lt)) record {
@@ -224,6 +227,7 @@ frees c slots id m k h x cs is has helds carried rests s r wide here _ =
     let none_now : at w.held k ≡ None = get_or-set_same m.0.held k None None (omega arith) in
     let slot : IsSlot c (at_state ws hs (set s.views id w)) r.seat k (r.hist k) = record {
       head = get_or-set_other s.words k (slot_count c + k) 0 0 (λ e. omega arith) ∙ sl.head;
+      few = sl.few;
       own = sl.own;
       free = λ _. (x, set_here s.homes k (maybe.some (Some x)) (omega arith), subst (λ (l : List Fact). IsFree c k l x) o.whole rests);
       out = λ n. absurd (n word_here);

@@ -1,5 +1,5 @@
 -- What a contract sees of a pass, and what the calls say.
-use Rattle.std.specs.Prelude.{◌≡◌, ◌≢◌, ℕ, suc, ◌+◌, ◌<◌, ◌≤◌, ◌⊎◌, true, false, List, [], ◌∷◌, ◌++◌, length, Option, None, Some, map, replicate, is_some, eqb}
+use Rattle.std.specs.Prelude.{◌≡◌, ◌≢◌, ℕ, suc, ◌+◌, ◌<◌, ◌≤◌, ◌⊎◌, Bool, true, false, nat_lt, List, [], ◌∷◌, ◌++◌, length, Option, None, Some, map, replicate, is_some, eqb}
 use Rattle.std.specs.List.{list_any, list_all}
 use Rattle.atomic_table.specs.Seated.{TableId}
 use Rattle.atomic_table.specs.Table.{Me}
@@ -154,6 +154,10 @@ dealt z c ls = map (λ n. pass z (fresh c ls n)) (numbers 1 c.config.nodes)
 
 abbrev pub length_in : Option Store → ℕ
 length_in o = length (entries_in o)
+
+-- its length fits 32 bits
+abbrev pub is_short : Option Store → Bool
+is_short o = nat_lt (length_in o) 4294967296
 
 abbrev pub words_of : ℕ → List (Option Store) → List ℕ
 words_of n xs = replicate n 0 ++ map length_in xs

@@ -1,6 +1,6 @@
 -- The rule of the lease table.
 -- The word k is the owner of the slot k, 0 or a node's number, and the word slots + k the length of its list.
-use Rattle.std.specs.Prelude.{◌≡◌, ◌≢◌, ℕ, zero, suc, ◌+◌, ◌<◌, ◌≤◌, true, false, List, [], ◌∷◌, length, slice_index, Option, None, Some}
+use Rattle.std.specs.Prelude.{◌≡◌, ◌≢◌, ℕ, zero, suc, ◌+◌, ◌<◌, ◌≤◌, ◌^◌, true, false, List, [], ◌∷◌, length, slice_index, Option, None, Some}
 use mathlib.Core.Option as maybe
 use lib.ListN.{get_elem?}
 use Rattle.atomic_table.specs.Table.{State}
@@ -46,6 +46,7 @@ pub record LeasedTo (c : Script) (s : TableState) (seat : ℕ → ℕ) (k : ℕ)
 
 pub record IsSlot (c : Script) (s : TableState) (seat : ℕ → ℕ) (k : ℕ) (h : List Fact) : Type 0 where
   pub head : slice_index s.words (slot_count c + k) ≡ length h
+  pub few : length h < 2 ^ 32
   pub own : Fits c k h
   pub free : slice_index s.words k ≡ 0 → AtHome c s k h
   pub out : slice_index s.words k ≢ 0 → LeasedTo c s seat k h (slice_index s.words k)

@@ -1,5 +1,5 @@
 -- What the steps tell.
-use Rattle.std.specs.Prelude.{◌≡◌, ◌≢◌, ℕ, ◌+◌, ◌-◌, ◌≤◌, true, false, List, [], ◌∷◌, ◌++◌, length, Option, None, Some, replicate, nat_lt, if◌then◌else◌}
+use Rattle.std.specs.Prelude.{◌≡◌, ◌≢◌, ℕ, ◌+◌, ◌-◌, ◌<◌, ◌≤◌, ◌^◌, true, false, List, [], ◌∷◌, ◌++◌, length, Option, None, Some, replicate, nat_lt, if◌then◌else◌}
 use Rattle.atomic_table.specs.Table.{Me, Step, rest}
 use Rattle.yard_model.specs.Script.{Script}
 use Rattle.yard_model.specs.declared.fact.Fact.{Fact}
@@ -18,7 +18,7 @@ SeatState = Me (Option Store) View
 
 -- a view with these numbers, which holds nothing and has seen these lists
 abbrev pub fresh_view : Script → List (List Fact) → List ℕ → View
-fresh_view c ls ns = record { spent = false; charter = c; numbers = ns; held = replicate slot_count c None; seen = ls; olds = replicate slot_count c []; claims = 0; looks = 0; found = 0 }
+fresh_view c ls ns = record { spent = false; charter = c; numbers = ns; held = replicate (slot_count c) None; seen = ls; olds = replicate (slot_count c) []; claims = 0; looks = 0; found = 0 }
 
 -- the first seat has every number
 abbrev pub opening_view : Script → List (List Fact) → View
@@ -67,6 +67,7 @@ Freed s m found m' = m' ≡ (freed m.0 s.word, rest m.1)
 pub record Looked (s : Step (Option Store)) (m : SeatState) (found : ℕ) (m' : SeatState) : Type 0 where
   pub now : m' ≡ (looked m.0 found, m.1)
   pub least : length (seen_at m.0.seen (s.word - s.slots)) ≤ found
+  pub few : found < 2 ^ 32
 
 abbrev pub first_of : List ℕ → ℕ
 first_of [] = 0

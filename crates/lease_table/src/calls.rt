@@ -1,5 +1,5 @@
 //! The calls of a table, by the places of the slots.
-ghost use Rattle.std.specs.Prelude.{◌≡◌, ◌≢◌, ℕ, ◌+◌, ◌<◌, ◌≤◌, None, Some, [], length, false, true};
+ghost use Rattle.std.specs.Prelude.{◌≡◌, ◌≢◌, ℕ, ◌+◌, ◌<◌, ◌≤◌, ◌^◌, None, Some, [], length, false, true};
 ghost use mathlib.Core.Option.{none};
 ghost use Rattle.atomic_table.specs.Table.{step};
 ghost use Rattle.lease_table.specs.Fits.{slot_count, admits};
@@ -94,16 +94,18 @@ impl LeaseTable {
     }
 
     /// How many entries of the slot are published.
-    pub(crate) fn check_at(&self, pass: &mut LeasePass, slot: usize) -> u64
+    pub(crate) fn check_at(&self, pass: &mut LeasePass, slot: usize) -> u32
         requires table { pass.old.table ≡ id_of self.now }
         requires slot { slot < slot_count (charter_of self.now) }
         ensures table { pass.new.table ≡ pass.old.table }
         ensures now { pass.new.view ≡ looked pass.old.view result }
         ensures least { length (seen_at pass.old.view.seen slot) ≤ result }
     {
-        self.table
+        let found = self
+            .table
             .shared
-            .load::<Looks>(&mut pass.seat, self.slots + slot)
+            .load::<Looks>(&mut pass.seat, self.slots + slot);
+        count_of(found)
     }
 
     /// A note that has seen what the pass has, to be shown to another; it holds nothing and has no number.
@@ -176,6 +178,14 @@ impl LeaseTable {
             charter,
         }
     }
+}
+
+/// How many entries a head tells of.
+fn count_of(word: u64) -> u32
+    requires { word < 2 ^ 32 }
+    ensures { result ≡ word }
+{
+    word as u32
 }
 
 /// The node whose number an owner word is.

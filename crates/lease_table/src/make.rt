@@ -1,12 +1,13 @@
 //! How a table is made.
 ghost use Rattle.std.specs.Prelude.{◌≡◌, ℕ, ◌+◌, ◌<◌, ◌≤◌, ◌++◌, map, replicate, length, None, Some, IfOk, MatchOption, true, false, vec_capacity, vec_len, [], ◌∷◌, List, Option};
+ghost use Rattle.std.specs.List.{list_all};
 ghost use Rattle.yard_model.specs.Script.{Script};
 ghost use Rattle.yard_model.specs.declared.fact.Fact.{Fact};
 ghost use Rattle.shard_store.specs.declared.store.Store.{Store};
 ghost use Rattle.shard_store.specs.Stores.{entries_at};
 ghost use Rattle.lease_table.specs.Fits.{slot_count};
 ghost use Rattle.lease_table.specs.Tells.{opening_view};
-ghost use Rattle.lease_table.specs.Leasing.{Ready, dealt, dealt_from, words_of, length_in, lists_in, fresh, pass};
+ghost use Rattle.lease_table.specs.Leasing.{Ready, dealt, dealt_from, words_of, length_in, is_short, lists_in, fresh, pass};
 ghost use Rattle.lease_table.specs.Belongs.{id_of, charter_of};
 ghost use Rattle.lease_table.specs.Left.{left_of};
 
@@ -43,23 +44,25 @@ pub fn empty_stores_are_ready()
 {}
 
 /// How long the list of a place is.
-fn entries_of(store: &Option<Store>) -> u64
-    ensures { result ≡ length_in store.now }
+fn entries_of(store: &Option<Store>) -> u32
+    ensures count { result ≡ length_in store.now }
+    ensures short { is_short store.now ≡ true }
 {
     match store {
-        Some(store) => store.len() as u64,
+        Some(store) => store.len(),
         None => 0,
     }
 }
 
 /// The words of a new table: no owner, and how long each list is.
 fn heads(alloc: Global, places: &[Option<Store>]) -> Result<Vec<u64>, AllocError>
-    ensures { IfOk result (λ v. v.items ≡ words_of (length places.now) places.now) }
+    ensures words { IfOk result (λ v. v.items ≡ words_of (length places.now) places.now) }
+    ensures short { IfOk result (λ v. list_all is_short places.now ≡ true) }
 {
     let mut words = Vec::from_elem(alloc, 0u64, places.len())?;
     words.reserve(places.len())?;
     for store in places {
-        words.push(entries_of(store))?;
+        words.push(entries_of(store) as u64)?;
     }
     Ok(words)
 }

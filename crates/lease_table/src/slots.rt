@@ -81,7 +81,7 @@ impl LeaseTable {
     }
 
     /// How many entries of the slot's list are published: at least as many as the pass has seen.
-    pub fn check(&self, pass: &mut LeasePass, slot: Slot) -> u64
+    pub fn check(&self, pass: &mut LeasePass, slot: Slot) -> u32
         requires table { pass.old.table ≡ id_of self.now }
         requires slot { IsTrue (is_slot_of (charter_of self.now) slot) }
         ensures table { pass.new.table ≡ pass.old.table }

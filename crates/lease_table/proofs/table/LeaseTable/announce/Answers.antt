@@ -1,4 +1,4 @@
-use Rattle.std.proofs.Common.{◌⊎◌, true, [], arith, ◌≡◌, ℕ, ◌+◌, ◌<◌, length, sym, ap, ◌∙◌, subst, List}
+use Rattle.std.proofs.Common.{◌⊎◌, true, [], arith, ◌≡◌, ℕ, ◌+◌, ◌<◌, ◌^◌, length, sym, ap, ◌∙◌, subst, List}
 use mathlib.Core.Option.{none}
 use Rattle.atomic_table.specs.Table.{step, Allows}
 use Rattle.yard_model.specs.Script.{Script}
@@ -22,11 +22,12 @@ store-requires g c =
     let words : t.table_id.words ≡ slot_count c.args.self.now.charter.value + slot_count c.args.self.now.charter.value = z.0 in
     let new : List Fact = g.B.Told.list in
     let len : length new ≡ c.len.result = ap (λ (l : List Fact). length l) c.requires.told ∙ sym c.len.ensures in
+    let short : length new < 2 ^ 32 = omega arith in
     let m = c.args.seat.now.me in
     let own : Fits t.key.charter.value c.args.slot new = subst (λ (y : Script). Fits y c.args.slot new) (c.requires.live.2 ∙ sym z.2) c.requires.rule.own in (
       c.requires.table,
       omega arith,
       subst (λ (w : ℕ). Allows (IsTable t.key.charter.value) t.table_id.slots c.args.seat.now.id m (w + c.args.slot) (λ _. c.len.result) (λ _. Published new (step t.table_id.slots (w + c.args.slot) c.len.result 0 none) m c.len.result)) slots
           (subst (λ (n : ℕ). Allows (IsTable t.key.charter.value) t.table_id.slots c.args.seat.now.id m (t.table_id.slots + c.args.slot) (λ _. n) (λ _. Published new (step t.table_id.slots (t.table_id.slots + c.args.slot) n 0 none) m n)) len
-          (publishes t.key.charter.value t.table_id.slots c.args.seat.now.id m c.args.slot c.requires.rule.old new (subst (λ (y : Script). (e : List ℕ) (p n : ℕ) → confirms e p n new ≡ true → (confirms e p n c.requires.rule.old ≡ true) ⊎ (recorded e p n (seen_at m.0.seen (home_of y e)) ≡ true)) (c.requires.live.2 ∙ sym z.2) c.requires.rule.vouched) (z.1 ∙ wide) c.requires.rule.held (c.requires.live.0 ∙ wide) (c.requires.live.1 ∙ wide) c.requires.rule.extends own)),
+          (publishes t.key.charter.value t.table_id.slots c.args.seat.now.id m c.args.slot c.requires.rule.old new (subst (λ (y : Script). (e : List ℕ) (p n : ℕ) → confirms e p n new ≡ true → (confirms e p n c.requires.rule.old ≡ true) ⊎ (recorded e p n (seen_at m.0.seen (home_of y e)) ≡ true)) (c.requires.live.2 ∙ sym z.2) c.requires.rule.vouched) (z.1 ∙ wide) c.requires.rule.held (c.requires.live.0 ∙ wide) (c.requires.live.1 ∙ wide) c.requires.rule.extends own short)),
     )

@@ -9,8 +9,8 @@ use Rattle.lease_table.specs.Leasing.{Pass}
 use Rattle.lease_table.proofs.Steps.{looks}
 use Rattle.lease_table.proofs.table.LeaseTable.check_at.Goals as goal
 
-pub load-requires : goal.load-requires
-load-requires c =
+pub load-found-requires : goal.load-found-requires
+load-found-requires c =
     let t = c.args.self.now.table.shared in
     let z = c.args.self.now.sized in
     let slots : t.table_id.slots ≡ c.args.self.now.slots = z.1 ∙ sym z.6 in

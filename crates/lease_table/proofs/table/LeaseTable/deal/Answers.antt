@@ -9,7 +9,6 @@ use Rattle.lease_table.specs.Tells.{SeatState, fresh_view}
 use Rattle.lease_table.specs.Leasing.{pass, dealt_from, fresh}
 use Rattle.lease_table.specs.Rule.{down}
 use Rattle.yard_model.specs.Words.{at}
-
 use Rattle.lease_table.proofs.Records.{some_nodes}
 use Rattle.lease_table.proofs.Seats.{deals}
 use Rattle.lease_table.proofs.Dealt.{deals_on, right_fresh, last_fresh, ends_dealt, down_split, down_apart}

@@ -16,7 +16,6 @@ use Rattle.yard_model.specs.Words.{at}
 use Rattle.lease_table.specs.Tells.{SeatState, freed, published}
 use Rattle.lease_table.specs.Leasing.{Pass, MayRelease, empty}
 use Rattle.lease_table.proofs.Given.{may_end, rests_ended, gave_ok}
-
 use Rattle.lease_table.proofs.table.LeaseTable.release_at.Goals as goal
 
 pub announce-requires-clause-rule : goal.announce-requires-clause-rule
@@ -26,8 +25,8 @@ announce-requires-clause-rule c =
     (let charter : c.args.pass.now.view.charter ≡ c.pass.inside.seat.me.0.charter = ap (λ (v : View). v.charter) (sym same) in
     let script : script_of c.free.new.self ≡ c.pass.inside.seat.me.0.charter = c.free.ensures.script ∙ c.requires.store.script ∙ charter in
     let slot : slot_of c.free.new.self ≡ slot_at c.pass.inside.seat.me.0.charter.config c.args.slot = c.free.ensures.slot ∙ c.requires.store.slot ∙ ap (λ (y : Script). slot_at y.config c.args.slot) charter in
-    ap (λ l. own c.pass.inside.seat.me.0.charter (slot_at c.pass.inside.seat.me.0.charter.config c.args.slot) l) c.as_ref.ensures ∙ subst (λ (z : Script × Slot). own z.0 z.1 (entries_of c.free.new.self) ≡ true) (λ i. (script i, slot i)) c.is_leased-leased.ensures.own)
-    (c.as_ref.ensures ∙ c.free.ensures.entries ∙ ap (λ q. entries_of c.args.store ++ fact.Freed q (epoch (entries_of c.args.store)) c.args.cause ∷ []) (c.requires.store.slot ∙ ap (λ (v : View). slot_at v.charter.config c.args.slot) (sym same)))
+    ap (λ l. own c.pass.inside.seat.me.0.charter (slot_at c.pass.inside.seat.me.0.charter.config c.args.slot) l) c.as_ref.ensures.entries ∙ subst (λ (z : Script × Slot). own z.0 z.1 (entries_of c.free.new.self) ≡ true) (λ i. (script i, slot i)) c.is_leased-leased.ensures.own)
+    (c.as_ref.ensures.entries ∙ c.free.ensures.entries ∙ ap (λ q. entries_of c.args.store ++ fact.Freed q (epoch (entries_of c.args.store)) c.args.cause ∷ []) (c.requires.store.slot ∙ ap (λ (v : View). slot_at v.charter.config c.args.slot) (sym same)))
 
 pub give-requires-clause-rests : goal.give-requires-clause-rests
 give-requires-clause-rests c =
@@ -35,7 +34,7 @@ give-requires-clause-rests c =
     let ok = c.pass.invariant in
     let k : ℕ = c.args.slot in
     let l : List Fact = (entries_of_ref c.as_ref.result) in
-    let log : (entries_of c.free.new.self) ≡ l = sym c.as_ref.ensures in
+    let log : (entries_of c.free.new.self) ≡ l = sym c.as_ref.ensures.entries in
     let b = c.bring.ensures.order in
     let same : slot_count c.pass.inside.charter.value ≡ slot_count c.args.self.now.charter.value = ap (λ (y : Script). slot_count y) (sym ok.charter) ∙ ap (λ (p : Pass). (slot_count p.view.charter)) c.pass.view_is ∙ ap (λ (y : Script). slot_count y) c.requires.charter in
     let lt : k < slot_count c.args.self.now.charter.value = c.requires.slot in

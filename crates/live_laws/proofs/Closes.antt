@@ -1,6 +1,6 @@
 -- Lists that are lawful one by one, and of which what is confirmed is recorded, are lawful.
 use Rattle.std.proofs.Common.{◌≡◌, ◌<◌, ◌≤◌, ℕ, zero, suc, ◌+◌, ◌-◌, sym, ap, ◌∙◌, refl, arith}
-use Rattle.std.specs.Prelude.{Bool, true, ◌==◌, ◌&&◌, nat_lt, nat_le, List, [], ◌∷◌, ◌++◌, length, slice_index_or}
+use Rattle.std.specs.Prelude.{Bool, true, ◌==◌, ◌&&◌, nat_lt, nat_le, List, [], ◌∷◌, length, slice_index_or}
 use Rattle.std.specs.List.{list_all}
 use Rattle.plain_laws.proofs.Booleans.{and_both, both, left_of, right_of, below, at_most, is_below, within, number_itself}
 use Rattle.plain_laws.proofs.Lists.{all_join}

@@ -1,5 +1,5 @@
 -- What a live run rests on, over the definitions alone.
-use Rattle.std.specs.Prelude.{◌≡◌, ℕ, ◌+◌, ◌-◌, ◌<◌, ◌≤◌, Bool, true, false, ◌==◌, ◌||◌, not, nat_le, List, [], length, fold, count_by, Some, None}
+use Rattle.std.specs.Prelude.{◌≡◌, ℕ, ◌+◌, ◌-◌, ◌<◌, ◌≤◌, ◌⊎◌, Bool, true, false, ◌==◌, ◌||◌, not, nat_le, List, [], length, fold, count_by, Option, Some, None}
 use Rattle.std.specs.List.{list_all, list_any}
 use Rattle.yard_model.specs.declared.charter.Order.{Order}
 use Rattle.yard_model.specs.declared.charter.Order.TheVariants as order
@@ -23,6 +23,11 @@ use Rattle.yard_model.specs.Words.{at}
 use Rattle.yard_model.specs.World.{all_sends}
 use Rattle.yard_model.specs.Workers.{is_up, worker_orders, is_queued_by, is_steady, worked}
 use Rattle.shard_lease.specs.Meaning.{Begins, confirms}
+use Rattle.shard_store.specs.declared.store.Store.{Store}
+use Rattle.shard_store.specs.Stores.{lists_at, place_of}
+use Rattle.lease_table.specs.declared.View.{View}
+use Rattle.lease_table.specs.Lists.{seen_at, Has}
+use Rattle.lease_table.specs.Leasing.{Closed}
 use Rattle.lease_table.specs.Fits.{admits, is_fit, recorded}
 
 -- What a closed table gives is lawful.
@@ -122,3 +127,19 @@ pub record IsRun (c : Script) (p n : ℕ) (os : List Order) : Type 0 where
 
 abbrev pub SteadyRun : Type 0
 SteadyRun = (c : Script) (turns p n : ℕ) → is_steady c turns p n ≡ true → IsRun c p n (worker_orders c n)
+
+-- What a closed table gives.
+
+-- its lists are lawful
+abbrev pub ClosedIsLawful : Type 0
+ClosedIsLawful = (c : Script) (v : View) (places : List (Option Store)) → Closed c v places → lawful c (lists_at c.config places) ≡ true
+
+-- the pass, or one that was joined to it, has seen all of the producer's sends queued
+pub record SawQueued (c : Script) (v : View) (p : ℕ) : Type 0 where
+  pub list : List Fact
+  pub saw : (list ≡ seen_at v.seen (place_of c.config (slot.Queue p))) ⊎ Has list (seen_at v.olds (place_of c.config (slot.Queue p)))
+  pub all : length (sends c p) ≤ queued_in_all list
+
+-- and worked, where the pass that closed it has seen all sends of each steady producer queued
+abbrev pub ClosedIsWorked : Type 0
+ClosedIsWorked = (c : Script) (turns : ℕ) (v : View) (places : List (Option Store)) → Closed c v places → ((p n : ℕ) → is_producer c p ≡ true → is_steady c turns p n ≡ true → SawQueued c v p) → worked c turns (lists_at c.config places) ≡ true

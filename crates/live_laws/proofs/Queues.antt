@@ -1,10 +1,9 @@
 -- What a turn does to a queue that the node has in hand.
-use Rattle.std.proofs.Common.{◌≡◌, ◌≢◌, ◌<◌, ◌≤◌, ℕ, zero, suc, ◌+◌, ◌-◌, ◌⊎◌, inl, inr, sym, ap, ◌∙◌, refl, subst, arith, append-nil, append_assoc}
+use Rattle.std.proofs.Common.{◌≡◌, ◌≢◌, ◌<◌, ◌≤◌, ℕ, zero, suc, ◌+◌, ◌-◌, ◌⊎◌, inl, inr, sym, ap, ◌∙◌, refl, subst, arith}
 use Rattle.std.specs.Prelude.{Bool, true, false, ◌==◌, ◌&&◌, not, nat_lt, nat_le, List, [], ◌∷◌, ◌++◌, length, map, fold, is_none, Option, Some, None, slice_index_or, slice_set, if◌then◌else◌}
 use Rattle.std.specs.List.{list_all, slice_get}
 use Rattle.std.proofs.lemmas.List.{get_or-set_same, get_or-set_other, length-set}
 use Rattle.std.proofs.lemmas.List.Sums.{fold-append}
-use Rattle.std.proofs.lemmas.List.Folds.{list_all-append}
 use Rattle.plain_laws.proofs.Booleans.{and_both, both, at_most, same_number, number_itself, true_is_not_false}
 use Rattle.yard_model.specs.declared.charter.Sending.{Sending}
 use Rattle.yard_model.specs.declared.fact.Fact.{Fact}
@@ -34,7 +33,8 @@ use Rattle.yard_model.specs.Words.{at, is_at}
 use Rattle.shard_lease.specs.Meaning.{Begins}
 use Rattle.yard_model.specs.World.{all_sends}
 use Rattle.yard_model.specs.Words.{numbers}
-use Rattle.lease_table.proofs.Places.{same_or_not}
+use Rattle.plain_laws.proofs.Lists.{inside, all_join, all_if, all_some}
+use Rattle.lease_table.proofs.Places.{same_or_not, begins_here, begins_on}
 use Rattle.live_laws.specs.Live.{HasQueue, TurnKeepsQueue, SendQueues, ProduceTakes}
 use Rattle.live_laws.proofs.Steadies.{queued_grows}
 
@@ -53,24 +53,10 @@ by_keeps set who p k (took s l) e = cc
 by_keeps set who p k (made (item.Fact (fact.Freed s n why))) e = cc
 by_keeps set who p k m e = refl
 
-pub begins_itself : (xs : List Fact) → Begins xs xs
-begins_itself xs = record { rest = []; is = sym (append-nil xs) }
-
-pub begins_then : (xs ys zs : List Fact) → Begins xs ys → Begins ys zs → Begins xs zs
-begins_then xs ys zs a b = record { rest = a.rest ++ b.rest; is = b.is ∙ ap (λ l. l ++ b.rest) a.is ∙ append_assoc xs a.rest b.rest }
-
 entries_begin : (old : List Fact) (m : Move) → Begins old (queue_step old m)
 entries_begin old (made (item.Fact (fact.Queued p e n k))) = record { rest = fact.Queued p e n k ∷ []; is = refl }
 entries_begin old (made (item.Fact (fact.Confirmed p e n))) = record { rest = fact.Confirmed p e n ∷ []; is = refl }
-entries_begin old m = begins_itself old
-
-there_within : {A : Type 0} (xs : List (Option A)) (i : ℕ) (x : A) → at xs i ≡ Some x → i < length xs
-there_within [] i x e = absurd (no (sym e))
-  where
-    no : {A : Type 0} {x : A} → Some x ≡ None → ⊥
-    no e = cc
-there_within (y ∷ ys) zero x e = omega arith
-there_within (y ∷ ys) (suc i) x e = let h = there_within ys i x e in omega arith
+entries_begin old m = begins_here old
 
 -- the producer after it
 record Goes (st : Node) (a : Act) (p : ℕ) (k : Producer) : Type 0 where
@@ -79,12 +65,12 @@ record Goes (st : Node) (a : Act) (p : ℕ) (k : Producer) : Type 0 where
   pub begins : Begins k.entries now.entries
 
 stays_there : (st : Node) (a : Act) (p : ℕ) (k : Producer) → (after st a).producers ≡ st.producers → at st.producers (p - 1) ≡ Some k → Goes st a p k
-stays_there st a p k same here = record { now = k; there = ap (λ l. at l (p - 1)) same ∙ here; begins = begins_itself k.entries }
+stays_there st a p k same here = record { now = k; there = ap (λ l. at l (p - 1)) same ∙ here; begins = begins_here k.entries }
 
 -- a producer's own move
 pub own_step : (st : Node) (p : ℕ) (k : Producer) (m : Move) → at st.producers (p - 1) ≡ Some k → is_keeping (by_producer p m) ≡ true → at (after st (by_producer p m)).producers (p - 1) ≡ Some (producer_after k m)
 own_step st p k m here e =
-    get_or-set_same st.producers (p - 1) (producer_by st.set st.who p (at st.producers (p - 1)) m) None (there_within st.producers (p - 1) k here)
+    get_or-set_same st.producers (p - 1) (producer_by st.set st.who p (at st.producers (p - 1)) m) None (inside st.producers (p - 1) k here)
     ∙ ap (λ o. producer_by st.set st.who p o m) here ∙ by_keeps st.set st.who p k m e
 
 one_keeps : (st : Node) (a : Act) (p : ℕ) (k : Producer) → at st.producers (p - 1) ≡ Some k → is_keeping a ≡ true → Goes st a p k
@@ -100,33 +86,22 @@ one_keeps st (by_producer q m) p k here e = by (same_or_not (p - 1) (q - 1))
     by (inl same) = record {
       now = producer_after k m;
       there = ap (λ i. at (slice_set st.producers (q - 1) new) i) same
-          ∙ get_or-set_same st.producers (q - 1) new None (subst (λ i. i < length st.producers) same (there_within st.producers (p - 1) k here))
+          ∙ get_or-set_same st.producers (q - 1) new None (subst (λ i. i < length st.producers) same (inside st.producers (p - 1) k here))
           ∙ ap (λ o. producer_by st.set st.who q o m) (ap (at st.producers) (sym same) ∙ here) ∙ by_keeps st.set st.who q k m e;
       begins = entries_begin k.entries m;
     }
-    by (inr other) = record { now = k; there = get_or-set_other st.producers (q - 1) (p - 1) new None other ∙ here; begins = begins_itself k.entries }
+    by (inr other) = record { now = k; there = get_or-set_other st.producers (q - 1) (p - 1) new None other ∙ here; begins = begins_here k.entries }
 
 pub all_keep : (st : Node) (acts : List Act) (p : ℕ) (k : Producer) → at st.producers (p - 1) ≡ Some k → Keeps acts → HasQueue (fold after st acts) p k.entries (queued_in_all k.entries)
-all_keep st [] p k here e = record { producer = k; there = here; begins = begins_itself k.entries; count = omega arith }
+all_keep st [] p k here e = record { producer = k; there = here; begins = begins_here k.entries; count = omega arith }
 all_keep st (a ∷ acts) p k here e =
     let t : (is_keeping a ≡ true) × Keeps acts = and_both (is_keeping a) (list_all is_keeping acts) e in
     let g = one_keeps st a p k here t.0 in
     let r = all_keep (after st a) acts p g.now g.there t.1 in
-    let b : Begins k.entries r.producer.entries = begins_then k.entries g.now.entries r.producer.entries g.begins r.begins in
+    let b : Begins k.entries r.producer.entries = begins_on k.entries g.now.entries r.producer.entries g.begins r.begins in
     record { producer = r.producer; there = r.there; begins = b; count = queued_grows k.entries r.producer.entries b }
 
 -- Rules whose acts are all so.
-
-keep_both : (xs ys : List Act) → Keeps xs → Keeps ys → Keeps (xs ++ ys)
-keep_both xs ys h g = list_all-append is_keeping xs ys ∙ both (list_all is_keeping xs) (list_all is_keeping ys) h g
-
-keep_if : (b : Bool) (xs ys : List Act) → Keeps xs → Keeps ys → Keeps (if b then xs else ys)
-keep_if true xs ys h g = h
-keep_if false xs ys h g = g
-
-keep_some : {X : Type 0} (f : X → List Act) (o : Option X) → ((x : X) → Keeps (f x)) → Keeps (where_some f o)
-keep_some f None h = refl
-keep_some f (Some x) h = h x
 
 keep_region : (ms : List Move) → Keeps (map by_region ms)
 keep_region [] = refl
@@ -142,10 +117,10 @@ keep_coordinator (m ∷ ms) = keep_coordinator ms
 
 keep_each : {X : Type 0} (f : X → Rule) (xs : List X) (st : Node) → ((x : X) (st : Node) → Keeps (f x st)) → Keeps (for_each after f xs st)
 keep_each f [] st h = refl
-keep_each f (x ∷ xs) st h = keep_both (f x st) (for_each after f xs (fold after st (f x st))) (h x st) (keep_each f xs (fold after st (f x st)) h)
+keep_each f (x ∷ xs) st h = all_join is_keeping (f x st) (for_each after f xs (fold after st (f x st))) (h x st) (keep_each f xs (fold after st (f x st)) h)
 
 keep_turn : (f g : Rule) (st : Node) → ((st : Node) → Keeps (f st)) → ((st : Node) → Keeps (g st)) → Keeps (in_turn after f g st)
-keep_turn f g st h k = keep_both (f st) (g (fold after st (f st))) (h st) (k (fold after st (f st)))
+keep_turn f g st h k = all_join is_keeping (f st) (g (fold after st (f st))) (h st) (k (fold after st (f st)))
 
 abbrev AllKeep : List Rule → Type 0
 AllKeep [] = Unit {0}
@@ -153,13 +128,13 @@ AllKeep (r ∷ rs) = ((st : Node) → Keeps (r st)) × AllKeep rs
 
 keep_all : (rs : List Rule) (st : Node) → AllKeep rs → Keeps (all_in_turn rs st)
 keep_all [] st h = refl
-keep_all (r ∷ rs) st h = keep_both (r st) (all_in_turn rs (fold after st (r st))) (h.0 st) (keep_all rs (fold after st (r st)) h.1)
+keep_all (r ∷ rs) st h = all_join is_keeping (r st) (all_in_turn rs (fold after st (r st))) (h.0 st) (keep_all rs (fold after st (r st)) h.1)
 
 keep_of_coordinator : (f : Coordinator → List Move) (st : Node) → Keeps (of_coordinator f st)
-keep_of_coordinator f st = keep_some (λ k. map by_coordinator (f k)) st.coordinator (λ k. keep_coordinator (f k))
+keep_of_coordinator f st = all_some is_keeping (λ k. map by_coordinator (f k)) st.coordinator (λ k. keep_coordinator (f k))
 
 keep_of_producer : (p : ℕ) (f : Producer → List Move) (st : Node) → ((k : Producer) → Keeps (map (by_producer p) (f k))) → Keeps (of_producer p f st)
-keep_of_producer p f st h = keep_some (λ k. map (by_producer p) (f k)) (at st.producers (p - 1)) h
+keep_of_producer p f st h = all_some is_keeping (λ k. map (by_producer p) (f k)) (at st.producers (p - 1)) h
 
 keep_pushed : (p : ℕ) (e : List ℕ) (ns : List ℕ) → Keeps (map (by_producer p) (map (pushed e) ns))
 keep_pushed p e [] = refl
@@ -168,20 +143,20 @@ keep_pushed p e (n ∷ ns) = keep_pushed p e ns
 keep_route : (m : Message) (st : Node) → Keeps (route m st)
 keep_route m st =
     let s : ℕ = shard_of st.set m.entity in
-    keep_if (region.is_home st.region s && entities.is_running st.entities s) (of_entities (entities.deliver m) st) (of_region (region.route_away m) st) (keep_entities (entities.deliver m st.entities)) (keep_region (region.route_away m st.region))
+    all_if is_keeping (region.is_home st.region s && entities.is_running st.entities s) (of_entities (entities.deliver m) st) (of_region (region.route_away m) st) (keep_entities (entities.deliver m st.entities)) (keep_region (region.route_away m st.region))
 
 abbrev take_one : ℕ → Message → Rule
 take_one s m = in_turn after (λ st. by_region (released s) ∷ []) (route m)
 
 keep_release : (s : ℕ) (st : Node) → Keeps (release s st)
-keep_release s st = keep_if (region.is_routable st.region s (entities.is_running st.entities s)) (for_each after (take_one s) (region.kept_of st.region.kept s) st) []
+keep_release s st = all_if is_keeping (region.is_routable st.region s (entities.is_running st.entities s)) (for_each after (take_one s) (region.kept_of st.region.kept s) st) []
     (keep_each (take_one s) (region.kept_of st.region.kept s) st (λ m u. keep_turn (λ st. by_region (released s) ∷ []) (route m) u (λ w. refl) (keep_route m))) refl
 
 abbrev ask_shard : SlotLists → ℕ → Rule
 ask_shard lists s st = map by_entities (acquire (slot.Shard s) st.who (shard_list lists s))
 
 keep_start : (lists : SlotLists) (s : ℕ) (st : Node) → Keeps (start lists s st)
-keep_start lists s st = keep_if (entities.is_hosted st.entities s) [] (in_turn after (ask_shard lists s) (of_entities (entities.start_remembered s)) st) refl
+keep_start lists s st = all_if is_keeping (entities.is_hosted st.entities s) [] (in_turn after (ask_shard lists s) (of_entities (entities.start_remembered s)) st) refl
     (keep_turn (ask_shard lists s) (of_entities (entities.start_remembered s)) st (λ u. keep_entities (acquire (slot.Shard s) u.who (shard_list lists s))) (λ u. keep_entities (entities.start_remembered s u.entities)))
 
 abbrev ask_lead : SlotLists → Rule
@@ -192,20 +167,20 @@ drop_lost st = of_coordinator (coordinator.terminate_lost st.region.view) st
 
 keep_lead : (lists : SlotLists) (st : Node) → Keeps (lead lists st)
 keep_lead lists st = keep_turn (ask_lead lists) drop_lost st
-    (λ u. keep_if (is_at u.who (region.oldest u.region) && is_none u.coordinator) (map by_coordinator (acquire slot.Coordinator u.who lists.coordinator)) [] (keep_coordinator (acquire slot.Coordinator u.who lists.coordinator)) refl)
+    (λ u. all_if is_keeping (is_at u.who (region.oldest u.region) && is_none u.coordinator) (map by_coordinator (acquire slot.Coordinator u.who lists.coordinator)) [] (keep_coordinator (acquire slot.Coordinator u.who lists.coordinator)) refl)
     (λ u. keep_of_coordinator (coordinator.terminate_lost u.region.view) u)
 
 abbrev routed : ℕ → List ℕ → (Producer → List ℕ) → Node → Producer → List Act
 routed p e f st k = for_each after (λ n. route (producer.message_of e k n)) (f k) st
 
 keep_numbers : (p : ℕ) (e : List ℕ) (f : Producer → List ℕ) (st : Node) → Keeps (route_numbers p e f st)
-keep_numbers p e f st = keep_some (routed p e f st) (at st.producers (p - 1)) (λ k. keep_each (λ n. route (producer.message_of e k n)) (f k) st (λ n u. keep_route (producer.message_of e k n) u))
+keep_numbers p e f st = all_some is_keeping (routed p e f st) (at st.producers (p - 1)) (λ k. keep_each (λ n. route (producer.message_of e k n)) (f k) st (λ n u. keep_route (producer.message_of e k n) u))
 
 abbrev pushes : ℕ → List ℕ → Node → Producer → List Act
 pushes p e st k = all_in_turn (of_producer p (producer.push_marks e) ∷ route_numbers p e (λ j. producer.to_push e k) ∷ []) st
 
 keep_push : (p : ℕ) (e : List ℕ) (st : Node) → Keeps (push p e st)
-keep_push p e st = keep_some (pushes p e st) (at st.producers (p - 1)) (λ k. keep_all (of_producer p (producer.push_marks e) ∷ route_numbers p e (λ j. producer.to_push e k) ∷ []) st
+keep_push p e st = all_some is_keeping (pushes p e st) (at st.producers (p - 1)) (λ k. keep_all (of_producer p (producer.push_marks e) ∷ route_numbers p e (λ j. producer.to_push e k) ∷ []) st
     ((λ u. keep_of_producer p (producer.push_marks e) u (λ k. refl)), (keep_numbers p e (λ j. producer.to_push e k), tt)))
 
 keep_send_by : (p : ℕ) (o : Option Sending) (st : Node) → Keeps (send_by p o st)
@@ -220,7 +195,7 @@ keep_confirm p e n st = keep_of_producer p (producer.confirm e n) st (λ k. by k
     by k false = refl
 
 keep_start_again : (lists : SlotLists) (s : ℕ) (st : Node) → Keeps (start_again lists s st)
-keep_start_again lists s st = keep_if (region.is_home st.region s && not (entities.is_hosted st.entities s)) (all_in_turn (start lists s ∷ release s ∷ []) st) [] (keep_all (start lists s ∷ release s ∷ []) st (keep_start lists s, (keep_release s, tt))) refl
+keep_start_again lists s st = all_if is_keeping (region.is_home st.region s && not (entities.is_hosted st.entities s)) (all_in_turn (start lists s ∷ release s ∷ []) st) [] (keep_all (start lists s ∷ release s ∷ []) st (keep_start lists s, (keep_release s, tt))) refl
 
 keep_send_again : (p : ℕ) (e : List ℕ) (st : Node) → Keeps (send_again p e st)
 keep_send_again p e st = keep_all (of_producer p (λ k. map (pushed e) (producer.to_repeat e k)) ∷ route_numbers p e (producer.to_repeat e) ∷ []) st
@@ -250,16 +225,16 @@ abbrev start_if_home : SlotLists → ℕ → Rule
 start_if_home lists s st = if region.is_home st.region s then start lists s st else []
 
 keep_packet : (lists : SlotLists) (from : Incarnation) (b : Body) (st : Node) → Keeps (packet lists from b st)
-keep_packet lists from (body.View v xs) st = keep_if (nat_le v st.region.version) [] (all_in_turn (of_region (region.take_view v xs) ∷ lead lists ∷ of_region region.register ∷ []) st) refl
+keep_packet lists from (body.View v xs) st = all_if is_keeping (nat_le v st.region.version) [] (all_in_turn (of_region (region.take_view v xs) ∷ lead lists ∷ of_region region.register ∷ []) st) refl
     (keep_all (of_region (region.take_view v xs) ∷ lead lists ∷ of_region region.register ∷ []) st ((λ u. keep_region (region.take_view v xs u.region)), (keep_lead lists, ((λ u. keep_region (region.register u.region)), tt))))
 keep_packet lists from body.RegisterAck st = keep_region (region.registered_by from st.region)
-keep_packet lists from (body.ShardHome s h stamp) st = keep_if (region.takes_home s h stamp st.region) (all_in_turn (of_region (region.learn s h stamp) ∷ start_if_home lists s ∷ release s ∷ []) st) []
-    (keep_all (of_region (region.learn s h stamp) ∷ start_if_home lists s ∷ release s ∷ []) st ((λ u. keep_region (region.learn s h stamp u.region)), ((λ u. keep_if (region.is_home u.region s) (start lists s u) [] (keep_start lists s u) refl), (keep_release s, tt)))) refl
-keep_packet lists from (body.HostShard s stamp) st = keep_if (region.takes_host s stamp st.region) (all_in_turn (of_region (region.learn s st.who stamp) ∷ start lists s ∷ of_region (λ r. post r.who from (body.ShardStarted s) ∷ []) ∷ release s ∷ []) st) []
+keep_packet lists from (body.ShardHome s h stamp) st = all_if is_keeping (region.takes_home s h stamp st.region) (all_in_turn (of_region (region.learn s h stamp) ∷ start_if_home lists s ∷ release s ∷ []) st) []
+    (keep_all (of_region (region.learn s h stamp) ∷ start_if_home lists s ∷ release s ∷ []) st ((λ u. keep_region (region.learn s h stamp u.region)), ((λ u. all_if is_keeping (region.is_home u.region s) (start lists s u) [] (keep_start lists s u) refl), (keep_release s, tt)))) refl
+keep_packet lists from (body.HostShard s stamp) st = all_if is_keeping (region.takes_host s stamp st.region) (all_in_turn (of_region (region.learn s st.who stamp) ∷ start lists s ∷ of_region (λ r. post r.who from (body.ShardStarted s) ∷ []) ∷ release s ∷ []) st) []
     (keep_all (of_region (region.learn s st.who stamp) ∷ start lists s ∷ of_region (λ r. post r.who from (body.ShardStarted s) ∷ []) ∷ release s ∷ []) st ((λ u. keep_region (region.learn s st.who stamp u.region)), (keep_start lists s, ((λ u. refl), (keep_release s, tt))))) refl
 keep_packet lists from (body.BeginHandOff s stamp) st = keep_region (region.begin_hand_off s stamp from st.region)
-keep_packet lists from (body.HandOff s stamp) st = keep_if (region.takes_hand_off s stamp st.region) (if entities.is_hosted st.entities s then of_entities (entities.hand_off s stamp from) st else by_region (post st.who from (body.ShardStopped s stamp)) ∷ []) []
-    (keep_if (entities.is_hosted st.entities s) (of_entities (entities.hand_off s stamp from) st) (by_region (post st.who from (body.ShardStopped s stamp)) ∷ []) (keep_entities (entities.hand_off s stamp from st.entities)) refl) refl
+keep_packet lists from (body.HandOff s stamp) st = all_if is_keeping (region.takes_hand_off s stamp st.region) (if entities.is_hosted st.entities s then of_entities (entities.hand_off s stamp from) st else by_region (post st.who from (body.ShardStopped s stamp)) ∷ []) []
+    (all_if is_keeping (entities.is_hosted st.entities s) (of_entities (entities.hand_off s stamp from) st) (by_region (post st.who from (body.ShardStopped s stamp)) ∷ []) (keep_entities (entities.hand_off s stamp from st.entities)) refl) refl
 keep_packet lists from (body.Recovered e) st = keep_entities (entities.recovered e st.entities)
 keep_packet lists from (body.Passivate e) st = keep_entities (entities.passivate e st.entities)
 keep_packet lists from (body.StopEntity e) st = keep_entities (entities.stop e st.entities)
@@ -292,10 +267,6 @@ apart_moves : (p q : ℕ) (ms : List Move) → not (q - 1 == p - 1) ≡ true →
 apart_moves p q [] e = refl
 apart_moves p q (m ∷ ms) e = both (not (q - 1 == p - 1)) (list_all (is_apart p) (map (by_producer q) ms)) e (apart_moves p q ms e)
 
-apart_some : {X : Type 0} (p : ℕ) (f : X → List Act) (o : Option X) → ((x : X) → list_all (is_apart p) (f x) ≡ true) → list_all (is_apart p) (where_some f o) ≡ true
-apart_some p f None h = refl
-apart_some p f (Some x) h = h x
-
 other_place : (p q : ℕ) → 0 < p → nat_le 1 q ≡ true → q ≢ p → not (q - 1 == p - 1) ≡ true
 other_place p q some low other = by (q - 1 == p - 1) refl
   where
@@ -304,7 +275,7 @@ other_place p q some low other = by (q - 1 == p - 1) refl
     by false e = refl
 
 has_same : (st : Node) (acts : List Act) (p : ℕ) (k : Producer) → at st.producers (p - 1) ≡ Some k → list_all (is_apart p) acts ≡ true → HasQueue (fold after st acts) p k.entries (queued_in_all k.entries)
-has_same st acts p k here e = record { producer = k; there = all_apart st acts p e ∙ here; begins = begins_itself k.entries; count = omega arith }
+has_same st acts p k here e = record { producer = k; there = all_apart st acts p e ∙ here; begins = begins_here k.entries; count = omega arith }
 
 produce_keeps : (lists : SlotLists) (st : Node) (p q : ℕ) (k : Producer) → 0 < p → nat_le 1 q ≡ true → at st.producers (p - 1) ≡ Some k → HasQueue (fold after st (produce lists q st)) p k.entries (queued_in_all k.entries)
 produce_keeps lists st p q k some low here = by (same_or_not q p)
@@ -327,7 +298,7 @@ produce_keeps lists st p q k some low here = by (same_or_not q p)
 
 rest_keeps : (st : Node) (p q : ℕ) (k : Producer) → 0 < p → nat_le 1 q ≡ true → (q == p) ≡ false → at st.producers (p - 1) ≡ Some k → HasQueue (fold after st (of_producer q producer.give_back st)) p k.entries (queued_in_all k.entries)
 rest_keeps st p q k some low other here = has_same st (of_producer q producer.give_back st) p k here
-    (apart_some p (λ k. map (by_producer q) (producer.give_back k)) (at st.producers (q - 1)) (λ x. apart_moves p q (producer.give_back x) (other_place p q some low (λ same. true_is_not_false (sym (number_itself q p same) ∙ other)))))
+    (all_some (is_apart p) (λ k. map (by_producer q) (producer.give_back k)) (at st.producers (q - 1)) (λ x. apart_moves p q (producer.give_back x) (other_place p q some low (λ same. true_is_not_false (sym (number_itself q p same) ∙ other)))))
 
 pub turn_keeps_queue : TurnKeepsQueue
 turn_keeps_queue sends lists st (input.Packet x) p k some rest own here = all_keep st (packet lists x.from x.body st) p k here (keep_packet lists x.from x.body st)
@@ -336,7 +307,7 @@ turn_keeps_queue sends lists st input.Leave p k some rest own here = all_keep st
 turn_keeps_queue sends lists st (input.Rebalance n) p k some rest own here = all_keep st (turn sends lists (input.Rebalance n) st) p k here (keep_of_coordinator (coordinator.rebalance n) st)
 turn_keeps_queue sends lists st (input.Produce q) p k some rest own here = produce_keeps lists st p q k some own here
 turn_keeps_queue sends lists st (input.Rest q) p k some rest own here = rest_keeps st p q k some own rest here
-turn_keeps_queue sends lists st (input.Send q) p k some rest own here = all_keep st (send sends q st) p k here (keep_some (λ j. send_by q (producer.next_sending (slice_index_or sends (q - 1) []) j) st) (at st.producers (q - 1)) (λ j. keep_send_by q (producer.next_sending (slice_index_or sends (q - 1) []) j) st))
+turn_keeps_queue sends lists st (input.Send q) p k some rest own here = all_keep st (send sends q st) p k here (all_some is_keeping (λ j. send_by q (producer.next_sending (slice_index_or sends (q - 1) []) j) st) (at st.producers (q - 1)) (λ j. keep_send_by q (producer.next_sending (slice_index_or sends (q - 1) []) j) st))
 turn_keeps_queue sends lists st (input.Passivate e) p k some rest own here = all_keep st (turn sends lists (input.Passivate e) st) p k here refl
 turn_keeps_queue sends lists st (input.FailWrite e w) p k some rest own here = all_keep st (turn sends lists (input.FailWrite e w) st) p k here refl
 
@@ -379,7 +350,7 @@ send_queues c lists st p k ours here number more =
     (subst (λ (acts : List Act). HasQueue (fold after st (acts ++ all_in_turn (push p x.entity ∷ []) (fold after st acts))) p k.entries (queued_in_all k.entries + 1)) (sym first) record {
       producer = r.producer;
       there = r.there;
-      begins = begins_then k.entries j.entries r.producer.entries (record { rest = fact.Queued k.number x.entity x.number x.command ∷ []; is = refl }) r.begins;
+      begins = begins_on k.entries j.entries r.producer.entries (record { rest = fact.Queued k.number x.entity x.number x.command ∷ []; is = refl }) r.begins;
       count = omega (arith, one, least);
     })
 

@@ -1,6 +1,6 @@
 -- A step that changes one slot and one view keeps the rule.
-use Rattle.std.proofs.Common.{◌≡◌, ◌≢◌, ℕ, ◌+◌, ◌<◌, ◌^◌, ◌⊎◌, ⊎_elim, List, [], length, set, sym, ap, ◌∙◌, subst}
-use Rattle.std.specs.Prelude.{slice_index, Option, None, Some}
+use Rattle.std.proofs.Common.{◌≡◌, ◌≢◌, ℕ, ◌+◌, ◌<◌, ◌^◌, ◌⊎◌, ⊎_elim, List, length, set, sym, ap, ◌∙◌, subst}
+use Rattle.std.specs.Prelude.{slice_index, Option, Some}
 use mathlib.Core.Option as maybe
 use lib.ListN.{get_elem?}
 use Rattle.atomic_table.proofs.Lists.{at_set, set_here, set_else}

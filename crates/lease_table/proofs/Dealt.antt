@@ -1,7 +1,7 @@
 -- The passes that a new table deals.
 use Rattle.std.proofs.Common.{false, ◌≡◌, ℕ, zero, suc, ◌+◌, ◌-◌, ◌<◌, ◌≤◌, ◌^◌, true, List, [], ◌∷◌, ◌++◌, length, map, replicate, refl, sym, ap, ◌∙◌, subst, arith, append_assoc, length-append, get_or, true≢false}
 use Rattle.plain_laws.proofs.Booleans.{get_replicate, below, all_get}
-use Rattle.std.specs.Prelude.{Option, None, Some, is_some, reverse}
+use Rattle.std.specs.Prelude.{Option, None, Some, reverse}
 use Rattle.std.proofs.Math.ListN.{get_or-map}
 use Rattle.std.proofs.lemmas.List.{length-map, map-append, reverse-append, length-replicate, get_or_append_left, get_or-append-add}
 use Rattle.std.specs.List.{list_all}

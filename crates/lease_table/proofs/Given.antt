@@ -3,7 +3,7 @@ use Rattle.std.proofs.Common.{◌&&◌, ◌≡◌, ◌≢◌, ℕ, zero, suc, �
 use Rattle.std.proofs.lemmas.List.{get_or-set_same, get_or-set_other, length-set}
 use Rattle.std.specs.Prelude.{Option, None, Some, is_some, slice_index}
 use Rattle.std.specs.List.{list_any, list_all}
-use Rattle.std.proofs.lemmas.List.Folds.{list_any-append, list_all-append}
+use Rattle.std.proofs.lemmas.List.Folds.{list_all-append}
 use Rattle.std.proofs.lemmas.List.Sums.{fold-append}
 use Rattle.plain_laws.proofs.Booleans.{both}
 use Rattle.plain_laws.proofs.Lists.{some_is, none_is_not_some}
@@ -20,7 +20,7 @@ use Rattle.yard_model.specs.declared.fact.Fact.{Fact}
 use Rattle.yard_model.specs.declared.fact.Fact.TheVariants as fact
 use Rattle.shard_store.specs.declared.store.Store.{Store}
 use Rattle.lease_table.specs.Fits.{slot_count, is_fit, Fits, recorded, home_of}
-use Rattle.shard_lease.specs.Meaning.{Begins, confirms, is_confirmed}
+use Rattle.shard_lease.specs.Meaning.{Begins, confirms}
 use Rattle.yard_model.specs.Lawful.{own, is_held}
 use Rattle.yard_model.specs.SlotReads.{epoch, holder_step}
 use Rattle.shard_store.specs.Stores.{script_of, slot_of, entries_of, spare_of, slot_at, entries_in, entries_at, IsHome, IsThere, AreHomes}

@@ -1,17 +1,16 @@
 -- What a pass's calls mean to those who only see leases.
-use Rattle.std.proofs.Common.{◌≡◌, ◌≢◌, ℕ, zero, suc, ◌+◌, inl, inr, ⊎_elim, Bool, true, false, ◌&&◌, ◌||◌, List, [], ◌∷◌, ◌++◌, refl, sym, ap, ◌∙◌, subst, true≢false, eqb, eq-eqb, ne_eqb}
+use Rattle.std.proofs.Common.{◌≡◌, ◌≢◌, ℕ, zero, suc, ◌+◌, inl, inr, ⊎_elim, Bool, true, false, ◌&&◌, List, [], ◌∷◌, ◌++◌, refl, sym, ap, ◌∙◌, subst, eqb, eq-eqb, ne_eqb}
 use Rattle.std.proofs.lemmas.List.{get_or-set_other}
 use Rattle.std.specs.Prelude.{Option, None, Some, is_some, if◌then◌else◌}
 use Rattle.std.specs.List.{list_all}
-use Rattle.std.proofs.lemmas.List.Folds.{list_any-append}
 use Rattle.atomic_table.specs.Seated.{TableId}
-use Rattle.plain_laws.proofs.Booleans.{and_both, both, same_number}
+use Rattle.plain_laws.proofs.Booleans.{and_both, both, same_number, number_itself}
 use Rattle.yard_model.specs.declared.incarnation.Incarnation.{Incarnation}
 use Rattle.yard_model.specs.declared.incarnation.Slot.{Slot}
 use Rattle.yard_model.specs.declared.incarnation.Cause.{Cause}
 use Rattle.yard_model.specs.declared.fact.Fact.{Fact}
 use Rattle.yard_model.specs.declared.fact.Fact.TheVariants as fact
-use Rattle.yard_model.specs.Genuine.{is_slot_of}
+use Rattle.yard_model.specs.Genuine.{is_node, is_slot_of}
 use Rattle.yard_model.specs.Lawful.{own}
 use Rattle.yard_model.specs.Script.{Script}
 use Rattle.yard_model.specs.SlotReads.{epoch}
@@ -19,14 +18,14 @@ use Rattle.shard_store.specs.declared.store.Store.{Store}
 use Rattle.shard_store.specs.Stores.{entries_of, place_of, slot_at}
 use Rattle.shard_lease.specs.declared.leases.Acquire.{Acquire}
 use Rattle.shard_lease.specs.declared.leases.Acquire.TheVariants as answer
-use Rattle.shard_lease.specs.Meaning.{Begins, confirms, is_confirmed, is_taken, Serves, Stays, Apart, Acquired, Returns, Released}
+use Rattle.shard_lease.specs.Meaning.{Meaning, Begins, IsVouched, confirms, is_taken, Serves, Stays, Apart, Acquired, Returns, Released}
 use Rattle.lease_table.specs.declared.View.{View}
 use Rattle.lease_table.specs.Lists.{seen_at, Has}
 use Rattle.yard_model.specs.Words.{at}
 use Rattle.std.specs.Prelude.{slice_set}
-use Rattle.lease_table.specs.Fits.{admits, is_fit, home_of}
+use Rattle.lease_table.specs.Fits.{is_within, admits, is_fit, home_of}
 use Rattle.lease_table.specs.Tells.{published, freed}
-use Rattle.lease_table.specs.Leasing.{MayAct, Answers, MayRelease}
+use Rattle.lease_table.specs.Leasing.{Pass, MayAct, Answers, MayRelease, MayPublish, Idle}
 use Rattle.lease_table.specs.Means.{told_list, meaning_of, name_of}
 use Rattle.lease_table.proofs.Charters.{in_nodes}
 use Rattle.lease_table.proofs.Places.{same_or_not, begins_here, begins_on}
@@ -247,6 +246,50 @@ may_release z v n who s x serves r =
       slot = r.slot_is ∙ at_is;
       spare = r.spare_is;
     }
+
+-- a list that extends what is told of a slot may be published
+pub may_publish : (z : TableId) (v : View) (n who : ℕ) (s : Slot) (list : List Fact) → is_slot_of v.charter s ≡ true → (meaning_of z v n).holds who s ≡ true → Begins ((meaning_of z v n).told s) list → list_all (is_taken (meaning_of z v n) s) list ≡ true
+    → IsVouched (meaning_of z v n) ((meaning_of z v n).told s) list → own v.charter s list ≡ true → MayPublish v (place_of v.charter.config s) list
+may_publish z v n who s list here holds extends taken vouched lawful =
+    let h = held_there z v n who s holds in
+    let told_is : told_by v v.charter s ≡ h.list = told_here v s h.list here h.is in
+    let at_is : s ≡ slot_at v.charter.config (place_of v.charter.config s) = sym (slot_back v.charter s here) in record {
+      old = h.list;
+      held = h.is;
+      extends = subst (λ (l : List Fact). Begins l list) told_is extends;
+      vouched = λ e p m k. ⊎_elim (λ a. inl (ap (confirms e p m) (sym told_is) ∙ a)) (λ b. inr b) (vouched e p m k);
+      own = record {
+        lawful = subst (λ q. own v.charter q list ≡ true) at_is lawful;
+        fit = subst (λ q. list_all (is_fit v.charter q) list ≡ true) at_is (sym (all_taken z v n s list) ∙ taken);
+      };
+    }
+
+-- who is served at a slot is served there after any call
+pub serves_on : (old new : Meaning) (who : Incarnation) (s : Slot) → Stays old new → Serves old who s → Serves new who s
+serves_on old new who s same h = record {
+  who_is = same.serves_is who ∙ h.who_is;
+  node_is = ap (λ c. is_node c who) same.script_is ∙ h.node_is;
+  number_is = same.within_is who.number ∙ h.number_is;
+  slot_is = ap (λ c. is_slot_of c s) same.script_is ∙ h.slot_is;
+  admitted = same.admits_is who.node s ∙ h.admitted;
+}
+
+-- a pass that holds nothing serves its node, and holds nothing there
+pub idle_serves : (z : TableId) (c : Script) (n : ℕ) (p : Pass) (who : Incarnation) (s : Slot) → Idle z c n p → who.node ≡ n → is_node c who ≡ true → is_within who.number ≡ true → is_slot_of c s ≡ true → admits c n s ≡ true → Serves (meaning_of p.table p.view n) who s
+idle_serves z c n p who s idle is node number here may = record {
+  who_is = number_itself who.node n is;
+  node_is = ap (λ y. is_node y who) idle.charter ∙ node;
+  number_is = number;
+  slot_is = ap (λ y. is_slot_of y s) idle.charter ∙ here;
+  admitted = ap (λ y. admits y who.node s) idle.charter ∙ ap (λ m. admits c m s) is ∙ may;
+}
+
+pub idle_free : (z : TableId) (c : Script) (n m : ℕ) (p : Pass) (s : Slot) → Idle z c n p → (meaning_of p.table p.view n).holds m s ≡ false
+idle_free z c n m p s idle = none (eqb m n) (is_slot_of p.view.charter s) (at p.view.held (place_of p.view.charter.config s)) (idle.nothing (place_of p.view.charter.config s))
+  where
+    none : (a b : Bool) (o : Option (List Fact)) → o ≡ None → (a && (b && is_some o)) ≡ false
+    none a b None e = ap (λ x. a && x) (and_false b) ∙ and_false a
+    none a b (Some l) e = cc
 
 -- whatever a caller did by the calls alone, the pass is of the same table, script and node
 pub same_pass : (z y : TableId) (v w : View) (n m : ℕ) → Stays (meaning_of z v n) (meaning_of y w m) → (y ≡ z) × (w.charter ≡ v.charter) × (m ≡ n)

@@ -1,4 +1,4 @@
-use Rattle.std.proofs.Common.{◌⊎◌, true, [], arith, ◌≡◌, ℕ, ◌+◌, ◌<◌, ◌^◌, length, sym, ap, ◌∙◌, subst, List}
+use Rattle.std.proofs.Common.{◌⊎◌, true, arith, ◌≡◌, ℕ, ◌+◌, ◌<◌, ◌^◌, length, sym, ap, ◌∙◌, subst, List}
 use mathlib.Core.Option.{none}
 use Rattle.atomic_table.specs.Table.{step, Allows}
 use Rattle.yard_model.specs.Script.{Script}

@@ -1,4 +1,4 @@
-use Rattle.std.proofs.Common.{None, ap, ◌∙◌}
+use Rattle.std.proofs.Common.{ap, ◌∙◌}
 use Rattle.lease_table.proofs.Taken.{announced_ok}
 use Rattle.lease_table.specs.Leasing.{Pass}
 use Rattle.yard_model.specs.Words.{at}

@@ -1,5 +1,4 @@
 use Rattle.std.proofs.Common.{sym, subst, ap, ◌∙◌}
-use Rattle.std.specs.Prelude.{None}
 use Rattle.yard_model.specs.Genuine.{is_slot_of}
 use Rattle.yard_model.specs.Script.{Script}
 use Rattle.shard_store.specs.Stores.{place_of}

@@ -16,7 +16,7 @@ use Rattle.lease_table.specs.Lists.{Has}
 use Rattle.yard_model.specs.Words.{at, numbers}
 use Rattle.lease_table.specs.Rule.{down, IsTable}
 use Rattle.lease_table.specs.Tells.{SeatState, fresh_view, opening_view, first_of, rest_of, dealt_left, dealt_right}
-use Rattle.lease_table.specs.Leasing.{Pass, pass, counted, IsPass, fresh, dealt_from, Ready, words_of, length_in, is_short, lists_in}
+use Rattle.lease_table.specs.Leasing.{Pass, pass, counted, IsPass, fresh, dealt_from, dealt_on, dealt, Idle, Ready, words_of, length_in, is_short, lists_in}
 use Rattle.lease_table.proofs.Places.{down-le, not_some}
 use Rattle.lease_table.proofs.Seats.{got_at, begins}
 use Rattle.yard_model.specs.Lawful.{is_held}
@@ -99,6 +99,25 @@ in_order z c ls (suc n) =
 
 pub popped : (old new : List Pass) (p : Pass) → old ≡ new ++ p ∷ [] → reverse old ≡ p ∷ reverse new
 popped old new p e = ap reverse e ∙ reverse-append new (p ∷ [])
+
+-- the next pass is that of the next node, and holds nothing
+pub next_idle : (z : TableId) (c : Script) (ls : List (List Fact)) (k n : ℕ) (p : Pass) (rest : List Pass) → dealt_on z c ls k (suc n) ≡ p ∷ rest → Idle z c k p × (dealt_on z c ls (k + 1) n ≡ rest)
+next_idle z c ls k n p rest e = (
+  subst (Idle z c k) (head_is (pass z (fresh c ls k)) p (dealt_on z c ls (k + 1) n) rest e) record { table = refl; charter = refl; numbers = refl; nothing = λ j. get_replicate (slot_count c) j None },
+  tail_is (pass z (fresh c ls k)) p (dealt_on z c ls (k + 1) n) rest e,
+)
+  where
+    head_is : (x y : Pass) (xs ys : List Pass) → x ∷ xs ≡ y ∷ ys → x ≡ y
+    head_is x y xs ys e = cc
+
+    tail_is : (x y : Pass) (xs ys : List Pass) → x ∷ xs ≡ y ∷ ys → xs ≡ ys
+    tail_is x y xs ys e = cc
+
+-- of two nodes
+pub two_idle : (z : TableId) (c : Script) (ls : List (List Fact)) (all rest last : List Pass) (p q : Pass) → c.config.nodes ≡ 2 → all ≡ dealt z c ls → all ≡ p ∷ rest → rest ≡ q ∷ last → Idle z c 1 p × Idle z c 2 q
+two_idle z c ls all rest last p q two is first second =
+    let a : Idle z c 1 p × (dealt_on z c ls 2 1 ≡ rest) = next_idle z c ls 1 1 p rest (ap (dealt_on z c ls 1) (sym two) ∙ (sym is ∙ first)) in
+    (a.0, (next_idle z c ls 2 0 q last (a.1 ∙ second)).0)
 
 -- the words and the slots at the start
 at_zeros : (n k : ℕ) (ys : List ℕ) → k < n → get_or (replicate n 0 ++ ys) k 0 ≡ 0

@@ -148,9 +148,13 @@ fresh c ls n = fresh_view c ls (n ∷ [])
 abbrev pub dealt_from : TableId → Script → List (List Fact) → ℕ → List Pass
 dealt_from z c ls n = map (λ m. pass z (fresh c ls m)) (down n)
 
--- the passes of the nodes, by rising node
+-- the passes of n nodes from the node k on, by rising node
+abbrev pub dealt_on : TableId → Script → List (List Fact) → ℕ → ℕ → List Pass
+dealt_on z c ls k n = map (λ m. pass z (fresh c ls m)) (numbers k n)
+
+-- the passes of the nodes
 abbrev pub dealt : TableId → Script → List (List Fact) → List Pass
-dealt z c ls = map (λ n. pass z (fresh c ls n)) (numbers 1 c.config.nodes)
+dealt z c ls = dealt_on z c ls 1 c.config.nodes
 
 abbrev pub length_in : Option Store → ℕ
 length_in o = length (entries_in o)

@@ -11,3 +11,4 @@ pub mod Ties
 pub mod United
 pub mod Dealt
 pub mod Meant
+pub mod SendLaws

@@ -40,3 +40,6 @@ pub struct View {
     /// The word that its last claim or look found.
     pub found: u64,
 }
+
+#[cfg(test)]
+mod tests;

@@ -1,24 +1,31 @@
 -- The stores of all slots after a change of the number of shards.
 use Rattle.std.proofs.Common.{◌≡◌, ℕ, zero, suc, ◌+◌, ◌-◌, ◌<◌, ◌≤◌, List, length, sym, ap, subst, ◌∙◌, refl, true, false, arith}
-use Rattle.std.specs.Prelude.{Bool, [], ◌∷◌, ◌++◌, ◌==◌, nat_lt, map, fold, max, slice_index_or, slice_set, Option, Some, None, IsTrue, if◌then◌else◌}
+use Rattle.std.specs.Prelude.{Bool, [], ◌∷◌, ◌++◌, ◌==◌, ◌&&◌, nat_lt, nat_le, map, fold, max, slice_index_or, slice_set, Option, Some, None, IsTrue, if◌then◌else◌}
 use Rattle.std.proofs.lemmas.List.{get_or-set_other, get_or_past}
-use Rattle.plain_laws.proofs.Booleans.{below, not_below, same_number}
+use Rattle.plain_laws.proofs.Booleans.{and_both, both, number_itself, at_most, below, not_below, is_below}
 use Rattle.yard_model.specs.declared.fact.Fact.{Fact}
 use Rattle.yard_model.specs.declared.fact.Fact.TheVariants as fact
 use Rattle.yard_model.specs.declared.incarnation.Slot.{Slot}
 use Rattle.yard_model.specs.declared.incarnation.Slot.TheVariants as slot
+use Rattle.yard_model.specs.Behaviour.{is_in}
 use Rattle.yard_model.specs.Era.{base, reshaped}
-use Rattle.yard_model.specs.Lawful.{own, is_held}
+use Rattle.yard_model.specs.Genuine.{is_brought}
+use Rattle.yard_model.specs.Lawful.{own, is_held, is_of_shard}
 use Rattle.yard_model.specs.Script.{Script, IsScript, setting, with_shards}
 use Rattle.yard_model.specs.Setting.{set_shards}
+use Rattle.yard_model.specs.Shard.{shard}
 use Rattle.yard_model.specs.SlotLists.{SlotLists, shard_list, queue_list}
 use Rattle.yard_model.specs.SlotReads.{epoch}
 use Rattle.yard_model.specs.Trace.{list_at}
 use Rattle.yard_model.specs.Words.{numbers, at}
-use Rattle.era_laws.proofs.ShapeLaws.{reshaped_list}
+use Rattle.yard_model.specs.World.{greatest_epoch}
+use Rattle.era_laws.proofs.ShapeLaws.{reshaped_list, shard_below}
 use Rattle.shard_store.specs.declared.store.Store.{Store}
-use Rattle.shard_store.specs.Reshaped.{IsOwn, AreEach, IsAfter, IsAfterAt, going_on, is_of_shards}
-use Rattle.shard_store.specs.Stores.{slot_at, script_of, slot_of, spare_of, entries_of, entries_at, entries_in, lists_at, IsHome, IsThere, AreHomes}
+use Rattle.shard_store.specs.declared.store.Store.TheVariants as store
+use Rattle.shard_store.specs.Shelf.{Shelf}
+use Rattle.shard_store.specs.Reshaped.{list_of, next_lists, IsOwn, AreEach, IsAfter, IsAfterAt, going_on, is_of_shards}
+use Rattle.shard_store.specs.Stores.{Shelves, slot_at, script_of, slot_of, spare_of, entries_of, entries_at, entries_in, lists_at, IsHome, IsThere, AreHomes}
+use Rattle.shard_store.proofs.ReshapeLaws.{after_free}
 use Rattle.shard_store.proofs.StoresLaws.{shard_at, coordinator_at, queue_at, shard_list_is, queue_list_is}
 
 -- The greatest epoch, place by place.
@@ -53,6 +60,60 @@ own_lists c places homes owns s = subst (λ l. own c (slot.Shard s) l ≡ true) 
         let within : s < c.config.shards = below s c.config.shards e in
         there (at places s) (subst (λ t. IsThere c t (at places s)) (shard_at c.config s within) (homes.each s (omega (arith, within, homes.all)))) (owns s within)
     by false e = refl
+
+-- The store of the shard of a name.
+
+pub shards_in : (c : Script) → IsScript c → (1 ≤ c.config.shards) × (c.config.shards ≤ 128)
+shards_in c k =
+    let m : (nat_le 1 c.config.shards ≡ true) × (nat_le c.config.shards 128 ≡ true) = and_both (nat_le 1 c.config.shards) (nat_le c.config.shards 128)
+    (second (is_in 1 16 c.config.nodes) (is_in 1 128 c.config.shards) (is_in 1 32 c.config.producers) (is_in 1 1000 c.config.buffer) (is_in 1 64 c.config.window) (is_in 1 10000 c.config.snapshot) (is_in 1 10 c.config.keep) k.config) in
+    (at_most 1 c.config.shards m.0, at_most c.config.shards 128 m.1)
+  where
+    second : (a b d e f g i : Bool) → (a && b && d && e && f && g && i) ≡ true → b ≡ true
+    second true true d e f g i h = refl
+    second true false d e f g i h = h
+    second false true d e f g i h = refl
+    second false false d e f g i h = h
+
+-- what is told of it
+pub record IsFound (v : Shelves) (e : List ℕ) (x : Shelf) : Type 0 where
+  pub script_is : x.script ≡ v.script
+  pub of : is_of_shard x.script x.shard e ≡ true
+  pub list_is : x.entries ≡ list_of v e
+
+pub found : (v : Shelves) (e : List ℕ) (x : Shelf) (s : ℕ) → AreHomes v.script v.places → s ≡ shard v.script.config.shards e → at v.places s ≡ Some (store.Shard x) → is_brought v.script e ≡ true → IsFound v e x
+found v e x s homes is here brought = record {
+  script_is = home.script_is;
+  of = ap (λ c. is_of_shard c x.shard e) home.script_is ∙ both (is_brought v.script e) (shard v.script.config.shards e == x.shard) brought (number_itself (shard v.script.config.shards e) x.shard (sym is ∙ sym (ap number home.slot_is)));
+  list_is = ap entries_in (sym here) ∙ (ap (λ b. if b then entries_at v.places s else []) (sym (is_below s v.script.config.shards within)) ∙ (shard_list_is v.script.config v.places s ∙ ap (shard_list (lists_at v.script.config v.places)) is));
+}
+  where
+    number : Slot → ℕ
+    number (slot.Shard t) = t
+    number t = 0
+
+    within : s < v.script.config.shards
+    within = subst (λ t. t < v.script.config.shards) (sym is) (shard_below v.script.config.shards e (let some : 1 ≤ v.script.config.shards = (shards_in v.script homes.script_is).0 in omega arith))
+
+    home : IsHome v.script (slot.Shard s) (store.Shard x)
+    home = subst (IsThere v.script (slot.Shard s)) here (subst (λ t. IsThere v.script t (at v.places s)) (shard_at v.script.config s within) (homes.each s (omega (arith, within, homes.all))))
+
+-- The store of a shard from here on.
+
+pub shard_is_after : (x : Shelves) (c : Script) (s n k : ℕ) (old new : Shelf) → s < c.config.shards → n ≡ s → old ≡ record { script = c; shard = n; entries = shard_list (next_lists x c.config.shards k) n; spare = 0 } → new ≡ record old { spare = new.spare } → 100 ≤ new.spare
+    → IsAfter c (slot.Shard s) (shard_list (next_lists x c.config.shards k) s) (store.Shard new)
+shard_is_after x c s n k old new within same was is enough =
+    let lists : SlotLists = next_lists x c.config.shards k in
+    let list : new.entries ≡ shard_list lists s = ap (λ (y : Shelf). y.entries) is ∙ (ap (λ (y : Shelf). y.entries) was ∙ ap (shard_list lists) same) in
+    record {
+      home_is = record {
+        script_is = ap (λ (y : Shelf). y.script) is ∙ ap (λ (y : Shelf). y.script) was;
+        slot_is = ap (λ (y : Shelf). slot.Shard y.shard) is ∙ (ap (λ (y : Shelf). slot.Shard y.shard) was ∙ ap (λ t. slot.Shard t) same);
+        spare_is = λ h. enough;
+      };
+      list_is = list;
+      free = ap is_held list ∙ after_free x c.config.shards k s within;
+    }
 
 -- The other slots.
 
@@ -128,7 +189,7 @@ placed : (c : Script) (lists : SlotLists) (s : Slot) (o : Option Store) → IsAf
 placed c lists s None h = absurd h
 placed c lists s (Some x) h = record { there = h.home_is; list_is = h.list_is; free = h.free }
 
-abbrev AreAll : Script → SlotLists → List (Option Store) → Type 0
+abbrev pub AreAll : Script → SlotLists → List (Option Store) → Type 0
 AreAll c lists places = AreEach None (λ k. IsAfterAt c lists (slot_at c.config k)) places (c.config.shards + c.config.producers + 1)
 
 pub all_homes : (c : Script) (lists : SlotLists) (places : List (Option Store)) → IsScript c → AreAll c lists places → AreHomes c places
@@ -174,6 +235,18 @@ pub lists_after : (d c : Script) (n k : ℕ) (old places : List (Option Store)) 
 lists_after d c n k old places same homes all =
     let new : SlotLists = reshaped (setting d) n k (lists_at d.config old) in
     ap (λ (y : Script). lists_at y.config places) same ∙ lists_by d n k old places homes (subst (λ (y : Script). AreAll y new places) same all)
+
+-- of stores in parts
+pub whole : (x : Shelves) (c d : Script) (old places result : List (Option Store)) (k : ℕ) → d ≡ x.script → old ≡ x.places → k ≡ greatest_epoch (lists_at x.script.config x.places) → c ≡ with_shards c.config.shards x.script → AreHomes d old
+    → AreAll c (reshaped (setting d) c.config.shards k (lists_at d.config old)) places → result ≡ places
+    → lists_at c.config result ≡ reshaped (setting x.script) c.config.shards (greatest_epoch (lists_at x.script.config x.places)) (lists_at x.script.config x.places)
+whole x c d old places result k script_is old_is k_is same homes all is =
+    let n : ℕ = c.config.shards in
+    ap (lists_at c.config) is
+    ∙ (lists_after d c n k old places (same ∙ ap (with_shards n) (sym script_is)) homes all
+    ∙ (ap (λ (y : Script). reshaped (setting y) n k (lists_at y.config old)) script_is
+    ∙ (ap (λ l. reshaped (setting x.script) n k (lists_at x.script.config l)) old_is
+    ∙ ap (λ m. reshaped (setting x.script) n m (lists_at x.script.config x.places)) k_is)))
 
 -- The shards that come first are at the places of their slots.
 

@@ -5,7 +5,7 @@ use Rattle.std.specs.List.{list_all, list_any, flat_map, slice_get}
 use Rattle.std.specs.List.Sorted.{IsStrictlySortedBy}
 use Rattle.std.specs.Ordering.{nat_cmp}
 use Rattle.std.specs.Cmp.Lexicographic.{slice_cmp}
-use Rattle.std.proofs.lemmas.List.{get_or_append_left, get_or_at, get_or_default, map-append, append_assoc, drop_more, take_more, length-take-le}
+use Rattle.std.proofs.lemmas.List.{get_or_append_left, get_or_at, get_or_default, map-append, append-nil, append_assoc, drop_all, drop_more, take_more, length-take-le}
 use Rattle.std.proofs.lemmas.List.Sums.{fold-append, fold_push}
 use Rattle.plain_laws.proofs.Booleans.{true_is_not_false, and_both, same_number, below, not_below, is_below, all_filter}
 use Rattle.plain_laws.proofs.Names.{all_names}
@@ -128,6 +128,12 @@ entries_more x names i t e old new list facts s within at_is grown are_facts is_
     ∙ (ap (λ l. l ++ flat_map f (drop (i + 1) names)) (map-append (shard_fact s) old (filter (is_entry_of e) list) ∙ ap (λ l. map (shard_fact s) old ++ l) here)
     ∙ (append_assoc (map (shard_fact s) old) (f e) (flat_map f (drop (i + 1) names))
     ∙ (ap (λ l. map (shard_fact s) old ++ flat_map f l) (sym next) ∙ so_far)))
+
+-- no name is left
+pub entries_all : (x : Shelves) (names : List (List ℕ)) (i : ℕ) (list : List Fact) → length names ≤ i → list ++ flat_map (entries_of (setting x.script) (slot_lists x)) (drop i names) ≡ flat_map (entries_of (setting x.script) (slot_lists x)) names → list ≡ flat_map (entries_of (setting x.script) (slot_lists x)) names
+entries_all x names i list past e =
+    let f : List ℕ → List Fact = entries_of (setting x.script) (slot_lists x) in
+    sym (append-nil list) ∙ (ap (λ l. list ++ flat_map f l) (sym (drop_all i names past)) ∙ e)
 
 -- entries of names lease nothing
 named_free : (e : List ℕ) (list : List Fact) (o : Option Incarnation) → fold holder_step o (filter (is_of_name e) list) ≡ o

@@ -1,5 +1,5 @@
 //! The stores of all slots.
-ghost use Rattle.std.specs.Prelude.{◌≡◌, ℕ, ◌+◌, ◌-◌, ◌<◌, ◌≤◌, [], true, nat_lt, fold, length, map, max, IfOk, IsTrue, if◌then◌else◌};
+ghost use Rattle.std.specs.Prelude.{◌≡◌, ℕ, ◌+◌, ◌-◌, ◌<◌, ◌≤◌, [], true, nat_lt, fold, length, map, max, Some, IfOk, IsTrue, if◌then◌else◌};
 ghost use Rattle.yard_model.specs.declared.incarnation.Slot.TheVariants as slot;
 ghost use Rattle.yard_model.specs.Entry.{shard_fact, coord_fact, queue_fact};
 ghost use Rattle.yard_model.specs.Genuine.{is_brought};
@@ -10,6 +10,7 @@ ghost use Rattle.yard_model.specs.SlotReads.{epoch};
 ghost use Rattle.yard_model.specs.Trace.{no_lists};
 ghost use Rattle.yard_model.specs.Words.{numbers, at};
 ghost use Rattle.yard_model.specs.World.{greatest_epoch};
+ghost use Rattle.shard_store.specs.declared.store.Store.TheVariants as store;
 ghost use Rattle.shard_store.specs.Reshaped.{slot_lists, list_of, IsOwn};
 ghost use Rattle.shard_store.specs.Stores.{IsNew, AreNew, AreHomes, slot_at, lists_at, entries_at, entries_in};
 
@@ -261,9 +262,7 @@ fn epoch_of(store: &Option<Store>) -> u32
 /// The store of a shard.
 fn store_at(places: &[Option<Store>], s: ShardNo) -> &ShardStore
     requires { (c : Script) × AreHomes c places.now × (s < c.config.shards) }
-    ensures script { (c : Script) → AreHomes c places.now → s < c.config.shards → result.now.script ≡ c }
-    ensures shard { (c : Script) → AreHomes c places.now → s < c.config.shards → result.now.shard ≡ s }
-    ensures entries { result.now.entries ≡ entries_at places.now s }
+    ensures { at places.now s ≡ Some (store.Shard result.now) }
 {
     match &places[s.get() as usize] {
         Some(Store::Shard(store)) => store,

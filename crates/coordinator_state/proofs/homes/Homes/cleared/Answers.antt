@@ -1,4 +1,4 @@
-use Rattle.std.proofs.Common.{rules, ap, ◌∙◌}
+use Rattle.std.proofs.Common.{rules}
 use Rattle.coordinator_state.proofs.HomesLaws.{cleared_homes}
 use Rattle.coordinator_state.proofs.homes.Homes.cleared.Goals as goal
 

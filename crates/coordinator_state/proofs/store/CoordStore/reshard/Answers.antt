@@ -1,5 +1,5 @@
 use Rattle.std.proofs.Common.{◌≡◌, ◌≤◌, List, sym, subst, ◌∙◌, ap, map, None, ℕ}
-use Rattle.std.specs.Prelude.{false, [], ◌∷◌, ◌++◌}
+use Rattle.std.specs.Prelude.{[], ◌∷◌, ◌++◌}
 use Rattle.yard_model.specs.declared.fact.Fact.TheVariants as fact
 use Rattle.plain_laws.proofs.Booleans.{get_replicate}
 use Rattle.yard_model.specs.declared.fact.Fact.{Fact}

@@ -12,6 +12,3 @@ mod stores;
 pub use shelf::ShardStore;
 pub use store::{Store, StoreRef};
 pub use stores::{Parts, Stores};
-
-#[cfg(test)]
-mod tests;

@@ -12,9 +12,7 @@ use durable_queue::QueueStore;
 use producer_ctl::Producers;
 use std::alloc::{AllocError, Global};
 use std::test::Fail;
-use yard_model::{
-    Charter, Command, Config, EntityName, Kind, Line, Order, Out, ProducerNo,
-};
+use yard_model::{Charter, Command, Config, EntityName, Kind, Line, Order, Out, ProducerNo};
 
 /// A call.
 #[derive(Clone, Copy)]

@@ -45,7 +45,7 @@ fn facts_have_their_lines(rt: HostRuntime) -> Result<(), Fail> {
     let p = ProducerNo::new(1).ok_or("a producer")?;
     let s = ShardNo::new(0, 1).ok_or("a shard")?;
     let entity = EntityName::new(b"c1").ok_or("a name")?;
-    let message = Message {
+    let message = &Message {
         producer: p,
         entity,
         number: 2,
@@ -86,7 +86,7 @@ fn facts_have_their_lines(rt: HostRuntime) -> Result<(), Fail> {
             "held coordinator 1.1 by 1\n",
         ),
         (Fact::Moving(s, STAMP), "moving 0 1/2\n"),
-        (Fact::Kept(WHO, message), "kept 1.1 1 c1 2\n"),
+        (Fact::Kept(WHO, *message), "kept 1.1 1 c1 2\n"),
         (
             Fact::Queued(p, entity, 1, Command::DepositWithMemo(5, 7)),
             "queued 1 c1 1 deposit 5 7\n",
@@ -108,7 +108,7 @@ fn facts_have_their_lines(rt: HostRuntime) -> Result<(), Fail> {
         ),
         (sent(view), "sent 9 1.1 1.1 view 2 1.1\n"),
         (
-            sent(Body::Sequenced(message)),
+            sent(Body::Sequenced(*message)),
             "sent 9 1.1 1.1 sequenced 1 c1 2 1.1 add 5\n",
         ),
         (Fact::Did(WHO, entity), "did 1.1 c1\n"),

@@ -11,6 +11,3 @@ pub use behaviour::Behaviour;
 pub use conditions::{is_applicable, is_of_kind, is_valid};
 pub use fold::state_after;
 pub use yard_model::Decision;
-
-#[cfg(test)]
-mod tests;

@@ -12,6 +12,3 @@ mod version;
 pub use account::Account;
 pub use cart::Cart;
 pub use counter::Counter;
-
-#[cfg(test)]
-mod tests;

@@ -11,6 +11,3 @@ mod stash;
 
 pub use numbers::{Seen, see, wants};
 pub use stash::Stash;
-
-#[cfg(test)]
-mod tests;

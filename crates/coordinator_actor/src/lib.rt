@@ -20,6 +20,3 @@ mod stopped;
 mod tick;
 
 pub use coordinator::Coordinator;
-
-#[cfg(test)]
-mod tests;

@@ -11,6 +11,3 @@ mod moved;
 mod store;
 
 pub use store::CoordStore;
-
-#[cfg(test)]
-mod tests;

@@ -7,6 +7,3 @@ mod plans;
 mod store;
 
 pub use store::QueueStore;
-
-#[cfg(test)]
-mod tests;

@@ -4,6 +4,3 @@
 mod journal;
 
 pub use journal::Journal;
-
-#[cfg(test)]
-mod tests;

@@ -6,6 +6,3 @@ mod snapshot;
 
 pub use positions::Positions;
 pub use snapshot::{Snapshot, Snapshots};
-
-#[cfg(test)]
-mod tests;

@@ -6,6 +6,3 @@ mod links;
 mod pool;
 
 pub use pool::{Full, Pool};
-
-#[cfg(test)]
-mod tests;

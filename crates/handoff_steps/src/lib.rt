@@ -13,6 +13,3 @@ mod waits;
 pub use regions::Regions;
 pub use round::Round;
 pub use step::Step;
-
-#[cfg(test)]
-mod tests;

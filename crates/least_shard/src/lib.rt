@@ -9,6 +9,3 @@ mod tally;
 
 pub use choice::choose;
 pub use rebalance::round;
-
-#[cfg(test)]
-mod tests;

@@ -6,6 +6,3 @@ mod seats;
 mod view;
 
 pub use view::View;
-
-#[cfg(test)]
-mod tests;

@@ -12,6 +12,3 @@ mod producers;
 
 pub use laws::rules_are_calls;
 pub use producers::Producers;
-
-#[cfg(test)]
-mod tests;

@@ -1,4 +1,3 @@
 mod RegionLaws
 mod EachLaws
 mod RoomLaws
-mod FirstLaws

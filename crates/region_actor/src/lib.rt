@@ -13,6 +13,3 @@ mod timer;
 
 pub use answers::{Route, Todo};
 pub use region::Region;
-
-#[cfg(test)]
-mod tests;

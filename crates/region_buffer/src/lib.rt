@@ -5,6 +5,3 @@ mod kept;
 
 pub use envelope_pool::Full;
 pub use kept::Kept;
-
-#[cfg(test)]
-mod tests;

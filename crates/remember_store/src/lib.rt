@@ -5,6 +5,3 @@
 mod remembered;
 
 pub use remembered::Remembered;
-
-#[cfg(test)]
-mod tests;

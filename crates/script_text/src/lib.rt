@@ -12,6 +12,3 @@ mod words;
 
 pub use fault::{Mode, ScriptFault, Why};
 pub use read::read_script;
-
-#[cfg(test)]
-mod tests;

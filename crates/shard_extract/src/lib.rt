@@ -43,6 +43,3 @@ fn hash_with(hash: u32, byte: u8) -> u32
 {
     hash.wrapping_mul(31).wrapping_add(u32::from(byte))
 }
-
-#[cfg(test)]
-mod tests;

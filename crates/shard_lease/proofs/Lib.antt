@@ -1,1 +1,1 @@
-mod BookLaws
+pub mod BookLaws

@@ -7,6 +7,3 @@ mod leases;
 
 pub use book::LeaseBook;
 pub use leases::{Acquire, Leases, handed_out_may_return};
-
-#[cfg(test)]
-mod tests;

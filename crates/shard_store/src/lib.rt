@@ -13,6 +13,3 @@ mod stores;
 pub use shelf::ShardStore;
 pub use store::{Store, StoreRef};
 pub use stores::{Parts, Stores, greatest_of};
-
-#[cfg(test)]
-mod tests;

@@ -4,4 +4,3 @@ pub mod PlaceLaws
 pub mod JournalLaws
 pub mod RowLaws
 pub mod TallyLaws
-pub mod SampleLaws

@@ -2,4 +2,3 @@ pub mod Behind
 pub mod Foldable
 pub mod Places
 pub mod Rows
-pub mod Sample

@@ -13,8 +13,3 @@ mod values;
 
 pub use facts::push_fact;
 pub use report::push_report;
-
-#[cfg(test)]
-mod report_tests;
-#[cfg(test)]
-mod tests;

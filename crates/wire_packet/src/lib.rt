@@ -5,6 +5,3 @@
 mod wire;
 
 pub use wire::{Wire, WireFault};
-
-#[cfg(test)]
-mod tests;

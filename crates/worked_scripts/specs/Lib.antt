@@ -20,6 +20,7 @@ pub mod HandoffUnderTraffic
 pub mod HandoffWhilePassivating
 pub mod HostedAlready
 pub mod LastRegionLeaves
+pub mod Lines
 pub mod OldestCrashes
 pub mod OriginOfReleased
 pub mod OtherShards

@@ -2,7 +2,8 @@
 #![tactic(auto)]
 
 ghost use Rattle.std.specs.Prelude.{◌≡◌, true, false, [], ◌∷◌};
-ghost use Rattle.worked_scripts.specs.Worked.{Agrees, HasJournals, IsGenuine, IsGuarded, IsSafe, IsSettled, IsUnsafeWithout, Prints, PrintsAlone, PrintsWithin, SettlesFrom};
+ghost use Rattle.worked_scripts.specs.Lines.{printed, facts_of_nodes, lines_of_nodes, facts_of_shards, lines_of_shards, facts_of_queues, lines_of_queues, facts_of_packets, lines_of_packets, facts_of_records, lines_of_records, facts_of_states, lines_of_states};
+ghost use Rattle.worked_scripts.specs.Worked.{text_of, Agrees, HasJournals, IsGenuine, IsGuarded, IsSafe, IsSettled, IsUnsafeWithout, Prints, PrintsAlone, PrintsWithin, SettlesFrom};
 ghost use Rattle.worked_scripts.specs.Tables.{hashes, shards, first_picks, no_picks, smallest_shares, account_replies, account_state};
 ghost use Rattle.worked_scripts.specs.Steady.{counts, steady, worked_where, settled_where};
 ghost use Rattle.worked_scripts.specs.FirstDelivery as first_delivery_lines;
@@ -304,6 +305,16 @@ pub fn alone_collision_gap_repeat()
 /// Alone, nine commands to an account.
 pub fn alone_account()
     ensures { PrintsAlone alone_account_lines.script alone_account_lines.printed }
+{}
+
+/// Each form of a fact, a slot, a packet, a command, an event, a reply and a state prints its line.
+pub fn lines_of_facts()
+    ensures nodes { printed facts_of_nodes ≡ text_of lines_of_nodes }
+    ensures shards { printed facts_of_shards ≡ text_of lines_of_shards }
+    ensures queues { printed facts_of_queues ≡ text_of lines_of_queues }
+    ensures packets { printed facts_of_packets ≡ text_of lines_of_packets }
+    ensures records { printed facts_of_records ≡ text_of lines_of_records }
+    ensures states { printed facts_of_states ≡ text_of lines_of_states }
 {}
 
 /// Hashes of five names, and their shards of ten. The fourth and fifth hash are negative in Java: -1367590710 and -2147483648.

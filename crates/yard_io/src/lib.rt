@@ -12,8 +12,6 @@ mod source;
 mod std_sink;
 mod std_source;
 mod tally;
-#[cfg(test)]
-mod tests;
 mod transfer;
 mod whole_source;
 

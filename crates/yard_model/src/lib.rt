@@ -42,6 +42,3 @@ pub use out::{Item, Out};
 pub use packet::{Body, Message, Packet, Record};
 pub use shard_set::ShardSet;
 pub use state::{CartItem, State};
-
-#[cfg(test)]
-mod tests;

@@ -1,0 +1,125 @@
+//! The report of a counter that was told to add 5.
+ghost use Rattle.std.specs.Prelude.{◌≡◌, IfOk, codes};
+ghost use Rattle.text_tests.specs.Sample.{sample_list, sample_script};
+
+use std::alloc::Global;
+use std::test::Fail;
+use trace_text::push_report;
+use yard_model::{
+    Charter, Command, Config, CoordEntry, EntityName, Event, Events, Kind, Line, Lists, Order,
+    ProducerNo, QueueEntry, Record, Reply, ShardEntry, ShardNo,
+};
+
+const SETTINGS: Config = Config {
+    nodes: 3,
+    shards: 1,
+    producers: 2,
+    buffer: 100,
+    window: 50,
+    snapshot: 100,
+    keep: 2,
+    remember: false,
+    kind: Kind::Counter,
+};
+
+/// The list of shard 0 and that of producer 1's queue.
+#[derive(Drop)]
+struct TwoLists {
+    shard: Vec<ShardEntry>,
+    queue: Vec<QueueEntry>,
+}
+
+impl Lists for TwoLists {
+    ghost use Rattle.std.specs.Prelude.{[], ◌∷◌, map};
+    ghost use Rattle.yard_model.specs.Entry.{shard_fact, queue_fact};
+
+    ghost lists = { λ t. record { shards = map (shard_fact 0) t.shard.items ∷ []; coordinator = []; queues = map (queue_fact 1) t.queue.items ∷ [] } };
+
+    fn shard(&self, s: ShardNo) -> &[ShardEntry] {
+        if s.get() == 0 {
+            self.shard.as_slice()
+        } else {
+            &[]
+        }
+    }
+
+    fn coordinator(&self) -> &[CoordEntry] {
+        &[]
+    }
+
+    fn queue(&self, p: ProducerNo) -> &[QueueEntry] {
+        if p.get() == 1 {
+            self.queue.as_slice()
+        } else {
+            &[]
+        }
+    }
+}
+
+fn sample_name() -> Result<EntityName, Fail>
+    ensures { IfOk result (λ name. name ≡ codes "c1") }
+{
+    let name = EntityName::new(b"c1").ok_or("a name")?;
+    Ok(name)
+}
+
+fn sample_producer() -> Result<ProducerNo, Fail>
+    ensures { IfOk result (λ p. p ≡ 1) }
+{
+    let p = ProducerNo::new(1).ok_or("a producer")?;
+    Ok(p)
+}
+
+fn sample_charter(alloc: Global) -> Result<Charter, Fail>
+    ensures { IfOk result (λ c. c ≡ sample_script) }
+{
+    let p = sample_producer()?;
+    let entity = sample_name()?;
+    let mut orders = Vec::new(alloc);
+    orders.push(Line {
+        number: 2,
+        order: Order::Send(p, entity, Command::Add(5)),
+    })?;
+    let charter = Charter::new(alloc, SETTINGS, orders)?;
+    Ok(charter)
+}
+
+fn sample_lists(alloc: Global) -> Result<TwoLists, Fail>
+    ensures { IfOk result (λ t. t.shard.items ≡ sample_list) }
+{
+    let entity = sample_name()?;
+    let producer = sample_producer()?;
+    let written = Record {
+        number: 1,
+        epoch: 1,
+        producer,
+        place: 1,
+        command: Command::Add(5),
+        events: Events::empty().with(Event::Added(5)),
+        reply: Reply::Value(5),
+    };
+    let mut shard = Vec::new(alloc);
+    shard.push(ShardEntry::Wrote(entity, written))?;
+    let mut queue = Vec::new(alloc);
+    queue.push(QueueEntry::Queued(entity, 1, Command::Add(5)))?;
+    queue.push(QueueEntry::Confirmed(entity, 1))?;
+    Ok(TwoLists { shard, queue })
+}
+
+#[test]
+#[tactic(auto, using(crate::proofs::SampleLaws::sample_foldable))]
+fn the_report_of_a_counter(rt: HostRuntime) -> Result<(), Fail> {
+    let alloc = rt.alloc();
+    let charter = sample_charter(alloc)?;
+    let lists = sample_lists(alloc)?;
+    let mut text = Vec::new(alloc);
+    push_report(&mut text, &charter, &lists)?;
+    let wanted = b"report
+entity c1 shard 0 records 1 state 5
+record 1 epoch 1 by 1:1 add 5 / added 5 / ok 5
+queue 1 c1 queued 1 confirmed 1
+end
+";
+    assert_eq!(rt; text.as_slice(), wanted.as_slice());
+    Ok(())
+}

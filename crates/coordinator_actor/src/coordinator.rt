@@ -1,5 +1,5 @@
 //! The state of a coordinator, and the moves that change it.
-ghost use Rattle.std.specs.Prelude.{◌≡◌, ℕ, ◌+◌, ◌<◌, ◌≤◌, [], ◌∷◌, ◌++◌, not, fold, slice_index_or, length, Some, OnOk, OnErr, IsTrue, IfSome, true, false, is_none, is_some};
+ghost use Rattle.std.specs.Prelude.{◌≡◌, ℕ, ◌+◌, ◌<◌, ◌≤◌, [], ◌∷◌, ◌++◌, not, fold, slice_index_or, length, nat_le, Some, OnOk, OnErr, IsTrue, IfSome, true, false, is_none, is_some};
 ghost use Rattle.std.specs.List.{All, flat_map, list_all};
 ghost use Rattle.yard_model.specs.declared.load.Load.{Load};
 ghost use Rattle.yard_model.specs.declared.fact.Fact.TheVariants as fact;
@@ -135,14 +135,17 @@ impl Coordinator {
         self.who
     }
 
-    /// How much there is at most: 16 regions are registered, and 128 shards are in the open round.
+    /// How much there is at most: 16 regions are registered, and 128 shards are in the open round,
+    /// for each of which 16 regions are awaited.
     pub fn room(&self)
         ensures regions { length (registered self.now.state) ≤ 16 }
         ensures moving { length self.now.state.moving ≤ 128 }
+        ensures awaited { list_all (λ x. nat_le (length x.awaited) 16) self.now.state.moving ≡ true }
     {
         let regions = self.regions();
         regions.as_slice();
-        self.round();
+        let round = self.round();
+        round.awaited_few();
     }
 
     /// Whether this region is registered.

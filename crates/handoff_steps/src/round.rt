@@ -1,5 +1,5 @@
 //! The round.
-ghost use Rattle.std.specs.Prelude.{◌≡◌, ℕ, ◌<◌, ◌≤◌, [], true, false, not, ◌==◌, ◌&&◌, nat_lt, length, take, map, filter, option_map, if◌then◌else◌};
+ghost use Rattle.std.specs.Prelude.{◌≡◌, ℕ, ◌<◌, ◌≤◌, [], true, false, not, ◌==◌, ◌&&◌, nat_lt, nat_le, length, take, map, filter, option_map, if◌then◌else◌};
 ghost use Rattle.std.specs.List.{list_any, list_all, flat_map};
 ghost use Rattle.yard_model.specs.ShardSet.{has};
 ghost use Rattle.yard_model.specs.Words.{is_among, is_empty};
@@ -101,6 +101,13 @@ impl Round {
         ensures { result ≡ awaited_in (place_at self.now s) }
     {
         self.cells[s.get() as usize].awaited(&self.regions[..self.count as usize])
+    }
+
+    /// A law: at most 16 regions are awaited for each shard of the round.
+    pub fn awaited_few(&self)
+        ensures { list_all (λ x. nat_le (length x.awaited) 16) (moving self.now) ≡ true }
+    {
+        let _ = &self.stamp;
     }
 
     /// Whether every shard of the round is done.

@@ -79,7 +79,7 @@ asks_other s t h = λ same. true≢false (sym (ap (asks s) same ∙ asks_itself 
 
 -- An entry more, where each slot has its list.
 
-entry_here : (c : Script) (lists : SlotLists) (f : Fact) (s : Slot) → AreThere c lists → is_slot_of c s ≡ true → list_at (with_entry f lists (Some s)) s ≡ list_at lists s ++ f ∷ []
+pub entry_here : (c : Script) (lists : SlotLists) (f : Fact) (s : Slot) → AreThere c lists → is_slot_of c s ≡ true → list_at (with_entry f lists (Some s)) s ≡ list_at lists s ++ f ∷ []
 entry_here c lists f (slot.Shard s) k h = get_or-set_same lists.shards s (shard_list lists s ++ f ∷ []) [] (subst (λ n. s < n) (sym k.shards) (below s c.config.shards h))
 entry_here c lists f slot.Coordinator k h = refl
 entry_here c lists f (slot.Queue p) k h =
@@ -89,7 +89,7 @@ entry_here c lists f (slot.Queue p) k h =
     let inside : p - 1 < length lists.queues = omega (arith, k.queues) in
     get_or-set_same lists.queues (p - 1) (queue_list lists p ++ f ∷ []) [] inside
 
-entry_else : (c : Script) (lists : SlotLists) (f : Fact) (s t : Slot) → is_slot_of c s ≡ true → is_slot_of c t ≡ true → t ≢ s → list_at (with_entry f lists (Some s)) t ≡ list_at lists t
+pub entry_else : (c : Script) (lists : SlotLists) (f : Fact) (s t : Slot) → is_slot_of c s ≡ true → is_slot_of c t ≡ true → t ≢ s → list_at (with_entry f lists (Some s)) t ≡ list_at lists t
 entry_else c lists f (slot.Shard s) (slot.Shard t) h k other = get_or-set_other lists.shards s t (shard_list lists s ++ f ∷ []) [] (λ same. other (ap (λ n. slot.Shard n) same))
 entry_else c lists f (slot.Shard s) slot.Coordinator h k other = refl
 entry_else c lists f (slot.Shard s) (slot.Queue q) h k other = refl
@@ -231,6 +231,7 @@ module _ (c : Script) (s : Slot) (st : Node) (here : is_slot_of c s ≡ true) (f
       admits_is = λ z v q. subst (λ (w : Incarnation). new.admits w.node z ≡ true) (sym who_is) (stays.admits_is st.who.node z ∙ rests.admits_is z v q);
       held_is = λ z v. subst (λ (w : Incarnation). new.holds w.node z ≡ is_some (held_list z to)) (sym who_is) (held_at_z z v (asks s z) refl);
       lists_are = λ z v. list_at_z z v (asks s z) refl;
+      leased_are = λ z v. leased_at_z z v (asks s z) refl;
     };
     stays = stays;
     others = λ n z other. apart.holds_is n z (inl other);
@@ -287,6 +288,12 @@ module _ (c : Script) (s : Slot) (st : Node) (here : is_slot_of c s ≡ true) (f
       held_at_z z v true a = subst (λ y. new.holds st.who.node y ≡ is_some (held_list y to)) (asks_is s z a) (h.holds_is ∙ sym (ap is_some takes.held_is))
       held_at_z z v false a = apart.holds_is st.who.node z (inr (asks_other s z a)) ∙ (rests.held_is z v ∙ ap is_some (sym (takes.else_is z (asks_other s z a))))
 
+      leased_at_z : (z : Slot) → is_slot_of c z ≡ true → (b : Bool) → asks s z ≡ b → IfSome (held_list z to) (λ l. holder l ≡ Some to.who)
+      leased_at_z z v true a = subst (λ y. IfSome (held_list y to) (λ l. holder l ≡ Some to.who)) (asks_is s z a)
+          (subst (λ o. IfSome o (λ l. holder l ≡ Some to.who)) (sym takes.held_is)
+          (ap holder h.list_is ∙ (fold-append holder_step None h.before (grant ∷ []) ∙ ap Some (sym who_is))))
+      leased_at_z z v false a = subst (λ o. IfSome o (λ l. holder l ≡ Some to.who)) (sym (takes.else_is z (asks_other s z a))) (subst (λ w. IfSome (held_list z st) (λ l. holder l ≡ Some w)) (sym who_is) (rests.leased_are z v))
+
       list_at_z : (z : Slot) → is_slot_of c z ≡ true → (b : Bool) → asks s z ≡ b → IfSome (held_list z to) (IsHandOf new z)
       list_at_z z v true a = subst (λ y. IfSome (held_list y to) (IsHandOf new y)) (asks_is s z a) (subst (λ o. IfSome o (IsHandOf new s)) (sym takes.held_is) (record { extends = h.extends; taken = h.taken; vouched = h.vouched }))
       list_at_z z v false a = subst (λ o. IfSome o (IsHandOf new z)) (sym (takes.else_is z (asks_other s z a))) (some_hand old new z (held_list z st) stays (apart.told_is z (asks_other s z a)) (rests.lists_are z v))
@@ -319,6 +326,7 @@ module _ (c : Script) (s : Slot) (st : Node) (here : is_slot_of c s ≡ true) (f
       admits_is = λ z v q. stays.admits_is st.who.node z ∙ rests.admits_is z v q;
       held_is = λ z v. still.holds_is st.who.node z ∙ rests.held_is z v;
       lists_are = λ z v. some_hand old new z (held_list z st) stays (still.told_is z) (rests.lists_are z v);
+      leased_are = rests.leased_are;
     };
     stays = stays;
     others = λ n z other. still.holds_is n z;

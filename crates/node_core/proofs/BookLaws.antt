@@ -1,6 +1,6 @@
 -- What a node that comes up rests on of a book in which nobody holds a slot.
 use Rattle.std.proofs.Common.{◌≡◌, ℕ, ◌-◌, sym, ap, subst, ◌∙◌, refl, true, false}
-use Rattle.std.specs.Prelude.{Bool, ◌&&◌, replicate, None, is_some, IfSome}
+use Rattle.std.specs.Prelude.{Bool, ◌&&◌, replicate, Some, None, is_some, IfSome}
 use Rattle.std.specs.Option.{option_map}
 use Rattle.yard_model.specs.declared.incarnation.Incarnation.{Incarnation}
 use Rattle.yard_model.specs.declared.incarnation.Slot.{Slot}
@@ -8,13 +8,14 @@ use Rattle.yard_model.specs.declared.incarnation.Slot.TheVariants as slot
 use Rattle.yard_model.specs.Genuine.{is_node, is_slot_of}
 use Rattle.yard_model.specs.Node.{Node, new_node}
 use Rattle.yard_model.specs.Script.{Script, setting}
+use Rattle.yard_model.specs.SlotReads.{holder}
 use Rattle.yard_model.specs.Words.{at}
 use Rattle.plain_laws.proofs.Booleans.{both}
 use Rattle.actor_laws.specs.Hands.{held_list}
 use Rattle.shard_store.specs.Stores.{place_of}
 use Rattle.shard_lease.specs.Book.{Book, is_of_node, meaning_of}
 use Rattle.node_core.specs.Leased.{Rests, IsHandOf}
-use Rattle.node_core.proofs.CrashLaws.{same_at}
+use Rattle.node_core.proofs.SlotLaws.{same_at}
 
 none_held : (c : Script) (version : ℕ) (who : Incarnation) (s : Slot) → held_list s (new_node (setting c) version who) ≡ None
 none_held c version who (slot.Shard s) = ap (λ o. option_map (λ h. h.entries) o) (same_at None c.config.shards s)
@@ -34,4 +35,5 @@ new_rests c b version who n st same none node new = subst (Rests (meaning_of b) 
   held_is = λ s v. ap (λ o. is_slot_of b.script s && is_of_node who.node o) (ap (λ l. at l (place_of b.script.config s)) none ∙ same_at None n (place_of b.script.config s))
       ∙ (and_false (is_slot_of b.script s) ∙ sym (ap is_some (none_held c version who s)));
   lists_are = λ s v. subst (λ o. IfSome o (IsHandOf (meaning_of b) s)) (sym (none_held c version who s)) tt;
+  leased_are = λ s v. subst (λ o. IfSome o (λ l. holder l ≡ Some who)) (sym (none_held c version who s)) tt;
 })

@@ -1,36 +1,30 @@
 -- What steps give, one after another.
-use Rattle.std.proofs.Common.{◌≡◌, ◌≢◌, ℕ, ◌-◌, List, [], ◌∷◌, ◌++◌, map, sym, ap, subst, ◌∙◌, refl, append_assoc, append-nil, true, false, true≢false}
-use Rattle.std.specs.Prelude.{Bool, ◌||◌, fold, Option, Some, None, is_some, IfSome, IsSomeAnd, if◌then◌else◌}
-use Rattle.std.specs.List.{list_all, flat_map}
+use Rattle.std.proofs.Common.{◌≡◌, ◌≢◌, ◌-◌, List, [], ◌∷◌, ◌++◌, sym, ap, subst, ◌∙◌, refl, append_assoc, append-nil, true, false, true≢false}
+use Rattle.std.specs.Prelude.{Bool, ◌||◌, fold, Option, Some, None, IfSome, IsSomeAnd, if◌then◌else◌}
 use Rattle.std.proofs.lemmas.Grind.{flat_map-append}
 use Rattle.std.proofs.lemmas.List.{length-set}
 use Rattle.std.proofs.lemmas.List.Sums.{fold-append}
 use Rattle.yard_model.specs.declared.fact.Fact.{Fact}
-use Rattle.yard_model.specs.declared.fact.Fact.TheVariants as fact
 use Rattle.yard_model.specs.declared.incarnation.Incarnation.{Incarnation}
 use Rattle.yard_model.specs.declared.incarnation.Slot.{Slot}
 use Rattle.yard_model.specs.declared.incarnation.Slot.TheVariants as slot
 use Rattle.yard_model.specs.declared.out.Item.{Item}
 use Rattle.yard_model.specs.declared.out.Item.TheVariants as item
-use Rattle.yard_model.specs.Coordinator.{Coordinator, coordinator_after}
 use Rattle.yard_model.specs.Genuine.{is_slot_of}
 use Rattle.yard_model.specs.Lawful.{own}
-use Rattle.yard_model.specs.Move.{Move, made, told, item_of}
-use Rattle.yard_model.specs.Node.{Node, Act, Rule, by_region, by_coordinator, move_of, after, items_of}
-use Rattle.yard_model.specs.Region.{Region, region_after}
-use Rattle.yard_model.specs.Script.{Script, Setting, setting}
+use Rattle.yard_model.specs.Move.{item_of}
+use Rattle.yard_model.specs.Node.{Node, Act, Rule, move_of, after, items_of}
+use Rattle.yard_model.specs.Script.{Script, setting}
 use Rattle.yard_model.specs.SlotLists.{SlotLists, shard_list, queue_list}
-use Rattle.yard_model.specs.SlotReads.{holder, holder_step}
+use Rattle.yard_model.specs.SlotReads.{holder}
 use Rattle.yard_model.specs.Trace.{slot_of, list_at, with_entry, lists_step}
-use Rattle.yard_laws.specs.Free.{is_free, is_free_move}
-use Rattle.yard_laws.proofs.PartsLaws.{region_alone, region_items, coordinator_items}
-use Rattle.plain_laws.proofs.Booleans.{and_both, both, left_of, right_of}
+use Rattle.plain_laws.proofs.Booleans.{left_of, right_of}
 use Rattle.actor_laws.specs.Hands.{held_list, AreInHand}
 use Rattle.actor_laws.specs.Owes.{facts_in, AreElseLawful}
-use Rattle.shard_lease.specs.Meaning.{Known, Meaning, Stays, is_taken, confirms, is_confirmed}
-use Rattle.node_core.specs.Leased.{Rests, IsHandOf, IsTold, Tells}
+use Rattle.shard_lease.specs.Meaning.{Meaning, Stays}
+use Rattle.node_core.specs.Leased.{Rests, IsTold, Tells}
 use Rattle.node_core.specs.Found.{none, either, AreThere, IsAlike, AreAlike, AreElseOthers}
-use Rattle.node_core.specs.Gave.{Moment, moment, Gave, IsLeft, lists_after}
+use Rattle.node_core.specs.Gave.{Moment, Gave, IsLeft, lists_after}
 use Rattle.node_core.proofs.FoundLaws.{lists_from, from_there, list_from, hand_found, alike_both, told_alike, none_alike}
 
 facts_append : (xs ys : List Item) → facts_in (xs ++ ys) ≡ facts_in xs ++ facts_in ys
@@ -38,7 +32,7 @@ facts_append [] ys = refl
 facts_append (item.Fact f ∷ is) ys = ap (λ fs. f ∷ fs) (facts_append is ys)
 facts_append (item.Post p ∷ is) ys = facts_append is ys
 
-items_append : (xs ys : List Act) → items_of (xs ++ ys) ≡ items_of xs ++ items_of ys
+pub items_append : (xs ys : List Act) → items_of (xs ++ ys) ≡ items_of xs ++ items_of ys
 items_append xs ys = flat_map-append (λ a. item_of (move_of a)) xs ys
 
 lists_append : (c : Script) (lists : SlotLists) (xs ys : List Act) → lists_after c lists (xs ++ ys) ≡ lists_after c (lists_after c lists xs) ys
@@ -48,7 +42,7 @@ lists_append c lists xs ys =
     ∙ fold-append (lists_step (setting c)) lists (facts_in (items_of xs)) (facts_in (items_of ys)))
 
 -- each slot has its list still
-step_there : (c : Script) (lists : SlotLists) (f : Fact) (o : Option Slot) → AreThere c lists → AreThere c (with_entry f lists o)
+pub step_there : (c : Script) (lists : SlotLists) (f : Fact) (o : Option Slot) → AreThere c lists → AreThere c (with_entry f lists o)
 step_there c lists f None k = k
 step_there c lists f (Some (slot.Shard s)) k = record { shards = length-set lists.shards s (shard_list lists s ++ f ∷ []) ∙ k.shards; queues = k.queues }
 step_there c lists f (Some slot.Coordinator) k = record { shards = k.shards; queues = k.queues }
@@ -307,229 +301,3 @@ pub gave_first : (c : Script) (two : Slot → Bool) (p : SlotLists → List Act)
     → Gave c none p old mid → Gave c two (λ lists. q lists mid.node) mid new
     → Gave c two (λ lists. p lists ++ q lists (fold after old.node (p lists))) old new
 gave_first c two p q old mid new keeps f g = gave_both c none two p q old mid new (λ s asked. absurd (true≢false (sym asked))) keeps f g
-
--- The region's moves: none is an entry.
-
-free_step : (set : Setting) (lists : SlotLists) (f : Fact) → is_free f ≡ true → lists_step set lists f ≡ lists
-free_step set lists (fact.At n) h = refl
-free_step set lists fact.Nothing h = refl
-free_step set lists fact.WireFull h = refl
-free_step set lists fact.Settled h = refl
-free_step set lists (fact.Up x) h = refl
-free_step set lists (fact.View x v) h = refl
-free_step set lists (fact.Sent k p) h = refl
-free_step set lists (fact.Got k) h = refl
-free_step set lists (fact.Held s x n) h = refl
-free_step set lists (fact.Moving s stamp) h = refl
-free_step set lists (fact.Home x s k) h = refl
-free_step set lists (fact.Forget x s) h = refl
-free_step set lists (fact.Kept x m) h = refl
-free_step set lists (fact.Dropped x m) h = refl
-free_step set lists (fact.Stashed x m) h = refl
-free_step set lists (fact.Armed e k) h = refl
-free_step set lists (fact.Waits p e k) h = refl
-free_step set lists (fact.SentAsk k x) h = refl
-free_step set lists (fact.SentJob k x e) h = refl
-free_step set lists (fact.SentDone k x e) h = refl
-free_step set lists (fact.Given e x) h = refl
-free_step set lists (fact.Did x e) h = refl
-free_step set lists f h = absurd (true≢false (sym h))
-
-free_lists : (set : Setting) (lists : SlotLists) (ms : List Move) → list_all is_free_move ms ≡ true → fold (lists_step set) lists (facts_in (flat_map item_of ms)) ≡ lists
-free_lists set lists [] h = refl
-free_lists set lists (made (item.Fact f) ∷ ms) h =
-    let parts : (is_free f ≡ true) × (list_all is_free_move ms ≡ true) = and_both (is_free f) (list_all is_free_move ms) h in
-    ap (λ l. fold (lists_step set) l (facts_in (flat_map item_of ms))) (free_step set lists f parts.0) ∙ free_lists set lists ms parts.1
-free_lists set lists (made (item.Post p) ∷ ms) h = free_lists set lists ms h
-free_lists set lists (m ∷ ms) h = free_lists set lists ms h
-
--- of another region it is the same
-pub held_region : (s : Slot) (st : Node) (r : Region) → held_list s (record st { region = r }) ≡ held_list s st
-held_region (slot.Shard s) st r = refl
-held_region slot.Coordinator st r = refl
-held_region (slot.Queue p) st r = refl
-
-rests_region : (m : Meaning) (c : Script) (st : Node) (r : Region) → Rests m c st → Rests m c (record st { region = r })
-rests_region m c st r h = record {
-  script_is = h.script_is;
-  serves_is = h.serves_is;
-  number_is = h.number_is;
-  admits_is = h.admits_is;
-  held_is = λ s v. h.held_is s v ∙ ap is_some (sym (held_region s st r));
-  lists_are = λ s v. subst (λ o. IfSome o (IsHandOf m s)) (sym (held_region s st r)) (h.lists_are s v);
-}
-
-pub region_gave : (c : Script) (ms : List Move) (m : Meaning) (st : Node) (before : List Item) → list_all is_free_move ms ≡ true → Rests m c st
-    → Gave c none (λ lists. map by_region ms) (moment m st before) (moment m (record st { region = fold region_after st.region ms }) (before ++ flat_map item_of ms))
-region_gave c ms m st before free rests = record {
-  told = map by_region ms;
-  items_are = ap (λ is. before ++ is) (sym (region_items ms));
-  node_is = sym (region_alone st ms);
-  found = hand_found m c (λ lists. map by_region ms) st (map by_region ms) (λ lists. refl);
-  alike = λ lists full t h. none_alike c st lists (hand_found m c (λ lists. map by_region ms) st (map by_region ms) (λ lists. refl)).lists;
-  tells = λ lists full t h. subst (Tells m c) (sym (lists_same lists)) t;
-  in_hand = λ lists full t h. subst (λ l. AreInHand c l (record st { region = r })) (sym (lists_same lists)) (λ s v. subst (λ o. IfSome o (λ list. list_at lists s ≡ list)) (sym (held_region s st r)) (h s v));
-  left = λ s v e none. record { held_is = held_region s st r ∙ none; tells_is = refl };
-  rests = rests_region m c st r rests;
-  stays = stays_same m;
-  others = λ n s other. refl;
-}
-  where
-    r : Region
-    r = fold region_after st.region ms
-
-    lists_same : (lists : SlotLists) → lists_after c lists (map by_region ms) ≡ lists
-    lists_same lists = ap (λ is. fold (lists_step (setting c)) lists (facts_in is)) (region_items ms) ∙ free_lists (setting c) lists ms free
-
--- The coordinator's moves: it writes who is registered and who is terminated.
-
-abbrev pub is_plain : Meaning → Move → Bool
-is_plain m (made (item.Fact (fact.Registered r))) = m.within r.number
-is_plain m (made (item.Fact (fact.Terminated r))) = m.within r.number
-is_plain m (made (item.Post p)) = true
-is_plain m x = false
-
-abbrev is_plain_fact : Meaning → Fact → Bool
-is_plain_fact m (fact.Registered r) = m.within r.number
-is_plain_fact m (fact.Terminated r) = m.within r.number
-is_plain_fact m f = false
-
-plain_lists : (c : Script) (m : Meaning) (lists : SlotLists) (k : Coordinator) (ms : List Move) → list_all (is_plain m) ms ≡ true
-    → fold (lists_step (setting c)) (record lists { coordinator = k.entries }) (facts_in (flat_map item_of ms)) ≡ record lists { coordinator = (fold coordinator_after k ms).entries }
-plain_lists c m lists k [] h = refl
-plain_lists c m lists k (made (item.Fact (fact.Registered r)) ∷ ms) h = plain_lists c m lists (coordinator_after k (told (fact.Registered r))) ms (and_both (m.within r.number) (list_all (is_plain m) ms) h).1
-plain_lists c m lists k (made (item.Fact (fact.Terminated r)) ∷ ms) h = plain_lists c m lists (coordinator_after k (told (fact.Terminated r))) ms (and_both (m.within r.number) (list_all (is_plain m) ms) h).1
-plain_lists c m lists k (made (item.Post p) ∷ ms) h = plain_lists c m lists (coordinator_after k (made (item.Post p))) ms h
-plain_lists c m lists k (x ∷ ms) h = absurd (true≢false (sym h))
-
-plain_state : (m : Meaning) (st : Node) (k : Coordinator) (ms : List Move) → list_all (is_plain m) ms ≡ true
-    → fold after (record st { coordinator = Some k }) (map by_coordinator ms) ≡ record st { coordinator = Some (fold coordinator_after k ms) }
-plain_state m st k [] h = refl
-plain_state m st k (made (item.Fact (fact.Registered r)) ∷ ms) h = plain_state m st (coordinator_after k (told (fact.Registered r))) ms (and_both (m.within r.number) (list_all (is_plain m) ms) h).1
-plain_state m st k (made (item.Fact (fact.Terminated r)) ∷ ms) h = plain_state m st (coordinator_after k (told (fact.Terminated r))) ms (and_both (m.within r.number) (list_all (is_plain m) ms) h).1
-plain_state m st k (made (item.Post p) ∷ ms) h = plain_state m st (coordinator_after k (made (item.Post p))) ms h
-plain_state m st k (x ∷ ms) h = absurd (true≢false (sym h))
-
-record IsMore (m : Meaning) (old new : List Fact) : Type 0 where
-  rest : List Fact
-  is : new ≡ old ++ rest
-  plain : list_all (is_plain_fact m) rest ≡ true
-
-plain_more : (m : Meaning) (k : Coordinator) (ms : List Move) → list_all (is_plain m) ms ≡ true → IsMore m k.entries (fold coordinator_after k ms).entries
-plain_more m k [] h = record { rest = []; is = sym (append-nil k.entries); plain = refl }
-plain_more m k (made (item.Fact (fact.Registered r)) ∷ ms) h =
-    let parts : (m.within r.number ≡ true) × (list_all (is_plain m) ms ≡ true) = and_both (m.within r.number) (list_all (is_plain m) ms) h in
-    let next : IsMore m (k.entries ++ fact.Registered r ∷ []) (fold coordinator_after (coordinator_after k (told (fact.Registered r))) ms).entries = plain_more m (coordinator_after k (told (fact.Registered r))) ms parts.1 in
-    record { rest = fact.Registered r ∷ next.rest; is = next.is ∙ append_assoc k.entries (fact.Registered r ∷ []) next.rest; plain = both (m.within r.number) (list_all (is_plain_fact m) next.rest) parts.0 next.plain }
-plain_more m k (made (item.Fact (fact.Terminated r)) ∷ ms) h =
-    let parts : (m.within r.number ≡ true) × (list_all (is_plain m) ms ≡ true) = and_both (m.within r.number) (list_all (is_plain m) ms) h in
-    let next : IsMore m (k.entries ++ fact.Terminated r ∷ []) (fold coordinator_after (coordinator_after k (told (fact.Terminated r))) ms).entries = plain_more m (coordinator_after k (told (fact.Terminated r))) ms parts.1 in
-    record { rest = fact.Terminated r ∷ next.rest; is = next.is ∙ append_assoc k.entries (fact.Terminated r ∷ []) next.rest; plain = both (m.within r.number) (list_all (is_plain_fact m) next.rest) parts.0 next.plain }
-plain_more m k (made (item.Post p) ∷ ms) h = plain_more m (coordinator_after k (made (item.Post p))) ms h
-plain_more m k (x ∷ ms) h = absurd (true≢false (sym h))
-
-held_more : (m : Meaning) (x : Incarnation) (rest : List Fact) → list_all (is_plain_fact m) rest ≡ true → fold holder_step (Some x) rest ≡ Some x
-held_more m x [] h = refl
-held_more m x (fact.Registered r ∷ fs) h = held_more m x fs (and_both (m.within r.number) (list_all (is_plain_fact m) fs) h).1
-held_more m x (fact.Terminated r ∷ fs) h = held_more m x fs (and_both (m.within r.number) (list_all (is_plain_fact m) fs) h).1
-held_more m x (f ∷ fs) h = absurd (true≢false (sym h))
-
-taken_more : (m : Meaning) (old rest : List Fact) → list_all (is_taken m slot.Coordinator) old ≡ true → list_all (is_plain_fact m) rest ≡ true → list_all (is_taken m slot.Coordinator) (old ++ rest) ≡ true
-taken_more m (f ∷ fs) rest t h = let parts : (is_taken m slot.Coordinator f ≡ true) × (list_all (is_taken m slot.Coordinator) fs ≡ true) = and_both (is_taken m slot.Coordinator f) (list_all (is_taken m slot.Coordinator) fs) t in
-    both (is_taken m slot.Coordinator f) (list_all (is_taken m slot.Coordinator) (fs ++ rest)) parts.0 (taken_more m fs rest parts.1 h)
-taken_more m [] [] t h = refl
-taken_more m [] (fact.Registered r ∷ fs) t h = let parts : (m.within r.number ≡ true) × (list_all (is_plain_fact m) fs ≡ true) = and_both (m.within r.number) (list_all (is_plain_fact m) fs) h in
-    both (m.within r.number) (list_all (is_taken m slot.Coordinator) fs) parts.0 (taken_more m [] fs t parts.1)
-taken_more m [] (fact.Terminated r ∷ fs) t h = let parts : (m.within r.number ≡ true) × (list_all (is_plain_fact m) fs ≡ true) = and_both (m.within r.number) (list_all (is_plain_fact m) fs) h in
-    both (m.within r.number) (list_all (is_taken m slot.Coordinator) fs) parts.0 (taken_more m [] fs t parts.1)
-taken_more m [] (f ∷ fs) t h = absurd (true≢false (sym h))
-
-confirms_more : (m : Meaning) (e : List ℕ) (p n : ℕ) (old rest : List Fact) → list_all (is_plain_fact m) rest ≡ true → confirms e p n (old ++ rest) ≡ confirms e p n old
-confirms_more m e p n (f ∷ fs) rest h = ap (λ b. is_confirmed e p n f || b) (confirms_more m e p n fs rest h)
-confirms_more m e p n [] [] h = refl
-confirms_more m e p n [] (fact.Registered r ∷ fs) h = confirms_more m e p n [] fs (and_both (m.within r.number) (list_all (is_plain_fact m) fs) h).1
-confirms_more m e p n [] (fact.Terminated r ∷ fs) h = confirms_more m e p n [] fs (and_both (m.within r.number) (list_all (is_plain_fact m) fs) h).1
-confirms_more m e p n [] (f ∷ fs) h = absurd (true≢false (sym h))
-
-holder_more : (m : Meaning) (x : Incarnation) (old new : List Fact) → IsMore m old new → holder old ≡ Some x → holder new ≡ Some x
-holder_more m x old new h e = ap holder h.is ∙ (fold-append holder_step None old h.rest ∙ (ap (λ o. fold holder_step o h.rest) e ∙ held_more m x h.rest h.plain))
-
-hand_more : (m : Meaning) (old new : List Fact) → IsMore m old new → IsHandOf m slot.Coordinator old → IsHandOf m slot.Coordinator new
-hand_more m old new h hand = record {
-  extends = record { rest = hand.extends.rest ++ h.rest; is = h.is ∙ (ap (λ l. l ++ h.rest) hand.extends.is ∙ append_assoc (m.told slot.Coordinator) hand.extends.rest h.rest) };
-  taken = ap (list_all (is_taken m slot.Coordinator)) h.is ∙ taken_more m old h.rest hand.taken h.plain;
-  vouched = λ e p n v. hand.vouched e p n (sym (ap (confirms e p n) h.is ∙ confirms_more m e p n old h.rest h.plain) ∙ v);
-}
-
-some_is_not_none : {A : Type 0} (x : A) → Some x ≡ None → ⊥
-some_is_not_none x e = true≢false (ap is_some e)
-
-told_more : (m : Meaning) (x : Incarnation) (o : Option Known) (old new : List Fact) → IsMore m old new → holder old ≡ Some x → IsSomeAnd o (IsTold old) → IsSomeAnd o (IsTold new)
-told_more m x None old new h e t = t
-told_more m x (Some k) old new h e t = record {
-  holder_is = t.holder_is ∙ (e ∙ sym (holder_more m x old new h e));
-  list_is = λ none. absurd (some_is_not_none x (sym (t.holder_is ∙ e) ∙ none));
-}
-
--- its moves, where it holds its slot
-pub coordinator_gave : (c : Script) (m : Meaning) (x : Incarnation) (st : Node) (k : Coordinator) (ms : List Move) (before : List Item)
-    → holder k.entries ≡ Some x
-    → list_all (is_plain m) ms ≡ true
-    → Rests m c (record st { coordinator = Some k })
-    → Gave c none (λ lists. map by_coordinator ms) (moment m (record st { coordinator = Some k }) before) (moment m (record st { coordinator = Some (fold coordinator_after k ms) }) (before ++ flat_map item_of ms))
-coordinator_gave c m x st k ms before leased plain rests = record {
-  told = map by_coordinator ms;
-  items_are = ap (λ is. before ++ is) (sym (coordinator_items ms));
-  node_is = sym (plain_state m st k ms plain);
-  found = hand_found m c (λ lists. map by_coordinator ms) (record st { coordinator = Some k }) (map by_coordinator ms) (λ lists. refl);
-  alike = λ lists full t h. none_alike c (record st { coordinator = Some k }) lists (hand_found m c (λ lists. map by_coordinator ms) (record st { coordinator = Some k }) (map by_coordinator ms) (λ lists. refl)).lists;
-  tells = λ lists full t h. subst (λ l. Tells m c l) (sym (lists_are lists (h slot.Coordinator refl))) (tells lists t (h slot.Coordinator refl));
-  in_hand = λ lists full t h. subst (λ l. AreInHand c l (record st { coordinator = Some now })) (sym (lists_are lists (h slot.Coordinator refl))) (in_hand lists h);
-  left = left;
-  rests = record {
-    script_is = rests.script_is;
-    serves_is = rests.serves_is;
-    number_is = rests.number_is;
-    admits_is = rests.admits_is;
-    held_is = held;
-    lists_are = hands;
-  };
-  stays = stays_same m;
-  others = λ n s other. refl;
-}
-  where
-    now : Coordinator
-    now = fold coordinator_after k ms
-
-    more : IsMore m k.entries now.entries
-    more = plain_more m k ms plain
-
-    lists_are : (lists : SlotLists) → lists.coordinator ≡ k.entries → lists_after c lists (map by_coordinator ms) ≡ record lists { coordinator = now.entries }
-    lists_are lists e = ap (λ is. fold (lists_step (setting c)) lists (facts_in is)) (coordinator_items ms)
-        ∙ (ap (λ l. fold (lists_step (setting c)) (record lists { coordinator = l }) (facts_in (flat_map item_of ms))) e ∙ plain_lists c m lists k ms plain)
-
-    tells : (lists : SlotLists) → Tells m c lists → lists.coordinator ≡ k.entries → Tells m c (record lists { coordinator = now.entries })
-    tells lists t e (slot.Shard s) v = t (slot.Shard s) v
-    tells lists t e slot.Coordinator v = told_more m x (m.tells slot.Coordinator) k.entries now.entries more leased (subst (λ l. IsSomeAnd (m.tells slot.Coordinator) (IsTold l)) e (t slot.Coordinator v))
-    tells lists t e (slot.Queue p) v = t (slot.Queue p) v
-
-    in_hand : (lists : SlotLists) → AreInHand c lists (record st { coordinator = Some k }) → AreInHand c (record lists { coordinator = now.entries }) (record st { coordinator = Some now })
-    in_hand lists h (slot.Shard s) v = h (slot.Shard s) v
-    in_hand lists h slot.Coordinator v = refl
-    in_hand lists h (slot.Queue p) v = h (slot.Queue p) v
-
-    held : (s : Slot) → is_slot_of c s ≡ true → m.holds st.who.node s ≡ is_some (held_list s (record st { coordinator = Some now }))
-    held (slot.Shard s) v = rests.held_is (slot.Shard s) v
-    held slot.Coordinator v = rests.held_is slot.Coordinator v
-    held (slot.Queue p) v = rests.held_is (slot.Queue p) v
-
-    hands : (s : Slot) → is_slot_of c s ≡ true → IfSome (held_list s (record st { coordinator = Some now })) (IsHandOf m s)
-    hands (slot.Shard s) v = rests.lists_are (slot.Shard s) v
-    hands slot.Coordinator v = hand_more m k.entries now.entries more (rests.lists_are slot.Coordinator v)
-    hands (slot.Queue p) v = rests.lists_are (slot.Queue p) v
-
-    left : (s : Slot) → is_slot_of c s ≡ true → none s ≡ false → held_list s (record st { coordinator = Some k }) ≡ None
-        → IsLeft (moment m (record st { coordinator = Some k }) before) (moment m (record st { coordinator = Some now }) (before ++ flat_map item_of ms)) s
-    left (slot.Shard s) v e free = record { held_is = free; tells_is = refl }
-    left slot.Coordinator v e free = absurd (some_is_not_none k.entries free)
-    left (slot.Queue p) v e free = record { held_is = free; tells_is = refl }

@@ -1,228 +1,233 @@
--- What each packet gives, out of what its steps give.
-use Rattle.std.proofs.Common.{◌≡◌, ℕ, ◌≤◌, arith, List, [], ◌∷◌, ◌++◌, map, sym, ap, subst, ◌∙◌, refl, append-nil, true, false, true≢false}
-use Rattle.std.specs.Prelude.{Bool, ◌&&◌, fold, nat_le, Option, Some, None, is_none, is_some, if◌then◌else◌}
+-- What the steps of one actor make of the node; and what a step that asks for nothing gives.
+use Rattle.std.proofs.Common.{◌≡◌, ℕ, ◌+◌, ◌-◌, List, [], ◌∷◌, ◌++◌, length, map, sym, ap, subst, ◌∙◌, refl, append-nil, append_assoc, true, arith}
+use Rattle.std.specs.Prelude.{fold, Option, Some, None}
 use Rattle.std.specs.Option.{option_map}
 use Rattle.std.specs.List.{list_all, flat_map}
-use Rattle.std.proofs.lemmas.Bool.Decides.{nat_tests}
+use Rattle.std.proofs.lemmas.List.{length-append}
 use Rattle.yard_model.specs.declared.incarnation.Incarnation.{Incarnation}
-use Rattle.yard_model.specs.declared.incarnation.Slot.{Slot}
-use Rattle.yard_model.specs.declared.incarnation.Slot.TheVariants as slot
 use Rattle.yard_model.specs.declared.out.Item.{Item}
-use Rattle.yard_model.specs.declared.packet.Body.{Body}
-use Rattle.yard_model.specs.declared.packet.Body.TheVariants as body
-use Rattle.yard_model.specs.Coordinator as coordinator
 use Rattle.yard_model.specs.Coordinator.{Coordinator, coordinator_after}
-use Rattle.yard_model.specs.Move.{Move, item_of}
-use Rattle.yard_model.specs.Node.{Node, Act, Rule, by_region, by_coordinator, of_coordinator, after, all_in_turn, of_region, acquire, lead, packet}
-use Rattle.yard_model.specs.Region.{Region, region_after, oldest, take_view, takes_home, takes_host, learn, register}
-use Rattle.yard_model.specs.Script.{Script}
-use Rattle.yard_model.specs.SlotLists.{SlotLists}
-use Rattle.yard_model.specs.SlotReads.{holder}
-use Rattle.yard_model.specs.Words.{is_at}
-use Rattle.yard_laws.specs.Free.{is_free_move}
-use Rattle.plain_laws.proofs.Booleans.{of_not}
-use Rattle.yard_laws.proofs.FreeLaws.{region_is_free}
-use Rattle.node_laws.specs.NodeStands.{IsViewed}
+use Rattle.yard_model.specs.Entities.{Entities, entities_after}
+use Rattle.yard_model.specs.Move.{Move, made, item_of}
+use Rattle.yard_model.specs.Node.{Node, Act, by_region, by_entities, by_producer, by_coordinator, of_coordinator, after, items_of}
+use Rattle.yard_model.specs.Producer.{Producer}
+use Rattle.yard_model.specs.Region.{Region, region_after}
+use Rattle.yard_model.specs.Script.{Script, Setting, setting}
+use Rattle.yard_model.specs.Spared.{Spared}
+use Rattle.yard_model.specs.Turns.{where_some}
+use Rattle.yard_laws.proofs.PartsLaws.{region_alone, region_items, entities_alone, entities_items, coordinator_items}
 use Rattle.coordinator_actor.specs.Held.{Held}
-use Rattle.region_actor.specs.Handled.{handled}
+use Rattle.shard_entities.specs.Lodged.{Lodged, lodged_after, moved, given, given_step}
 use Rattle.shard_lease.specs.Meaning.{Meaning}
-use Rattle.node_core.specs.Standing.{node_of, AreSeen}
-use Rattle.node_core.specs.Leased.{Rests, is_newer}
 use Rattle.node_core.specs.Found.{none}
-use Rattle.node_core.specs.Gave.{Moment, moment, Gave, take_lead, is_to_lead, office, asks_lead}
-use Rattle.node_core.proofs.BesideLaws.{frees_none, gave_keeps}
-use Rattle.node_core.proofs.GaveLaws.{gave_nothing, gave_same, gave_asked, gave_then, gave_first, region_gave, coordinator_gave}
-use Rattle.node_core.proofs.LeadLaws.{lost_plain, register_plain}
+use Rattle.node_core.specs.Gave.{Gave, moment}
+use Rattle.node_core.specs.Leased.{Rests}
+use Rattle.node_core.specs.Standing.{Standing, standing_of, node_of}
+use Rattle.node_core.specs.Still.{is_still}
+use Rattle.node_core.specs.Went.{Went, CoordinatorWent, rooms_after, entries_of_office}
+use Rattle.node_core.proofs.StillLaws.{still_gave}
 
--- The region's part of a packet.
-
-free_choice : (b : Bool) (ms : List Move) → list_all is_free_move ms ≡ true → list_all is_free_move (if b then ms else []) ≡ true
-free_choice true ms h = h
-free_choice false ms h = refl
-
-free_else : (b : Bool) (ms : List Move) → list_all is_free_move ms ≡ true → list_all is_free_move (if b then [] else ms) ≡ true
-free_else true ms h = refl
-free_else false ms h = h
-
-handled_free : (from : Incarnation) (b : Body) (r : Region) → list_all is_free_move (handled from b r) ≡ true
-handled_free from (body.View v xs) r = free_else (nat_le v r.version) (take_view v xs r) ((region_is_free r).viewed v xs)
-handled_free from body.RegisterAck r = (region_is_free r).registered from
-handled_free from (body.ShardHome s h stamp) r = free_choice (takes_home s h stamp r) (learn s h stamp r) ((region_is_free r).learnt s h stamp)
-handled_free from (body.HostShard s stamp) r = free_choice (takes_host s stamp r) (learn s r.who stamp r) ((region_is_free r).learnt s r.who stamp)
-handled_free from (body.BeginHandOff s stamp) r = (region_is_free r).handed s stamp from
-handled_free from b r = refl
+-- The region.
 
 region_who : (r : Region) (ms : List Move) → (fold region_after r ms).who ≡ r.who
 region_who r [] = refl
 region_who r (m ∷ ms) = region_who (region_after r m) ms
 
-node_same : (c : Script) (v : ℕ) (r s : Region) (k : Option Held) → s.who ≡ r.who → node_of c v s k ≡ record (node_of c v r k) { region = s }
-node_same c v r s k e = ap (λ (x : Incarnation). record (node_of c v (record r { who = x }) k) { region = s }) e
+region_rooms : (set : Setting) (rooms : List ℕ) (ms : List Move) → rooms ≡ fold (rooms_after set) rooms (map by_region ms)
+region_rooms set rooms [] = refl
+region_rooms set rooms (m ∷ ms) = region_rooms set rooms ms
 
--- moves of the region of these parts
-pub parts_gave : (c : Script) (v : ℕ) (m : Meaning) (r now : Region) (k : Option Held) (ms : List Move) (before items : List Item) → list_all is_free_move ms ≡ true
-    → now ≡ fold region_after r ms → items ≡ before ++ flat_map item_of ms → Rests m c (node_of c v r k)
-    → Gave c none (λ lists. map by_region ms) (moment m (node_of c v r k) before) (moment m (node_of c v now k) items)
-parts_gave c v m r now k ms before items free takes told rests =
-    subst (λ is. Gave c none (λ lists. map by_region ms) (moment m (node_of c v r k) before) (moment m (node_of c v now k) is)) (sym told)
-    (subst (λ (s : Region). Gave c none (λ lists. map by_region ms) (moment m (node_of c v r k) before) (moment m (node_of c v s k) (before ++ flat_map item_of ms))) (sym takes)
-    (subst (λ (x : Node). Gave c none (λ lists. map by_region ms) (moment m (node_of c v r k) before) (moment m x (before ++ flat_map item_of ms))) (sym (node_same c v r (fold region_after r ms) k (region_who r ms)))
-    (region_gave c ms m (node_of c v r k) before free rests)))
+less_of : (a b n : ℕ) → a + n ≡ b → a ≡ b - n
+less_of a b n h = omega (arith, h)
 
-pub heard_gave : (c : Script) (v : ℕ) (m : Meaning) (from : Incarnation) (b : Body) (r now : Region) (k : Option Held) (before items : List Item)
-    → now ≡ fold region_after r (handled from b r) → items ≡ before ++ flat_map item_of (handled from b r) → Rests m c (node_of c v r k)
-    → Gave c none (λ lists. of_region (handled from b) (node_of c v r k)) (moment m (node_of c v r k) before) (moment m (node_of c v now k) items)
-heard_gave c v m from b r now k before items takes told rests = parts_gave c v m r now k (handled from b r) before items (handled_free from b r) takes told rests
+node_same : (c : Script) (r s : Region) (e : Lodged) (p : List (Option Producer)) (k : Option Held) → s.who ≡ r.who → node_of c s e p k ≡ record (node_of c r e p k) { region = s }
+node_same c r s e p k w = ap (λ (x : Incarnation). record (node_of c (record r { who = x }) e p k) { region = s }) w
 
-pub registers_gave : (c : Script) (v : ℕ) (m : Meaning) (r : Region) (k : Option Held) (before items : List Item)
-    → r ≡ fold region_after r (register r) → items ≡ before ++ flat_map item_of (register r) → Rests m c (node_of c v r k)
-    → Gave c none (λ lists. of_region register (node_of c v r k)) (moment m (node_of c v r k) before) (moment m (node_of c v r k) items)
-registers_gave c v m r k before items still told rests = parts_gave c v m r r k (register r) before items (region_is_free r).registers still told rests
+pub region_went : (c : Script) (r now : Region) (e : Lodged) (p : List (Option Producer)) (k : Option Held) (ms : List Move) (before late : Spared Item)
+    → now ≡ fold region_after r ms → late.items ≡ before.items ++ flat_map item_of ms → late.spare + length (flat_map item_of ms) ≡ before.spare
+    → Went (standing_of c r e p k) (standing_of c now e p k) before late (map by_region ms)
+region_went c r now e p k ms before late goes items spare = record {
+  script_is = refl;
+  node_is = ap (λ (s : Region). node_of c s e p k) goes ∙ (node_same c r (fold region_after r ms) e p k (region_who r ms) ∙ sym (region_alone (node_of c r e p k) ms));
+  items_are = items ∙ ap (λ is. before.items ++ is) (sym (region_items ms));
+  spare_is = less_of late.spare before.spare (length (flat_map item_of ms)) spare ∙ ap (λ is. before.spare - length is) (sym (region_items ms));
+  rooms_are = region_rooms (setting c) e.rooms ms;
+  office_is = refl;
+}
 
--- where it is registered, that is all
-pub heard_registered : (c : Script) (from : Incarnation) (b : Body) (old new : Moment) → b ≡ body.RegisterAck → Gave c none (λ lists. of_region (handled from b) old.node) old new → Gave c none (λ lists. packet lists from b old.node) old new
-heard_registered c from b old new e g = gave_same c none (λ lists. of_region (handled from b) old.node) (λ lists. packet lists from b old.node) old new
-    (λ lists. ap (λ x. of_region (handled from x) old.node) e ∙ ap (λ x. packet lists from x old.node) (sym e)) g
+-- The entities.
 
--- which frees nothing
-frees_nothing : (s : Slot) (ms : List Move) → frees_none s (map by_region ms) ≡ true
-frees_nothing s [] = refl
-frees_nothing s (m ∷ ms) = frees_nothing s ms
+pub moved_state : (v : Lodged) (ms : List Move) → (moved v ms).state ≡ fold entities_after v.state ms
+moved_state v [] = refl
+moved_state v (m ∷ ms) = moved_state (lodged_after v m) ms
 
--- Lead.
+moved_script : (v : Lodged) (ms : List Move) → (moved v ms).script ≡ v.script
+moved_script v [] = refl
+moved_script v (m ∷ ms) = moved_script (lodged_after v m) ms
 
-asks_is : (b d : Bool) → b ≡ true → d ≡ (b && d)
-asks_is true d e = refl
-asks_is false d e = absurd (true≢false (sym e))
+moved_rooms : (v : Lodged) (ms : List Move) → (moved v ms).rooms ≡ fold (rooms_after v.state.set) v.rooms (map by_entities ms)
+moved_rooms v [] = refl
+moved_rooms v (m ∷ ms) = moved_rooms (lodged_after v m) ms
 
-asks_not : (b d : Bool) → b ≡ false → false ≡ (b && d)
-asks_not false d e = refl
-asks_not true d e = absurd (true≢false e)
+pub moved_who : (v : Lodged) (ms : List Move) → (moved v ms).state.who ≡ v.state.who
+moved_who v [] = refl
+moved_who v (m ∷ ms) = moved_who (lodged_after v m) ms
 
-not_asked : (b : Bool) (acts : List Act) → b ≡ false → [] ≡ (if b then acts else [])
-not_asked false acts e = refl
-not_asked true acts e = absurd (true≢false e)
+pub moved_set : (v : Lodged) (ms : List Move) → (moved v ms).state.set ≡ v.state.set
+moved_set v [] = refl
+moved_set v (m ∷ ms) = moved_set (lodged_after v m) ms
 
-pub asked_gave : (c : Script) (old new : Moment) → is_to_lead old.node ≡ true → Gave c office (λ lists. take_lead lists old.node) old new → Gave c (asks_lead old.node) (λ lists. take_lead lists old.node) old new
-asked_gave c old new e g = gave_asked c office (asks_lead old.node) (λ lists. take_lead lists old.node) old new (λ s. asks_is (is_to_lead old.node) (office s) e) g
+pub moved_version : (v : Lodged) (ms : List Move) → (moved v ms).state.version ≡ v.state.version
+moved_version v [] = refl
+moved_version v (m ∷ ms) = moved_version (lodged_after v m) ms
 
--- where it isn't the oldest, or is the coordinator, it asks for nothing
-pub not_asked_gave : (c : Script) (now : Moment) → is_to_lead now.node ≡ false → Rests now.meaning c now.node → Gave c (asks_lead now.node) (λ lists. take_lead lists now.node) now now
-not_asked_gave c now e rests =
-    gave_asked c none (asks_lead now.node) (λ lists. take_lead lists now.node) now now (λ s. asks_not (is_to_lead now.node) (office s) e)
-    (gave_same c none (λ lists. []) (λ lists. take_lead lists now.node) now now (λ lists. not_asked (is_to_lead now.node) (map by_coordinator (acquire slot.Coordinator now.node.who lists.coordinator)) e)
-    (gave_nothing c now rests))
+pub moved_of : (v : Lodged) (ms : List Move) → (moved v ms).script ≡ v.script
+moved_of v ms = moved_script v ms
 
--- of these parts
+one_given : (old : Spared Item) (m : Move) → (given_step old m).items ≡ old.items ++ item_of m
+one_given old (made i) = refl
+one_given old m = sym (append-nil old.items)
 
-pub leads : (c : Script) (v : ℕ) (r : Region) (k : Option Held) → is_at r.who (oldest r) ≡ true → is_some k ≡ false → is_to_lead (node_of c v r k) ≡ true
-leads c v r None e free = ap (λ b. b && true) e
-leads c v r (Some k) e free = absurd (true≢false free)
+given_items : (old : Spared Item) (ms : List Move) → (given old ms).items ≡ old.items ++ flat_map item_of ms
+given_items old [] = sym (append-nil old.items)
+given_items old (m ∷ ms) = given_items (given_step old m) ms ∙ (ap (λ is. is ++ flat_map item_of ms) (one_given old m) ∙ append_assoc old.items (item_of m) (flat_map item_of ms))
 
-pub leads_not : (c : Script) (v : ℕ) (r : Region) (k : Option Held) → is_at r.who (oldest r) ≡ false → is_to_lead (node_of c v r k) ≡ false
-leads_not c v r k e = ap (λ b. b && is_none (option_map (λ (h : Held). h.state) k)) e
+one_less : (old : Spared Item) (m : Move) → (given_step old m).spare ≡ old.spare - length (item_of m)
+one_less old (made i) = refl
+one_less old m = omega arith
 
-pub leads_already : (c : Script) (v : ℕ) (r : Region) (k : Option Held) → is_some k ≡ true → is_to_lead (node_of c v r k) ≡ false
-leads_already c v r None held = absurd (true≢false (sym held))
-leads_already c v r (Some k) held = not_free (is_at r.who (oldest r))
+given_spare : (old : Spared Item) (ms : List Move) → (given old ms).spare ≡ old.spare - length (flat_map item_of ms)
+given_spare old [] = omega arith
+given_spare old (m ∷ ms) =
+    let first : (given_step old m).spare ≡ old.spare - length (item_of m) = one_less old m in
+    let rest : (given (given_step old m) ms).spare ≡ (given_step old m).spare - length (flat_map item_of ms) = given_spare (given_step old m) ms in
+    let all : length (item_of m ++ flat_map item_of ms) ≡ length (item_of m) + length (flat_map item_of ms) = length-append (item_of m) (flat_map item_of ms) in
+    omega (arith, first, rest, all)
+
+pub entities_went : (c : Script) (r : Region) (e now : Lodged) (p : List (Option Producer)) (k : Option Held) (ms : List Move) (before late : Spared Item)
+    → e.state.set ≡ setting c → now ≡ moved e ms → late ≡ given before ms → Went (standing_of c r e p k) (standing_of c r now p k) before late (map by_entities ms)
+entities_went c r e now p k ms before late set_is goes told = record {
+  script_is = refl;
+  node_is = ap (λ (x : Entities). record (node_of c r e p k) { entities = x }) (ap (λ (v : Lodged). v.state) goes ∙ moved_state e ms) ∙ sym (entities_alone (node_of c r e p k) ms);
+  items_are = ap (λ (x : Spared Item). x.items) told ∙ (given_items before ms ∙ ap (λ is. before.items ++ is) (sym (entities_items ms)));
+  spare_is = ap (λ (x : Spared Item). x.spare) told ∙ (given_spare before ms ∙ ap (λ is. before.spare - length is) (sym (entities_items ms)));
+  rooms_are = ap (λ (v : Lodged). v.rooms) goes ∙ (moved_rooms e ms ∙ ap (λ set. fold (rooms_after set) e.rooms (map by_entities ms)) set_is);
+  office_is = refl;
+}
+
+-- The coordinator.
+
+office_rooms : (set : Setting) (rooms : List ℕ) (ms : List Move) → rooms ≡ fold (rooms_after set) rooms (map by_coordinator ms)
+office_rooms set rooms [] = refl
+office_rooms set rooms (m ∷ ms) = office_rooms set rooms ms
+
+-- its moves, where there is one
+ruled : (p : Coordinator → List Move) (o : Option Coordinator) → items_of (where_some (λ k. map by_coordinator (p k)) o) ≡ flat_map item_of (where_some p o)
+ruled p None = refl
+ruled p (Some k) = coordinator_items (p k)
+
+ruled_rooms : (set : Setting) (rooms : List ℕ) (p : Coordinator → List Move) (o : Option Coordinator) → rooms ≡ fold (rooms_after set) rooms (where_some (λ k. map by_coordinator (p k)) o)
+ruled_rooms set rooms p None = refl
+ruled_rooms set rooms p (Some k) = office_rooms set rooms (p k)
+
+-- so the rooms stay
+pub office_rooms_same : (v w : Standing) (before late : Spared Item) (p : Coordinator → List Move) → Went v w before late (of_coordinator p v.state) → w.rooms ≡ v.rooms
+office_rooms_same v w before late p went = went.rooms_are ∙ sym (ruled_rooms (setting v.script) v.rooms p v.state.coordinator)
+
+-- moves of the region leave the coordinator and its store
+pub region_leaves : (v w : Standing) (before late : Spared Item) (ms : List Move) → Went v w before late (map by_region ms) → (w.state.coordinator ≡ v.state.coordinator) × (w.spare ≡ v.spare)
+region_leaves v w before late ms went = (same, spare)
   where
-    not_free : (b : Bool) → (b && false) ≡ false
-    not_free true = refl
-    not_free false = refl
+    same : w.state.coordinator ≡ v.state.coordinator
+    same = ap (λ (n : Node). n.coordinator) (went.node_is ∙ region_alone v.state ms)
 
-pub lead_gave : (c : Script) (old mid new : Moment)
-    → Gave c (asks_lead old.node) (λ lists. take_lead lists old.node) old mid
-    → Gave c none (λ lists. of_coordinator (coordinator.terminate_lost mid.node.region.view) mid.node) mid new
-    → Gave c (asks_lead old.node) (λ lists. lead lists old.node) old new
-lead_gave c old mid new f g = gave_then c (asks_lead old.node) (λ lists. take_lead lists old.node) (λ lists st. of_coordinator (coordinator.terminate_lost st.region.view) st) old mid new f g
+    spare : w.spare ≡ v.spare
+    spare =
+        let all : w.spare + length (entries_of_office w.state.coordinator) ≡ v.spare + length (entries_of_office v.state.coordinator) = went.office_is in
+        let entries : length (entries_of_office w.state.coordinator) ≡ length (entries_of_office v.state.coordinator) = ap (λ o. length (entries_of_office o)) same in
+        omega (arith, all, entries)
 
--- Views.
+-- none of its moves takes a store
+abbrev pub TakesNone : (Coordinator → List Move) → Type 0
+TakesNone p = (st : Node) (k : Coordinator) → fold after (record st { coordinator = Some k }) (map by_coordinator (p k)) ≡ record st { coordinator = Some (fold coordinator_after k (p k)) }
 
-choice : (b : Bool) (acts : List Act) → b ≡ true → [] ≡ (if b then [] else acts)
-choice true acts e = refl
-choice false acts e = absurd (true≢false (sym e))
+ruled_node : (st : Node) (p : Coordinator → List Move) (o : Option Coordinator) → TakesNone p → record st { coordinator = option_map (λ k. fold coordinator_after k (p k)) o } ≡ fold after (record st { coordinator = o }) (where_some (λ k. map by_coordinator (p k)) o)
+ruled_node st p None takes = refl
+ruled_node st p (Some k) takes = sym (takes st k)
 
-other_choice : (b : Bool) (acts : List Act) → b ≡ false → acts ≡ (if b then [] else acts)
-other_choice false acts e = refl
-other_choice true acts e = absurd (true≢false e)
+mapped_twice : (p : Coordinator → List Move) (o : Option Held) → option_map (λ (k : Held). fold coordinator_after k.state (p k.state)) o ≡ option_map (λ k. fold coordinator_after k (p k)) (option_map (λ (k : Held). k.state) o)
+mapped_twice p None = refl
+mapped_twice p (Some k) = refl
 
-pub le_is : (a b : ℕ) → a ≤ b → nat_le a b ≡ true
-le_is a b h = grind (arith, nat_tests)
+pub coordinator_went : (c : Script) (r : Region) (e : Lodged) (ps : List (Option Producer)) (p : Coordinator → List Move) (k now : Option Held) (before late : Spared Item)
+    → TakesNone p → CoordinatorWent p k now before late → Went (standing_of c r e ps k) (standing_of c r e ps now) before late (of_coordinator p (node_of c r e ps k))
+coordinator_went c r e ps p k now before late takes w = record {
+  script_is = refl;
+  node_is = ap (λ (o : Option Coordinator). record (node_of c r e ps None) { coordinator = o }) (w.state_is ∙ mapped_twice p k) ∙ ruled_node (node_of c r e ps None) p (option_map (λ k. k.state) k) takes;
+  items_are = w.items_are ∙ ap (λ is. before.items ++ is) (sym (ruled p (option_map (λ k. k.state) k)));
+  spare_is = w.spare_is ∙ ap (λ is. before.spare - length is) (sym (ruled p (option_map (λ k. k.state) k)));
+  rooms_are = ruled_rooms (setting c) e.rooms p (option_map (λ k. k.state) k);
+  office_is = w.office_is;
+}
 
-abbrev view_acts : SlotLists → ℕ → List Incarnation → Node → List Act
-view_acts lists v xs st = all_in_turn (of_region (take_view v xs) ∷ lead lists ∷ of_region register ∷ []) st
+pub coordinator_did : (p : Coordinator → List Move) (k now : Held) (before late : Spared Item) → now.state ≡ fold coordinator_after k.state (p k.state) → late.items ≡ before.items ++ flat_map item_of (p k.state)
+    → late.spare + length (flat_map item_of (p k.state)) ≡ before.spare → length now.state.entries + now.spare ≡ length k.state.entries + k.spare → now.script ≡ k.script → now.state.who ≡ k.state.who → now.state.set ≡ k.state.set
+    → CoordinatorWent p (Some k) (Some now) before late
+coordinator_did p k now before late goes items spare entries script who set = record {
+  state_is = ap (λ x. Some x) goes;
+  items_are = items;
+  spare_is = less_of late.spare before.spare (length (flat_map item_of (p k.state))) spare;
+  office_is = omega (arith, entries);
+  stays_of = λ c x of. record { script_is = script ∙ of.script_is; who_is = who ∙ of.who_is; set_is = set ∙ of.set_is };
+}
 
--- a view that isn't newer
-pub old_view_gave : (c : Script) (from : Incarnation) (v : ℕ) (xs : List Incarnation) (now : Moment) → nat_le v now.node.region.version ≡ true → Rests now.meaning c now.node
-    → Gave c none (λ lists. packet lists from (body.View v xs) now.node) now now
-old_view_gave c from v xs now older rests = gave_same c none (λ lists. []) (λ lists. packet lists from (body.View v xs) now.node) now now
-    (λ lists. choice (nat_le v now.node.region.version) (view_acts lists v xs now.node) older) (gave_nothing c now rests)
+pub coordinator_absent : (p : Coordinator → List Move) (o : Option Held) (before : Spared Item) → o ≡ None → CoordinatorWent p o o before before
+coordinator_absent p o before e = subst (λ (x : Option Held). CoordinatorWent p x x before before) (sym e) (record {
+  state_is = refl;
+  items_are = sym (append-nil before.items);
+  spare_is = omega arith;
+  office_is = refl;
+  stays_of = λ c x of. of;
+})
 
-handled_is : (from : Incarnation) (v : ℕ) (xs : List Incarnation) (r : Region) → nat_le v r.version ≡ false → handled from (body.View v xs) r ≡ take_view v xs r
-handled_is from v xs r older = sym (other (nat_le v r.version) older)
-  where
-    other : (b : Bool) → b ≡ false → take_view v xs r ≡ (if b then [] else take_view v xs r)
-    other false e = refl
-    other true e = absurd (true≢false e)
+-- An act that is an item and changes nothing else.
 
--- a newer one
-pub view_gave : (c : Script) (from : Incarnation) (b : Body) (old heard led new : Moment) → is_newer b old.node.region.version ≡ true
-    → Gave c none (λ lists. of_region (handled from b) old.node) old heard
-    → Gave c (asks_lead heard.node) (λ lists. lead lists heard.node) heard led
-    → Gave c none (λ lists. of_region register led.node) led new
-    → Gave c (asks_lead heard.node) (λ lists. packet lists from b old.node) old new
-view_gave c from (body.View v xs) old heard led new newer first second last =
-    gave_same c asked (λ lists. of_region (handled from b) old.node ++ rest lists (fold after old.node (of_region (handled from b) old.node))) (λ lists. packet lists from b old.node) old new same
-    (gave_first c asked (λ lists. of_region (handled from b) old.node) rest old heard new (gave_keeps c none asked (λ lists. of_region (handled from b) old.node) old heard first (λ lists s a. frees_nothing s (handled from b old.node.region))) first
-    (gave_then c asked (λ lists. lead lists heard.node) (λ lists st. of_region register st) heard led new second last))
-  where
-    b : Body
-    b = body.View v xs
+pub item_went : (v : Standing) (a : Act) (i : Item) (before late : Spared Item) → v.state ≡ after v.state a → items_of (a ∷ []) ≡ i ∷ [] → v.rooms ≡ rooms_after (setting v.script) v.rooms a
+    → late.items ≡ before.items ++ i ∷ [] → late.spare + 1 ≡ before.spare → Went v v before late (a ∷ [])
+item_went v a i before late same item rooms items spare = record {
+  script_is = refl;
+  node_is = same;
+  items_are = items ∙ ap (λ is. before.items ++ is) (sym item);
+  spare_is = less_of late.spare before.spare 1 spare ∙ ap (λ is. before.spare - length is) (sym item);
+  rooms_are = rooms;
+  office_is = refl;
+}
 
-    asked : Slot → Bool
-    asked = asks_lead heard.node
+-- One after another.
 
-    rest : SlotLists → Rule
-    rest lists st = lead lists st ++ of_region register (fold after st (lead lists st))
+pub went_nothing : (v : Standing) (before : Spared Item) → Went v v before before []
+went_nothing v before = record {
+  script_is = refl;
+  node_is = refl;
+  items_are = sym (append-nil before.items);
+  spare_is = omega arith;
+  rooms_are = refl;
+  office_is = refl;
+}
 
-    older : nat_le v old.node.region.version ≡ false
-    older = of_not (nat_le v old.node.region.version) newer
+-- What such a step gives, where by its acts no slot changes hands.
 
-    same : (lists : SlotLists) → of_region (handled from b) old.node ++ rest lists (fold after old.node (of_region (handled from b) old.node)) ≡ packet lists from b old.node
-    same lists =
-        let moves : List Act = of_region (take_view v xs) old.node in
-        let mid : Node = fold after old.node moves in
-        ap (λ ms. map by_region ms ++ (lead lists (fold after old.node (map by_region ms)) ++ of_region register (fold after (fold after old.node (map by_region ms)) (lead lists (fold after old.node (map by_region ms)))))) (handled_is from v xs old.node.region older)
-        ∙ (ap (λ acts. moves ++ (lead lists mid ++ acts)) (sym (append-nil (of_region register (fold after mid (lead lists mid)))))
-        ∙ other_choice (nat_le v old.node.region.version) (view_acts lists v xs old.node) older)
-view_gave c from b old heard led new newer first second last = absurd (true≢false (sym newer))
+pub went_gave : (m : Meaning) (v w : Standing) (acts : List Act) (before late : Spared Item) → v.state.entities.set ≡ setting v.script → list_all (is_still v.script m v.state) acts ≡ true
+    → Rests m v.script v.state → Went v w before late acts → Gave v.script none (λ lists. acts) (moment m v.state before.items) (moment m w.state late.items)
+went_gave m v w acts before late set_is still rests went = still_gave v.script m v.state w.state acts before.items late.items set_is still rests went.node_is went.items_are
 
--- The coordinator's part.
+-- no act changes the setting of the entities
+set_along : (st : Node) (acts : List Act) → (fold after st acts).entities.set ≡ st.entities.set
+set_along st [] = refl
+set_along st (by_region m ∷ acts) = set_along (after st (by_region m)) acts
+set_along st (by_entities m ∷ acts) = set_along (after st (by_entities m)) acts
+set_along st (by_producer p m ∷ acts) = set_along (after st (by_producer p m)) acts
+set_along st (by_coordinator m ∷ acts) = set_along (after st (by_coordinator m)) acts
 
-pub register_gave : (c : Script) (v : ℕ) (m : Meaning) (from x : Incarnation) (r : Region) (k now : Held) (before items : List Item)
-    → holder k.state.entries ≡ Some x
-    → m.within from.number ≡ true
-    → Rests m c (node_of c v r (Some k))
-    → now.state ≡ fold coordinator_after k.state (coordinator.register_from from r.view k.state)
-    → items ≡ before ++ flat_map item_of (coordinator.register_from from r.view k.state)
-    → Gave c none (λ lists. packet lists from body.Register (node_of c v r (Some k))) (moment m (node_of c v r (Some k)) before) (moment m (node_of c v r (Some now)) items)
-register_gave c v m from x r k now before items leased within rests state items_are =
-    subst (λ (s : Coordinator). Gave c none (λ lists. packet lists from body.Register (node_of c v r (Some k))) (moment m (node_of c v r (Some k)) before) (moment m (record (node_of c v r None) { coordinator = Some s }) items)) (sym state)
-    (subst (λ is. Gave c none (λ lists. packet lists from body.Register (node_of c v r (Some k))) (moment m (node_of c v r (Some k)) before) (moment m (record (node_of c v r None) { coordinator = Some (fold coordinator_after k.state (coordinator.register_from from r.view k.state)) }) is)) (sym items_are)
-    (coordinator_gave c m x (node_of c v r None) k.state (coordinator.register_from from r.view k.state) before leased (register_plain m from r.view k.state within) rests))
-
-pub lost_gave : (c : Script) (v : ℕ) (m : Meaning) (x : Incarnation) (r : Region) (k now : Held) (before items : List Item)
-    → holder k.state.entries ≡ Some x
-    → Rests m c (node_of c v r (Some k))
-    → now.state ≡ fold coordinator_after k.state (coordinator.terminate_lost r.view k.state)
-    → items ≡ before ++ flat_map item_of (coordinator.terminate_lost r.view k.state)
-    → Gave c none (λ lists. of_coordinator (coordinator.terminate_lost r.view) (node_of c v r (Some k))) (moment m (node_of c v r (Some k)) before) (moment m (node_of c v r (Some now)) items)
-lost_gave c v m x r k now before items leased rests state items_are =
-    subst (λ (s : Coordinator). Gave c none (λ lists. of_coordinator (coordinator.terminate_lost r.view) (node_of c v r (Some k))) (moment m (node_of c v r (Some k)) before) (moment m (record (node_of c v r None) { coordinator = Some s }) items)) (sym state)
-    (subst (λ is. Gave c none (λ lists. of_coordinator (coordinator.terminate_lost r.view) (node_of c v r (Some k))) (moment m (node_of c v r (Some k)) before) (moment m (record (node_of c v r None) { coordinator = Some (fold coordinator_after k.state (coordinator.terminate_lost r.view k.state)) }) is)) (sym items_are)
-    (coordinator_gave c m x (node_of c v r None) k.state (coordinator.terminate_lost r.view k.state) before leased (lost_plain m r.view k.state (rests.lists_are slot.Coordinator refl)) rests))
-
--- where every registered region is in the view
-pub seen_of : (c : Script) (v : ℕ) (r : Region) (k : Option Held) → IsViewed (node_of c v r k) → AreSeen r.view k
-seen_of c v r None h = tt
-seen_of c v r (Some k) h = h
+pub set_stays : (c : Script) (st one two : Node) (xs ys : List Act) → st.entities.set ≡ setting c → one ≡ fold after st xs → two ≡ fold after one ys → two.entities.set ≡ setting c
+set_stays c st one two xs ys set first second = ap (λ (n : Node). n.entities.set) second ∙ (set_along one ys ∙ (ap (λ (n : Node). n.entities.set) first ∙ (set_along st xs ∙ set)))

@@ -6,14 +6,12 @@ use Rattle.yard_model.specs.declared.fact.Fact.{Fact}
 use Rattle.yard_model.specs.declared.incarnation.Slot.{Slot}
 use Rattle.yard_model.specs.declared.incarnation.Slot.TheVariants as slot
 use Rattle.yard_model.specs.declared.input.Input.{Input}
-use Rattle.yard_model.specs.declared.input.Input.TheVariants as input
 use Rattle.yard_model.specs.declared.out.Item.{Item}
-use Rattle.yard_model.specs.declared.packet.Packet.{Packet}
 use Rattle.yard_model.specs.Coordinator.{Coordinator}
 use Rattle.yard_model.specs.Entities.{Hosted}
 use Rattle.yard_model.specs.Genuine.{is_slot_of}
 use Rattle.yard_model.specs.Lawful.{own}
-use Rattle.yard_model.specs.Node.{Node, after, packet, turn}
+use Rattle.yard_model.specs.Node.{Node, after, turn}
 use Rattle.yard_model.specs.Producer.{Producer}
 use Rattle.yard_model.specs.Script.{Script, IsScript}
 use Rattle.yard_model.specs.SlotLists.{SlotLists}
@@ -104,18 +102,17 @@ turned_sound c i old new t = subst (IsSoundNode c) (sym t.node_is) (t.keeps t.li
 pub turned_viewed : (c : Script) (i : Input) (old new : Moment) → TurnViewed → IsViewed old.node → Turned c (λ lists. turn (all_sends c) lists i old.node) old new → IsViewed new.node
 turned_viewed c i old new keeps viewed t = subst IsViewed (ap (fold after old.node) t.found_acts ∙ sym t.node_is) (keeps (all_sends c) t.lists old.node i viewed)
 
--- A packet, as the actors of the node handled it.
+-- An input, as the actors of the node handled it.
 
-pub packet_turned : (v w : Standing) (d : Script) (p : Packet) (i : Input) (old new : Meaning) (before items : List Item) (to : Node)
-    → v ≡ w → d ≡ w.script → IsScript d → i ≡ input.Packet p → TurnStands → IsSoundNode v.script v.state × IsViewed v.state → MayTake w.script old.vouches w.state i
-    → ((asked : (Slot → Bool)) × Gave v.script asked (λ lists. packet lists p.from p.body v.state) (moment old v.state before) (moment new to items))
+pub input_turned : (v w : Standing) (d : Script) (i : Input) (old new : Meaning) (before items : List Item) (to : Node)
+    → v ≡ w → d ≡ w.script → IsScript d → TurnStands → IsSoundNode v.script v.state × IsViewed v.state → MayTake w.script old.vouches w.state i
+    → ((asked : (Slot → Bool)) × Gave v.script asked (λ lists. turn (all_sends v.script) lists i v.state) (moment old v.state before) (moment new to items))
     → Turned w.script (λ lists. turn (all_sends w.script) lists i w.state) (moment old w.state before) (moment new to items)
-packet_turned v w d p i old new before items to same charter script is stands sound may g =
-    subst (λ (x : Input). MayTake w.script old.vouches w.state x → Turned w.script (λ lists. turn (all_sends w.script) lists x w.state) (moment old w.state before) (moment new to items)) (sym is)
-    (λ m. turned_of w.script here.0 (input.Packet p) (moment old w.state before) (moment new to items) stands (subst IsScript charter script) standing.0 standing.1 m here.1) may
+input_turned v w d i old new before items to same charter script stands sound may g =
+    turned_of w.script here.0 i (moment old w.state before) (moment new to items) stands (subst IsScript charter script) standing.0 standing.1 may here.1
   where
-    here : (asked : (Slot → Bool)) × Gave w.script asked (λ lists. packet lists p.from p.body w.state) (moment old w.state before) (moment new to items)
-    here = subst (λ (x : Standing). (asked : (Slot → Bool)) × Gave x.script asked (λ lists. packet lists p.from p.body x.state) (moment old x.state before) (moment new to items)) same g
+    here : (asked : (Slot → Bool)) × Gave w.script asked (λ lists. turn (all_sends w.script) lists i w.state) (moment old w.state before) (moment new to items)
+    here = subst (λ (x : Standing). (asked : (Slot → Bool)) × Gave x.script asked (λ lists. turn (all_sends x.script) lists i x.state) (moment old x.state before) (moment new to items)) same g
 
     standing : IsSoundNode w.script w.state × IsViewed w.state
     standing = subst (λ (x : Standing). IsSoundNode x.script x.state × IsViewed x.state) same sound

@@ -3,10 +3,12 @@ use Rattle.std.specs.Prelude.{◌≡◌, ◌≢◌, ℕ, Bool, false, ◌&&◌, 
 use Rattle.yard_model.specs.declared.incarnation.Slot.{Slot}
 use Rattle.yard_model.specs.declared.incarnation.Slot.TheVariants as slot
 use Rattle.yard_model.specs.declared.out.Item.{Item}
+use Rattle.yard_model.specs.declared.packet.Message.{Message}
 use Rattle.yard_model.specs.Genuine.{is_slot_of}
-use Rattle.yard_model.specs.Node.{Node, Act, Rule, by_coordinator, acquire, after, items_of}
-use Rattle.yard_model.specs.Region.{oldest}
+use Rattle.yard_model.specs.Node.{Node, Act, Rule, by_coordinator, acquire, after, is_running, items_of}
+use Rattle.yard_model.specs.Region.{is_home, oldest}
 use Rattle.yard_model.specs.Script.{Script, setting}
+use Rattle.yard_model.specs.Setting.{shard_of}
 use Rattle.yard_model.specs.SlotLists.{SlotLists}
 use Rattle.yard_model.specs.Trace.{lists_step}
 use Rattle.yard_model.specs.Words.{is_at}
@@ -73,3 +75,9 @@ office = asks slot.Coordinator
 -- the slot that Lead asks for, if it asks
 abbrev pub asks_lead : Node → Slot → Bool
 asks_lead st s = is_to_lead st && office s
+
+-- Route.
+
+-- the message's shard is running at this node, which is its home
+abbrev pub is_local : Message → Node → Bool
+is_local m st = let s : ℕ = shard_of st.set m.entity in is_home st.region s && is_running st s

@@ -1,7 +1,9 @@
 -- What a node rests on of the leases: the slots that it holds there are those whose lists it has in hand; and what the leases tell of all slots.
-use Rattle.std.specs.Prelude.{◌≡◌, ℕ, true, List, Some, None, is_some, IfSome, IsSomeAnd, MatchOption, IsTrue, Bool, false, not, nat_le}
+use Rattle.std.specs.Prelude.{◌≡◌, ℕ, ◌≤◌, [], ◌∷◌, ◌++◌, true, List, Some, None, is_some, IfSome, IsSomeAnd, MatchOption, IsTrue, Bool, false, not, nat_le}
 use Rattle.std.specs.List.{list_all}
 use Rattle.yard_model.specs.declared.fact.Fact.{Fact}
+use Rattle.yard_model.specs.declared.fact.Fact.TheVariants as fact
+use Rattle.yard_model.specs.declared.incarnation.Cause.TheVariants as cause
 use Rattle.yard_model.specs.declared.incarnation.Incarnation.{Incarnation}
 use Rattle.yard_model.specs.declared.incarnation.Slot.{Slot}
 use Rattle.yard_model.specs.declared.incarnation.Slot.TheVariants as slot
@@ -14,10 +16,11 @@ use Rattle.yard_model.specs.Genuine.{is_slot_of}
 use Rattle.yard_model.specs.Node.{Node}
 use Rattle.yard_model.specs.Script.{Script}
 use Rattle.yard_model.specs.SlotLists.{SlotLists}
-use Rattle.yard_model.specs.SlotReads.{holder}
+use Rattle.yard_model.specs.SlotReads.{epoch, holder}
 use Rattle.yard_model.specs.Trace.{list_at}
 use Rattle.actor_laws.specs.Hands.{held_list}
-use Rattle.shard_lease.specs.Meaning.{Known, Meaning, Apart, Begins, IsVouched, is_taken}
+use Rattle.shard_lease.specs.Meaning.{Known, Meaning, Apart, Begins, IsVouched, Serves, Stays, is_taken}
+use Rattle.shard_store.specs.Shelf.{Shelf}
 
 -- a list that a node has in hand: it extends the one that was told last, its incarnations have numbers within the limit, and what it confirms is vouched for
 pub record IsHandOf (m : Meaning) (s : Slot) (list : List Fact) : Type 0 where
@@ -37,6 +40,8 @@ pub record Rests (m : Meaning) (c : Script) (st : Node) : Type 0 where
   pub admits_is : (s : Slot) → IsTrue (is_slot_of c s) → IsNoQueue s → m.admits st.who.node s ≡ true
   pub held_is : (s : Slot) → IsTrue (is_slot_of c s) → m.holds st.who.node s ≡ is_some (held_list s st)
   pub lists_are : (s : Slot) → IsTrue (is_slot_of c s) → IfSome (held_list s st) (IsHandOf m s)
+  -- each of them is leased to it
+  pub leased_are : (s : Slot) → IsTrue (is_slot_of c s) → IfSome (held_list s st) (λ list. holder list ≡ Some st.who)
 
 -- what is told of a slot is so of this list: who holds it, and the list itself where nobody does
 pub record IsTold (list : List Fact) (k : Known) : Type 0 where
@@ -60,6 +65,19 @@ abbrev pub IfProduce : Input → (ℕ → Type 0) → Type 0
 IfProduce (input.Produce p) P = P p
 IfProduce i P = Unit {0}
 
+abbrev pub is_for_coordinator : Body → Bool
+is_for_coordinator body.Register = true
+is_for_coordinator (body.GetShardHome s) = true
+is_for_coordinator (body.ShardStarted s) = true
+is_for_coordinator (body.BeginHandOffAck s stamp) = true
+is_for_coordinator (body.ShardStopped s stamp) = true
+is_for_coordinator body.GracefulShutdownReq = true
+is_for_coordinator b = false
+
+abbrev pub is_view : Body → Bool
+is_view (body.View v xs) = true
+is_view b = false
+
 -- a view whose version is greater than this
 abbrev pub is_newer : Body → ℕ → Bool
 is_newer (body.View v xs) old = not (nat_le v old)
@@ -70,3 +88,18 @@ pub record IsFreed (old : Meaning) (who : Incarnation) (s : Slot) (list : List F
   pub holds_is : new.holds who.node s ≡ false
   pub apart : Apart who.node s old new
   pub tells_is : MatchOption (old.tells s) (new.tells s ≡ None) (λ k. new.tells s ≡ Some (record { holder = None; list = list }))
+
+-- a shard's store that the node may give back
+pub record MayGiveBack (m : Meaning) (who : Incarnation) (s : ℕ) (x : Shelf) : Type 0 where
+  pub serves : Serves m who (slot.Shard s)
+  pub holds : m.holds who.node (slot.Shard s) ≡ true
+  pub script_is : x.script ≡ m.script
+  pub shard_is : x.shard ≡ s
+  pub leased : holder x.entries ≡ Some who
+  pub hand : IsHandOf m (slot.Shard s) x.entries
+  pub room : 101 ≤ x.spare
+
+-- it was given back, as released
+pub record GaveBack (old : Meaning) (who : Incarnation) (s : ℕ) (list : List Fact) (new : Meaning) : Type 0 where
+  pub stays : Stays old new
+  pub freed : IsFreed old who (slot.Shard s) (list ++ fact.Freed (slot.Shard s) (epoch list) cause.Released ∷ []) new

@@ -2,7 +2,12 @@ pub mod Built
 pub mod Found
 pub mod Gave
 pub mod Leased
+pub mod LetGo
+pub mod Releasing
 pub mod Slots
 pub mod Standing
+pub mod Started
+pub mod Still
 pub mod Taken
 pub mod Turned
+pub mod Went

@@ -1,18 +1,23 @@
 -- A node as it stands between its inputs.
-use Rattle.std.specs.Prelude.{◌≡◌, ℕ, ◌+◌, ◌*◌, ◌≤◌, true, length, replicate, Option, Some, None, IfSome, IsTrue, List}
+use Rattle.std.specs.Prelude.{◌≡◌, ◌≢◌, ℕ, ◌+◌, ◌*◌, ◌≤◌, ◌<◌, true, length, replicate, Option, Some, None, IfSome, IsTrue, List, slice_index_or}
 use Rattle.std.specs.Option.{option_map}
+use Rattle.yard_model.specs.declared.event.Kind.{Kind}
 use Rattle.yard_model.specs.declared.incarnation.Incarnation.{Incarnation}
-use Rattle.yard_model.specs.Entities.{new_entities}
+use Rattle.yard_model.specs.Entities.{hosted}
 use Rattle.yard_model.specs.Genuine.{is_node}
 use Rattle.yard_model.specs.Node.{Node}
+use Rattle.yard_model.specs.Producer.{Producer}
 use Rattle.yard_model.specs.Region.{Region}
 use Rattle.yard_model.specs.Script.{Script, IsScript, setting, pairs_in}
 use Rattle.region_actor.specs.Made.{Made}
 use Rattle.coordinator_actor.specs.Held.{Held, are_viewed}
+use Rattle.shard_entities.specs.Lodged.{Lodged}
+use Rattle.shard_entities.specs.Roomy.{room_wanted}
 
 pub record Standing : Type 0 where
   pub script : Script  -- its setting is the state's
   pub state : Node
+  pub rooms : List ℕ  -- per shard: how many more entries its store takes with no memory taken, 0 where it isn't hosted
   pub spare : ℕ  -- of the coordinator's store, 0 where there is no coordinator
   pub places : ℕ  -- how many more regions may leave with no memory taken, 0 where there is no coordinator
 
@@ -24,15 +29,28 @@ abbrev pub places_in : Option Held → ℕ
 places_in None = 0
 places_in (Some k) = k.places
 
--- the node of these parts and of a behaviour of this version, which hosts nothing and produces nothing yet
-abbrev pub node_of : Script → ℕ → Region → Option Held → Node
-node_of c version region coordinator = record {
+-- no producer runs yet
+abbrev pub no_producers : Script → List (Option Producer)
+no_producers c = replicate c.config.producers None
+
+-- the node of these parts
+abbrev pub node_of : Script → Region → Lodged → List (Option Producer) → Option Held → Node
+node_of c region entities producers coordinator = record {
   who = region.who;
   set = setting c;
   region = region;
-  entities = new_entities (setting c) version region.who;
-  producers = replicate c.config.producers None;
+  entities = entities.state;
+  producers = producers;
   coordinator = option_map (λ k. k.state) coordinator;
+}
+
+abbrev pub standing_of : Script → Region → Lodged → List (Option Producer) → Option Held → Standing
+standing_of c region entities producers coordinator = record {
+  script = c;
+  state = node_of c region entities producers coordinator;
+  rooms = entities.rooms;
+  spare = spare_in coordinator;
+  places = places_in coordinator;
 }
 
 -- a coordinator of this script, at this incarnation
@@ -41,12 +59,17 @@ pub record IsOf (c : Script) (who : Incarnation) (k : Held) : Type 0 where
   pub who_is : k.state.who ≡ who
   pub set_is : k.state.set ≡ setting c
 
--- the parts of a node are of one script and of one incarnation, which is of one of the script's nodes
-pub record AreParts (c : Script) (region : Made) (office : Option Held) : Type 0 where
+-- the parts of a node are of one script and of one incarnation, which is of one of the script's nodes; its behaviour is of the script's kind and of the version of its entities
+pub record AreParts (c : Script) (kind : Kind) (version : ℕ) (region : Made) (entities : Lodged) (office : Option Held) : Type 0 where
   pub script_is : IsScript c
+  pub kind_is : kind ≡ c.config.kind
   pub who_is : is_node c region.state.who ≡ true
   pub region_script : region.script ≡ c
   pub region_set : region.state.set ≡ setting c
+  pub entities_script : entities.script ≡ c
+  pub entities_who : entities.state.who ≡ region.state.who
+  pub entities_set : entities.state.set ≡ setting c
+  pub entities_version : version ≡ entities.state.version
   pub coordinator : IfSome office (IsOf c region.state.who)
 
 -- where there is a coordinator, each registered region is in this view
@@ -56,5 +79,29 @@ AreSeen view office = IfSome office (λ k. IsTrue (are_viewed view k.state.entri
 -- an input that it handles, and its crash, take no memory
 pub record IsReady (v : Standing) (spare : ℕ) : Type 0 where
   pub room : 8000 + 5 * v.script.config.buffer + 5 * length (pairs_in v.script.orders) ≤ spare
+  pub rooms : (s : ℕ) → (hosted v.state.entities s ≡ None → ⊥) → room_wanted v.script s ≤ slice_index_or v.rooms s 0
   pub entries : IfSome v.state.coordinator (λ k. 300 ≤ v.spare)
   pub places : IfSome v.state.coordinator (λ k. 1 ≤ v.places)
+
+-- the shard is hosted, with room for as many entries as this in its store
+pub record IsHostedWith (n : ℕ) (v : Standing) (s : ℕ) : Type 0 where
+  pub there : hosted v.state.entities s ≡ None → ⊥
+  pub room : n ≤ slice_index_or v.rooms s 0
+
+-- where the shard is hosted, there is room for as many entries as this in its store
+abbrev pub HasRoomFor : ℕ → Standing → ℕ → Type 0
+HasRoomFor n v s = (hosted v.state.entities s ≡ None → ⊥) → n ≤ slice_index_or v.rooms s 0
+
+-- while a node ends, with the shards below s freed: what is left can be freed with no memory taken
+pub record IsEnding (s : ℕ) (v : Standing) (spare : ℕ) : Type 0 where
+  pub gone : (t : ℕ) → t < s → hosted v.state.entities t ≡ None
+  pub rooms : (t : ℕ) → (hosted v.state.entities t ≡ None → ⊥) → 101 ≤ slice_index_or v.rooms t 0
+  pub entries : IfSome v.state.coordinator (λ k. 101 ≤ v.spare)
+  pub room : v.script.config.shards + 1 ≤ spare + s
+
+-- the same but for a shard, which isn't hosted any more
+pub record IsWithout (s : ℕ) (old new : Standing) : Type 0 where
+  pub script_is : new.script ≡ old.script
+  pub hosted_are : (t : ℕ) → t ≢ s → hosted new.state.entities t ≡ hosted old.state.entities t
+  pub coordinator_is : new.state.coordinator ≡ old.state.coordinator
+  pub producers_are : new.state.producers ≡ old.state.producers

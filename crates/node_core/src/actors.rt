@@ -1,10 +1,10 @@
 //! The actors of a node.
-ghost use Rattle.std.specs.Prelude.{◌≡◌, ℕ, ◌-◌, ◌≤◌, true, is_some, IfOk, OnOk, Some, IfSome, MatchOption, length, slice_get};
+ghost use Rattle.std.specs.Prelude.{◌≡◌, ℕ, ◌-◌, ◌<◌, ◌≤◌, true, is_some, IfOk, OnOk, Some, IfSome, MatchOption, length, slice_get};
 ghost use Rattle.yard_model.specs.declared.input.Phase.TheVariants as phase;
 ghost use Rattle.yard_model.specs.Entities.{is_in_phase};
-ghost use Rattle.yard_model.specs.Genuine.{is_node};
+ghost use Rattle.yard_model.specs.Genuine.{is_node, is_brought};
 ghost use Rattle.yard_model.specs.Node.{new_node};
-ghost use Rattle.yard_model.specs.Script.{setting};
+ghost use Rattle.yard_model.specs.Script.{IsScript, setting, is_version};
 ghost use Rattle.yard_model.specs.Words.{at};
 ghost use Rattle.actor_laws.specs.Hands.{held_list};
 ghost use Rattle.shard_store.specs.Stores.{script_of_ref, slot_of_ref, entries_of_ref};
@@ -14,43 +14,39 @@ ghost use Rattle.node_core.specs.Standing.{IsReady};
 use behaviour_core::Behaviour;
 use coordinator_actor::Coordinator;
 use region_actor::Region;
+use shard_entities::Entities;
 use shard_store::StoreRef;
 use std::alloc::{AllocError, Global};
 use std::marker::{Model, PhantomData};
 use std::snapshot::Snapshot;
 use yard_model::{
-    Body, Charter, EntityName, Fact, Incarnation, Out, Packet, ProducerNo, Slot, State,
+    Body, Charter, EntityName, Fact, Incarnation, Out, Packet, ProducerNo, ShardNo, Slot, State,
 };
 
-/// The actors of a node side by side, of one script and one incarnation: the region and, while the
-/// node holds its slot, the coordinator. Each step of an input is a call of its own, which changes
-/// the actors that it is about, tells its items, and says what it gave.
+/// The actors of a node side by side, of one script and one incarnation: the region, the entities
+/// and, while the node holds its slot, the coordinator. Each step of an input is a call of its own,
+/// which changes the actors that it is about, tells its items, and says what it gave.
 #[derive(Drop)]
-pub(crate) struct Actors<B> {
+pub(crate) struct Actors<B: Behaviour> {
     pub(crate) alloc: Global,
     pub(crate) script: Snapshot<Charter>,
     pub(crate) buffer: u16,
-    pub(crate) version: u8,
     pub(crate) behaviour: B,
     pub(crate) region: Region,
+    pub(crate) entities: Entities,
     pub(crate) coordinator: Option<Coordinator>,
     pub(crate) holds: PhantomData<(Fact, Packet, Body, State, Slot, Incarnation)>,
 }
 
-impl<B> Model for Actors<B> {
+impl<B: Behaviour> Model for Actors<B> {
     ghost use Rattle.std.specs.Prelude.{◌≡◌};
-    ghost use Rattle.node_core.specs.Standing.{Standing, spare_in, places_in, node_of, AreParts};
+    ghost use Rattle.node_core.specs.Standing.{Standing, standing_of, no_producers, AreParts};
 
     ghost Value = { Standing };
 
-    ghost view = { λ n. record {
-      script = n.script.value;
-      state = node_of n.script.value n.version n.region.state n.coordinator;
-      spare = spare_in n.coordinator;
-      places = places_in n.coordinator;
-    } };
+    ghost view = { λ n. standing_of n.script.value n.region.state n.entities (no_producers n.script.value) n.coordinator };
 
-    ghost invariant = { λ n. AreParts n.script.value n.region n.coordinator × (n.buffer ≡ n.script.value.config.buffer) };
+    ghost invariant = { λ n. AreParts n.script.value (B.kind_of n.behaviour) (B.version_of n.behaviour) n.region n.entities n.coordinator × (n.buffer ≡ n.script.value.config.buffer) };
 }
 
 impl<B: Behaviour + Drop> Actors<B> {
@@ -61,32 +57,43 @@ impl<B: Behaviour + Drop> Actors<B> {
         charter: &Charter,
         behaviour: B,
     ) -> Result<Actors<B>, AllocError>
-        requires { is_node charter.now who ≡ true }
+        requires who { is_node charter.now who ≡ true }
+        requires kind { B.kind_of behaviour ≡ charter.now.config.kind }
+        requires version { is_version charter.now (B.version_of behaviour) ≡ true }
         ensures script { IfOk result (λ n. n.script ≡ charter.now) }
         ensures state { IfOk result (λ n. n.state ≡ new_node (setting charter.now) (B.version_of behaviour) who) }
     {
         let buffer = charter.config().buffer;
         let version = behaviour.version();
         let region = Region::new(alloc, who, charter)?;
+        let entities = Entities::new(alloc, region.who(), version, charter)?;
         Ok(Actors {
             alloc,
             script: Snapshot::of(charter),
             buffer,
-            version,
             behaviour,
             region,
+            entities,
             coordinator: None,
             holds: PhantomData,
         })
     }
-}
 
-impl<B: Drop> Actors<B> {
     /// Whose they are.
     pub(crate) fn who(&self) -> Incarnation
         ensures { result ≡ self.now.state.who }
     {
         self.region.who()
+    }
+
+    /// What is so of their script and its setting. It does nothing.
+    pub(crate) fn knows(&self)
+        ensures script { IsScript self.now.script }
+        ensures set { self.now.state.set ≡ setting self.now.script }
+        ensures entities { self.now.state.entities.set ≡ setting self.now.script }
+        ensures region { self.now.state.region.set ≡ setting self.now.script }
+    {
+        let _ = &self.region;
     }
 
     /// Whether there is a coordinator.
@@ -107,6 +114,7 @@ impl<B: Drop> Actors<B> {
     {
         let wanted = 28_000 + 5 * self.buffer as u32;
         out.reserve(wanted)?;
+        self.entities.reserve()?;
         match &mut self.coordinator {
             Some(coordinator) => coordinator.reserve(),
             None => Ok(()),
@@ -115,10 +123,18 @@ impl<B: Drop> Actors<B> {
 
     /// Whether an entity is active here.
     pub(crate) fn is_active(&self, entity: &EntityName) -> bool
+        requires { is_brought self.now.script entity.now ≡ true }
         ensures { result ≡ is_in_phase phase.Active self.now.state.entities entity.now }
     {
+        self.entities.is_active(entity)
+    }
+
+    /// Whether the queue of a producer is held.
+    pub(crate) fn holds_queue(&self, p: ProducerNo) -> bool
+        ensures { result ≡ is_some (at self.now.state.producers (p - 1)) }
+    {
         let _ = &self.region;
-        let _ = entity;
+        let _ = p;
         false
     }
 
@@ -129,26 +145,33 @@ impl<B: Drop> Actors<B> {
         ensures store { IfSome result (λ x. held_list x.0 self.now.state ≡ Some (entries_of_ref x.1)) }
         ensures kind { IfSome result (λ x. (slot_of_ref x.1 ≡ x.0) × (script_of_ref x.1 ≡ self.now.script)) }
     {
-        match &self.coordinator {
-            Some(coordinator) => {
-                if at > 0 {
-                    return None;
+        let mut left = at;
+        for s in 0..self.region.shards() {
+            let shard = shard_at(s);
+            if let Some(store) = self.entities.store(shard) {
+                if left == 0 {
+                    return Some((Slot::Shard(shard), StoreRef::Shard(store)));
                 }
-                Some((
-                    Slot::Coordinator,
-                    StoreRef::Coordinator(coordinator.store()),
-                ))
+                left -= 1;
             }
-            None => None,
+        }
+        match &self.coordinator {
+            Some(coordinator) if left == 0 => Some((
+                Slot::Coordinator,
+                StoreRef::Coordinator(coordinator.store()),
+            )),
+            _ => None,
         }
     }
+}
 
-    /// Whether the queue of a producer is held.
-    pub(crate) fn holds_queue(&self, p: ProducerNo) -> bool
-        ensures { result ≡ is_some (at self.now.state.producers (p - 1)) }
-    {
-        let _ = &self.region;
-        let _ = p;
-        false
+/// The shard of this number.
+pub(crate) fn shard_at(s: u8) -> ShardNo
+    requires { s < 128 }
+    ensures { result ≡ s }
+{
+    match ShardNo::new(s, 128) {
+        Some(shard) => shard,
+        None => unreachable!(),
     }
 }

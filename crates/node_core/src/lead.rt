@@ -1,30 +1,26 @@
 //! Lead: the oldest of the view takes the coordinator's slot, and the coordinator terminates the
 //! regions that are lost (Akka 2.6, Cluster Sharding concepts: the coordinator is a singleton of the
 //! oldest node).
-ghost use Rattle.std.specs.Prelude.{◌≡◌, ℕ, ◌+◌, ◌≤◌, [], ◌++◌, map, true, None, IfSome, MatchOption, IsTrue};
-ghost use Rattle.yard_model.specs.declared.incarnation.Slot.TheVariants as slot;
-ghost use Rattle.yard_model.specs.Coordinator.{terminate_lost};
+ghost use Rattle.std.specs.Prelude.{◌≡◌, ◌+◌, ◌≤◌, true, None, IfSome, MatchOption};
 ghost use Rattle.yard_model.specs.Node as rules;
 ghost use Rattle.yard_model.specs.Region.{oldest};
 ghost use Rattle.yard_model.specs.Words.{is_at};
 ghost use Rattle.shard_lease.specs.declared.leases.Acquire.TheVariants as answers;
-ghost use Rattle.shard_lease.specs.Meaning.{Meaning, Stays};
-ghost use Rattle.node_core.specs.Standing.{node_of, AreParts, IsOf};
+ghost use Rattle.node_core.specs.Standing.{IsOf};
 ghost use Rattle.node_core.specs.Leased.{Rests};
 ghost use Rattle.node_core.specs.Taken.{Took, IsGrant, IsGranted};
-ghost use Rattle.node_core.specs.Found.{none};
-ghost use Rattle.node_core.specs.Gave.{Gave, moment, take_lead, asks_lead, office};
+ghost use Rattle.node_core.specs.Gave.{Gave, moment, take_lead, asks_lead, is_to_lead, office};
 
 use crate::actors::Actors;
+use behaviour_core::Behaviour;
 use coordinator_actor::Coordinator;
-use coordinator_actor::laws::{lost_room, same_law as same_coordinator};
 use region_actor::Region;
 use shard_lease::{Acquire, Leases};
 use shard_store::Store;
 use std::alloc::Global;
 use yard_model::{Charter, Fact, Incarnation, Item, NodeNo, Out, Slot};
 
-impl<B: Drop> Actors<B> {
+impl<B: Behaviour + Drop> Actors<B> {
     /// Where the node is the oldest of its view and isn't the coordinator, it asks for the
     /// coordinator's slot. Where it is the coordinator now, each registered region that isn't in the
     /// view is terminated.
@@ -36,9 +32,11 @@ impl<B: Drop> Actors<B> {
         ensures script { self.new.script ≡ self.old.script }
         ensures gave { Gave self.old.script (asks_lead self.old.state) (λ lists. rules.lead lists self.old.state) (moment (L.meaning leases.old) self.old.state out.old.items) (moment (L.meaning leases.new) self.new.state out.new.items) }
         ensures room { out.old.spare ≤ out.new.spare + 2065 }
+        ensures rooms { self.new.rooms ≡ self.old.rooms }
     {
         self.take_lead(charter, leases, out);
-        self.drop_lost(charter, out);
+        self.knows();
+        self.drop_lost(out);
     }
 
     /// The first part of Lead.
@@ -51,34 +49,39 @@ impl<B: Drop> Actors<B> {
         ensures entries { IfSome self.new.state.coordinator (λ k. 16 ≤ self.new.spare) }
         ensures gave { Gave self.old.script (asks_lead self.old.state) (λ lists. take_lead lists self.old.state) (moment (L.meaning leases.old) self.old.state out.old.items) (moment (L.meaning leases.new) self.new.state out.new.items) }
         ensures room { out.old.spare ≤ out.new.spare + 1 }
+        ensures rooms { self.new.rooms ≡ self.old.rooms }
     {
-        if self.coordinator.is_none() && is_oldest(&self.region) {
-            take_slot(
-                self.alloc,
-                charter,
-                self.version,
-                &self.region,
-                &mut self.coordinator,
-                leases,
-                out,
-            );
+        if self.is_to_lead() {
+            self.take_slot(charter, leases, out);
         }
     }
 
-    /// The second part of Lead.
-    fn drop_lost(&mut self, charter: &Charter, out: &mut Out)
-        requires charter { charter.now ≡ self.old.script }
-        requires entries { IfSome self.old.state.coordinator (λ k. 16 ≤ self.old.spare) }
-        requires room { 2064 ≤ out.old.spare }
-        ensures script { self.new.script ≡ self.old.script }
-        ensures gave { (m : Meaning) → Rests m self.old.script self.old.state
-            → Gave self.old.script none (λ lists. rules.of_coordinator (terminate_lost self.old.state.region.view) self.old.state) (moment m self.old.state out.old.items) (moment m self.new.state out.new.items) }
-        ensures room { out.old.spare ≤ out.new.spare + 2064 }
+    /// Whether it is the oldest of its view, and isn't the coordinator.
+    fn is_to_lead(&self) -> bool
+        ensures { result ≡ is_to_lead self.now.state }
     {
-        drop_lost(
+        is_oldest(&self.region) && self.coordinator.is_none()
+    }
+
+    /// Asks for the coordinator's slot.
+    fn take_slot<L: Leases>(&mut self, charter: &Charter, leases: &mut L, out: &mut Out)
+        requires charter { charter.now ≡ self.old.script }
+        requires lead { is_to_lead self.old.state ≡ true }
+        requires rests { Rests (L.meaning leases.old) self.old.script self.old.state }
+        requires room { 1 ≤ out.old.spare }
+        ensures script { self.new.script ≡ self.old.script }
+        ensures entries { IfSome self.new.state.coordinator (λ k. 16 ≤ self.new.spare) }
+        ensures gave { Gave self.old.script office (λ lists. take_lead lists self.old.state) (moment (L.meaning leases.old) self.old.state out.old.items) (moment (L.meaning leases.new) self.new.state out.new.items) }
+        ensures room { out.old.spare ≤ out.new.spare + 1 }
+        ensures rooms { self.new.rooms ≡ self.old.rooms }
+    {
+        let who = self.region.who();
+        let answer = leases.acquire(who, Slot::Coordinator);
+        take(
+            self.alloc,
             charter,
-            self.version,
-            &self.region,
+            &who,
+            answer,
             &mut self.coordinator,
             out,
         );
@@ -93,32 +96,6 @@ fn is_oldest(region: &Region) -> bool
         Some(oldest) => region.who() == *oldest,
         None => false,
     }
-}
-
-/// Asks for the coordinator's slot.
-fn take_slot<L: Leases>(
-    alloc: Global,
-    charter: &Charter,
-    version: u8,
-    region: &Region,
-    coordinator: &mut Option<Coordinator>,
-    leases: &mut L,
-    out: &mut Out,
-)
-    requires none { coordinator.old ≡ None }
-    requires oldest { is_at region.now.state.who (oldest region.now.state) ≡ true }
-    requires parts { AreParts charter.now region.now None }
-    requires rests { Rests (L.meaning leases.old) charter.now (node_of charter.now version region.now.state None) }
-    requires room { 1 ≤ out.old.spare }
-    ensures parts { AreParts charter.now region.now coordinator.new }
-    ensures entries { IfSome coordinator.new (λ k. 16 ≤ k.spare) }
-    ensures gave { Gave charter.now office (λ lists. take_lead lists (node_of charter.now version region.now.state coordinator.old)) (moment (L.meaning leases.old) (node_of charter.now version region.now.state coordinator.old) out.old.items) (moment (L.meaning leases.new) (node_of charter.now version region.now.state coordinator.new) out.new.items) }
-    ensures room { out.old.spare ≤ out.new.spare + 1 }
-{
-    let _ = version;
-    let who = region.who();
-    let answer = leases.acquire(who, Slot::Coordinator);
-    take(alloc, charter, &who, answer, coordinator, out);
 }
 
 /// Takes what was answered: the coordinator is there where the slot is granted.
@@ -145,7 +122,7 @@ fn take(
 }
 
 /// Who holds the slot, where it isn't granted.
-fn holder_in(answer: &Acquire) -> Option<NodeNo>
+pub(crate) fn holder_in(answer: &Acquire) -> Option<NodeNo>
     ensures { MatchOption result (IsGranted answer.now) (λ node. answer.now ≡ answers.Held node) }
 {
     match answer {
@@ -178,32 +155,5 @@ fn begin(
             *coordinator = Some(Coordinator::new(alloc, *who, charter, store));
         }
         _ => unreachable!(),
-    }
-}
-
-/// Each registered region that isn't in the view is terminated.
-fn drop_lost(
-    charter: &Charter,
-    version: u8,
-    region: &Region,
-    coordinator: &mut Option<Coordinator>,
-    out: &mut Out,
-)
-    requires parts { AreParts charter.now region.now coordinator.old }
-    requires entries { IfSome coordinator.old (λ k. 16 ≤ k.spare) }
-    requires room { 2064 ≤ out.old.spare }
-    ensures parts { AreParts charter.now region.now coordinator.new }
-    ensures gave { (m : Meaning) → Rests m charter.now (node_of charter.now version region.now.state coordinator.old)
-        → Gave charter.now none (λ lists. rules.of_coordinator (terminate_lost region.now.state.view) (node_of charter.now version region.now.state coordinator.old)) (moment m (node_of charter.now version region.now.state coordinator.old) out.old.items) (moment m (node_of charter.now version region.now.state coordinator.new) out.new.items) }
-    ensures spare { out.old.spare ≤ out.new.spare + 2064 }
-{
-    lost_room();
-    same_coordinator();
-    let _ = version;
-    let _config = charter.config();
-    if let Some(coordinator) = coordinator {
-        coordinator.who();
-        coordinator.room();
-        coordinator.view_taken(region.view(), out);
     }
 }

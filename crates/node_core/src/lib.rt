@@ -1,13 +1,22 @@
-//! One incarnation of a node: its region and, while it holds the coordinator's slot, the shard
-//! coordinator (Akka 2.6, Cluster Sharding concepts). Each input is handled whole before the next.
+//! One incarnation of a node: its region, its entities and, while it holds the coordinator's slot, the
+//! shard coordinator (Akka 2.6, Cluster Sharding concepts). Each input is handled whole before the next.
+//!
+//! `node` is the type that others see. `actors` has the parts side by side; `region_part`,
+//! `coordinator_part` and `entities_part` are the steps of one actor each, which ask for no lease;
+//! `lead` asks for one; `packets` and `inputs` put steps together; `end` is the crash.
 #![tactic(auto)]
 
 mod actors;
+mod coordinator_part;
 mod end;
+mod entities_part;
+mod inputs;
 mod lead;
 mod node;
 mod packets;
-mod register;
+mod region_part;
+mod releasing;
+mod starting;
 
 pub use node::Node;
 

@@ -3,7 +3,7 @@ ghost use Rattle.std.specs.Prelude.{◌≡◌, ℕ, ◌-◌, ◌≤◌, true, is
 ghost use Rattle.yard_model.specs.declared.incarnation.Slot.TheVariants as slot;
 ghost use Rattle.yard_model.specs.declared.input.Phase.TheVariants as phase;
 ghost use Rattle.yard_model.specs.Entities.{is_in_phase};
-ghost use Rattle.yard_model.specs.Genuine.{is_node};
+ghost use Rattle.yard_model.specs.Genuine.{is_node, is_brought};
 ghost use Rattle.yard_model.specs.Node.{new_node, turn};
 ghost use Rattle.yard_model.specs.Script.{setting, is_version};
 ghost use Rattle.yard_model.specs.Words.{at};
@@ -28,15 +28,15 @@ use std::alloc::{AllocError, Global};
 use std::marker::Model;
 use yard_model::{Charter, EntityName, Incarnation, Input, Out, ProducerNo, Slot};
 
-/// A node from its start to its end: its region and, while it holds the coordinator's slot, the
-/// coordinator (Akka 2.6, Cluster Sharding concepts). The type keeps that it stands: each of its
-/// actors does by itself, and where it is the coordinator, every registered region is in its view.
+/// A node from its start to its end: its region, its entities and, while it holds the coordinator's
+/// slot, the coordinator (Akka 2.6, Cluster Sharding concepts). The type keeps that it stands: each of
+/// its actors does by itself, and where it is the coordinator, every registered region is in its view.
 #[derive(Drop)]
-pub struct Node<B> {
+pub struct Node<B: Behaviour> {
     actors: Actors<B>,
 }
 
-impl<B> Model for Node<B> {
+impl<B: Behaviour> Model for Node<B> {
     ghost use Rattle.node_laws.specs.NodeStands.{IsSoundNode, IsViewed};
     ghost use Rattle.node_core.specs.Standing.{Standing};
 
@@ -56,6 +56,7 @@ impl<B: Behaviour + Drop> Node<B> {
         behaviour: B,
     ) -> Result<Node<B>, AllocError>
         requires who { is_node charter.now who ≡ true }
+        requires kind { B.kind_of behaviour ≡ charter.now.config.kind }
         requires version { is_version charter.now (B.version_of behaviour) ≡ true }
         ensures script { IfOk result (λ n. n.script ≡ charter.now) }
         ensures state { IfOk result (λ n. n.state ≡ new_node (setting charter.now) (B.version_of behaviour) who) }
@@ -66,7 +67,7 @@ impl<B: Behaviour + Drop> Node<B> {
     }
 }
 
-impl<B: Drop> Node<B> {
+impl<B: Behaviour + Drop> Node<B> {
     /// Which incarnation it is.
     pub fn who(&self) -> Incarnation
         ensures { result ≡ self.now.state.who }
@@ -126,10 +127,7 @@ impl<B: Drop> Node<B> {
         turn_stands();
         turn_viewed();
         charter.config();
-        match &input {
-            Input::Packet(packet) => self.actors.packet(charter, packet, leases, out),
-            _ => unreachable!(),
-        }
+        self.actors.input(charter, &input, leases, out);
     }
 
     /// The node is gone: every slot that it held is freed, as its list stood.
@@ -143,8 +141,9 @@ impl<B: Drop> Node<B> {
         actors.end(leases, out)
     }
 
-    /// Whether an entity is active here.
+    /// Whether an entity, which the script brings, is active here.
     pub fn is_active(&self, entity: &EntityName) -> bool
+        requires { is_brought self.now.script entity.now ≡ true }
         ensures { result ≡ is_in_phase phase.Active self.now.state.entities entity.now }
     {
         self.actors.is_active(entity)

@@ -1,28 +1,33 @@
 //! The packets of a node.
-ghost use Rattle.std.specs.Prelude.{◌≡◌, ℕ, ◌+◌, ◌≤◌, Bool, true, length, IsTrue};
-ghost use Rattle.std.specs.List.{flat_map};
+ghost use Rattle.std.specs.Prelude.{◌≡◌, ◌≤◌, [], ◌∷◌, Bool, true, false, IsTrue, if◌then◌else◌};
 ghost use Rattle.yard_model.specs.declared.incarnation.Slot.{Slot};
 ghost use Rattle.yard_model.specs.declared.packet.Body.TheVariants as body;
-ghost use Rattle.yard_model.specs.Genuine.{is_genuine_packet};
-ghost use Rattle.yard_model.specs.Move.{item_of};
+ghost use Rattle.yard_model.specs.declared.input.Phase.TheVariants as phase;
+ghost use Rattle.yard_model.specs.Entities.{is_hosted, is_in_phase};
+ghost use Rattle.yard_model.specs.Genuine.{is_genuine, is_genuine_packet, is_shard};
+ghost use Rattle.yard_model.specs.Move.{post};
 ghost use Rattle.yard_model.specs.Node as rules;
-ghost use Rattle.yard_model.specs.Region.{register};
+ghost use Rattle.yard_model.specs.Node.{by_region};
+ghost use Rattle.yard_model.specs.Region.{route_away};
+ghost use Rattle.yard_model.specs.Setting.{shard_of};
 ghost use Rattle.node_core.specs.Built.{is_built_packet};
-ghost use Rattle.node_laws.specs.NodeStands.{IsViewed};
-ghost use Rattle.region_actor.specs.Handled.{handled};
-ghost use Rattle.shard_lease.specs.Meaning.{Meaning};
-ghost use Rattle.node_core.specs.Standing.{IsReady};
-ghost use Rattle.node_core.specs.Leased.{Rests, is_newer};
+ghost use Rattle.node_laws.specs.NodeStands.{IsSoundNode, IsViewed};
 ghost use Rattle.node_core.specs.Found.{none};
-ghost use Rattle.node_core.specs.Gave.{Gave, moment};
+ghost use Rattle.node_core.specs.Gave.{Gave, moment, is_local};
+ghost use Rattle.node_core.specs.Leased.{Rests, is_for_coordinator, is_newer, is_view};
+ghost use Rattle.node_core.specs.Releasing.{TookRoom};
+ghost use Rattle.node_core.specs.Standing.{IsReady, HasRoomFor};
+ghost use Rattle.node_core.specs.Went.{Went};
 
 use crate::actors::Actors;
-use crate::register::register;
-use region_actor::laws::{handle_room, register_room, same_law};
+use actor_laws::region::shards_are_there;
+use behaviour_core::Behaviour;
+use region_actor::laws::{route_room, same_law};
+use shard_extract::shard_of;
 use shard_lease::Leases;
-use yard_model::{Body, Charter, Out, Packet};
+use yard_model::{Body, Charter, Incarnation, Item, Message, Out, Packet, ShardNo, Stamp};
 
-impl<B: Drop> Actors<B> {
+impl<B: Behaviour + Drop> Actors<B> {
     /// A packet.
     pub(crate) fn packet<L: Leases>(
         &mut self,
@@ -35,28 +40,60 @@ impl<B: Drop> Actors<B> {
         requires built { IsTrue (is_built_packet packet.now) }
         requires genuine { IsTrue (is_genuine_packet self.old.script packet.now) }
         requires within { (L.meaning leases.old).within packet.now.from.number ≡ true }
+        requires sound { IsSoundNode self.old.script self.old.state }
         requires viewed { IsViewed self.old.state }
         requires ready { IsReady self.old out.old.spare }
         requires rests { Rests (L.meaning leases.old) self.old.script self.old.state }
         ensures script { self.new.script ≡ self.old.script }
         ensures gave { (asked : (Slot → Bool)) × Gave self.old.script asked (λ lists. rules.packet lists packet.now.from packet.now.body self.old.state) (moment (L.meaning leases.old) self.old.state out.old.items) (moment (L.meaning leases.new) self.new.state out.new.items) }
     {
+        self.knows();
+        shards_are_there();
+        if is_for_coordinator(&packet.body) {
+            self.coordinate(packet, out);
+        } else {
+            self.other_packet(charter, packet, leases, out);
+        }
+    }
+
+    /// A packet that isn't for the coordinator.
+    fn other_packet<L: Leases>(
+        &mut self,
+        charter: &Charter,
+        packet: &Packet,
+        leases: &mut L,
+        out: &mut Out,
+    )
+        requires charter { charter.now ≡ self.old.script }
+        requires built { IsTrue (is_built_packet packet.now) }
+        requires other { is_for_coordinator packet.now.body ≡ false }
+        requires genuine { IsTrue (is_genuine_packet self.old.script packet.now) }
+        requires sound { IsSoundNode self.old.script self.old.state }
+        requires ready { IsReady self.old out.old.spare }
+        requires rests { Rests (L.meaning leases.old) self.old.script self.old.state }
+        ensures script { self.new.script ≡ self.old.script }
+        ensures gave { (asked : (Slot → Bool)) × Gave self.old.script asked (λ lists. rules.packet lists packet.now.from packet.now.body self.old.state) (moment (L.meaning leases.old) self.old.state out.old.items) (moment (L.meaning leases.new) self.new.state out.new.items) }
+    {
+        self.knows();
+        shards_are_there();
         match &packet.body {
-            Body::View {
-                version,
-                members: _,
-            } => {
-                if *version > self.region.version() {
-                    self.take_view(charter, packet, leases, out);
-                }
+            Body::View { .. } => self.take_view(charter, packet, leases, out),
+            Body::RegisterAck => {
+                self.hear(packet, out);
             }
-            Body::Register => self.enter(charter, packet, out),
-            Body::RegisterAck => self.hear(packet, out),
+            Body::BeginHandOff(_, _) => {
+                self.hear(packet, out);
+            }
+            Body::HandOff(s, stamp) => self.hand_off(*s, *stamp, packet.from, leases, out),
+            Body::Recovered(entity) => self.recovered(entity, out),
+            Body::Passivate(entity) => self.passivate(entity, out),
+            Body::StopEntity(entity) => self.stop(entity, leases, out),
+            Body::Sequenced(message) => self.route(message, out),
             _ => unreachable!(),
         }
     }
 
-    /// A newer view is taken; Lead; the region asks to be registered.
+    /// A view: where it is newer it is taken; Lead; the region asks to be registered.
     fn take_view<L: Leases>(
         &mut self,
         charter: &Charter,
@@ -65,63 +102,128 @@ impl<B: Drop> Actors<B> {
         out: &mut Out,
     )
         requires charter { charter.now ≡ self.old.script }
-        requires newer { is_newer packet.now.body self.old.state.region.version ≡ true }
+        requires view { is_view packet.now.body ≡ true }
         requires genuine { IsTrue (is_genuine_packet self.old.script packet.now) }
         requires ready { IsReady self.old out.old.spare }
         requires rests { Rests (L.meaning leases.old) self.old.script self.old.state }
         ensures script { self.new.script ≡ self.old.script }
         ensures gave { (asked : (Slot → Bool)) × Gave self.old.script asked (λ lists. rules.packet lists packet.now.from packet.now.body self.old.state) (moment (L.meaning leases.old) self.old.state out.old.items) (moment (L.meaning leases.new) self.new.state out.new.items) }
     {
-        self.hear(packet, out);
-        self.lead(charter, leases, out);
-        self.ask_to_register(out);
+        if self.is_newer(packet) {
+            self.knows();
+            self.hear(packet, out);
+            self.lead(charter, leases, out);
+            self.ask_to_register(out);
+        }
     }
 
-    /// The region's part of a packet.
-    fn hear(&mut self, packet: &Packet, out: &mut Out)
-        requires genuine { IsTrue (is_genuine_packet self.old.script packet.now) }
-        requires room { 130 ≤ out.old.spare }
-        ensures script { self.new.script ≡ self.old.script }
-        ensures coordinator { self.new.state.coordinator ≡ self.old.state.coordinator }
-        ensures spare { self.new.spare ≡ self.old.spare }
-        ensures room { out.old.spare ≤ out.new.spare + 130 }
-        ensures gave { (m : Meaning) → Rests m self.old.script self.old.state
-            → Gave self.old.script none (λ lists. rules.of_region (handled packet.now.from packet.now.body) self.old.state) (moment m self.old.state out.old.items) (moment m self.new.state out.new.items) }
+    /// Whether a packet is a view that is newer than that of the region.
+    fn is_newer(&self, packet: &Packet) -> bool
+        ensures { result ≡ is_newer packet.now.body self.now.state.region.version }
     {
-        handle_room();
-        same_law();
-        self.region.shards();
-        self.region.handle(packet, out);
+        match &packet.body {
+            Body::View { version, .. } => *version > self.region.version(),
+            _ => false,
+        }
     }
 
-    /// The region asks the oldest of its view to be registered.
-    fn ask_to_register(&self, out: &mut Out)
-        requires room { 1 ≤ out.old.spare }
-        ensures gave { (m : Meaning) → Rests m self.now.script self.now.state
-            → Gave self.now.script none (λ lists. rules.of_region register self.now.state) (moment m self.now.state out.old.items) (moment m self.now.state out.new.items) }
-    {
-        register_room();
-        self.region.register(out);
-    }
-
-    /// A region asks to be registered.
-    fn enter(&mut self, charter: &Charter, packet: &Packet, out: &mut Out)
-        requires charter { charter.now ≡ self.old.script }
-        requires register { packet.now.body ≡ body.Register }
-        requires genuine { IsTrue (is_genuine_packet self.old.script packet.now) }
-        requires viewed { IsViewed self.old.state }
+    /// A shard is to be handed off: where that is taken, and the shard is hosted, its entities are
+    /// told to stop; where it isn't hosted, the coordinator is told that it is stopped.
+    fn hand_off<L: Leases>(
+        &mut self,
+        s: ShardNo,
+        stamp: Stamp,
+        from: Incarnation,
+        leases: &mut L,
+        out: &mut Out,
+    )
+        requires shard { is_shard self.old.script s ≡ true }
         requires ready { IsReady self.old out.old.spare }
+        requires rests { Rests (L.meaning leases.old) self.old.script self.old.state }
         ensures script { self.new.script ≡ self.old.script }
-        ensures gave { (m : Meaning) → Rests m self.old.script self.old.state → m.within packet.now.from.number ≡ true
-            → Gave self.old.script none (λ lists. rules.packet lists packet.now.from body.Register self.old.state) (moment m self.old.state out.old.items) (moment m self.new.state out.new.items) }
+        ensures gave { Gave self.old.script none (λ lists. rules.hand_off s stamp from self.old.state) (moment (L.meaning leases.old) self.old.state out.old.items) (moment (L.meaning leases.new) self.new.state out.new.items) }
     {
-        register(
-            charter,
-            self.version,
-            &self.region,
-            &mut self.coordinator,
-            packet,
-            out,
-        );
+        self.knows();
+        self.region.shards();
+        if !self.region.takes_hand_off(s, &stamp) {
+            return;
+        }
+        if self.is_hosted(s) {
+            self.hand_off_hosted(s, stamp, from, leases, out);
+        } else {
+            self.post_stopped(s, stamp, from, out);
+        }
     }
+
+    /// Whether a shard is hosted.
+    pub(crate) fn is_hosted(&self, s: ShardNo) -> bool
+        requires { is_shard self.now.script s ≡ true }
+        ensures { result ≡ is_hosted self.now.state.entities s }
+    {
+        self.entities.store(s).is_some()
+    }
+
+    /// The coordinator is told that a shard is stopped.
+    fn post_stopped(&mut self, s: ShardNo, stamp: Stamp, to: Incarnation, out: &mut Out)
+        requires room { 1 ≤ out.old.spare }
+        ensures { Went self.old self.new out.old out.new (by_region (post self.old.state.who to (body.ShardStopped s stamp)) ∷ []) }
+    {
+        let from = self.region.who();
+        let body = Body::ShardStopped(s, stamp);
+        out.push(Item::Post(Packet { from, to, body }));
+    }
+
+    /// A message is routed: to its entity where its shard is running here, else away.
+    pub(crate) fn route(&mut self, message: &Message, out: &mut Out)
+        requires genuine { is_genuine self.old.script message.now ≡ true }
+        requires rooms { HasRoomFor 2 self.old (shard_of self.old.state.set message.now.entity) }
+        requires room { 4 ≤ out.old.spare }
+        ensures went { Went self.old self.new out.old out.new (rules.route message.now self.old.state) }
+        ensures taken { TookRoom (shard_of self.old.state.set message.now.entity) (if is_in_phase phase.Active self.old.state.entities message.now.entity then 2 else 0) self.old self.new }
+    {
+        if self.is_local(message) {
+            self.deliver(*message, out);
+        } else {
+            self.route_away(message, out);
+        }
+    }
+
+    /// Whether the shard of a message is running here, and here is its home.
+    fn is_local(&self, message: &Message) -> bool
+        ensures { result ≡ is_local message.now self.now.state }
+    {
+        let shards = self.region.shards();
+        let s = shard_of(&message.entity, shards);
+        self.region.is_home(s) && self.entities.running().has(s)
+    }
+
+    /// A message that isn't for here is routed away.
+    fn route_away(&mut self, message: &Message, out: &mut Out)
+        requires genuine { is_genuine self.old.script message.now ≡ true }
+        requires away { is_local message.now self.old.state ≡ false }
+        requires room { 2 ≤ out.old.spare }
+        ensures went { Went self.old self.new out.old out.new (rules.of_region (route_away message.now) self.old.state) }
+        ensures rooms { self.new.rooms ≡ self.old.rooms }
+    {
+        route_room();
+        same_law();
+        shards_are_there();
+        self.region.shards();
+        self.region.route(*message, self.entities.running(), out);
+    }
+}
+
+/// Whether a packet is for the coordinator, where the node is it.
+fn is_for_coordinator(body: &Body) -> bool
+    ensures { result ≡ is_for_coordinator body.now }
+{
+    matches!(
+        body,
+        Body::Register
+            | Body::GetShardHome(_)
+            | Body::ShardStarted(_)
+            | Body::BeginHandOffAck(_, _)
+            | Body::ShardStopped(_, _)
+            | Body::GracefulShutdownReq
+    )
 }

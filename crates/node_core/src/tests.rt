@@ -1,5 +1,7 @@
 //! What no clause says: that memory is there where there is plenty; and one way through each call.
-ghost use Rattle.std.specs.Prelude.{◌≡◌, ℕ, IfOk, IsTrue, [], None, replicate, true, false};
+ghost use Rattle.std.specs.Prelude.{◌≡◌, ℕ, IfOk, IsTrue, [], ◌∷◌, None, replicate, true, false};
+ghost use Rattle.yard_model.specs.declared.charter.Order.TheVariants as order;
+ghost use Rattle.yard_model.specs.declared.event.Command.TheVariants as command;
 ghost use Rattle.yard_model.specs.declared.event.Kind.TheVariants as kind;
 ghost use Rattle.yard_model.specs.Genuine.{is_node, is_genuine_body};
 ghost use Rattle.yard_model.specs.Node.{new_node};
@@ -16,8 +18,8 @@ use shard_store::Stores;
 use std::alloc::{AllocError, Global};
 use std::test::Fail;
 use yard_model::{
-    Body, Charter, Config, EntityName, Fact, Incarnation, Input, Item, Kind, Members, NodeNo, Out,
-    Packet, ProducerNo,
+    Body, Charter, Command, Config, EntityName, Fact, Incarnation, Input, Item, Kind, Line, Members,
+    NodeNo, Order, Out, Packet, ProducerNo,
 };
 
 const ONE: Incarnation = Incarnation {
@@ -63,9 +65,11 @@ fn hand(
     Ok(())
 }
 
-/// A script of no orders.
-fn no_orders(alloc: Global) -> Result<Charter, AllocError>
-    ensures { IfOk result (λ c. c ≡ record { config = record { nodes = 2; shards = 2; producers = 1; buffer = 10; window = 4; snapshot = 100; keep = 2; remember = false; kind = kind.Counter }; orders = [] }) }
+/// A script of one send.
+fn one_send(alloc: Global, p: ProducerNo, entity: EntityName) -> Result<Charter, AllocError>
+    requires producer { p ≡ 1 }
+    requires name { entity ≡ 97 ∷ [] }
+    ensures { IfOk result (λ c. c ≡ record { config = record { nodes = 2; shards = 2; producers = 1; buffer = 10; window = 4; snapshot = 100; keep = 2; remember = false; kind = kind.Counter }; orders = record { number = 2; order = order.Send 1 (97 ∷ []) (command.Add 7) } ∷ [] }) }
 {
     let config = Config {
         nodes: 2,
@@ -78,12 +82,17 @@ fn no_orders(alloc: Global) -> Result<Charter, AllocError>
         remember: false,
         kind: Kind::Counter,
     };
-    Charter::new(alloc, config, Vec::new(alloc))
+    let mut orders = Vec::new(alloc);
+    orders.push(Line {
+        number: 2,
+        order: Order::Send(p, entity, Command::Add(7)),
+    })?;
+    Charter::new(alloc, config, orders)
 }
 
 /// A book of empty stores.
 fn new_book(alloc: Global, charter: &Charter) -> Result<LeaseBook, AllocError>
-    requires { charter.now ≡ record { config = record { nodes = 2; shards = 2; producers = 1; buffer = 10; window = 4; snapshot = 100; keep = 2; remember = false; kind = kind.Counter }; orders = [] } }
+    requires { charter.now ≡ record { config = record { nodes = 2; shards = 2; producers = 1; buffer = 10; window = 4; snapshot = 100; keep = 2; remember = false; kind = kind.Counter }; orders = record { number = 2; order = order.Send 1 (97 ∷ []) (command.Add 7) } ∷ [] } }
     ensures script { IfOk result (λ b. b.script ≡ charter.now) }
     ensures none { IfOk result (λ b. (n : ℕ) × (b.holders ≡ replicate n None)) }
 {
@@ -99,7 +108,7 @@ fn new_leader(
 ) -> Result<Node<Counter>, AllocError>
     requires script { book.old.script ≡ charter.now }
     requires none { (n : ℕ) × (book.old.holders ≡ replicate n None) }
-    requires alone { charter.now ≡ record { config = record { nodes = 2; shards = 2; producers = 1; buffer = 10; window = 4; snapshot = 100; keep = 2; remember = false; kind = kind.Counter }; orders = [] } }
+    requires alone { charter.now ≡ record { config = record { nodes = 2; shards = 2; producers = 1; buffer = 10; window = 4; snapshot = 100; keep = 2; remember = false; kind = kind.Counter }; orders = record { number = 2; order = order.Send 1 (97 ∷ []) (command.Add 7) } ∷ [] } }
     ensures script { IfOk result (λ n. n.script ≡ charter.now) }
     ensures who { IfOk result (λ n. n.state.who ≡ record { node = 1; number = 1 }) }
     ensures rests { IfOk result (λ n. Rests (meaning_of book.new) n.script n.state) }
@@ -117,7 +126,9 @@ fn new_leader(
 #[test]
 fn a_node_leads(rt: HostRuntime) -> Result<(), Fail> {
     let alloc = rt.alloc();
-    let charter = no_orders(alloc)?;
+    let entity = EntityName::new(b"a").ok_or("a is a name")?;
+    let producer = ProducerNo::new(1).ok_or("1 is a producer")?;
+    let charter = one_send(alloc, producer, entity)?;
     let mut book = new_book(alloc, &charter)?;
     let mut out = Out::new(alloc);
     let mut node = new_leader(alloc, &charter, &mut book, &mut out)?;
@@ -138,10 +149,10 @@ fn a_node_leads(rt: HostRuntime) -> Result<(), Fail> {
 #[test]
 fn a_node_that_comes_up_holds_nothing(rt: HostRuntime) -> Result<(), Fail> {
     let alloc = rt.alloc();
-    let charter = no_orders(alloc)?;
-    let node = Node::new(alloc, ONE, &charter, Counter::new())?;
     let entity = EntityName::new(b"a").ok_or("a is a name")?;
     let producer = ProducerNo::new(1).ok_or("1 is a producer")?;
+    let charter = one_send(alloc, producer, entity)?;
+    let node = Node::new(alloc, ONE, &charter, Counter::new())?;
     node.stands();
     assert!(rt; node.who() == ONE);
     assert!(rt; node.for_each_held(0).is_none());

@@ -182,6 +182,23 @@ impl Region {
     {
         self.leaving
     }
+
+    /// How many messages of a shard are kept.
+    pub fn kept_count(&self, s: ShardNo) -> u16
+        requires { s < self.now.script.config.shards }
+        ensures { result ≡ length (kept_of self.now.state.kept s) }
+    {
+        self.kept.count(s)
+    }
+
+    /// A law: no more messages are kept in all than the buffer has room for, and the setting is the
+    /// script's.
+    pub fn kept_room(&self)
+        ensures kept { sum_by length self.now.state.kept ≤ self.now.script.config.buffer }
+        ensures set { self.now.state.set ≡ setting self.now.script }
+    {
+        let _ = self.kept.total();
+    }
 }
 
 // The moves.

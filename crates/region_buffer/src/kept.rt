@@ -68,4 +68,20 @@ impl Kept {
     {
         self.pool.len(s.get() as u16) == 0
     }
+
+    /// How many messages of a shard are kept.
+    pub fn count(&self, s: ShardNo) -> u16
+        requires { s < length self.now.lists }
+        ensures { result ≡ length (list_of self.now s) }
+    {
+        self.pool.len(s.get() as u16)
+    }
+
+    /// How many messages are kept in all: at most the buffer.
+    pub fn total(&self) -> u16
+        ensures count { result ≡ held self.now }
+        ensures within { result ≤ self.now.cells }
+    {
+        self.pool.total()
+    }
 }

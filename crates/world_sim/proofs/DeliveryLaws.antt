@@ -1,46 +1,43 @@
 -- Deliveries and orders: from what a callee's step did to what the whole step did.
 use Rattle.std.proofs.Common.{◌≡◌, ℕ, zero, suc, ◌-◌, ◌<◌, ◌≤◌, ◌==◌, not, List, [], ◌∷◌, ◌++◌, length, filter, nat_lt, refl, ap, sym, ◌∙◌, subst, arith}
-use Rattle.std.specs.Prelude.{Bool, true, false, ◌&&◌, nat_le, Option, Some, None, IsSomeAnd, Result, Ok, Err, OnOk, OnErr, if◌then◌else◌}
+use Rattle.std.specs.Prelude.{◌+◌, Bool, true, false, ◌&&◌, nat_le, Option, Some, None, is_none, Result, Ok, Err, OnOk, OnErr, slice_index_or, slice_set, if◌then◌else◌}
 use Rattle.std.specs.List.{slice_get}
 use Rattle.std.proofs.lemmas.Bool.Decides.{nat_tests}
+use Rattle.std.proofs.lemmas.List.{length-set}
+use Rattle.yard_model.specs.declared.event.Command.{Command}
 use Rattle.yard_model.specs.declared.fact.Fact.{Fact}
 use Rattle.yard_model.specs.declared.fact.Fact.TheVariants as fact
 use Rattle.yard_model.specs.declared.charter.Line.{Line}
 use Rattle.yard_model.specs.declared.charter.Order.{Order}
+use Rattle.yard_model.specs.declared.charter.Order.TheVariants as order
 use Rattle.yard_model.specs.declared.incarnation.Incarnation.{Incarnation}
 use Rattle.yard_model.specs.declared.input.Input.TheVariants as input
 use Rattle.yard_model.specs.declared.packet.Packet.{Packet}
+use Rattle.yard_model.specs.Behaviour.{is_in, is_of_kind}
 use Rattle.yard_model.specs.Genuine.{is_node, is_genuine_body}
 use Rattle.yard_model.specs.Words.{at, is_among, is_empty}
 use Rattle.yard_model.specs.Node.{Node}
-use Rattle.yard_model.specs.Script.{Script}
+use Rattle.yard_model.specs.Script.{Script, is_order}
 use Rattle.yard_model.specs.SlotLists.{SlotLists}
 use Rattle.yard_model.specs.World as world
-use Rattle.yard_model.specs.World.{World, Made, Step, tell, then_step, node_at, with_order, wire_limit}
+use Rattle.yard_model.specs.World.{World, Made, Step, tell, then_step, node_at, with_order}
 use Rattle.wire_packet.specs.Wire.{packet_at}
-use Rattle.shard_lease.specs.Book.{Book, meaning_of}
 use Rattle.node_core.specs.Standing.{Standing}
-use Rattle.node_core.specs.Built.{is_built_packet}
 use Rattle.plain_laws.proofs.Booleans.{and_both, both, at_most}
-use Rattle.plain_laws.proofs.Lists.{none_is_not_some, some_is, inside}
+use Rattle.plain_laws.proofs.Lists.{none_is_not_some, some_is}
 use Rattle.node_laws.specs.Members.{IsThere}
-use Rattle.node_laws.specs.NodeTurns.{MayTake}
 use Rattle.play_laws.specs.Sound.{IsWell}
-use Rattle.world_sim.specs.Built.{is_built_order}
 use Rattle.world_sim.specs.Keeps.{Keeps}
-use Rattle.world_sim.specs.Mail.{Mails, Heads, ToldSome, facts_of}
+use Rattle.world_sim.specs.Mail.{Mails, Heads, ToldSome}
 use Rattle.world_sim.specs.Stands.{Stands}
 use Rattle.world_sim.specs.Stepped.{Counts, IsWhole, IsCut, Stepped}
-use Rattle.world_sim.specs.Steps.{marked}
-use Rattle.world_sim.specs.Turns.{MayHandle, HandledAt}
-use Rattle.world_sim.specs.Yard.{Yard, IsSeen, IsFirm, IsSound, IsSoundFor, Goes, state_in}
-use Rattle.world_sim.proofs.BuiltLaws.{ordered_same}
-use Rattle.world_sim.proofs.EndLaws.{kept_is, script_of_node, rests_on, turned_goes, cut_turned}
-use Rattle.world_sim.proofs.PlaceLaws.{all_got, state_at}
+use Rattle.world_sim.specs.Steps.{given, marked}
+use Rattle.world_sim.specs.Yard.{Yard, IsSeen, IsSound, IsSoundFor, MayGive, Goes, noted, state_in}
+use Rattle.world_sim.proofs.EndLaws.{kept_is}
+use Rattle.world_sim.proofs.KeepLaws.{stands_noted}
+use Rattle.world_sim.proofs.PlaceLaws.{state_at}
 use Rattle.world_sim.proofs.RestsLaws.{may_of}
-use Rattle.world_sim.proofs.SeenLaws.{IsAllTold}
 use Rattle.world_sim.proofs.StepLaws.{goes_then, goes_stop, goes_still, cut_first, cut_next, counts_same, counts_both, step_as, step_then, step_told, if_true, if_false}
-use Rattle.world_sim.proofs.UpLaws.{firm_of}
 
 -- A packet is marked.
 
@@ -49,10 +46,13 @@ pub goes_marked : (y : Yard) (mail : Mails) (w : World) (k : ℕ) (before after 
 goes_marked y mail w k before after s p f i u e = record {
   seen_is = record {
     set_is = s.set_is;
+    kind_is = s.kind_is;
     limit_is = s.limit_is;
     members_are = s.members_are;
     version_is = s.version_is;
     ups_are = s.ups_are;
+    ordered_are = s.ordered_are;
+    ordered_there = s.ordered_there;
     wire_is = p ∙ s.wire_is;
     fresh_is = f ∙ ap (filter (λ j. not (j == k))) s.fresh_is;
     full_is = u ∙ s.full_is;
@@ -86,7 +86,6 @@ marked_sound keeps y z w k p before after s h e script g =
     record {
       sound = record { seen_is = g.seen_is; stands_is = subst (λ c. Stands c (marked k w).world) (sym script) (keeps.marks y.script w k s.stands_is); going_is = s.going_is };
       well = subst (λ c. IsWell c w.lists p) (sym script) (record { genuine = well.genuine; different = well.different; carried = well.carried });
-      built = all_got is_built_packet w.wire (k - 1) p s.stands_is.built.wire_is got;
     }
   where
     none : (k : ℕ) → 0 ≤ k - 1
@@ -124,7 +123,7 @@ pub record IsHere (y : Yard) (x : Incarnation) : Type 0 where
   pub is_up : at y.nodes (x.node - 1) ≡ Some node
   pub who_is : node.state.who ≡ x
 
-state_some : (o : Option Standing) (st : Node) → state_in o ≡ Some st → (v : Standing) × (o ≡ Some v) × (v.state ≡ st)
+pub state_some : (o : Option Standing) (st : Node) → state_in o ≡ Some st → (v : Standing) × (o ≡ Some v) × (v.state ≡ st)
 state_some None st e = absurd (none_is_not_some st e)
 state_some (Some v) st e = (v, refl, some_is v.state st e)
 
@@ -134,27 +133,21 @@ here y w x s m =
     let k = state_some (at y.nodes (x.node - 1)) t.node (sym (state_at y.nodes (x.node - 1)) ∙ (ap (λ l. at l (x.node - 1)) s.seen_is.nodes_are ∙ t.is_up)) in
     record { node = k.0; is_up = k.1; who_is = ap (λ (st : Node). st.who) k.2 ∙ t.who_is }
 
-pub here_inside : (y : Yard) (x : Incarnation) → IsHere y x → x.node ≤ length y.nodes
-here_inside y x t = let less : x.node - 1 < length y.nodes = inside y.nodes (x.node - 1) t.node t.is_up in omega (arith, less)
-
 to_some : (c : Script) (lists : SlotLists) (p : Packet) → IsWell c lists p → 1 ≤ p.to.node
 to_some c lists p well =
     let nodes : (is_node c p.from && is_node c p.to) ≡ true = (and_both (is_node c p.from && is_node c p.to) (is_genuine_body c p.body) well.genuine).0 in
     let to : is_node c p.to ≡ true = (and_both (is_node c p.from) (is_node c p.to) nodes).1 in
     at_most 1 p.to.node (and_both (nat_le 1 p.to.node) (nat_le p.to.node c.config.nodes) to).0
 
-pub may_handle : (y : Yard) (w : World) (p : Packet) → IsSoundFor p y w → is_among p.to y.members ≡ true → IsSomeAnd (at y.nodes (p.to.node - 1)) (MayHandle y.script p y.book)
-may_handle y w p s m =
+pub may_packet : (y : Yard) (w : World) (p : Packet) → IsSoundFor p y w → is_among p.to y.members ≡ true → MayGive (input.Packet p) p.to.node y w
+may_packet y w p s m =
     let t : IsHere y p.to = here y w p.to s.sound m in
-    let f : IsFirm y w = firm_of y w s.sound in
-    let script : t.node.script ≡ y.script = script_of_node p.to.node t.node y w s.sound.seen_is t.is_up in
-    subst (λ o. IsSomeAnd o (MayHandle y.script p y.book)) (sym t.is_up) (record {
-      script_is = script;
-      built = s.built;
-      addressed = sym t.who_is;
-      may = subst (λ c. MayTake c (meaning_of y.book).vouches t.node.state (input.Packet p)) (sym script) (may_of y.script w (p.to.node - 1) t.node.state p s.sound.stands_is s.well (kept_is p.to.node t.node y w s.sound.seen_is t.is_up));
-      rests = rests_on p.to.node t.node y w f t.is_up;
-    })
+    record {
+      stands_at = record { sound = s.sound; some = to_some y.script w.lists p s.well; up = ap is_none t.is_up };
+      offered = λ st e.
+          let it : t.node.state ≡ st = some_is t.node.state st (sym (kept_is p.to.node t.node y w s.sound.seen_is t.is_up) ∙ e) in
+          record { addressed = sym t.who_is ∙ ap (λ (x : Node). x.who) it; may = may_of y.script w (p.to.node - 1) st p s.sound.stands_is s.well e };
+    }
 
 and_none : (a b : Bool) → b ≡ false → (a && b) ≡ false
 and_none true b e = e
@@ -172,46 +165,15 @@ over_apart y k p before h = record {
 lt_is : (a b : ℕ) → a < b → nat_lt a b ≡ true
 lt_is a b h = grind (arith, nat_tests)
 
-over_is : (y : Yard) (w : World) (k : ℕ) (p : Packet) (v : Standing) → 0 < k → IsSoundFor p y w → is_among p.to y.members ≡ true → at y.nodes (p.to.node - 1) ≡ Some v → world.handle (input.Packet p) v.state w ≡ world.hand_over k p w
-over_is y w k p v h s m up =
+over_is : (y : Yard) (w : World) (k : ℕ) (p : Packet) → 0 < k → IsSoundFor p y w → is_among p.to y.members ≡ true → given p.to.node (input.Packet p) w ≡ world.hand_over k p w
+over_is y w k p h s m =
     let past : nat_lt w.past k ≡ true = ap (λ n. nat_lt n k) s.sound.stands_is.built.past_is ∙ lt_is 0 k h in
-    ap (λ o. world.give (input.Packet p) o w) (sym (kept_is p.to.node v y w s.sound.seen_is up))
-    ∙ if_true (nat_lt w.past k && is_among p.to w.members) (world.give (input.Packet p) (node_at w p.to.node) w) (tell [] w) (both (nat_lt w.past k) (is_among p.to w.members) past (ap (is_among p.to) (sym s.sound.seen_is.members_are) ∙ m))
+    if_true (nat_lt w.past k && is_among p.to w.members) (world.give (input.Packet p) (node_at w p.to.node) w) (tell [] w) (both (nat_lt w.past k) (is_among p.to w.members) past (ap (is_among p.to) (sym s.sound.seen_is.members_are) ∙ m))
 
--- what its handling left, where it was up
-record IsAtPlace (p : Packet) (y : Yard) (book : Book) (mid : Mails) (nodes : List (Option Standing)) : Type 0 where
-  node : Standing
-  is_up : at y.nodes (p.to.node - 1) ≡ Some node
-  handled : HandledAt p y.book book y.mail mid y.nodes nodes node
-
-at_place : (p : Packet) (y : Yard) (book : Book) (mid : Mails) (nodes : List (Option Standing)) → IsSomeAnd (at y.nodes (p.to.node - 1)) (HandledAt p y.book book y.mail mid y.nodes nodes) → IsAtPlace p y book mid nodes
-at_place p y book mid nodes h = by (at y.nodes (p.to.node - 1)) refl h
-  where
-    by : (o : Option Standing) → at y.nodes (p.to.node - 1) ≡ o → IsSomeAnd o (HandledAt p y.book book y.mail mid y.nodes nodes) → IsAtPlace p y book mid nodes
-    by None e h = absurd h
-    by (Some v) e h = record { node = v; is_up = e; handled = h }
-
-abbrev pub with_turn : Yard → List (Option Standing) → Book → Mails → Yard
-with_turn y nodes book mail = record y { nodes = nodes; book = book; mail = mail }
-
--- it is told what the packet gave
-pub over_told : {E : Type 0} (y : Yard) (p : Packet) (k : ℕ) (nodes : List (Option Standing)) (book : Book) (mid mail : Mails) (r : Result (Unit {0}) E) (before after : List Fact) → 0 < k → is_among p.to y.members ≡ true
-    → IsSomeAnd (at y.nodes (p.to.node - 1)) (HandledAt p y.book book y.mail mid y.nodes nodes) → OnOk r (IsAllTold mid mail before after) → OnErr r (ToldSome before after (facts_of wire_limit (length mid.packets) mid.items))
-    → Stepped (IsSoundFor p) 0 (world.hand_over k p) r y (with_turn y nodes book mail) before after
-over_told y p k nodes book mid mail (Ok u) before after above m h t none = record {
-  script_is = refl;
-  counts = counts_same y (with_turn y nodes book mail) 0 refl refl;
-  goes = λ w s.
-      let a : IsAtPlace p y book mid nodes = at_place p y book mid nodes h in
-      subst (Goes before after (with_turn y nodes book mail)) (over_is y w k p a.node above s m a.is_up)
-      (turned_goes y (with_turn y nodes book mail) w p a.node mid before after (firm_of y w s.sound) (to_some y.script w.lists p s.well) a.is_up a.handled (record { script_is = refl; members_are = refl; version_is = refl; ups_are = refl }) t);
-}
-over_told y p k nodes book mid mail (Err e) before after above m h none t = record {
-  script_is = refl;
-  told = λ w s.
-      let a : IsAtPlace p y book mid nodes = at_place p y book mid nodes h in
-      subst (λ (x : Made). ToldSome before after x.facts) (over_is y w k p a.node above s m a.is_up) (cut_turned y w p a.node book mid nodes before after (firm_of y w s.sound) a.is_up a.handled t);
-}
+pub over_given : {E : Type 0} (y : Yard) (p : Packet) (k : ℕ) (r : Result (Unit {0}) E) (new : Yard) (before after : List Fact) → 0 < k → is_among p.to y.members ≡ true
+    → Stepped (MayGive (input.Packet p) p.to.node) 0 (given p.to.node (input.Packet p)) r y new before after → Stepped (IsSoundFor p) 0 (world.hand_over k p) r y new before after
+over_given y p k r new before after above m g =
+    step_as (MayGive (input.Packet p) p.to.node) (IsSoundFor p) 0 0 (given p.to.node (input.Packet p)) (world.hand_over k p) r y new before after (omega arith) (λ w s. (may_packet y w p s m, over_is y w k p above s m)) g
 
 -- Orders.
 
@@ -219,18 +181,92 @@ over_told y p k nodes book mid mail (Err e) before after above m h none t = reco
 pub play_as : {E : Type 0} (n : ℕ) (o p : Order) (r : Result (Unit {0}) E) (old new : Yard) (before after : List Fact) → o ≡ p → n ≤ 1 → Stepped IsSound n (world.play p) r old new before after → Stepped IsSound 1 (world.play o) r old new before after
 play_as n o p r old new before after e less s = step_as IsSound IsSound n 1 (world.play p) (world.play o) r old new before after less (λ w f. (f, ap (λ x. world.play x w) (sym e))) s
 
+pub ping_stepped : {E : Type 0} (o : Order) (p : ℕ) (r : Result (Unit {0}) E) (y : Yard) (before after : List Fact) → o ≡ order.Ping p → OnOk r (after ≡ before ++ fact.Nothing ∷ []) → OnErr r (after ≡ before) → Stepped IsSound 1 (world.play o) r y y before after
+ping_stepped o p r y before after e ok err = play_as 0 o (order.Ping p) r y y before after e (omega arith) (nothing_stepped (world.play (order.Ping p)) 0 r y before after ok err (λ w s. refl))
+
 abbrev begun : Line → Step
 begun l w = tell (fact.At l.number ∷ []) w
 
-line_as : (l : Line) (w : World) → is_built_order l.order ≡ true → then_step (begun l w) (world.play l.order) ≡ world.play_line l w
-line_as l w b = ap (λ v. then_step (tell (fact.At l.number ∷ []) v) (world.play l.order)) (sym (ordered_same l.order w b))
+pub noted_script : (o : Order) (y : Yard) → (noted o y).script ≡ y.script
+noted_script (order.Send p e c) y = refl
+noted_script o y = refl
 
-pub line_stepped : {E : Type 0} (y : Yard) (l : Line) (r : Result (Unit {0}) E) (new : Yard) (before between after : List Fact) → is_built_order l.order ≡ true → between ≡ before ++ fact.At l.number ∷ [] → Stepped IsSound 1 (world.play l.order) r y new between after
+noted_counts : (o : Order) (y z : Yard) → Counts 1 (noted o y) z → Counts 1 y z
+noted_counts (order.Send p e c) y z k = record { version_is = k.version_is; ups_are = k.ups_are }
+noted_counts o y z k = k
+
+noted_seen : (o : Order) (y : Yard) (w : World) → IsSeen y w → IsSeen (noted o y) (with_order (Some o) w)
+noted_seen (order.Send p e c) y w s = record {
+  set_is = s.set_is;
+  kind_is = s.kind_is;
+  limit_is = s.limit_is;
+  members_are = s.members_are;
+  version_is = s.version_is;
+  ups_are = s.ups_are;
+  ordered_are = ap (λ os. slice_set os (p - 1) (slice_index_or os (p - 1) 0 + 1)) s.ordered_are;
+  ordered_there = length-set y.ordered (p - 1) (slice_index_or y.ordered (p - 1) 0 + 1) ∙ s.ordered_there;
+  wire_is = s.wire_is;
+  fresh_is = s.fresh_is;
+  full_is = s.full_is;
+  told_all = s.told_all;
+  nodes_are = s.nodes_are;
+  scripts_are = s.scripts_are;
+  book_is = s.book_is;
+  tells_is = s.tells_is;
+}
+noted_seen o y w s = s
+
+noted_full : (o : Order) (w : World) → (with_order (Some o) w).full ≡ w.full
+noted_full (order.Send p e c) w = refl
+noted_full o w = refl
+
+pub noted_version : (o : Order) (y z : Yard) → z ≡ noted o y → y.version < 4000000000 → z.version < 4000000000
+noted_version o y z e h = subst (λ (v : Yard). v.version < 4000000000) (sym e) (by o)
+  where
+    by : (o : Order) → (noted o y).version < 4000000000
+    by (order.Send p e c) = h
+    by o = h
+
+pub noted_ups : (o : Order) (y z : Yard) → z ≡ noted o y → ((k : ℕ) → slice_index_or y.ups k 0 < 4000000000) → (k : ℕ) → slice_index_or z.ups k 0 < 4000000000
+noted_ups o y z e h = subst (λ (v : Yard). (k : ℕ) → slice_index_or v.ups k 0 < 4000000000) (sym e) (by o)
+  where
+    by : (o : Order) → (k : ℕ) → slice_index_or (noted o y).ups k 0 < 4000000000
+    by (order.Send p e c) = h
+    by o = h
+
+-- the producer of an order has its place
+pub count_there : (y : Yard) (w : World) (p : ℕ) (e : List ℕ) (c : Command) → IsSound y w → is_order y.script.config (order.Send p e c) ≡ true → p ≤ length y.ordered
+count_there y w p e c s h =
+    let producer : is_in 1 y.script.config.producers p ≡ true = (and_both (is_in 1 y.script.config.producers p) (is_of_kind y.script.config.kind c) h).0 in
+    let most : p ≤ y.script.config.producers = at_most p y.script.config.producers (and_both (nat_le 1 p) (nat_le p y.script.config.producers) producer).1 in
+    let l : length y.ordered ≡ y.script.config.producers = s.seen_is.ordered_there in
+    omega (arith, most, l)
+
+-- a send is noted
+pub noted_sound : (o : Order) (y : Yard) (w : World) → IsSound y w → IsSound (noted o y) (with_order (Some o) w)
+noted_sound o y w s = record {
+  seen_is = noted_seen o y w s.seen_is;
+  stands_is = subst (λ c. Stands c (with_order (Some o) w)) (sym (noted_script o y)) (stands_noted y.script o w s.stands_is);
+  going_is = noted_full o w ∙ s.going_is;
+}
+
+pub line_stepped : {E : Type 0} (y : Yard) (l : Line) (r : Result (Unit {0}) E) (new : Yard) (before between after : List Fact) → between ≡ before ++ fact.At l.number ∷ [] → Stepped IsSound 1 (world.play l.order) r (noted l.order y) new between after
     → Stepped IsSound 1 (world.play_line l) r y new before after
-line_stepped y l r new before between after built told s =
-    step_as IsSound IsSound 1 1 (λ w. then_step (begun l w) (world.play l.order)) (world.play_line l) r y new before after (omega arith) (λ w f. (f, line_as l w built))
-    (step_then IsSound IsSound 0 1 (begun l) (world.play l.order) r y y new before between after
-    (record { script_is = refl; counts = counts_same y y 0 refl refl; goes = λ w f. record { seen_is = f.seen_is; facts_are = told } }) (λ w f g. (f.going_is, f)) s)
+line_stepped y l (Ok u) new before between after told s = record {
+  script_is = s.script_is ∙ noted_script l.order y;
+  counts = noted_counts l.order y new s.counts;
+  goes = λ w f.
+      let v : World = with_order (Some l.order) w in
+      let k : IsSound (noted l.order y) v = noted_sound l.order y w f in
+      goes_then before between after new (begun l v) (world.play l.order) k.going_is told (s.goes v k);
+}
+line_stepped y l (Err e) new before between after told s = record {
+  script_is = s.script_is ∙ noted_script l.order y;
+  told = λ w f.
+      let v : World = with_order (Some l.order) w in
+      let k : IsSound (noted l.order y) v = noted_sound l.order y w f in
+      cut_next before between after (begun l v) (world.play l.order) k.going_is told (s.told v k);
+}
 
 -- Pump.
 

@@ -1,4 +1,4 @@
--- A node that goes down, and a node that handles a packet: what the code keeps stands for the world after.
+-- A node that goes down, and a node that takes an input: what the code keeps stands for the world after.
 use Rattle.std.proofs.Common.{◌≡◌, ℕ, ◌+◌, ◌-◌, ◌<◌, ◌≤◌, Bool, true, false, ◌&&◌, List, [], ◌∷◌, ◌++◌, length, fold, refl, ap, sym, ◌∙◌, subst, arith, append_assoc}
 use Rattle.std.specs.Prelude.{map, nat_lt, Option, Some, None, IfSome, is_none, slice_set, if◌then◌else◌}
 use Rattle.std.specs.List.{list_all, flat_map}
@@ -8,10 +8,9 @@ use Rattle.yard_model.specs.declared.fact.Fact.{Fact}
 use Rattle.yard_model.specs.declared.fact.Fact.TheVariants as fact
 use Rattle.yard_model.specs.declared.incarnation.Incarnation.{Incarnation}
 use Rattle.yard_model.specs.declared.incarnation.Slot.TheVariants as slot
-use Rattle.yard_model.specs.declared.input.Input.TheVariants as input
+use Rattle.yard_model.specs.declared.input.Input.{Input}
 use Rattle.yard_model.specs.declared.out.Item.{Item}
 use Rattle.yard_model.specs.declared.out.Item.TheVariants as item
-use Rattle.yard_model.specs.declared.packet.Packet.{Packet}
 use Rattle.yard_model.specs.Node.{Node, Act, after, items_of, turn, crash, freed_stopped}
 use Rattle.yard_model.specs.Script.{setting}
 use Rattle.yard_model.specs.Setting.{shards, producers}
@@ -137,10 +136,13 @@ gone_seen y w n node s some up =
     let u : IsSeen y w = s.seen_is in
     record {
       set_is = u.set_is;
+      kind_is = u.kind_is;
       limit_is = u.limit_is;
       members_are = ap (without node.state.who) u.members_are;
       version_is = ap (λ v. v + 1) u.version_is;
       ups_are = u.ups_are;
+      ordered_are = u.ordered_are;
+      ordered_there = u.ordered_there;
       wire_is = u.wire_is;
       fresh_is = u.fresh_is;
       full_is = u.full_is;
@@ -160,6 +162,8 @@ pub record IsEnded (y z : Yard) (n : ℕ) (node : Standing) : Type 0 where
   pub members_are : z.members ≡ without node.state.who y.members
   pub version_is : z.version ≡ y.version + 1
   pub ups_are : z.ups ≡ y.ups
+  pub kind_is : z.kind ≡ y.kind
+  pub ordered_are : z.ordered ≡ y.ordered
 
 -- the items that wait, where none did
 items_there : (old mid : Mails) (is more : List Item) → old.items ≡ [] → mid.items ≡ old.items ++ more → more ≡ is → mid.items ≡ is
@@ -187,7 +191,7 @@ ended_goes y z w n node mid before after_ s some up d e limit t =
     let tells : Tells (meaning_of z.book) y.script (fold (lists_step (setting y.script)) w.lists fs) = subst (λ c. Tells (meaning_of z.book) c (fold (lists_step (setting c)) w.lists fs)) script
     (for_world n node y w y.mail.items (λ lists. Tells (meaning_of z.book) node.script (fold (lists_step (setting node.script)) lists fs)) s up d.ended.tells) in
     let led : IsSeen z (led_to w1 is (map state_in z.nodes)) = seen_told y1 z w1 is (map state_in z.nodes) s1 own
-    (record { script_is = e.script_is; members_are = e.members_are; version_is = e.version_is; ups_are = e.ups_are })
+    (record { script_is = e.script_is; members_are = e.members_are; version_is = e.version_is; ups_are = e.ups_are; kind_is = e.kind_is; ordered_are = e.ordered_are })
     (mailed_from y.mail mid z.mail is d.beside.packets_are d.beside.fresh_are d.beside.full_is items t.mail_is)
     (record {
       nodes_are = refl;
@@ -218,7 +222,7 @@ cut_ended y w n node book mid before after s up d limit t =
     subst (λ o. ToldSome before after (go_down_by o w).facts) (sym (kept_is n node y w u up))
     (some_rest before (before ++ gone) after gone fs refl (subst (ToldSome (before ++ gone) after) facts t))
 
--- Handling a packet.
+-- Taking an input.
 
 who_stays : (st : Node) (acts : List Act) → (fold after st acts).who ≡ st.who
 who_stays st [] = refl
@@ -230,38 +234,39 @@ pub record IsTurned (y z : Yard) : Type 0 where
   pub members_are : z.members ≡ y.members
   pub version_is : z.version ≡ y.version
   pub ups_are : z.ups ≡ y.ups
+  pub kind_is : z.kind ≡ y.kind
+  pub ordered_are : z.ordered ≡ y.ordered
 
 -- the acts that it told are the definition's
-told_is : (y : Yard) (w : World) (p : Packet) (node : Standing) (book : Book) (mid : Mails) (nodes : List (Option Standing)) → IsFirm y w → at y.nodes (p.to.node - 1) ≡ Some node → (h : HandledAt p y.book book y.mail mid y.nodes nodes node)
-    → h.handled.turned.told ≡ turn w.sends w.lists (input.Packet p) node.state
-told_is y w p node book mid nodes s up h =
-    sym (for_world p.to.node node y w y.mail.items (λ lists. turn (all_sends node.script) lists (input.Packet p) node.state ≡ h.handled.turned.told) s up h.handled.turned.acts_are)
-    ∙ ap (λ x. turn x w.lists (input.Packet p) node.state) (ap all_sends (script_of_node p.to.node node y w s.seen_is up) ∙ sym s.stands_is.sound.sends_are)
+told_is : (y : Yard) (w : World) (i : Input) (n : ℕ) (node : Standing) (book : Book) (mid : Mails) (nodes : List (Option Standing)) → IsFirm y w → at y.nodes (n - 1) ≡ Some node → (h : HandledAt i n y.book book y.mail mid y.nodes nodes node)
+    → h.handled.turned.told ≡ turn w.sends w.lists i node.state
+told_is y w i n node book mid nodes s up h =
+    sym (for_world n node y w y.mail.items (λ lists. turn (all_sends node.script) lists i node.state ≡ h.handled.turned.told) s up h.handled.turned.acts_are)
+    ∙ ap (λ x. turn x w.lists i node.state) (ap all_sends (script_of_node n node y w s.seen_is up) ∙ sym s.stands_is.sound.sends_are)
 
-turned_items : (y : Yard) (w : World) (p : Packet) (node : Standing) (book : Book) (mid : Mails) (nodes : List (Option Standing)) → IsFirm y w → at y.nodes (p.to.node - 1) ≡ Some node → HandledAt p y.book book y.mail mid y.nodes nodes node
-    → mid.items ≡ items_of (turn w.sends w.lists (input.Packet p) node.state)
-turned_items y w p node book mid nodes s up h =
-    items_there y.mail mid (items_of (turn w.sends w.lists (input.Packet p) node.state)) (items_of h.handled.turned.told) s.seen_is.told_all h.handled.turned.items_are (ap items_of (told_is y w p node book mid nodes s up h))
+turned_items : (y : Yard) (w : World) (i : Input) (n : ℕ) (node : Standing) (book : Book) (mid : Mails) (nodes : List (Option Standing)) → IsFirm y w → at y.nodes (n - 1) ≡ Some node → HandledAt i n y.book book y.mail mid y.nodes nodes node
+    → mid.items ≡ items_of (turn w.sends w.lists i node.state)
+turned_items y w i n node book mid nodes s up h =
+    items_there y.mail mid (items_of (turn w.sends w.lists i node.state)) (items_of h.handled.turned.told) s.seen_is.told_all h.handled.turned.items_are (ap items_of (told_is y w i n node book mid nodes s up h))
 
-pub turned_goes : (y z : Yard) (w : World) (p : Packet) (node : Standing) (mid : Mails) (before after_ : List Fact) → IsFirm y w → 1 ≤ p.to.node → at y.nodes (p.to.node - 1) ≡ Some node → HandledAt p y.book z.book y.mail mid y.nodes z.nodes node
-    → IsTurned y z → IsAllTold mid z.mail before after_ → Goes before after_ z (handle (input.Packet p) node.state w)
-turned_goes y z w p node mid before after_ s some up h e t =
-    let n : ℕ = p.to.node in
+pub turned_goes : (y z : Yard) (w : World) (i : Input) (n : ℕ) (node : Standing) (mid : Mails) (before after_ : List Fact) → IsFirm y w → 1 ≤ n → at y.nodes (n - 1) ≡ Some node → HandledAt i n y.book z.book y.mail mid y.nodes z.nodes node
+    → IsTurned y z → IsAllTold mid z.mail before after_ → Goes before after_ z (handle i node.state w)
+turned_goes y z w i n node mid before after_ s some up h e t =
     let u : IsSeen y w = s.seen_is in
     let there : n - 1 < length y.nodes = inside y.nodes (n - 1) node up in
     let later : Standing = h.new in
     let st : Node = node.state in
-    let acts : List Act = turn w.sends w.lists (input.Packet p) st in
+    let acts : List Act = turn w.sends w.lists i st in
     let to : Node = fold after st acts in
     let is : List Item = items_of acts in
-    let told : h.handled.turned.told ≡ acts = told_is y w p node z.book mid z.nodes s up h in
-    let items : mid.items ≡ is = turned_items y w p node z.book mid z.nodes s up h in
+    let told : h.handled.turned.told ≡ acts = told_is y w i n node z.book mid z.nodes s up h in
+    let items : mid.items ≡ is = turned_items y w i n node z.book mid z.nodes s up h in
     let script : node.script ≡ y.script = script_of_node n node y w u up in
     let later_is : later.state ≡ to = h.handled.turned.node_is ∙ ap (fold after st) told in
     let tells : Tells (meaning_of z.book) y.script (lists_after y.script w.lists acts) = subst (λ told. Tells (meaning_of z.book) y.script (lists_after y.script w.lists told)) told
     (subst (λ c. Tells (meaning_of z.book) c (lists_after c w.lists h.handled.turned.told)) script
     (for_world n node y w y.mail.items (λ lists. Tells (meaning_of z.book) node.script (lists_after node.script lists h.handled.turned.told)) s up h.handled.turned.tells)) in
-    let own : list_all is_own_item is ≡ true = turn_is_own w.sends w.lists (input.Packet p) st in
+    let own : list_all is_own_item is ≡ true = turn_is_own w.sends w.lists i st in
     let v : World = fold world_after w (input_facts w is) in
     let same : v.nodes ≡ w.nodes = ap (λ (x : World). x.nodes) (words_after w (input_facts w is) (input_within w is own)) ∙ input_nodes w.set w.behaviour w is w.nodes own in
     let place : to.who.node ≡ n = ap (λ (x : Incarnation). x.node) (who_stays st acts) ∙ number_is n node y w s some up in
@@ -272,7 +277,7 @@ turned_goes y z w p node mid before after_ s some up h e t =
     ∙ (ap (λ x. slice_set v.nodes (n - 1) (Some x)) later_is ∙ ap (λ j. slice_set v.nodes (j - 1) (Some to)) (sym place)))) in
     record {
       seen_is = seen_told y z w is (slice_set v.nodes (to.who.node - 1) (Some to)) u own
-          (record { script_is = e.script_is; members_are = e.members_are; version_is = e.version_is; ups_are = e.ups_are })
+          (record { script_is = e.script_is; members_are = e.members_are; version_is = e.version_is; ups_are = e.ups_are; kind_is = e.kind_is; ordered_are = e.ordered_are })
           (mailed_from y.mail mid z.mail is h.handled.beside.packets_are h.handled.beside.fresh_are h.handled.beside.full_is items t.mail_is)
           (record {
             nodes_are = nodes;
@@ -284,14 +289,14 @@ turned_goes y z w p node mid before after_ s some up h e t =
             book_is = h.handled.turned.stays.script_is ∙ (u.book_is ∙ sym e.script_is);
             tells_is = subst (λ c. Tells (meaning_of z.book) c (fold (lists_step (setting c)) w.lists (facts_in is))) (sym e.script_is) tells;
           });
-      facts_are = facts_told y w is before after_ u (t.facts_are ∙ (ap (λ p. before ++ facts_of wire_limit (length p) mid.items) h.handled.beside.packets_are ∙ ap (λ i. before ++ facts_of wire_limit (length y.mail.packets) i) items));
+      facts_are = facts_told y w is before after_ u (t.facts_are ∙ (ap (λ p. before ++ facts_of wire_limit (length p) mid.items) h.handled.beside.packets_are ∙ ap (λ l. before ++ facts_of wire_limit (length y.mail.packets) l) items));
     }
 
 -- where memory runs out
-pub cut_turned : (y : Yard) (w : World) (p : Packet) (node : Standing) (book : Book) (mid : Mails) (nodes : List (Option Standing)) (before after : List Fact) → IsFirm y w → at y.nodes (p.to.node - 1) ≡ Some node → HandledAt p y.book book y.mail mid y.nodes nodes node
-    → ToldSome before after (facts_of wire_limit (length mid.packets) mid.items) → ToldSome before after (handle (input.Packet p) node.state w).facts
-cut_turned y w p node book mid nodes before after s up h t =
-    subst (ToldSome before after) (items_told y w mid (items_of (turn w.sends w.lists (input.Packet p) node.state)) s.seen_is h.handled.beside.packets_are (turned_items y w p node book mid nodes s up h)) t
+pub cut_turned : (y : Yard) (w : World) (i : Input) (n : ℕ) (node : Standing) (book : Book) (mid : Mails) (nodes : List (Option Standing)) (before after : List Fact) → IsFirm y w → at y.nodes (n - 1) ≡ Some node → HandledAt i n y.book book y.mail mid y.nodes nodes node
+    → ToldSome before after (facts_of wire_limit (length mid.packets) mid.items) → ToldSome before after (handle i node.state w).facts
+cut_turned y w i n node book mid nodes before after s up h t =
+    subst (ToldSome before after) (items_told y w mid (items_of (turn w.sends w.lists i node.state)) s.seen_is h.handled.beside.packets_are (turned_items y w i n node book mid nodes s up h)) t
 
 -- A crash.
 

@@ -1,6 +1,7 @@
 -- A world before its first order.
-use Rattle.std.proofs.Common.{◌≡◌, ℕ, zero, suc, false, [], ◌∷◌, refl, ap, sym, ◌∙◌, subst, arith}
+use Rattle.std.proofs.Common.{◌≡◌, ℕ, zero, suc, false, [], ◌∷◌, length, refl, ap, sym, ◌∙◌, subst, arith}
 use Rattle.std.specs.Prelude.{map, replicate, slice_index_or, None, IfSome, IsTrue}
+use Rattle.std.proofs.lemmas.List.{length-replicate}
 use Rattle.yard_model.specs.Script.{Script, IsScript, setting}
 use Rattle.yard_model.specs.Trace.{no_lists}
 use Rattle.yard_model.specs.Words.{at}
@@ -19,7 +20,9 @@ pub record IsNew (y : Yard) (c : Script) : Type 0 where
   pub script_is : y.script ≡ c
   pub members_none : y.members ≡ []
   pub version_none : y.version ≡ 0
+  pub kind_is : y.kind ≡ c.config.kind
   pub ups_none : y.ups ≡ replicate c.config.nodes 0
+  pub ordered_none : y.ordered ≡ replicate c.config.producers 0
   pub packets_none : y.mail.packets ≡ []
   pub fresh_none : y.mail.fresh ≡ []
   pub items_none : y.mail.items ≡ []
@@ -35,10 +38,13 @@ map_none (suc n) = ap (λ os. None ∷ os) (map_none n)
 pub seen_new : (y : Yard) (c : Script) → IsNew y c → IsSeen y (new_world c wire_limit)
 seen_new y c k = record {
   set_is = ap setting (sym k.script_is);
+  kind_is = k.kind_is ∙ ap (λ (x : Script). x.config.kind) (sym k.script_is);
   limit_is = refl;
   members_are = k.members_none;
   version_is = k.version_none;
   ups_are = k.ups_none;
+  ordered_are = k.ordered_none;
+  ordered_there = ap length k.ordered_none ∙ (length-replicate c.config.producers 0 ∙ ap (λ (x : Script). x.config.producers) (sym k.script_is));
   wire_is = k.packets_none;
   fresh_is = k.fresh_none;
   full_is = k.full_not;
@@ -49,8 +55,8 @@ seen_new y c k = record {
   tells_is = subst (λ s. Tells (meaning_of y.book) s (no_lists (setting c))) (sym k.script_is) k.tells_is;
 }
 
-pub world_new : (y : Yard) (c : Script) → IsScript c → IsTrue (are_built c) → y.script ≡ c → y.version ≡ 0 → y.ups ≡ replicate c.config.nodes 0 → IsSeen y (new_world c wire_limit) → Stands c (new_world c wire_limit) → IsWorld y 0 None
-world_new y c script built e version ups seen stands = record {
+pub world_new : (y : Yard) (c : Script) → IsScript c → IsTrue (are_built c) → y.script ≡ c → y.version ≡ 0 → y.ups ≡ replicate c.config.nodes 0 → y.ordered ≡ replicate c.config.producers 0 → IsSeen y (new_world c wire_limit) → Stands c (new_world c wire_limit) → IsWorld y 0 None
+world_new y c script built e version ups ordered seen stands = record {
   script_is = subst IsScript (sym e) script;
   built = ap are_built e ∙ built;
   few = omega arith;
@@ -59,6 +65,7 @@ world_new y c script built e version ups seen stands = record {
     record {
       version_is = omega (arith, version);
       ups_are = λ k. let none : slice_index_or y.ups k 0 ≡ 0 = ap (λ us. slice_index_or us k 0) ups ∙ get_replicate c.config.nodes k 0 in omega (arith, none);
+      ordered_are = λ k. let none : slice_index_or y.ordered k 0 ≡ 0 = ap (λ os. slice_index_or os k 0) ordered ∙ get_replicate c.config.producers k 0 in omega (arith, none);
     },
   );
 }

@@ -60,7 +60,7 @@ if_some (Some x) P h = h x refl
 
 -- What a node has in hand.
 
-of_some : {A : Type 0} (o : Option A) (P : A → Type 0) (x : A) → IfSome o P → o ≡ Some x → P x
+pub of_some : {A : Type 0} (o : Option A) (P : A → Type 0) (x : A) → IfSome o P → o ≡ Some x → P x
 of_some None P x h e = absurd (none_is_not_some x e)
 of_some (Some y) P x h e = subst P (some_is y x e) h
 
@@ -68,11 +68,11 @@ pub member : (c : Script) (w : World) (k : ℕ) (st : Node) → (s : Stands c w)
 member c w k st s here = s.sound.cluster.members k st here
 
 -- the slot's list, which it holds
-record IsInHand (w : World) (st : Node) (s : Slot) (list : List Fact) : Type 0 where
-  list_is : list_at w.lists s ≡ list
-  holds_is : holder list ≡ Some st.who
+pub record IsInHand (w : World) (st : Node) (s : Slot) (list : List Fact) : Type 0 where
+  pub list_is : list_at w.lists s ≡ list
+  pub holds_is : holder list ≡ Some st.who
 
-hand_is : (c : Script) (w : World) (k : ℕ) (st : Node) (s : Slot) (list : List Fact) → Stands c w → at w.nodes k ≡ Some st → is_slot_of c s ≡ true → held_list s st ≡ Some list → IsInHand w st s list
+pub hand_is : (c : Script) (w : World) (k : ℕ) (st : Node) (s : Slot) (list : List Fact) → Stands c w → at w.nodes k ≡ Some st → is_slot_of c s ≡ true → held_list s st ≡ Some list → IsInHand w st s list
 hand_is c w k st s list stands here i e = by s i e
   where
     me : IsMember c stands.trace k st
@@ -155,7 +155,7 @@ told_of b c lists s e tells i =
     subst (λ v. IsSomeAnd (if v then Some (known_at b (place_of b.script.config s)) else None) (IsTold (list_at lists s))) its (tells s i)
 
 -- a node holds a slot, as the book has it, where it has the slot's list in hand
-held_of : (c : Script) (w : World) (k : ℕ) (st : Node) (s : Slot) → Stands c w → at w.nodes k ≡ Some st → is_slot_of c s ≡ true → is_of_node st.who.node (holder (list_at w.lists s)) ≡ is_some (held_list s st)
+pub held_of : (c : Script) (w : World) (k : ℕ) (st : Node) (s : Slot) → Stands c w → at w.nodes k ≡ Some st → is_slot_of c s ≡ true → is_of_node st.who.node (holder (list_at w.lists s)) ≡ is_some (held_list s st)
 held_of c w k st s stands here i = by_hand (held_list s st) refl
   where
     by_holder : (o : Option Incarnation) → holder (list_at w.lists s) ≡ o → held_list s st ≡ None → is_of_node st.who.node o ≡ false
@@ -179,7 +179,7 @@ grant_is c (slot.Shard k) t n x before e = (and_both (is_slot t (slot.Shard k)) 
 grant_is c slot.Coordinator t n x before e = (and_both (is_slot t slot.Coordinator) (is_node c x) e).1
 grant_is c (slot.Queue p) t n x before e = (and_both (is_slot t (slot.Queue p)) (is_node c x) e).1
 
-admits_of : (b : Book) (c : Script) (s : Slot) (n : ℕ) → b.script ≡ c → is_slot_of c s ≡ true → is_in 1 c.config.nodes n ≡ true → (is_in 1 b.script.config.nodes n && is_slot_of b.script s) ≡ true
+pub admits_of : (b : Book) (c : Script) (s : Slot) (n : ℕ) → b.script ≡ c → is_slot_of c s ≡ true → is_in 1 c.config.nodes n ≡ true → (is_in 1 b.script.config.nodes n && is_slot_of b.script s) ≡ true
 admits_of b c s n e i h = both (is_in 1 b.script.config.nodes n) (is_slot_of b.script s) (ap (λ (x : Script). is_in 1 x.config.nodes n) e ∙ h) (ap (λ (x : Script). is_slot_of x s) e ∙ i)
 
 entry_taken : (b : Book) (c : Script) (s : Slot) (before : List Fact) (f : Fact) → b.script ≡ c → is_slot_of c s ≡ true → is_entry c s before f ≡ true → is_taken (meaning_of b) s f ≡ true
@@ -240,6 +240,7 @@ rests_of b c w k st e stands tells here =
       lists_are = λ s i. if_some (held_list s st) (IsHandOf (meaning_of b) s) (λ list h.
           let t : IsInHand w st s list = hand_is c w k st s list stands here i h in
           hand_of b c s list e i (ap (own c s) (sym t.list_is) ∙ own_of c w s stands i));
+      leased_are = λ s i. if_some (held_list s st) (λ list. holder list ≡ Some st.who) (λ list h. let t : IsInHand w st s list = hand_is c w k st s list stands here i h in t.holds_is);
     }
 
 -- What a packet promises, where all is vouched for.

@@ -7,7 +7,7 @@ use Rattle.yard_model.specs.declared.incarnation.Incarnation.{Incarnation}
 use Rattle.yard_model.specs.declared.out.Item.{Item}
 use Rattle.yard_model.specs.declared.out.Item.TheVariants as item
 use Rattle.yard_model.specs.declared.packet.Body.TheVariants as body
-use Rattle.yard_model.specs.Script.{setting}
+use Rattle.yard_model.specs.Script.{Script, setting}
 use Rattle.yard_model.specs.Trace.{lists_step}
 use Rattle.yard_model.specs.Words.{at, numbers}
 use Rattle.yard_model.specs.Node.{Node}
@@ -93,6 +93,8 @@ pub record IsKept (y z : Yard) : Type 0 where
   pub members_are : z.members ≡ y.members
   pub version_is : z.version ≡ y.version
   pub ups_are : z.ups ≡ y.ups
+  pub kind_is : z.kind ≡ y.kind
+  pub ordered_are : z.ordered ≡ y.ordered
 
 -- the nodes and leases after it
 pub record IsLed (y : Yard) (nodes : List (Option Node)) (w : World) (is : List Item) : Type 0 where
@@ -122,10 +124,13 @@ seen_told y z w is nodes s own k m l =
     sym (input_lists (setting z.script) w is w.lists) ∙ (ap (λ set. fold (lists_step set) w.lists fs) (ap setting k.script_is ∙ sym s.set_is) ∙ sym (ap (λ (v : World). v.lists) e)) in
     record {
       set_is = ap (λ (v : World). v.set) e ∙ (s.set_is ∙ ap setting (sym k.script_is));
+      kind_is = k.kind_is ∙ (s.kind_is ∙ ap (λ (c : Script). c.config.kind) (sym k.script_is));
       limit_is = ap (λ (v : World). v.limit) e ∙ s.limit_is;
       members_are = k.members_are ∙ (s.members_are ∙ (sym (input_members w is w.members own) ∙ sym (ap (λ (v : World). v.members) e)));
       version_is = k.version_is ∙ (s.version_is ∙ (sym (input_version w is w.version own) ∙ sym (ap (λ (v : World). v.version) e)));
       ups_are = k.ups_are ∙ (s.ups_are ∙ (sym (input_ups w is w.ups own) ∙ sym (ap (λ (v : World). v.ups) e)));
+      ordered_are = k.ordered_are ∙ (s.ordered_are ∙ sym (ap (λ (v : World). v.ordered) e));
+      ordered_there = ap length k.ordered_are ∙ (s.ordered_there ∙ ap (λ (c : Script). c.config.producers) (sym k.script_is));
       wire_is = wire_told y w z.mail is s own m ∙ sym (ap (λ (v : World). v.wire) e);
       fresh_is = fresh_told y w z.mail is s own m ∙ sym (ap (λ (v : World). v.fresh) e);
       full_is = full_told y w z.mail is s own m ∙ sym (ap (λ (v : World). v.full) e);
@@ -158,7 +163,7 @@ views_seen y mid new w before after s e f g h t =
     let fs : List Fact = input_facts w is in
     let nodes : (fold world_after w fs).nodes ≡ w.nodes = ap (λ (v : World). v.nodes) (words_after w fs (input_within w is own)) ∙ input_nodes w.set w.behaviour w is w.nodes own in
     record {
-      seen_is = seen_told y (record y { mail = new }) w is (fold world_after w fs).nodes s own (record { script_is = refl; members_are = refl; version_is = refl; ups_are = refl })
+      seen_is = seen_told y (record y { mail = new }) w is (fold world_after w fs).nodes s own (record { script_is = refl; members_are = refl; version_is = refl; ups_are = refl; kind_is = refl; ordered_are = refl })
           (mailed_from y.mail mid new is e f g items t.mail_is)
           (record {
             nodes_are = s.nodes_are ∙ sym nodes;

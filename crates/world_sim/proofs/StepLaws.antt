@@ -148,6 +148,10 @@ pub step_err : {E : Type 0} (P : Yard → World → Type 0) (n : ℕ) (q : Step)
 step_err P n q (Ok u) old new before after h s = absurd (true_is_not_false (sym h))
 step_err P n q (Err e) old new before after h s = s
 
+pub on_ok_any : {T E : Type 0} (r : Result T E) (P : Type 0) → P → OnOk r P
+on_ok_any (Ok x) P h = h
+on_ok_any (Err e) P h = tt
+
 -- What is kept, by its parts.
 
 pub whole_as : (P : Yard → World → Type 0) (n : ℕ) (q : Step) (y old new : Yard) (before after : List Fact) → y ≡ old → IsWhole P n q y new before after → IsWhole P n q old new before after

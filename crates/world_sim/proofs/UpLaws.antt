@@ -104,10 +104,13 @@ entered_goes y w n node before after s within script state told =
     record {
       seen_is = record {
         set_is = u.set_is;
+        kind_is = u.kind_is;
         limit_is = u.limit_is;
         members_are = ap (λ ms. ms ++ came y.ups n ∷ []) u.members_are ∙ ap (λ x. w.members ++ x ∷ []) came_is;
         version_is = ap (λ v. v + 1) u.version_is;
         ups_are = ap (λ us. slice_set us (n - 1) (slice_index_or us (n - 1) 0 + 1)) u.ups_are;
+        ordered_are = u.ordered_are;
+        ordered_there = u.ordered_there;
         wire_is = u.wire_is;
         fresh_is = u.fresh_is;
         full_is = u.full_is;
@@ -134,7 +137,7 @@ set_itself (v ∷ vs) (suc j) = set_itself vs j
 set_beside : (us : List ℕ) (i k : ℕ) → (k ≡ i → ⊥) → slice_index_or (slice_set us i (slice_index_or us i 0 + 1)) k 0 ≤ slice_index_or us k 0 + 1
 set_beside us i k h = let e : slice_index_or (slice_set us i (slice_index_or us i 0 + 1)) k 0 ≡ slice_index_or us k 0 = get_or-set_other us i k (slice_index_or us i 0 + 1) 0 h in omega (arith, e)
 
-one_more : (us : List ℕ) (i k : ℕ) → slice_index_or (slice_set us i (slice_index_or us i 0 + 1)) k 0 ≤ slice_index_or us k 0 + 1
+pub one_more : (us : List ℕ) (i k : ℕ) → slice_index_or (slice_set us i (slice_index_or us i 0 + 1)) k 0 ≤ slice_index_or us k 0 + 1
 one_more us i k = by_place (slice_index_or (slice_set us i (slice_index_or us i 0 + 1)) k 0 ≤ slice_index_or us k 0 + 1) k i
     (λ e. subst (λ j. slice_index_or (slice_set us i (slice_index_or us i 0 + 1)) j 0 ≤ slice_index_or us j 0 + 1) (sym e) (set_itself us i))
     (set_beside us i k)
@@ -153,8 +156,8 @@ entered_whole y z n node before after same within script state told = record {
   goes = λ w s. subst (λ v. Goes before after v (entered n w)) (sym same) (entered_goes y w n node before after s within script state told);
 }
 
-pub yard_is : (a b : Yard) → a.script ≡ b.script → a.book ≡ b.book → a.nodes ≡ b.nodes → a.members ≡ b.members → a.version ≡ b.version → a.ups ≡ b.ups → a.mail ≡ b.mail → a ≡ b
-yard_is a b e f g h k l m i = record { script = e i; book = f i; nodes = g i; members = h i; version = k i; ups = l i; mail = m i }
+pub yard_is : (a b : Yard) → a.script ≡ b.script → a.kind ≡ b.kind → a.book ≡ b.book → a.nodes ≡ b.nodes → a.members ≡ b.members → a.version ≡ b.version → a.ups ≡ b.ups → a.ordered ≡ b.ordered → a.mail ≡ b.mail → a ≡ b
+yard_is a b e d f g h k l o m i = record { script = e i; kind = d i; book = f i; nodes = g i; members = h i; version = k i; ups = l i; ordered = o i; mail = m i }
 
 -- of an incarnation whose number was counted
 pub came_is : (ups : List ℕ) (n k : ℕ) → k ≡ slice_index_or ups (n - 1) 0 + 1 → record { node = n; number = k } ≡ came ups n

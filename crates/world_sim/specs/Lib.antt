@@ -1,8 +1,10 @@
 pub mod Built
+pub mod Found
 pub mod Keeps
 pub mod Lending
 pub mod Mail
 pub mod Played
+pub mod Queues
 pub mod Stands
 pub mod Stepped
 pub mod Steps

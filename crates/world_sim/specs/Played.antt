@@ -6,7 +6,8 @@ use Rattle.yard_model.specs.declared.fact.Fact.TheVariants as fact
 use Rattle.yard_model.specs.declared.charter.Line.{Line}
 use Rattle.yard_model.specs.declared.incarnation.Cause.TheVariants as cause
 use Rattle.yard_model.specs.declared.incarnation.Slot.{Slot}
-use Rattle.yard_model.specs.Script.{Script, setting}
+use Rattle.yard_model.specs.Safe.{safe}
+use Rattle.yard_model.specs.Script.{Script, IsScript, setting}
 use Rattle.yard_model.specs.SlotLists.{SlotLists}
 use Rattle.yard_model.specs.Genuine.{is_slot_of}
 use Rattle.yard_model.specs.Lawful.{own, is_held}
@@ -102,3 +103,7 @@ MadeFull = (c : Script) (n : ℕ) → (made_of c n).world.full ≡ true → play
 -- all orders
 abbrev pub MadeAll : Type 0
 MadeAll = (c : Script) → made_of c (length c.orders) ≡ played c wire_limit
+
+-- what any number of orders told is safe at each prefix
+abbrev pub MadeSafe : Type 0
+MadeSafe = (c : Script) (n : ℕ) → IsScript c → IsTrue (safe c (made_of c n).facts)

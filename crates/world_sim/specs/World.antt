@@ -14,10 +14,11 @@ pub record IsAt (y : Yard) (n : ℕ) (full : Bool) : Type 0 where
   pub stands_is : Stands y.script (made_of y.script n).world
   pub full_is : (made_of y.script n).world.full ≡ full
 
--- so often at most have nodes come up or gone
+-- so often at most have nodes come up or gone, or sends been ordered
 pub record IsCounted (y : Yard) (n : ℕ) : Type 0 where
   pub version_is : y.version ≤ n
   pub ups_are : (k : ℕ) → slice_index_or y.ups k 0 ≤ n
+  pub ordered_are : (k : ℕ) → slice_index_or y.ordered k 0 ≤ n
 
 -- after want of memory nothing is known of it
 abbrev pub IsKept : Yard → ℕ → Option StepFault → Type 0

@@ -1,28 +1,34 @@
 -- What the code keeps of a world, and the world of the definition that it stands for.
-use Rattle.std.specs.Prelude.{◌≡◌, ℕ, false, List, [], ◌++◌, map, Option, IfSome, IsTrue}
+use Rattle.std.specs.Prelude.{◌≡◌, ℕ, ◌+◌, ◌-◌, ◌≤◌, true, false, List, [], ◌++◌, length, map, Option, Some, IfSome, is_none, slice_index_or, slice_set}
 use Rattle.std.specs.Option.{option_map}
+use Rattle.yard_model.specs.declared.charter.Order.{Order}
+use Rattle.yard_model.specs.declared.charter.Order.TheVariants as order
+use Rattle.yard_model.specs.declared.event.Kind.{Kind}
 use Rattle.yard_model.specs.declared.fact.Fact.{Fact}
 use Rattle.yard_model.specs.declared.incarnation.Incarnation.{Incarnation}
+use Rattle.yard_model.specs.declared.input.Input.{Input}
 use Rattle.yard_model.specs.declared.packet.Packet.{Packet}
 use Rattle.yard_model.specs.Script.{Script, setting}
 use Rattle.yard_model.specs.Words.{at}
 use Rattle.yard_model.specs.Node.{Node}
 use Rattle.yard_model.specs.World.{World, Made, wire_limit}
 use Rattle.shard_lease.specs.Book.{Book, meaning_of}
-use Rattle.node_core.specs.Built.{is_built_packet}
-use Rattle.node_core.specs.Leased.{Tells}
+use Rattle.node_core.specs.Leased.{IfPacket, Tells}
 use Rattle.node_core.specs.Standing.{Standing}
+use Rattle.node_laws.specs.NodeTurns.{MayTake}
 use Rattle.play_laws.specs.Sound.{IsWell}
 use Rattle.world_sim.specs.Mail.{Mails}
 use Rattle.world_sim.specs.Stands.{Stands}
 
 pub record Yard : Type 0 where
   pub script : Script
+  pub kind : Kind  -- of its behaviour
   pub book : Book
   pub nodes : List (Option Standing)  -- per node, where it is up
   pub members : List Incarnation
   pub version : ℕ
   pub ups : List ℕ
+  pub ordered : List ℕ
   pub mail : Mails
 
 abbrev pub state_in : Option Standing → Option Node
@@ -31,10 +37,13 @@ state_in o = option_map (λ (v : Standing). v.state) o
 -- each word stands for the world's; the lists are those that the leases tell, and that the nodes have in hand
 pub record IsSeen (y : Yard) (w : World) : Type 0 where
   pub set_is : w.set ≡ setting y.script
+  pub kind_is : y.kind ≡ y.script.config.kind
   pub limit_is : w.limit ≡ wire_limit
   pub members_are : y.members ≡ w.members
   pub version_is : y.version ≡ w.version
   pub ups_are : y.ups ≡ w.ups
+  pub ordered_are : y.ordered ≡ w.ordered
+  pub ordered_there : length y.ordered ≡ y.script.config.producers
   pub wire_is : y.mail.packets ≡ w.wire
   pub fresh_is : y.mail.fresh ≡ w.fresh
   pub full_is : y.mail.full ≡ w.full
@@ -59,7 +68,32 @@ pub record IsSound (y : Yard) (w : World) : Type 0 where
 pub record IsSoundFor (p : Packet) (y : Yard) (w : World) : Type 0 where
   pub sound : IsSound y w
   pub well : IsWell y.script w.lists p
-  pub built : IsTrue (is_built_packet p)
+
+-- an input for this node, which keeps what it promises; all is vouched for
+pub record IsOffered (c : Script) (i : Input) (st : Node) : Type 0 where
+  pub addressed : IfPacket i (λ p. p.to ≡ st.who)
+  pub may : MayTake c (λ e p n. true) st i
+
+-- and the node of this number is up
+pub record IsSoundAt (n : ℕ) (y : Yard) (w : World) : Type 0 where
+  pub sound : IsSound y w
+  pub some : 1 ≤ n
+  pub up : is_none (at y.nodes (n - 1)) ≡ false
+
+-- and may be given the input
+pub record MayGive (i : Input) (n : ℕ) (y : Yard) (w : World) : Type 0 where
+  pub stands_at : IsSoundAt n y w
+  pub offered : (st : Node) → at w.nodes (n - 1) ≡ Some st → IsOffered y.script i st
+
+-- or nobody is to be given it
+pub record MayAsk (i : Input) (to : Option ℕ) (y : Yard) (w : World) : Type 0 where
+  pub sound : IsSound y w
+  pub may : IfSome to (λ n. MayGive i n y w)
+
+-- a send is ordered
+abbrev pub noted : Order → Yard → Yard
+noted (order.Send p e k) y = record y { ordered = slice_set y.ordered (p - 1) (slice_index_or y.ordered (p - 1) 0 + 1) }
+noted o y = y
 
 -- it stands for the world that a step made, and the step's facts were told
 pub record Goes (before after : List Fact) (y : Yard) (m : Made) : Type 0 where

@@ -8,11 +8,10 @@ ghost use Rattle.world_sim.specs.Yard.{IsSound, IsSoundFor};
 
 use crate::laws::standing_is_kept;
 use crate::members::has;
-use crate::turns::hand_at;
 use crate::yard::Yard;
 use behaviour_core::Behaviour;
 use std::alloc::AllocError;
-use yard_model::{Fact, Facts, Packet};
+use yard_model::{Fact, Facts, Input, Packet};
 
 impl<B: Behaviour + Copy + Drop> Yard<B> {
     /// The packet of this number is delivered, where one was posted.
@@ -64,14 +63,7 @@ impl<B: Behaviour + Copy + Drop> Yard<B> {
         if !has(&self.members, &packet.to) {
             return Ok(());
         }
-        hand_at(
-            &mut self.nodes,
-            &self.charter,
-            packet,
-            &mut self.book,
-            &mut self.mail,
-        )?;
-        self.mail.tell_items(facts)
+        self.give(packet.to.node, &Input::Packet(*packet), facts)
     }
 
     /// At most `n` packets above `from` that were never delivered are delivered, the lowest number

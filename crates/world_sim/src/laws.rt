@@ -1,7 +1,7 @@
 //! Laws of what mail tells, and of what steps of the world keep. Each is a function that does nothing, whose contract is the law; a proof
 //! that needs it calls the function.
 ghost use Rattle.world_sim.specs.Keeps.{Keeps};
-ghost use Rattle.world_sim.specs.Played.{MadeNone, MadeNext, MadeFull, MadeAll};
+ghost use Rattle.world_sim.specs.Played.{MadeNone, MadeNext, MadeFull, MadeAll, MadeSafe};
 ghost use Rattle.world_sim.specs.Told.{FactsLaw, PostsAreOwn, ToldLaw, TurnIsOwn};
 
 use actor_laws::region::shards_are_there;
@@ -42,8 +42,14 @@ pub fn made_law()
     ensures all { MadeAll }
 {}
 
-/// A world begins sound, and each step of an order that is built keeps it so; no round of handoffs is
-/// open then, and packets of members alone are on the wire.
+/// What any number of a script's orders told is safe at each prefix.
+pub fn made_is_safe()
+    ensures { MadeSafe }
+{
+    played_is_sound();
+}
+
+/// A world begins sound, and each step of an order that is built keeps it so.
 pub fn standing_is_kept()
     ensures { Keeps }
 {

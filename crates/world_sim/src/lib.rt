@@ -1,13 +1,18 @@
 //! The world of a cluster: all its nodes, and the packets that go between them.
 #![tactic(auto)]
 
+mod asks;
 mod delivery;
 mod fault;
+mod gives;
 pub mod laws;
 mod mail;
 mod members;
 mod orders;
 mod places;
+mod produces;
+mod queues;
+mod seek;
 mod stops;
 mod stores;
 mod turns;

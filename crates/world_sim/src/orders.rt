@@ -1,11 +1,13 @@
 //! The orders of a script.
-ghost use Rattle.std.specs.Prelude.{ℕ, ◌<◌, IsTrue, slice_index_or};
+ghost use Rattle.std.specs.Prelude.{ℕ, ◌≡◌, ◌<◌, IsTrue, slice_index_or};
 ghost use Rattle.yard_model.specs.Script.{is_order};
 ghost use Rattle.yard_model.specs.World.{World, play, play_line};
+ghost use Rattle.play_laws.specs.Played.{is_named};
 ghost use Rattle.world_sim.specs.Built.{is_built_order};
 ghost use Rattle.world_sim.specs.Stepped.{Stepped};
-ghost use Rattle.world_sim.specs.Yard.{IsSound};
+ghost use Rattle.world_sim.specs.Yard.{IsSound, noted};
 
+use crate::places::count_one;
 use crate::yard::Yard;
 use behaviour_core::Behaviour;
 use std::alloc::AllocError;
@@ -16,19 +18,35 @@ impl<B: Behaviour + Copy + Drop> Yard<B> {
     pub(crate) fn play_line(&mut self, line: &Line, facts: &mut Facts) -> Result<(), AllocError>
         requires world { (w : World) × IsSound self.old w }
         requires order { IsTrue (is_order self.old.script.config line.now.order) }
+        requires named { IsTrue (is_named self.old.script line.now.order) }
         requires built { IsTrue (is_built_order line.now.order) }
         requires version { self.old.version < 4000000000 }
         requires ups { (k : ℕ) → slice_index_or self.old.ups k 0 < 4000000000 }
+        requires ordered { (k : ℕ) → slice_index_or self.old.ordered k 0 < 4000000000 }
         ensures { Stepped IsSound 1 (play_line line.now) result self.old self.new facts.old facts.new }
     {
         facts.push(Fact::At(line.number))?;
+        self.note(&line.order);
         self.play(&line.order, facts)
+    }
+
+    /// Notes that a send is ordered.
+    fn note(&mut self, order: &Order)
+        requires world { (w : World) × IsSound self.old w }
+        requires order { IsTrue (is_order self.old.script.config order.now) }
+        requires ordered { (k : ℕ) → slice_index_or self.old.ordered k 0 < 4000000000 }
+        ensures { self.new ≡ noted order.now self.old }
+    {
+        if let Order::Send(p, _, _) = order {
+            count_one(&mut self.ordered, *p);
+        }
     }
 
     /// What an order gives.
     fn play(&mut self, order: &Order, facts: &mut Facts) -> Result<(), AllocError>
         requires world { (w : World) × IsSound self.old w }
         requires order { IsTrue (is_order self.old.script.config order.now) }
+        requires named { IsTrue (is_named self.old.script order.now) }
         requires built { IsTrue (is_built_order order.now) }
         requires version { self.old.version < 4000000000 }
         requires ups { (k : ℕ) → slice_index_or self.old.ups k 0 < 4000000000 }
@@ -37,8 +55,17 @@ impl<B: Behaviour + Copy + Drop> Yard<B> {
         match order {
             Order::Up(n) => self.up(*n, facts),
             Order::Crash(n) => self.crash(*n, facts),
+            Order::Leave(n) => self.leave(*n, facts),
+            Order::Tick(n) => self.tick(*n, facts),
+            Order::Produce(p, n) => self.produce(*p, *n, facts),
+            Order::Rest(p) => self.rest(*p, facts),
+            Order::Send(p, entity, command) => self.send(*p, entity, command, facts),
+            Order::Passivate(entity) => self.passivate(entity, facts),
+            Order::FailWrite(entity, keep) => self.fail_write(entity, *keep, facts),
             Order::Deliver(number) => self.deliver(*number, facts),
             Order::Pump(n) => self.pump(*n as u32, facts),
+            Order::Rebalance(most) => self.rebalance(*most, facts),
+            Order::Ping(_) => facts.push(Fact::Nothing),
             _ => unreachable!(),
         }
     }

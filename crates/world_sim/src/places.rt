@@ -1,13 +1,14 @@
 //! Nodes by their numbers.
-ghost use Rattle.std.specs.Prelude.{◌≡◌, ◌+◌, ◌-◌, ◌<◌, ◌≤◌, length, is_none, slice_set, slice_index_or, replicate, IfOk, Some, None};
+ghost use Rattle.std.specs.Prelude.{◌≡◌, ◌+◌, ◌-◌, ◌<◌, ◌≤◌, length, is_none, slice_set, slice_index_or, replicate, IfOk, Some, None, if◌then◌else◌};
 ghost use Rattle.yard_model.specs.Words.{at};
 
+use behaviour_core::Behaviour;
 use node_core::Node;
 use std::alloc::{AllocError, Global};
-use yard_model::NodeNo;
+use yard_model::{NodeNo, ProducerNo};
 
 /// Whether no incarnation of this node is up.
-pub(crate) fn is_down<B>(nodes: &Vec<Option<Node<B>>>, n: NodeNo) -> bool
+pub(crate) fn is_down<B: Behaviour>(nodes: &Vec<Option<Node<B>>>, n: NodeNo) -> bool
     requires { n ≤ length nodes.now.items }
     ensures { result ≡ is_none (at nodes.now.items (n - 1)) }
 {
@@ -16,7 +17,11 @@ pub(crate) fn is_down<B>(nodes: &Vec<Option<Node<B>>>, n: NodeNo) -> bool
 }
 
 /// Puts a node at the place of this number.
-pub(crate) fn put_node<B: Drop>(nodes: &mut Vec<Option<Node<B>>>, n: NodeNo, node: Node<B>)
+pub(crate) fn put_node<B: Behaviour + Drop>(
+    nodes: &mut Vec<Option<Node<B>>>,
+    n: NodeNo,
+    node: Node<B>,
+)
     requires { n ≤ length nodes.old.items }
     ensures { nodes.new.items ≡ slice_set nodes.old.items (n - 1) (Some node) }
 {
@@ -45,7 +50,7 @@ pub(crate) fn set_number(ups: &mut Vec<u32>, n: NodeNo, number: u32)
 }
 
 /// No node is up.
-pub(crate) fn no_nodes<B: Drop>(
+pub(crate) fn no_nodes<B: Behaviour + Drop>(
     alloc: Global,
     count: u8,
 ) -> Result<Vec<Option<Node<B>>>, AllocError>
@@ -58,9 +63,37 @@ pub(crate) fn no_nodes<B: Drop>(
     Ok(nodes)
 }
 
-/// No node has ever come up.
-pub(crate) fn no_ups(alloc: Global, count: u8) -> Result<Vec<u32>, AllocError>
-    ensures { IfOk result (λ ups. ups.items ≡ replicate count 0) }
+/// The number of a node, where it is up.
+pub(crate) fn where_up<B: Behaviour>(nodes: &Vec<Option<Node<B>>>, n: NodeNo) -> Option<NodeNo>
+    requires { n ≤ length nodes.now.items }
+    ensures { result ≡ (if is_none (at nodes.now.items (n - 1)) then None else Some n) }
+{
+    if is_down(nodes, n) { None } else { Some(n) }
+}
+
+/// As many zeros as there are places.
+pub(crate) fn zeros(alloc: Global, count: u8) -> Result<Vec<u32>, AllocError>
+    ensures { IfOk result (λ counts. counts.items ≡ replicate count 0) }
 {
     vec![in alloc; 0; count as usize]
+}
+
+/// What stands at the place of a producer.
+pub(crate) fn count_at(counts: &Vec<u32>, p: ProducerNo) -> u32
+    requires { p ≤ length counts.now.items }
+    ensures { result ≡ slice_index_or counts.now.items (p - 1) 0 }
+{
+    let place = p.get() as usize - 1;
+    counts[place]
+}
+
+/// One more at the place of a producer.
+pub(crate) fn count_one(counts: &mut Vec<u32>, p: ProducerNo)
+    requires within { p ≤ length counts.old.items }
+    requires fits { slice_index_or counts.old.items (p - 1) 0 < 4000000000 }
+    ensures { counts.new.items ≡ slice_set counts.old.items (p - 1) (slice_index_or counts.old.items (p - 1) 0 + 1) }
+{
+    let place = p.get() as usize - 1;
+    let last = counts[place];
+    counts[place] = last + 1;
 }

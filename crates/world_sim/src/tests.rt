@@ -1,6 +1,7 @@
 //! What no clause says: that memory is there where there is plenty.
 ghost use Rattle.std.specs.Prelude.{◌≡◌, [], ◌∷◌, IfOk};
 ghost use Rattle.yard_model.specs.declared.charter.Order.TheVariants as order;
+ghost use Rattle.yard_model.specs.declared.event.Kind.TheVariants as kind;
 
 use crate::{Mail, World};
 use behaviour_kinds::Counter;
@@ -62,7 +63,8 @@ fn posts_are_numbered_and_delivered_in_their_order(rt: HostRuntime) -> Result<()
 
 /// A script of one order.
 fn one_up(alloc: Global) -> Result<Charter, AllocError>
-    ensures { IfOk result (λ c. c.orders ≡ record { number = 2; order = order.Up 1 } ∷ []) }
+    ensures orders { IfOk result (λ c. c.orders ≡ record { number = 2; order = order.Up 1 } ∷ []) }
+    ensures kind { IfOk result (λ c. c.config.kind ≡ kind.Counter) }
 {
     let mut orders = Vec::new(alloc);
     orders.push(UP)?;

@@ -7,14 +7,15 @@ ghost use Rattle.node_core.specs.Standing.{IsReady};
 ghost use Rattle.world_sim.specs.Turns.{MayHandle, Handled, HandledAt, Ends};
 
 use crate::mail::Mail;
+use behaviour_core::Behaviour;
 use node_core::Node;
 use shard_lease::LeaseBook;
 use std::alloc::AllocError;
-use yard_model::{Charter, Incarnation, Input, NodeNo, Packet};
+use yard_model::{Charter, Incarnation, Input, NodeNo};
 
 /// Makes room for what a node may make, in the mail and in the node's stores. The only error is want
 /// of memory.
-fn make_room<B: Drop>(mail: &mut Mail, node: &mut Node<B>) -> Result<(), AllocError>
+fn make_room<B: Behaviour + Drop>(mail: &mut Mail, node: &mut Node<B>) -> Result<(), AllocError>
     ensures script { node.new.script ≡ node.old.script }
     ensures state { node.new.state ≡ node.old.state }
     ensures items { mail.new.items ≡ mail.old.items }
@@ -26,59 +27,60 @@ fn make_room<B: Drop>(mail: &mut Mail, node: &mut Node<B>) -> Result<(), AllocEr
     node.reserve(mail.out())
 }
 
-/// A node handles a packet, for which there is room.
-fn hand_packet<B: Drop>(
+/// A node handles an input, for which there is room.
+fn hand_roomy<B: Behaviour + Drop>(
     charter: &Charter,
-    packet: &Packet,
+    input: &Input,
     node: &mut Node<B>,
     book: &mut LeaseBook,
     mail: &mut Mail,
 )
-    requires may { MayHandle charter.now packet.now book.old node.old }
+    requires may { MayHandle charter.now input.now book.old node.old }
     requires ready { IsReady node.old mail.old.spare }
-    ensures { Handled packet.now book.old book.new mail.old mail.new node.old node.new }
+    ensures { Handled input.now book.old book.new mail.old mail.new node.old node.new }
 {
-    node.turn(charter, Input::Packet(*packet), book, mail.out());
+    node.turn(charter, *input, book, mail.out());
 }
 
-/// A node handles a packet. The only error is want of memory.
-fn hand<B: Drop>(
+/// A node handles an input. The only error is want of memory.
+fn hand<B: Behaviour + Drop>(
     charter: &Charter,
-    packet: &Packet,
+    input: &Input,
     node: &mut Node<B>,
     book: &mut LeaseBook,
     mail: &mut Mail,
 ) -> Result<(), AllocError>
-    requires { MayHandle charter.now packet.now book.old node.old }
-    ensures { OnOk result (Handled packet.now book.old book.new mail.old mail.new node.old node.new) }
+    requires { MayHandle charter.now input.now book.old node.old }
+    ensures { OnOk result (Handled input.now book.old book.new mail.old mail.new node.old node.new) }
 {
     make_room(mail, node)?;
-    hand_packet(charter, packet, node, book, mail);
+    hand_roomy(charter, input, node, book, mail);
     Ok(())
 }
 
-/// The node that a packet is addressed to, which is up, handles it in its place. The only error is
-/// want of memory.
-pub(crate) fn hand_at<B: Drop>(
+/// The node of this number, which is up, handles an input in its place. The only error is want of
+/// memory.
+pub(crate) fn hand_at<B: Behaviour + Drop>(
     nodes: &mut Vec<Option<Node<B>>>,
+    n: NodeNo,
     charter: &Charter,
-    packet: &Packet,
+    input: &Input,
     book: &mut LeaseBook,
     mail: &mut Mail,
 ) -> Result<(), AllocError>
-    requires there { packet.now.to.node ≤ length nodes.old.items }
-    requires up { IsSomeAnd (at nodes.old.items (packet.now.to.node - 1)) (MayHandle charter.now packet.now book.old) }
-    ensures { OnOk result (IsSomeAnd (at nodes.old.items (packet.now.to.node - 1)) (HandledAt packet.now book.old book.new mail.old mail.new nodes.old.items nodes.new.items)) }
+    requires there { n ≤ length nodes.old.items }
+    requires up { IsSomeAnd (at nodes.old.items (n - 1)) (MayHandle charter.now input.now book.old) }
+    ensures { OnOk result (IsSomeAnd (at nodes.old.items (n - 1)) (HandledAt input.now n book.old book.new mail.old mail.new nodes.old.items nodes.new.items)) }
 {
-    let place = packet.to.node.get() as usize - 1;
+    let place = n.get() as usize - 1;
     match &mut nodes[place] {
-        Some(node) => hand(charter, packet, node, book, mail),
+        Some(node) => hand(charter, input, node, book, mail),
         None => unreachable!(),
     }
 }
 
 /// A node's end: what it held is freed.
-fn end<B: Drop>(node: Node<B>, book: &mut LeaseBook, mail: &mut Mail)
+fn end<B: Behaviour + Drop>(node: Node<B>, book: &mut LeaseBook, mail: &mut Mail)
     requires ready { IsReady node mail.old.spare }
     requires rests { Rests (meaning_of book.old) node.script node.state }
     ensures { Ends book.old book.new mail.old mail.new node }
@@ -88,7 +90,7 @@ fn end<B: Drop>(node: Node<B>, book: &mut LeaseBook, mail: &mut Mail)
 
 /// The node of this number, which is up, is gone, and what it held is freed: which incarnation it
 /// was. The only error is want of memory.
-pub(crate) fn end_at<B: Drop>(
+pub(crate) fn end_at<B: Behaviour + Drop>(
     nodes: &mut Vec<Option<Node<B>>>,
     n: NodeNo,
     book: &mut LeaseBook,

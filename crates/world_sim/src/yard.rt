@@ -2,15 +2,17 @@
 ghost use Rattle.std.specs.Prelude.{◌≡◌};
 
 use crate::mail::Mail;
+use behaviour_core::Behaviour;
 use node_core::Node;
 use shard_lease::LeaseBook;
 use std::alloc::Global;
 use std::marker::{Model, PhantomData};
 use yard_model::{Body, Charter, Fact, Item, Members, Packet, Slot, State};
 
-/// What a world keeps: the nodes that are up, who is a member, the leases, and the packets.
+/// What a world keeps: the nodes that are up, who is a member, the leases, the packets, and how many of
+/// each producer's sends were ordered.
 #[derive(Drop)]
-pub(crate) struct Yard<B> {
+pub(crate) struct Yard<B: Behaviour> {
     pub(crate) alloc: Global,
     pub(crate) charter: Charter,
     pub(crate) behaviour: B,
@@ -19,27 +21,30 @@ pub(crate) struct Yard<B> {
     pub(crate) members: Members,
     pub(crate) version: u32,
     pub(crate) ups: Vec<u32>,
+    pub(crate) ordered: Vec<u32>,
     pub(crate) mail: Mail,
     pub(crate) holds: PhantomData<(Item, Fact, Packet, Body, State, Slot)>,
 }
 
-impl<B> Model for Yard<B> {
+impl<B: Behaviour> Model for Yard<B> {
     ghost use Rattle.world_sim.specs.Yard.{Yard};
 
     ghost Value = { Yard };
 
     ghost view = { λ y. record {
       script = y.charter;
+      kind = B.kind_of y.behaviour;
       book = y.book;
       nodes = y.nodes.items;
       members = y.members;
       version = y.version;
       ups = y.ups.items;
+      ordered = y.ordered.items;
       mail = y.mail;
     } };
 }
 
-impl<B> Yard<B> {
+impl<B: Behaviour> Yard<B> {
     /// Whether a packet past the limit was to be posted.
     pub(crate) fn is_full(&self) -> bool
         ensures { result ≡ self.now.mail.full }

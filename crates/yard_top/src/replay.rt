@@ -57,6 +57,7 @@ fn replayed<B: Behaviour + Copy + Drop>(
     behaviour: B,
 ) -> Result<Text, AllocError>
     requires built { IsTrue (are_built charter.now) }
+    requires kind { B.kind_of behaviour ≡ charter.now.config.kind }
     requires version { B.version_of behaviour ≡ 1 }
     ensures bytes { IfOk result (λ t. t.bytes.items ≡ replay_text charter.now) }
     ensures stop { IfOk result (λ t. t.stop ≡ stop_in (trace_of charter.now)) }

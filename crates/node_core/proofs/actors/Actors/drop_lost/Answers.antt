@@ -1,22 +1,24 @@
-use Rattle.std.proofs.Common.{◌≡◌, sym, ap, subst, ◌∙◌}
+use Rattle.std.proofs.Common.{List, subst}
 use Rattle.std.specs.Prelude.{Option}
-use Rattle.yard_model.specs.Coordinator.{terminate_lost}
 use Rattle.yard_model.specs.Node as rules
+use Rattle.yard_model.specs.Producer.{Producer}
+use Rattle.yard_model.specs.Region.{Region}
 use Rattle.yard_model.specs.Script.{Script}
 use Rattle.coordinator_actor.specs.Held.{Held}
-use Rattle.node_core.specs.Standing.{Standing, node_of}
-use Rattle.node_core.specs.Leased.{Rests}
-use Rattle.node_core.specs.Found.{none}
-use Rattle.node_core.specs.Gave.{Gave, moment}
+use Rattle.shard_entities.specs.Lodged.{Lodged}
+use Rattle.node_core.specs.Standing.{Standing, standing_of, no_producers}
+use Rattle.node_core.specs.Went.{Went}
+use Rattle.yard_model.specs.Coordinator.{terminate_lost}
+use Rattle.node_core.proofs.StepLaws.{coordinator_went}
+use Rattle.node_core.proofs.OfficeLaws.{takes_drop_lost}
 use Rattle.node_core.proofs.actors.Actors.drop_lost.Goals as goal
 
-pub returns-clause-gave : goal.returns-clause-gave
-returns-clause-gave g c = λ m rests.
+pub returns-clause-went : goal.returns-clause-went
+returns-clause-went g c =
     let script : Script = c.self.inside.script.value in
-    let r = c.self.inside.region.state in
+    let r : Region = c.self.inside.region.state in
+    let e : Lodged = c.self.inside.entities in
+    let ps : List (Option Producer) = no_producers script in
     let k : Option Held = c.self.inside.coordinator in
-    let same : c.args.charter.now ≡ script = c.requires.charter ∙ sym (ap (λ (v : Standing). v.script) c.self.view_is) in
-    let here : Rests m script (node_of script c.self.inside.version r k) = subst (λ (v : Standing). Rests m v.script v.state) (sym c.self.view_is) rests in
-    subst (λ (v : Standing). Gave v.script none (λ lists. rules.of_coordinator (terminate_lost v.state.region.view) v.state) (moment m v.state c.args.out.now.items) (moment m (node_of script c.self.inside.version r c.drop_lost.new.coordinator) c.drop_lost.new.out.items)) c.self.view_is
-    (subst (λ (s : Script). Gave s none (λ lists. rules.of_coordinator (terminate_lost r.view) (node_of s c.self.inside.version r k)) (moment m (node_of s c.self.inside.version r k) c.args.out.now.items) (moment m (node_of s c.self.inside.version r c.drop_lost.new.coordinator) c.drop_lost.new.out.items)) same
-    (c.drop_lost.ensures.gave m (subst (λ (s : Script). Rests m s (node_of s c.self.inside.version r k)) (sym same) here)))
+    subst (λ (v : Standing). Went v (standing_of script r e ps c.drop_lost.new.coordinator) c.args.out.now c.drop_lost.new.out (rules.of_coordinator (terminate_lost v.state.region.view) v.state)) c.self.view_is
+    (coordinator_went script r e ps (terminate_lost r.view) k c.drop_lost.new.coordinator c.args.out.now c.drop_lost.new.out (takes_drop_lost script r.view) c.drop_lost.ensures.went)

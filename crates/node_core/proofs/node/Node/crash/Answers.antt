@@ -12,7 +12,7 @@ returns g c =
     let v : Standing = c.self.inside.actors in
     subst (λ (w : Standing). Ended w.script (moment old w.state c.args.out.now.items) new c.end.new.out.items) c.self.view_is
     (record {
-      items_are = c.end.ensures.items;
+      items_are = c.end.ensures.items_are;
       tells = c.end.ensures.tells;
       free = c.end.ensures.free;
       keeps = λ h hand. c.crash_stands.ensures v.script old.vouches v.state h c.self.invariant.0 hand;

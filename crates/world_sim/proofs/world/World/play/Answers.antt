@@ -2,7 +2,7 @@ use Rattle.std.proofs.Common.{◌+◌, ap, sym, ◌∙◌, subst}
 use Rattle.world_sim.specs.declared.fault.StepFault.TheVariants as fault
 use Rattle.std.specs.Prelude.{slice_get, Some}
 use Rattle.world_sim.specs.Played.{Played, Went, Filled, CutShort}
-use Rattle.world_sim.proofs.WorldLaws.{sound_at, order_of_line, built_line, world_going, world_full, went, filled, cut_short}
+use Rattle.world_sim.proofs.WorldLaws.{sound_at, order_of_line, named_line, built_line, ordered_fit, world_going, world_full, went, filled, cut_short}
 use Rattle.world_sim.proofs.world.World.play.Goals as goal
 
 pub play_line-requires-clause-world : goal.play_line-requires-clause-world
@@ -10,6 +10,13 @@ play_line-requires-clause-world g c = (_, sound_at c.self.inside.yard c.self.ins
 
 pub play_line-requires-clause-order : goal.play_line-requires-clause-order
 play_line-requires-clause-order g c = order_of_line c.self.inside.yard c.self.inside.count c.self.inside.fault c.args.line.now c.self.invariant (ap (λ (v : Played). slice_get v.script.orders v.count) c.self.view_is ∙ c.requires.next)
+
+pub play_line-requires-clause-named : goal.play_line-requires-clause-named
+play_line-requires-clause-named g c = named_line c.self.inside.yard c.self.inside.count c.self.inside.fault c.args.line.now c.self.invariant (ap (λ (v : Played). slice_get v.script.orders v.count) c.self.view_is ∙ c.requires.next)
+
+pub play_line-requires-clause-ordered : goal.play_line-requires-clause-ordered
+play_line-requires-clause-ordered g c = ordered_fit c.self.inside.yard c.self.inside.count c.self.inside.fault c.args.line.now c.self.invariant (ap (λ (v : Played). v.fault) c.self.view_is ∙ c.requires.going)
+    (ap (λ (v : Played). slice_get v.script.orders v.count) c.self.view_is ∙ c.requires.next)
 
 pub play_line-requires-clause-built : goal.play_line-requires-clause-built
 play_line-requires-clause-built g c = built_line c.self.inside.yard c.self.inside.count c.self.inside.fault c.args.line.now c.self.invariant (ap (λ (v : Played). slice_get v.script.orders v.count) c.self.view_is ∙ c.requires.next)

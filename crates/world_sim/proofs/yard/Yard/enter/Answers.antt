@@ -16,6 +16,11 @@ new-requires-clause-version g c =
     let r = c.requires.world in
     ap (is_version c.self.inside.charter) c.at_version-behaviour.ensures.version ∙ admitted_one _ r.0 (subst (λ v. IsSound v r.0) (sym c.self.view_is) r.1)
 
+pub new-requires-clause-kind : goal.new-requires-clause-kind
+new-requires-clause-kind g c =
+    let r = c.requires.world in
+    c.at_version-behaviour.ensures.kind ∙ (subst (λ v. IsSound v r.0) (sym c.self.view_is) r.1).seen_is.kind_is
+
 pub with-self-inside-requires-clause-other : goal.with-self-inside-requires-clause-other
 with-self-inside-requires-clause-other g c =
     let r = c.requires.world in
@@ -49,8 +54,8 @@ returns g c =
     let who = came_is c.self.inside.ups.items c.args.n c.next_number-number.result c.next_number-number.ensures in
     whole_as IsSound 1 (entered c.args.n) _ c.args.self.now _ _ _ c.self.view_is
     (entered_whole _ _ c.args.n c.in_ok-node.node c.args.facts.now c.push.new.self
-    (yard_is _ _ refl refl c.put_node.ensures (c.with-self-inside.ensures ∙ ap (λ x. c.self.inside.members ++ x ∷ []) who) refl
-    (c.set_number.ensures ∙ ap (λ k. slice_set c.self.inside.ups.items (c.args.n - 1) k) c.next_number-number.ensures) refl)
+    (yard_is _ _ refl refl refl c.put_node.ensures (c.with-self-inside.ensures ∙ ap (λ x. c.self.inside.members ++ x ∷ []) who) refl
+    (c.set_number.ensures ∙ ap (λ k. slice_set c.self.inside.ups.items (c.args.n - 1) k) c.next_number-number.ensures) refl refl)
     (ap (λ v. is_in 1 v.script.config.nodes c.args.n) c.self.view_is ∙ c.requires.node)
     c.in_ok-node.ensures.script
     (c.in_ok-node.ensures.state ∙ (ap (λ v. new_node (setting c.self.inside.charter) v (record { node = c.args.n; number = c.next_number-number.result })) c.at_version-behaviour.ensures.version ∙ ap (λ x. new_node (setting c.self.inside.charter) 1 x) who))

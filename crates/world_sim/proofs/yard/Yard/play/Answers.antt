@@ -1,6 +1,6 @@
 use Rattle.std.proofs.Common.{arith}
 use Rattle.yard_model.specs.declared.charter.Order.TheVariants as order
-use Rattle.world_sim.proofs.DeliveryLaws.{play_as}
+use Rattle.world_sim.proofs.DeliveryLaws.{play_as, ping_stepped}
 use Rattle.world_sim.proofs.yard.Yard.play.Goals as goal
 
 pub returns-in-Up : goal.returns-in-Up
@@ -14,3 +14,30 @@ returns-in-Deliver g c = play_as 0 c.args.order.now (order.Deliver c.in-Deliver.
 
 pub returns-in-Pump : goal.returns-in-Pump
 returns-in-Pump g c = play_as 0 c.args.order.now (order.Pump c.in-Pump.n) c.pump.result c.args.self.now c.pump.new.self c.args.facts.now c.pump.new.facts c.in-Pump.is (omega arith) c.pump.ensures
+
+pub returns-in-Leave : goal.returns-in-Leave
+returns-in-Leave g c = play_as 0 c.args.order.now (order.Leave c.in-Leave.n) c.leave.result c.args.self.now c.leave.new.self c.args.facts.now c.leave.new.facts c.in-Leave.is (omega arith) c.leave.ensures
+
+pub returns-in-Tick : goal.returns-in-Tick
+returns-in-Tick g c = play_as 0 c.args.order.now (order.Tick c.in-Tick.n) c.tick.result c.args.self.now c.tick.new.self c.args.facts.now c.tick.new.facts c.in-Tick.is (omega arith) c.tick.ensures
+
+pub returns-in-Produce : goal.returns-in-Produce
+returns-in-Produce g c = play_as 0 c.args.order.now (order.Produce c.in-Produce.p c.in-Produce.n) c.produce.result c.args.self.now c.produce.new.self c.args.facts.now c.produce.new.facts c.in-Produce.is (omega arith) c.produce.ensures
+
+pub returns-in-Rest : goal.returns-in-Rest
+returns-in-Rest g c = play_as 0 c.args.order.now (order.Rest c.in-Rest.p) c.rest.result c.args.self.now c.rest.new.self c.args.facts.now c.rest.new.facts c.in-Rest.is (omega arith) c.rest.ensures
+
+pub returns-in-Send : goal.returns-in-Send
+returns-in-Send g c = play_as 0 c.args.order.now (order.Send c.in-Send.p c.in-Send.entity c.in-Send.command) c.send.result c.args.self.now c.send.new.self c.args.facts.now c.send.new.facts c.in-Send.is (omega arith) c.send.ensures
+
+pub returns-in-Passivate : goal.returns-in-Passivate
+returns-in-Passivate g c = play_as 0 c.args.order.now (order.Passivate c.in-Passivate.entity) c.passivate.result c.args.self.now c.passivate.new.self c.args.facts.now c.passivate.new.facts c.in-Passivate.is (omega arith) c.passivate.ensures
+
+pub returns-in-FailWrite : goal.returns-in-FailWrite
+returns-in-FailWrite g c = play_as 0 c.args.order.now (order.FailWrite c.in-FailWrite.entity c.in-FailWrite.keep) c.fail_write.result c.args.self.now c.fail_write.new.self c.args.facts.now c.fail_write.new.facts c.in-FailWrite.is (omega arith) c.fail_write.ensures
+
+pub returns-in-Rebalance : goal.returns-in-Rebalance
+returns-in-Rebalance g c = play_as 0 c.args.order.now (order.Rebalance c.in-Rebalance.most) c.rebalance.result c.args.self.now c.rebalance.new.self c.args.facts.now c.rebalance.new.facts c.in-Rebalance.is (omega arith) c.rebalance.ensures
+
+pub returns-in-Ping : goal.returns-in-Ping
+returns-in-Ping g c = ping_stepped c.args.order.now c.in-Ping.field-0 c.push.result c.args.self.now c.args.facts.now c.push.new.self c.in-Ping.is c.push.ensures.ok c.push.ensures.err

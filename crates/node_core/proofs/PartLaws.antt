@@ -1,0 +1,118 @@
+-- A store that leaves the entities, and what the node owes the leases for it.
+use Rattle.std.proofs.Common.{◌≡◌, ◌≢◌, ℕ, zero, suc, ◌≤◌, List, [], ◌∷◌, sym, ap, subst, ◌∙◌, refl, true}
+use Rattle.std.specs.Prelude.{slice_index_or, slice_set, Option, Some, None, is_some, IfSome}
+use Rattle.std.specs.Option.{option_map}
+use Rattle.yard_model.specs.declared.event.Kind.{Kind}
+use Rattle.yard_model.specs.declared.fact.Fact.{Fact}
+use Rattle.yard_model.specs.declared.incarnation.Slot.{Slot}
+use Rattle.yard_model.specs.declared.incarnation.Slot.TheVariants as slot
+use Rattle.yard_model.specs.Entities.{Entities, Hosted, hosted, entries_in}
+use Rattle.yard_model.specs.Genuine.{is_node, is_slot_of}
+use Rattle.yard_model.specs.Move.{Move}
+use Rattle.yard_model.specs.Node.{Node}
+use Rattle.yard_model.specs.Producer.{Producer}
+use Rattle.yard_model.specs.Region.{Region}
+use Rattle.yard_model.specs.Script.{Script}
+use Rattle.yard_model.specs.SlotReads.{holder}
+use Rattle.yard_model.specs.Words.{at}
+use Rattle.plain_laws.proofs.Booleans.{true_is_not_false}
+use Rattle.plain_laws.proofs.Lists.{placed_beside}
+use Rattle.actor_laws.specs.Hands.{held_list}
+use Rattle.region_actor.specs.Made.{Made}
+use Rattle.coordinator_actor.specs.Held.{Held}
+use Rattle.shard_entities.specs.Lodged.{Lodged, IsStore, moved, without}
+use Rattle.shard_store.specs.Shelf.{Shelf}
+use Rattle.shard_lease.specs.Meaning.{Meaning, Serves}
+use Rattle.node_core.specs.Leased.{Rests, IsHandOf, MayGiveBack}
+use Rattle.node_core.specs.Standing.{AreParts, node_of}
+use Rattle.node_core.proofs.LetGoLaws.{Frees}
+use Rattle.node_core.proofs.StepLaws.{moved_of, moved_who, moved_set, moved_version}
+
+-- the leases serve the node at each slot but a queue, and at a queue that it is admitted to
+pub serves_at : (c : Script) (m : Meaning) (st : Node) (s : Slot) → is_node c st.who ≡ true → is_slot_of c s ≡ true → m.admits st.who.node s ≡ true → Rests m c st → Serves m st.who s
+serves_at c m st s who here admitted rests = record {
+  who_is = rests.serves_is;
+  node_is = subst (λ d. is_node d st.who ≡ true) (sym rests.script_is) who;
+  number_is = rests.number_is;
+  slot_is = subst (λ d. is_slot_of d s ≡ true) (sym rests.script_is) here;
+  admitted = admitted;
+}
+
+-- A store of the entities is that of a hosted shard.
+
+pub record IsOfHosted (st : Entities) (s : ℕ) (entries : List Fact) : Type 0 where
+  pub host : Hosted
+  pub hosted_is : hosted st s ≡ Some host
+  pub entries_are : host.entries ≡ entries
+
+pub store_hosted : (v : Lodged) (s : ℕ) (x : Shelf) → IsStore v s x → IsOfHosted v.state s x.entries
+store_hosted v s x is = by (hosted v.state s) refl
+  where
+    by : (o : Option Hosted) → hosted v.state s ≡ o → IsOfHosted v.state s x.entries
+    by None e = absurd (true_is_not_false (sym (ap is_some (sym (ap holder (is.entries_are ∙ ap entries_in e)) ∙ is.leased))))
+    by (Some h) e = record { host = h; hosted_is = e; entries_are = sym (is.entries_are ∙ ap entries_in e) }
+
+pub held_is : (st : Node) (s : ℕ) (entries : List Fact) → IsOfHosted st.entities s entries → held_list (slot.Shard s) st ≡ Some entries
+held_is st s entries h = ap (option_map (λ (x : Hosted). x.entries)) h.hosted_is ∙ ap (λ l. Some l) h.entries_are
+
+pub holds_it : (c : Script) (m : Meaning) (st : Node) (s : Slot) (entries : List Fact) → is_slot_of c s ≡ true → held_list s st ≡ Some entries → Rests m c st → m.holds st.who.node s ≡ true
+holds_it c m st s entries here held rests = rests.held_is s here ∙ ap is_some held
+
+pub hand_of : (c : Script) (m : Meaning) (st : Node) (s : Slot) (entries : List Fact) → is_slot_of c s ≡ true → held_list s st ≡ Some entries → Rests m c st → IsHandOf m s entries
+hand_of c m st s entries here held rests = subst (λ o. IfSome o (IsHandOf m s)) held (rests.lists_are s here)
+
+pub leased_of : (c : Script) (m : Meaning) (st : Node) (s : Slot) (entries : List Fact) → is_slot_of c s ≡ true → held_list s st ≡ Some entries → Rests m c st → holder entries ≡ Some st.who
+leased_of c m st s entries here held rests = subst (λ o. IfSome o (λ l. holder l ≡ Some st.who)) held (rests.leased_are s here)
+
+-- A shard that is taken out.
+
+pub none_there : {A : Type 0} (xs : List (Option A)) (i : ℕ) → at (slice_set xs i None) i ≡ None
+none_there [] i = refl
+none_there (x ∷ xs) zero = refl
+none_there (x ∷ xs) (suc i) = none_there xs i
+
+pub without_frees : (c : Script) (r : Region) (e : Lodged) (ps : List (Option Producer)) (k : Option Held) (s : ℕ) → Frees (slot.Shard s) (node_of c r e ps k) (node_of c r (without e s) ps k)
+without_frees c r e ps k s = record {
+  who_is = refl;
+  held_is = ap (option_map (λ (x : Hosted). x.entries)) (none_there e.state.hosted s);
+  else_is = others;
+}
+  where
+    others : (t : Slot) → t ≢ slot.Shard s → held_list t (node_of c r (without e s) ps k) ≡ held_list t (node_of c r e ps k)
+    others (slot.Shard t) other = ap (option_map (λ (x : Hosted). x.entries)) (placed_beside e.state.hosted s t None (λ same. other (ap (λ n. slot.Shard n) same)))
+    others slot.Coordinator other = refl
+    others (slot.Queue p) other = refl
+
+-- The parts after moves of the entities.
+
+pub parts_moved : {c : Script} {kind : Kind} {version : ℕ} {region : Made} {e now : Lodged} {office : Option Held} (ms : List Move) → now ≡ moved e ms → AreParts c kind version region e office → AreParts c kind version region now office
+parts_moved {e = e} ms goes parts = record {
+  script_is = parts.script_is;
+  kind_is = parts.kind_is;
+  who_is = parts.who_is;
+  region_script = parts.region_script;
+  region_set = parts.region_set;
+  entities_script = ap (λ (v : Lodged). v.script) goes ∙ (moved_of e ms ∙ parts.entities_script);
+  entities_who = ap (λ (v : Lodged). v.state.who) goes ∙ (moved_who e ms ∙ parts.entities_who);
+  entities_set = ap (λ (v : Lodged). v.state.set) goes ∙ (moved_set e ms ∙ parts.entities_set);
+  entities_version = parts.entities_version ∙ sym (ap (λ (v : Lodged). v.state.version) goes ∙ moved_version e ms);
+  coordinator = parts.coordinator;
+}
+
+-- What is given back of a hosted shard.
+
+pub may_give_back : (c : Script) (m : Meaning) (st : Node) (s : ℕ) (x : Shelf) → is_node c st.who ≡ true → is_slot_of c (slot.Shard s) ≡ true → x.script ≡ c → x.shard ≡ s → holder x.entries ≡ Some st.who → 101 ≤ x.spare
+    → Rests m c st → m.holds st.who.node (slot.Shard s) ≡ true → IsHandOf m (slot.Shard s) x.entries → MayGiveBack m st.who s x
+may_give_back c m st s x who here script shard leased room rests holds hand = record {
+  serves = serves_at c m st (slot.Shard s) who here (rests.admits_is (slot.Shard s) here tt) rests;
+  holds = holds;
+  script_is = script ∙ sym rests.script_is;
+  shard_is = shard;
+  leased = leased;
+  hand = hand;
+  room = room;
+}
+
+-- the room of a hosted shard's store
+pub store_room : (v : Lodged) (s n : ℕ) (x : Shelf) → IsStore v s x → ((hosted v.state s ≡ None → ⊥) → n ≤ slice_index_or v.rooms s 0) → n ≤ x.spare
+store_room v s n x is room = subst (λ z. n ≤ z) (sym is.room_is) (room (λ none. true_is_not_false (sym (ap is_some (sym none ∙ (store_hosted v s x is).hosted_is)))))

@@ -1,0 +1,175 @@
+-- What Start of a shard gives.
+use Rattle.std.proofs.Common.{◌≡◌, ◌≢◌, ℕ, ◌+◌, ◌-◌, ◌<◌, List, [], ◌∷◌, ◌++◌, length, map, sym, ap, subst, ◌∙◌, refl, true, false, arith}
+use Rattle.std.specs.Prelude.{Bool, ◌&&◌, ◌==◌, not, filter, Option, Some, None, if◌then◌else◌}
+use Rattle.std.specs.List.{flat_map}
+use Rattle.std.specs.Option.{option_map}
+use Rattle.std.proofs.lemmas.List.{get_or-set_same, get_or-set_other}
+use Rattle.std.proofs.lemmas.List.Sums.{fold-append}
+use Rattle.yard_model.specs.declared.fact.Fact.TheVariants as fact
+use Rattle.yard_model.specs.declared.incarnation.Incarnation.{Incarnation}
+use Rattle.yard_model.specs.declared.incarnation.Slot.{Slot}
+use Rattle.yard_model.specs.declared.incarnation.Slot.TheVariants as slot
+use Rattle.yard_model.specs.declared.out.Item.{Item}
+use Rattle.yard_model.specs.declared.out.Item.TheVariants as item
+use Rattle.yard_model.specs.Entities as entities
+use Rattle.yard_model.specs.Entities.{Entities, Hosted, hosted, is_hosted, entries, entries_in, start_remembered}
+use Rattle.yard_model.specs.Genuine.{is_node, is_slot_of}
+use Rattle.yard_model.specs.Lawful.{own}
+use Rattle.yard_model.specs.declared.event.Kind.{Kind}
+use Rattle.yard_model.specs.Move.{made, told}
+use Rattle.yard_model.specs.Node as rules
+use Rattle.yard_model.specs.Node.{Node, Act, Rule, by_entities, after, acquire, of_entities}
+use Rattle.yard_model.specs.Script.{Script, setting}
+use Rattle.yard_model.specs.Setting.{shard_of, names_of}
+use Rattle.yard_model.specs.SlotLists.{shard_list}
+use Rattle.yard_model.specs.SlotReads.{holder, holder_step, epoch, is_remembered}
+use Rattle.yard_model.specs.Spared.{Spared}
+use Rattle.plain_laws.proofs.Booleans.{both, number_itself, same_number}
+use Rattle.actor_laws.specs.Hands.{held_list}
+use Rattle.coordinator_actor.specs.Held.{Held}
+use Rattle.region_actor.specs.Made.{Made}
+use Rattle.shard_entities.specs.Lodged.{Lodged, given, hosting}
+use Rattle.shard_lease.specs.declared.leases.Acquire.{Acquire}
+use Rattle.shard_lease.specs.declared.leases.Acquire.TheVariants as acquired
+use Rattle.shard_lease.specs.Meaning.{Acquired, Meaning, Stays, Apart, Still, Hands, Refuses}
+use Rattle.shard_store.specs.declared.store.Store.TheVariants as store
+use Rattle.shard_store.specs.Shelf.{Shelf}
+use Rattle.node_core.specs.Found.{none, asks}
+use Rattle.node_core.specs.Gave.{Gave, moment}
+use Rattle.node_core.specs.Leased.{Rests}
+use Rattle.node_core.specs.Standing.{Standing, AreParts}
+use Rattle.node_core.specs.Started.{asks_start, take_shard, with_store, TookShard, IsShardGrant}
+use Rattle.node_core.specs.Still.{is_of_shards, is_held_of}
+use Rattle.node_core.proofs.AskLaws.{granted_gave, refused_gave}
+use Rattle.node_core.proofs.GaveLaws.{gave_asked, gave_nothing, gave_same, gave_then}
+use Rattle.node_core.proofs.GiveLaws.{entities_gave}
+use Rattle.node_core.proofs.StillEntities.{remembered_still}
+
+-- A shard that is granted.
+
+shard_granted : (c : Script) (old new : Meaning) (v : Standing) (s : ℕ) (x : Shelf) (before : List Item) → is_slot_of c (slot.Shard s) ≡ true → s < length v.state.entities.hosted → hosted v.state.entities s ≡ None
+    → Rests old c v.state → Stays old new → Hands old v.state.who (slot.Shard s) (store.Shard x) new → Apart v.state.who.node (slot.Shard s) old new
+    → Gave c (asks (slot.Shard s)) (λ lists. map by_entities (acquire (slot.Shard s) v.state.who (shard_list lists s))) (moment old v.state before)
+    (moment new (with_store s x v).state (before ++ item.Fact (fact.Granted (slot.Shard s) (epoch x.entries) v.state.who) ∷ []))
+shard_granted c old new v s x before here inside free rests stays h apart =
+    granted_gave c (slot.Shard s) by_entities old new v.state (with_store s x v).state (store.Shard x) before here (ap (option_map (λ (h : Hosted). h.entries)) free) (λ m. refl) rests stays h apart (λ n. refl)
+    (record { held_is = ap (option_map (λ (h : Hosted). h.entries)) (get_or-set_same v.state.entities.hosted s (Some (record { entries = x.entries; stopping = None })) None inside); else_is = others })
+  where
+    others : (t : Slot) → t ≢ slot.Shard s → held_list t (with_store s x v).state ≡ held_list t v.state
+    others (slot.Shard t) other = ap (option_map (λ (h : Hosted). h.entries)) (get_or-set_other v.state.entities.hosted s t (Some (record { entries = x.entries; stopping = None })) None (λ same. other (ap (λ i. slot.Shard i) same)))
+    others slot.Coordinator other = refl
+    others (slot.Queue p) other = refl
+
+-- A shard that another node holds.
+
+shard_refused : (c : Script) (old new : Meaning) (st : Node) (s node : ℕ) (before : List Item) → is_slot_of c (slot.Shard s) ≡ true → hosted st.entities s ≡ None
+    → Rests old c st → Stays old new → Refuses old st.who (slot.Shard s) node → Still old new
+    → Gave c (asks (slot.Shard s)) (λ lists. map by_entities (acquire (slot.Shard s) st.who (shard_list lists s))) (moment old st before)
+    (moment new st (before ++ item.Fact (fact.Held (slot.Shard s) st.who node) ∷ []))
+shard_refused c old new st s node before here free rests stays h still =
+    refused_gave c (slot.Shard s) by_entities old new st node before here (ap (option_map (λ (h : Hosted). h.entries)) free) (λ m. refl) lawful rests stays h still refl
+  where
+    lawful : own c (slot.Shard s) (fact.Granted (slot.Shard s) 1 (record { node = node; number = 1 }) ∷ []) ≡ true
+    lawful = both ((s == s) && is_node c (record { node = node; number = 1 })) true (both (s == s) (is_node c (record { node = node; number = 1 })) (number_itself s s refl) (subst (λ d. is_node d (record { node = node; number = 1 }) ≡ true) rests.script_is h.node_is)) refl
+
+-- of a shard that isn't hosted no entity is remembered
+none_passes : (q r : List ℕ → Bool) → ((x : List ℕ) → q x ≡ true → r x ≡ false) → (xs : List (List ℕ)) → filter r (filter q xs) ≡ []
+none_passes q r h [] = refl
+none_passes q r h (x ∷ xs) = by (q x) refl (none_passes q r h xs)
+  where
+    by : (b : Bool) → q x ≡ b → filter r (filter q xs) ≡ [] → filter r (if b then x ∷ filter q xs else filter q xs) ≡ []
+    by true k rest = ap (λ b. if b then x ∷ filter r (filter q xs) else filter r (filter q xs)) (h x k) ∙ rest
+    by false k rest = rest
+
+none_starts : (st : Entities) (s : ℕ) → hosted st s ≡ None → start_remembered s st ≡ []
+none_starts st s away = by st.set.config.remember
+  where
+    r : List ℕ → Bool
+    r e = is_remembered e (entries st e)
+
+    none_is : filter r (names_of st.set s) ≡ []
+    none_is = none_passes (λ e. shard_of st.set e == s) r (λ e of. ap (λ n. is_remembered e (entries_in (hosted st n))) (same_number (shard_of st.set e) s of) ∙ ap (λ o. is_remembered e (entries_in o)) away) st.set.names
+
+    by : (b : Bool) → (if b then flat_map (λ e. entities.start_entity e st) (filter r (names_of st.set s)) else []) ≡ []
+    by true = ap (λ es. flat_map (λ e. entities.start_entity e st) es) none_is
+    by false = refl
+
+-- What becomes of an answer.
+
+pub took_shard_gave : (old new : Meaning) (v w : Standing) (s : ℕ) (answer : Acquire) (before late : Spared Item) → v.state.entities.set ≡ setting v.script → is_slot_of v.script (slot.Shard s) ≡ true → s < length v.state.entities.hosted
+    → hosted v.state.entities s ≡ None → Rests old v.script v.state → Stays old new → Acquired old v.state.who (slot.Shard s) answer new → TookShard s answer v w before late
+    → Gave v.script (asks (slot.Shard s)) (λ lists. take_shard lists s v.state) (moment old v.state before.items) (moment new w.state late.items)
+took_shard_gave old new v w s (acquired.Granted (store.Shard x)) before late set_is here inside free rests stays a t =
+    let mid : Standing = with_store s x v in
+    let granted : Gave v.script (asks (slot.Shard s)) (λ lists. map by_entities (acquire (slot.Shard s) v.state.who (shard_list lists s))) (moment old v.state before.items) (moment new mid.state (before.items ++ item.Fact (fact.Granted (slot.Shard s) (epoch x.entries) v.state.who) ∷ []))
+        = shard_granted v.script old new v s x before.items here inside free rests stays a.0 a.1 in
+    gave_then v.script (asks (slot.Shard s)) (λ lists. map by_entities (acquire (slot.Shard s) v.state.who (shard_list lists s))) (λ lists. of_entities (start_remembered s)) (moment old v.state before.items)
+    (moment new mid.state (before.items ++ item.Fact (fact.Granted (slot.Shard s) (epoch x.entries) v.state.who) ∷ [])) (moment new w.state late.items) granted
+    (entities_gave new mid w (start_remembered s mid.state.entities) (given before (told (fact.Granted (slot.Shard s) (epoch x.entries) v.state.who) ∷ [])) late set_is
+    (remembered_still mid.script new (is_held_of mid.script mid.state is_of_shards) s mid.state.entities) granted.rests t)
+took_shard_gave old new v w s (acquired.Granted (store.Coordinator x)) before late set_is here inside free rests stays a t = absurd t
+took_shard_gave old new v w s (acquired.Granted (store.Queue x)) before late set_is here inside free rests stays a t = absurd t
+took_shard_gave old new v w s (acquired.Held h) before late set_is here inside free rests stays a t =
+    let refused : Gave v.script (asks (slot.Shard s)) (λ lists. map by_entities (acquire (slot.Shard s) v.state.who (shard_list lists s))) (moment old v.state before.items) (moment new v.state (before.items ++ item.Fact (fact.Held (slot.Shard s) v.state.who h) ∷ []))
+        = shard_refused v.script old new v.state s h before.items here free rests stays a.0 a.1 in
+    subst (λ (x : Standing). Gave v.script (asks (slot.Shard s)) (λ lists. take_shard lists s v.state) (moment old v.state before.items) (moment new x.state late.items)) (sym t.0)
+    (subst (λ (x : Spared Item). Gave v.script (asks (slot.Shard s)) (λ lists. take_shard lists s v.state) (moment old v.state before.items) (moment new v.state x.items)) (sym t.1)
+    (gave_then v.script (asks (slot.Shard s)) (λ lists. map by_entities (acquire (slot.Shard s) v.state.who (shard_list lists s))) (λ lists. of_entities (start_remembered s)) (moment old v.state before.items)
+    (moment new v.state (before.items ++ item.Fact (fact.Held (slot.Shard s) v.state.who h) ∷ [])) (moment new v.state (before.items ++ item.Fact (fact.Held (slot.Shard s) v.state.who h) ∷ [])) refused
+    (gave_same v.script none (λ lists. []) (λ lists. of_entities (start_remembered s) v.state) (moment new v.state (before.items ++ item.Fact (fact.Held (slot.Shard s) v.state.who h) ∷ [])) (moment new v.state (before.items ++ item.Fact (fact.Held (slot.Shard s) v.state.who h) ∷ []))
+    (λ lists. ap (map by_entities) (sym (none_starts v.state.entities s free))) (gave_nothing v.script (moment new v.state (before.items ++ item.Fact (fact.Held (slot.Shard s) v.state.who h) ∷ [])) refused.rests))))
+
+-- a store that is handed out is of the shard, and leased
+pub shard_granted_is : (c : Script) (old new : Meaning) (who : Incarnation) (s : ℕ) (answer : Acquire) → old.script ≡ c → Acquired old who (slot.Shard s) answer new → IsShardGrant c who s answer
+shard_granted_is c old new who s (acquired.Granted (store.Shard x)) same a = record {
+  script_is = a.0.script_is ∙ same;
+  shard_is = shard_same x.shard s a.0.slot_is;
+  spare_is = a.0.spare_is;
+  leased = ap holder a.0.list_is ∙ fold-append holder_step None a.0.before (fact.Granted (slot.Shard s) (epoch a.0.before + 1) who ∷ []);
+}
+  where
+    shard_same : (i j : ℕ) → slot.Shard i ≡ slot.Shard j → i ≡ j
+    shard_same i j e = cc
+shard_granted_is c old new who s (acquired.Granted (store.Coordinator x)) same a = absurd (office_is_no_shard s a.0.slot_is)
+  where
+    office_is_no_shard : (i : ℕ) → slot.Coordinator ≡ slot.Shard i → ⊥
+    office_is_no_shard i e = cc
+shard_granted_is c old new who s (acquired.Granted (store.Queue x)) same a = absurd (queue_is_no_shard x.producer s a.0.slot_is)
+  where
+    queue_is_no_shard : (p i : ℕ) → slot.Queue p ≡ slot.Shard i → ⊥
+    queue_is_no_shard p i e = cc
+shard_granted_is c old new who s (acquired.Held h) same a = tt
+
+-- Start, whole.
+
+pub start_taken : (c : Script) (s : ℕ) (old new : Meaning) (v w : Node) (before late : List Item) → is_hosted v.entities s ≡ false → Gave c (asks (slot.Shard s)) (λ lists. take_shard lists s v) (moment old v before) (moment new w late)
+    → Gave c (asks_start s v) (λ lists. rules.start lists s v) (moment old v before) (moment new w late)
+start_taken c s old new v w before late away g =
+    gave_asked c (asks (slot.Shard s)) (asks_start s v) (λ lists. rules.start lists s v) (moment old v before) (moment new w late) (λ t. ap (λ b. not b && asks (slot.Shard s) t) (sym away))
+    (gave_same c (asks (slot.Shard s)) (λ lists. take_shard lists s v) (λ lists. rules.start lists s v) (moment old v before) (moment new w late) (λ lists. ap (λ b. if b then [] else take_shard lists s v) (sym away)) g)
+
+pub start_there : (c : Script) (s : ℕ) (m : Meaning) (v : Node) (items : List Item) → is_hosted v.entities s ≡ true → Rests m c v → Gave c (asks_start s v) (λ lists. rules.start lists s v) (moment m v items) (moment m v items)
+start_there c s m v items there rests =
+    gave_asked c none (asks_start s v) (λ lists. rules.start lists s v) (moment m v items) (moment m v items) (λ t. ap (λ b. not b && asks (slot.Shard s) t) (sym there))
+    (gave_same c none (λ lists. []) (λ lists. rules.start lists s v) (moment m v items) (moment m v items) (λ lists. ap (λ b. if b then [] else take_shard lists s v) (sym there)) (gave_nothing c (moment m v items) rests))
+
+-- Parts.
+
+pub parts_hosting : {c : Script} {kind : Kind} {version : ℕ} {region : Made} {e : Lodged} {office : Option Held} (s : ℕ) (x : Shelf) → AreParts c kind version region e office → AreParts c kind version region (hosting e s x) office
+parts_hosting s x p = record {
+  script_is = p.script_is;
+  kind_is = p.kind_is;
+  who_is = p.who_is;
+  region_script = p.region_script;
+  region_set = p.region_set;
+  entities_script = p.entities_script;
+  entities_who = p.entities_who;
+  entities_set = p.entities_set;
+  entities_version = p.entities_version;
+  coordinator = p.coordinator;
+}
+
+pub spared_is : (x before : Spared Item) (i : Item) → x.items ≡ before.items ++ i ∷ [] → x.spare + 1 ≡ before.spare → x ≡ given before (made i ∷ [])
+spared_is x before i items spare =
+    let less : x.spare ≡ before.spare - 1 = omega (arith, spare) in
+    ap (λ is. record { items = is; spare = x.spare }) items ∙ ap (λ n. record { items = before.items ++ i ∷ []; spare = n }) less

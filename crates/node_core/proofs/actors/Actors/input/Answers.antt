@@ -1,0 +1,55 @@
+use Rattle.std.proofs.Common.{sym, subst, refl}
+use Rattle.std.specs.Prelude.{Bool}
+use Rattle.yard_model.specs.declared.incarnation.Slot.{Slot}
+use Rattle.yard_model.specs.Node as rules
+use Rattle.yard_model.specs.Node.{Node}
+use Rattle.yard_model.specs.Script.{Script}
+use Rattle.shard_lease.specs.Meaning.{Meaning}
+use Rattle.node_core.specs.Found.{none}
+use Rattle.node_core.specs.Gave.{Gave, moment}
+use Rattle.yard_model.specs.declared.input.Input.{Input}
+use Rattle.yard_model.specs.Region.{leave}
+use Rattle.yard_model.specs.World.{all_sends}
+use Rattle.node_core.proofs.GiveLaws.{region_gave}
+use Rattle.node_core.proofs.PacketLaws.{leaves_free, rebalanced_gave, silent_gave}
+use Rattle.node_core.proofs.actors.Actors.input.Goals as goal
+
+pub returns-in-Packet-clause-gave : goal.returns-in-Packet-clause-gave
+returns-in-Packet-clause-gave g c =
+    let old : Meaning = g.L.Leases.meaning c.args.leases.now in
+    let script : Script = c.args.self.now.script in
+    let st : Node = c.args.self.now.state in
+    subst (λ (i : Input). (asked : (Slot → Bool)) × Gave script asked (λ lists. rules.turn (all_sends script) lists i st) (moment old st c.args.out.now.items) (moment (g.L.Leases.meaning c.packet.new.leases) c.packet.new.self.state c.packet.new.out.items)) (sym c.in-Packet.is)
+    (c.packet.ensures.gave.0, c.packet.ensures.gave.1)
+
+pub returns-in-Leave-clause-gave : goal.returns-in-Leave-clause-gave
+returns-in-Leave-clause-gave g c =
+    let old : Meaning = g.L.Leases.meaning c.args.leases.now in
+    let script : Script = c.args.self.now.script in
+    let st : Node = c.args.self.now.state in
+    subst (λ (i : Input). (asked : (Slot → Bool)) × Gave script asked (λ lists. rules.turn (all_sends script) lists i st) (moment old st c.args.out.now.items) (moment old c.leave.new.self.state c.leave.new.out.items)) (sym c.in-Leave.is)
+    (none, region_gave old c.args.self.now c.leave.new.self (leave st.region) c.args.out.now c.leave.new.out c.knows.ensures.entities (leaves_free st.region) c.requires.rests c.leave.ensures)
+
+pub returns-in-Rebalance-clause-gave : goal.returns-in-Rebalance-clause-gave
+returns-in-Rebalance-clause-gave g c =
+    let old : Meaning = g.L.Leases.meaning c.args.leases.now in
+    let script : Script = c.args.self.now.script in
+    let st : Node = c.args.self.now.state in
+    subst (λ (i : Input). (asked : (Slot → Bool)) × Gave script asked (λ lists. rules.turn (all_sends script) lists i st) (moment old st c.args.out.now.items) (moment old c.rebalance.new.self.state c.rebalance.new.out.items)) (sym c.in-Rebalance.is)
+    (none, rebalanced_gave old c.args.self.now c.rebalance.new.self c.in-Rebalance.limit c.args.out.now c.rebalance.new.out c.requires.sound c.requires.rests c.rebalance.ensures)
+
+pub returns-in-Passivate-clause-gave : goal.returns-in-Passivate-clause-gave
+returns-in-Passivate-clause-gave g c =
+    let old : Meaning = g.L.Leases.meaning c.args.leases.now in
+    let script : Script = c.args.self.now.script in
+    let st : Node = c.args.self.now.state in
+    subst (λ (i : Input). (asked : (Slot → Bool)) × Gave script asked (λ lists. rules.turn (all_sends script) lists i st) (moment old st c.args.out.now.items) (moment old c.ask_to_passivate.new.self.state c.ask_to_passivate.new.out.items)) (sym c.in-Passivate.is)
+    (none, silent_gave old c.args.self.now c.ask_to_passivate.new.self _ c.args.out.now c.ask_to_passivate.new.out c.requires.sound refl c.requires.rests c.ask_to_passivate.ensures)
+
+pub returns-in-FailWrite-clause-gave : goal.returns-in-FailWrite-clause-gave
+returns-in-FailWrite-clause-gave g c =
+    let old : Meaning = g.L.Leases.meaning c.args.leases.now in
+    let script : Script = c.args.self.now.script in
+    let st : Node = c.args.self.now.state in
+    subst (λ (i : Input). (asked : (Slot → Bool)) × Gave script asked (λ lists. rules.turn (all_sends script) lists i st) (moment old st c.args.out.now.items) (moment old c.arm.new.self.state c.arm.new.out.items)) (sym c.in-FailWrite.is)
+    (none, silent_gave old c.args.self.now c.arm.new.self _ c.args.out.now c.arm.new.out c.requires.sound refl c.requires.rests c.arm.ensures)

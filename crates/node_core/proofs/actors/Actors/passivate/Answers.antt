@@ -1,0 +1,23 @@
+use Rattle.std.proofs.Common.{List, subst}
+use Rattle.std.specs.Prelude.{Option}
+use Rattle.yard_model.specs.Node as rules
+use Rattle.yard_model.specs.Producer.{Producer}
+use Rattle.yard_model.specs.Region.{Region}
+use Rattle.yard_model.specs.Script.{Script}
+use Rattle.coordinator_actor.specs.Held.{Held}
+use Rattle.shard_entities.specs.Lodged.{Lodged}
+use Rattle.node_core.specs.Standing.{Standing, standing_of, no_producers}
+use Rattle.node_core.specs.Went.{Went}
+use Rattle.yard_model.specs.Entities.{passivate}
+use Rattle.node_core.proofs.StepLaws.{entities_went}
+use Rattle.node_core.proofs.actors.Actors.passivate.Goals as goal
+
+pub returns : goal.returns
+returns g c =
+    let script : Script = c.self.inside.script.value in
+    let r : Region = c.self.inside.region.state in
+    let e : Lodged = c.self.inside.entities in
+    let ps : List (Option Producer) = no_producers script in
+    let k : Option Held = c.self.inside.coordinator in
+    subst (λ (v : Standing). Went v (standing_of script r c.passivate.new.self ps k) c.args.out.now c.passivate.new.out (rules.of_entities (passivate c.args.entity.now) v.state)) c.self.view_is
+    (entities_went script r e c.passivate.new.self ps k (passivate c.args.entity.now e.state) c.args.out.now c.passivate.new.out c.self.invariant.0.entities_set c.passivate.ensures.state c.passivate.ensures.out)

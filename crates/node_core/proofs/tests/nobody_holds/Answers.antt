@@ -1,5 +1,0 @@
-use Rattle.node_core.proofs.BookLaws.{new_rests}
-use Rattle.node_core.proofs.tests.nobody_holds.Goals as goal
-
-pub returns : goal.returns
-returns c = new_rests c.args.node.now.script c.args.book.now c.requires.new.0 c.args.node.now.state.who c.requires.none.0 c.args.node.now.state c.requires.script c.requires.none.1 c.requires.who c.requires.new.1

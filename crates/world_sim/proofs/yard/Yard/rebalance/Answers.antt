@@ -1,0 +1,25 @@
+use Rattle.std.proofs.Common.{sym, subst}
+use Rattle.yard_model.specs.declared.charter.Order.TheVariants as order
+use Rattle.yard_model.specs.declared.input.Input.TheVariants as input
+use Rattle.world_sim.specs.declared.seek.Sought.TheVariants as sought
+use Rattle.world_sim.specs.Yard.{IsSound}
+use Rattle.world_sim.proofs.AskLaws.{asks, rebalance_fits}
+use Rattle.world_sim.proofs.SeekLaws.{IsFoundIn, nodes_few, may_seek_any}
+use Rattle.world_sim.proofs.yard.Yard.rebalance.Goals as goal
+
+pub seek-to-requires-clause-few : goal.seek-to-requires-clause-few
+seek-to-requires-clause-few g c = let r = c.requires in nodes_few _ r.0 (subst (λ v. IsSound v r.0) (sym c.self.view_is) r.1)
+
+pub seek-to-requires-clause-may : goal.seek-to-requires-clause-may
+seek-to-requires-clause-may g c = let r = c.requires in may_seek_any _ r.0 (sought.Coordinator) (λ k. tt) (subst (λ v. IsSound v r.0) (sym c.self.view_is) r.1)
+
+pub ask-requires : goal.ask-requires
+ask-requires g c =
+    let r = c.requires in
+    let fits = rebalance_fits c.args.self.now c.args.most c.seek-to.result (subst (λ v. IsFoundIn (sought.Coordinator) v c.seek-to.result) c.self.view_is c.seek-to.ensures) in
+    (r.0, (fits r.0 r.1).0)
+
+pub returns : goal.returns
+returns g c =
+    let fits = rebalance_fits c.args.self.now c.args.most c.seek-to.result (subst (λ v. IsFoundIn (sought.Coordinator) v c.seek-to.result) c.self.view_is c.seek-to.ensures) in
+    asks c.args.self.now c.ask.new.self c.seek-to.result (input.Rebalance c.args.most) (order.Rebalance c.args.most) c.ask.result c.args.facts.now c.ask.new.facts fits c.ask.ensures

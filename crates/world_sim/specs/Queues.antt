@@ -1,0 +1,32 @@
+-- A producer's queue at a node, and the sends that wait for it.
+use Rattle.std.specs.Prelude.{ℕ, ◌-◌, Bool, false, ◌==◌, not, is_some, Option, Some, None}
+use Rattle.std.specs.Option.{option_map}
+use Rattle.yard_model.specs.declared.incarnation.Slot.{Slot}
+use Rattle.yard_model.specs.declared.incarnation.Slot.TheVariants as slot
+use Rattle.yard_model.specs.Node.{Node}
+use Rattle.yard_model.specs.SlotReads.{queued_in_all}
+use Rattle.yard_model.specs.Words.{at}
+use Rattle.node_core.specs.Standing.{Standing}
+
+-- how many commands are queued in the queue of p that the node has in hand
+abbrev pub total_at : ℕ → Node → Option ℕ
+total_at p st = option_map (λ k. queued_in_all k.entries) (at st.producers (p - 1))
+
+-- how many of so many ordered sends aren't queued; 0 without a queue
+abbrev pub waiting_of : ℕ → Option ℕ → ℕ
+waiting_of ordered None = 0
+waiting_of ordered (Some total) = ordered - total
+
+abbrev pub waiting_at : ℕ → ℕ → Option Standing → ℕ
+waiting_at p ordered None = 0
+waiting_at p ordered (Some v) = waiting_of ordered (total_at p v.state)
+
+-- the slot is this queue
+abbrev pub is_queue_of : ℕ → Slot → Bool
+is_queue_of p (slot.Queue q) = q == p
+is_queue_of p s = false
+
+-- it is up, and doesn't hold the queue
+abbrev pub is_without : ℕ → Option Standing → Bool
+is_without p None = false
+is_without p (Some v) = not (is_some (at v.state.producers (p - 1)))

@@ -114,13 +114,10 @@ const REFUSED: [(&str, Mode, u32, Why); 46] = [
     ("config\nreshard", Mode::Solo, 2, Why::MissingWord),
     ("config\nreshard 129", Mode::Live, 2, Why::OutOfRange),
     ("config\nreshard 1", Mode::Live, 2, Why::WrongMode),
-    ("config\nreshard 1", Mode::Replay, 2, Why::NotBuilt),
     ("config\nupgrade 2", Mode::Replay, 2, Why::ExtraWord),
     ("config\nupgrade", Mode::Live, 2, Why::WrongMode),
-    ("config\nupgrade", Mode::Replay, 2, Why::NotBuilt),
     ("config\nping 3", Mode::Replay, 2, Why::OutOfRange),
     ("config\nping 1", Mode::Replay, 2, Why::WrongMode),
-    ("config\ntick 1", Mode::Replay, 2, Why::NotBuilt),
     ("config\nup 1", Mode::Live, 2, Why::NotBuilt),
     ("\nconfig kind=cart", Mode::Live, 2, Why::NotBuilt),
     (

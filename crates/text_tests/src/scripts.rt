@@ -64,7 +64,7 @@ fn words_become_commands(rt: HostRuntime) -> Result<(), Fail> {
     Ok(())
 }
 
-const REFUSED: [(&str, Mode, u32, Why); 46] = [
+const REFUSED: [(&str, Mode, u32, Why); 43] = [
     ("", Mode::Replay, 1, Why::NoConfig),
     ("\n# config\n\n", Mode::Replay, 1, Why::NoConfig),
     ("\nup 1\n", Mode::Replay, 2, Why::NoConfig),

@@ -1,7 +1,7 @@
 -- The stores of all slots after a change of the number of shards.
 use Rattle.std.proofs.Common.{◌≡◌, ℕ, zero, suc, ◌+◌, ◌-◌, ◌<◌, ◌≤◌, List, length, sym, ap, subst, ◌∙◌, refl, true, false, arith}
-use Rattle.std.specs.Prelude.{Bool, [], ◌∷◌, ◌++◌, ◌==◌, ◌&&◌, nat_lt, nat_le, map, fold, max, slice_index_or, slice_set, Option, Some, None, IsTrue, if◌then◌else◌}
-use Rattle.std.proofs.lemmas.List.{get_or-set_other, get_or_past}
+use Rattle.std.specs.Prelude.{Bool, [], ◌∷◌, ◌++◌, ◌==◌, ◌&&◌, nat_lt, nat_le, map, fold, max, slice_set, Option, Some, None, if◌then◌else◌}
+use Rattle.std.proofs.lemmas.List.{get_or-set_other}
 use Rattle.plain_laws.proofs.Booleans.{and_both, both, number_itself, at_most, below, not_below, is_below}
 use Rattle.yard_model.specs.declared.fact.Fact.{Fact}
 use Rattle.yard_model.specs.declared.fact.Fact.TheVariants as fact
@@ -14,7 +14,7 @@ use Rattle.yard_model.specs.Lawful.{own, is_held, is_of_shard}
 use Rattle.yard_model.specs.Script.{Script, IsScript, setting, with_shards}
 use Rattle.yard_model.specs.Setting.{set_shards}
 use Rattle.yard_model.specs.Shard.{shard}
-use Rattle.yard_model.specs.SlotLists.{SlotLists, shard_list, queue_list}
+use Rattle.yard_model.specs.SlotLists.{SlotLists, shard_list}
 use Rattle.yard_model.specs.SlotReads.{epoch}
 use Rattle.yard_model.specs.Trace.{list_at}
 use Rattle.yard_model.specs.Words.{numbers, at}
@@ -24,7 +24,7 @@ use Rattle.shard_store.specs.declared.store.Store.{Store}
 use Rattle.shard_store.specs.declared.store.Store.TheVariants as store
 use Rattle.shard_store.specs.Shelf.{Shelf}
 use Rattle.shard_store.specs.Reshaped.{list_of, next_lists, IsOwn, AreEach, IsAfter, IsAfterAt, going_on, is_of_shards}
-use Rattle.shard_store.specs.Stores.{Shelves, slot_at, script_of, slot_of, spare_of, entries_of, entries_at, entries_in, lists_at, IsHome, IsThere, AreHomes}
+use Rattle.shard_store.specs.Stores.{Shelves, slot_at, script_of, slot_of, entries_of, entries_at, entries_in, lists_at, IsHome, IsThere, AreHomes}
 use Rattle.shard_store.proofs.ReshapeLaws.{after_free}
 use Rattle.shard_store.proofs.StoresLaws.{shard_at, coordinator_at, queue_at, shard_list_is, queue_list_is}
 

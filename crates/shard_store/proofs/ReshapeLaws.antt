@@ -1,7 +1,7 @@
 -- The lists of stores that go over to another number of shards, and what is at hand of each name.
-use Rattle.std.proofs.Common.{◌≡◌, ◌≢◌, ℕ, zero, suc, ◌+◌, ◌-◌, ◌<◌, ◌≤◌, List, length, sym, ap, subst, ◌∙◌, refl, true, false, arith, length-append}
-use Rattle.std.specs.Prelude.{Bool, [], ◌∷◌, ◌++◌, ◌==◌, ◌&&◌, nat_lt, cond, fold, filter, map, take, drop, max, slice_index_or, Option, Some, None, MatchOption, is_some, if◌then◌else◌}
-use Rattle.std.specs.List.{list_all, list_any, flat_map, slice_get}
+use Rattle.std.proofs.Common.{◌≡◌, ℕ, zero, suc, ◌+◌, ◌<◌, ◌≤◌, List, length, sym, ap, subst, ◌∙◌, refl, true, false, arith, length-append}
+use Rattle.std.specs.Prelude.{Bool, [], ◌∷◌, ◌++◌, ◌==◌, ◌&&◌, nat_lt, cond, fold, filter, map, take, drop, max, slice_index_or, Option, None, is_some}
+use Rattle.std.specs.List.{list_all, flat_map}
 use Rattle.std.specs.List.Sorted.{IsStrictlySortedBy}
 use Rattle.std.specs.Ordering.{nat_cmp}
 use Rattle.std.specs.Cmp.Lexicographic.{slice_cmp}
@@ -14,25 +14,23 @@ use Rattle.yard_model.specs.declared.entry.ShardEntry.TheVariants as entry
 use Rattle.yard_model.specs.declared.fact.Fact.{Fact}
 use Rattle.yard_model.specs.declared.fact.Fact.TheVariants as fact
 use Rattle.yard_model.specs.declared.incarnation.Incarnation.{Incarnation}
-use Rattle.yard_model.specs.declared.incarnation.Slot.{Slot}
 use Rattle.yard_model.specs.declared.incarnation.Slot.TheVariants as slot
 use Rattle.yard_model.specs.declared.packet.Record.{Record}
 use Rattle.yard_model.specs.Entry.{shard_fact}
-use Rattle.yard_model.specs.Era.{is_of_name, entries_of, base, reshaped}
+use Rattle.yard_model.specs.Era.{is_of_name, entries_of, base}
 use Rattle.yard_model.specs.Genuine.{is_brought}
 use Rattle.yard_model.specs.Lawful.{own, is_held}
 use Rattle.yard_model.specs.Script.{Script, Setting, setting, with_shards, names_in}
 use Rattle.yard_model.specs.Setting.{shard_of, names_of, set_shards}
 use Rattle.yard_model.specs.Shard.{shard}
 use Rattle.yard_model.specs.SlotLists.{SlotLists, shard_list}
-use Rattle.yard_model.specs.SlotReads.{epoch, holder, holder_step, journal, journal_step, last_snapshot, snapshot_step, is_remembered, remembered_step}
+use Rattle.yard_model.specs.SlotReads.{epoch, holder_step, journal, journal_step, last_snapshot, snapshot_step, is_remembered, remembered_step}
 use Rattle.yard_model.specs.Spared.{Spared}
 use Rattle.entity_journal.specs.Journal.{AreNumbered}
 use Rattle.entity_snapshot.specs.Kept.{Kept}
 use Rattle.era_laws.proofs.ShapeLaws.{Reads, journal_reads, base_same, reshaped_list}
 use Rattle.era_laws.proofs.ReshapeLaws.{snapshot_reads, remembered_reads, shard_begun}
 use Rattle.shard_store.specs.Reshaped.{slot_lists, list_of, next_lists, MayGoOver, is_entry_of, AreEach, IsJournalOf, IsLatestOf, IsMarkOf}
-use Rattle.shard_store.specs.Shelf.{Shelf}
 use Rattle.shard_store.specs.Shelved.{no_journal, no_snapshots, name_at, IsLatest, IsShelf}
 use Rattle.shard_store.specs.Stores.{Shelves}
 

@@ -1,5 +1,5 @@
 -- Stores that go over to another number of shards.
-use Rattle.std.specs.Prelude.{◌≡◌, ℕ, ◌+◌, ◌<◌, ◌≤◌, Bool, true, false, List, ◌∷◌, [], ◌++◌, length, slice_index_or, Option, Some, None, IsTrue}
+use Rattle.std.specs.Prelude.{◌≡◌, ℕ, ◌<◌, ◌≤◌, Bool, true, false, List, ◌∷◌, [], ◌++◌, length, slice_index_or, Option, Some, None, IsTrue}
 use Rattle.yard_model.specs.declared.entry.ShardEntry.{ShardEntry}
 use Rattle.yard_model.specs.declared.fact.Fact.{Fact}
 use Rattle.yard_model.specs.declared.fact.Fact.TheVariants as fact
@@ -17,7 +17,7 @@ use Rattle.yard_model.specs.Spared.{Spared}
 use Rattle.yard_model.specs.Trace.{list_at}
 use Rattle.entity_snapshot.specs.Kept.{Kept}
 use Rattle.shard_store.specs.declared.store.Store.{Store}
-use Rattle.shard_store.specs.Shelved.{no_journal, no_snapshots, name_at, IsLatest}
+use Rattle.shard_store.specs.Shelved.{name_at, IsLatest}
 use Rattle.shard_store.specs.Stores.{Shelves, lists_at, script_of, slot_of, entries_of, IsHome}
 
 -- the lists of the stores

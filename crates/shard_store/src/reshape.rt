@@ -108,9 +108,7 @@ fn shelf_after(
     let journals = journals_of(alloc, stores, names.as_slice())?;
     let snapshots = snapshots_of(alloc, stores, names.as_slice(), charter.config().keep)?;
     let remembered = marks_of(alloc, stores, names.as_slice())?;
-    Ok(ShardStore::begun(
-        charter, list, names, journals, snapshots, remembered, s,
-    ))
+    Ok(ShardStore::begun(charter, list, names, journals, snapshots, remembered, s))
 }
 
 /// The list of a shard from here on.
@@ -245,11 +243,7 @@ fn latest_of(
 }
 
 /// Which of these names are remembered. The only error is want of memory.
-fn marks_of(
-    alloc: Global,
-    stores: &Stores,
-    names: &[EntityName],
-) -> Result<Remembered, AllocError>
+fn marks_of(alloc: Global, stores: &Stores, names: &[EntityName]) -> Result<Remembered, AllocError>
     requires names { list_all (is_brought stores.now.script) names.now ≡ true }
     requires few { length names.now ≤ 1000 }
     ensures { IfOk result (λ marks. AreEach false (IsMarkOf stores.now names.now) marks (length names.now)) }

@@ -1,10 +1,5 @@
-use Rattle.std.proofs.Common.{◌≡◌, ◌++◌, ◌∙◌, [], sym, subst, ap, arith, drop, map}
-use Rattle.std.specs.List.{flat_map}
-use Rattle.std.proofs.lemmas.List.{append-nil}
+use Rattle.std.proofs.Common.{map}
 use Rattle.yard_model.specs.Entry.{shard_fact}
-use Rattle.yard_model.specs.Era.{entries_of}
-use Rattle.yard_model.specs.Script.{setting}
-use Rattle.shard_store.specs.Reshaped.{slot_lists}
 use Rattle.shard_store.proofs.ReshapeLaws.{entries_more, entries_all}
 use Rattle.shard_store.proofs.reshape.entries_of_names.Goals as goal
 

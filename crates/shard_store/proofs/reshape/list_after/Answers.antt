@@ -1,7 +1,5 @@
 use Rattle.std.proofs.Common.{◌≡◌, ◌∙◌, ap, subst, map, IfOk}
-use Rattle.std.specs.List.{list_all}
 use Rattle.yard_model.specs.Entry.{shard_fact}
-use Rattle.yard_model.specs.Genuine.{is_brought}
 use Rattle.shard_store.specs.Leased.{Listed}
 use Rattle.shard_store.proofs.ReshapeLaws.{all_brought, entries_free, list_is_after}
 use Rattle.shard_store.proofs.reshape.list_after.Goals as goal

@@ -1,4 +1,4 @@
-use Rattle.std.proofs.Common.{◌≡◌, ℕ, List, ◌∙◌, sym, ap, subst, false, length}
+use Rattle.std.proofs.Common.{ℕ, List, ◌∙◌, ap, subst, false, length}
 use Rattle.shard_store.specs.Leased.{Listed}
 use Rattle.shard_store.specs.Reshaped.{AreEach, IsJournalOf, IsLatestOf, IsMarkOf}
 use Rattle.shard_store.specs.Shelved.{no_journal, no_snapshots}

@@ -1,4 +1,4 @@
-use Rattle.std.proofs.Common.{◌≡◌, ◌≤◌, ◌∙◌, ℕ, List, sym, ap, subst}
+use Rattle.std.proofs.Common.{◌≤◌, List, sym, subst}
 use Rattle.std.specs.Prelude.{None, Option}
 use Rattle.yard_model.specs.declared.incarnation.Slot.TheVariants as slot
 use Rattle.yard_model.specs.Era.{reshaped}
@@ -6,8 +6,8 @@ use Rattle.yard_model.specs.Script.{Script, setting}
 use Rattle.yard_model.specs.SlotReads.{epoch}
 use Rattle.yard_model.specs.SlotLists.{shard_list}
 use Rattle.shard_store.specs.declared.store.Store.{Store}
-use Rattle.shard_store.specs.Reshaped.{slot_lists, AreEach, IsAfterAt, next_lists}
-use Rattle.shard_store.specs.Stores.{Shelves, lists_at}
+use Rattle.shard_store.specs.Reshaped.{slot_lists, AreEach, IsAfterAt}
+use Rattle.shard_store.specs.Stores.{lists_at}
 use Rattle.shard_store.proofs.ReshapeLaws.{most_of}
 use Rattle.shard_store.proofs.AfterLaws.{whole}
 use Rattle.shard_store.proofs.stores.Stores.reshape.Goals as goal

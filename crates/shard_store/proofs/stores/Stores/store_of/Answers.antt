@@ -1,9 +1,6 @@
-use Rattle.std.proofs.Common.{◌≡◌, sym, subst, ap, ◌∙◌, true}
-use Rattle.std.specs.Prelude.{Some}
-use Rattle.yard_model.specs.Genuine.{is_brought}
+use Rattle.std.proofs.Common.{sym, subst, ap, ◌∙◌}
 use Rattle.yard_model.specs.Shard.{shard}
 use Rattle.yard_model.specs.Words.{at}
-use Rattle.shard_store.specs.declared.store.Store.TheVariants as store
 use Rattle.shard_store.specs.Stores.{Shelves, AreHomes}
 use Rattle.shard_store.proofs.AfterLaws.{IsFound, found}
 use Rattle.shard_store.proofs.stores.Stores.store_of.Goals as goal

@@ -12,7 +12,7 @@ ghost use Rattle.node_core.specs.Leased.{Rests, MayGiveBack, IsHandOf, IsFreed};
 ghost use Rattle.node_core.specs.LetGo.{LetGo, IsGone, IsShardFreed, ShardFreed, shard_ends, office_ends};
 ghost use Rattle.node_core.specs.Standing.{IsReady, IsEnding, IsWithout};
 
-use crate::actors::{shard_at, Actors};
+use crate::actors::{Actors, shard_at};
 use behaviour_core::Behaviour;
 use coordinator_actor::Coordinator;
 use shard_lease::Leases;
@@ -103,12 +103,7 @@ fn free_shard<L: Leases>(
 }
 
 /// The coordinator's slot is freed.
-fn free_office<L: Leases>(
-    who: Incarnation,
-    coordinator: Coordinator,
-    leases: &mut L,
-    out: &mut Out,
-)
+fn free_office<L: Leases>(who: Incarnation, coordinator: Coordinator, leases: &mut L, out: &mut Out)
     requires who { coordinator.state.who ≡ who }
     requires serves { Serves (L.meaning leases.old) who slot.Coordinator }
     requires holds { (L.meaning leases.old).holds who.node slot.Coordinator ≡ true }

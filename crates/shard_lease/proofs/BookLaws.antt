@@ -1,6 +1,6 @@
 -- What one call of a book of leases does.
 use Rattle.std.proofs.Common.{◌≡◌, ◌≢◌, ℕ, zero, suc, ◌+◌, ◌-◌, ◌<◌, ◌≤◌, ◌⊎◌, inl, inr, List, length, sym, ap, subst, ◌∙◌, refl, true, false, true≢false, arith}
-use Rattle.std.specs.Prelude.{Bool, [], ◌∷◌, ◌++◌, ◌==◌, ◌&&◌, is_some, Option, Some, None, MatchOption, replicate, slice_set, if◌then◌else◌}
+use Rattle.std.specs.Prelude.{Bool, [], ◌∷◌, ◌++◌, ◌==◌, ◌&&◌, is_some, is_none, IfSome, Option, Some, None, MatchOption, replicate, slice_set, if◌then◌else◌}
 use Rattle.std.specs.List.{list_all}
 use Rattle.std.proofs.lemmas.Bool.Decides.{nat_tests, Decides-eqb}
 use Rattle.std.proofs.lemmas.List.Folds.{list_all-append}
@@ -23,9 +23,10 @@ use Rattle.yard_model.specs.SlotReads.{epoch, holder_step}
 use Rattle.yard_model.specs.Words.{at}
 use Rattle.yard_model.proofs.FollowLaws.{parts_whole}
 use Rattle.shard_store.specs.declared.store.Store.{Store}
-use Rattle.shard_store.specs.Stores.{script_of, slot_of, entries_of, spare_of, entries_in, entries_at, place_of, slot_at, IsHome, IsThere, AreHomes}
+use Rattle.shard_store.specs.declared.store.StoreRef.{StoreRef}
+use Rattle.shard_store.specs.Stores.{script_of, slot_of, entries_of, spare_of, entries_in, entries_at, slot_of_ref, entries_of_ref, place_of, slot_at, IsHome, IsThere, AreHomes}
 use Rattle.shard_store.proofs.PlaceLaws.{IsSlotAt, place_within, slot_back, slot_place, place_apart}
-use Rattle.shard_lease.specs.Book.{Book, IsPlace, IsBook, known_at, is_of_node, tells_of, holds_of, meaning_of}
+use Rattle.shard_lease.specs.Book.{Book, IsPlace, IsBook, AreLent, known_at, is_of_node, tells_of, holds_of, meaning_of}
 use Rattle.shard_lease.specs.declared.leases.Acquire.{Acquire}
 use Rattle.shard_lease.specs.declared.leases.Acquire.TheVariants as acquired
 use Rattle.shard_lease.specs.Meaning.{Known, Meaning, Acquired, Apart, Still, Begins, is_taken, confirms, Serves, Stays, Hands, Refuses, Returns, Released}
@@ -452,3 +453,37 @@ all_free_again b0 b1 b2 who s x y why n none first second apart slot_is back t t
     by_place : (place_of b0.script.config t ≡ place_of b0.script.config s) ⊎ (place_of b0.script.config t ≢ place_of b0.script.config s) → at b2.holders (place_of b2.script.config t) ≡ None
     by_place (inl e) = same (sym (slot_back b0.script t there_0) ∙ (ap (slot_at b0.script.config) e ∙ slot_back b0.script s slot_is))
     by_place (inr e) = other (λ z. e (ap (place_of b0.script.config) z))
+
+-- What is lent.
+
+-- a slot has its store at home where nobody holds it, and what is lent is that
+pub record Lent (b : Book) (s : Slot) (r : Option StoreRef) : Type 0 where
+  pub held : is_some r ≡ is_none (at b.holders (place_of b.script.config s))
+  pub slot_is : IfSome r (λ x. slot_of_ref x ≡ s)
+  pub entries_are : IfSome r (λ x. entries_of_ref x ≡ entries_at b.places (place_of b.script.config s))
+
+lent_by : (c : Script) (s : Slot) (o : Option Store) (h : Option Incarnation) (r : Option StoreRef) → IsPlace c s o h → AreLent o r
+    → (is_some r ≡ is_none h) × IfSome r (λ x. slot_of_ref x ≡ s) × IfSome r (λ x. entries_of_ref x ≡ entries_in o)
+lent_by c s (Some x) None (Some y) home lent = (refl, lent.slot_is ∙ home.0.slot_is, lent.entries_are)
+lent_by c s (Some x) None None home lent = absurd lent
+lent_by c s (Some x) (Some h) r home lent = absurd home
+lent_by c s None (Some h) None home lent = (refl, tt, tt)
+lent_by c s None (Some h) (Some y) home lent = absurd lent
+lent_by c s None None r home lent = absurd home
+
+lent_here : (b : Book) (s : Slot) (r : Option StoreRef) → IsBook b → is_slot_of b.script s ≡ true → AreLent (at b.places (place_of b.script.config s)) r → Lent b s r
+lent_here b s r is slot_is lent =
+    let it = lent_by b.script s (at b.places (place_of b.script.config s)) (at b.holders (place_of b.script.config s)) r (place_is b s is slot_is) lent in
+    record { held = it.0; slot_is = it.1; entries_are = it.2 }
+
+pub lent_of : (b v : Book) (s : Slot) (k : ℕ) (places : List (Option Store)) (r : Option StoreRef) → b ≡ v → IsBook b → is_slot_of v.script s ≡ true → k ≡ place_of b.script.config s → places ≡ b.places
+    → AreLent (at places k) r → Lent v s r
+lent_of b v s k places r same is slot_is at_k those lent =
+    subst (λ w. is_slot_of w.script s ≡ true → Lent w s r) same
+    (λ here. lent_here b s r is here (subst (λ i. AreLent (at b.places i) r) at_k (subst (λ l. AreLent (at l k) r) those lent))) slot_is
+
+pub place_there : (b v : Book) (s : Slot) (k : ℕ) (places : List (Option Store)) → b ≡ v → IsBook b → is_slot_of v.script s ≡ true → k ≡ place_of b.script.config s → places ≡ b.places → k < length places
+place_there b v s k places same is slot_is at_k those =
+    let within : place_of b.script.config s < b.script.config.shards + b.script.config.producers + 1 = place_within b.script s (subst (λ w. is_slot_of w.script s ≡ true) (sym same) slot_is) in
+    let long : length places ≡ b.script.config.shards + b.script.config.producers + 1 = ap length those ∙ is.all in
+    omega arith

@@ -9,7 +9,8 @@ use Rattle.yard_model.specs.Lawful.{is_held}
 use Rattle.yard_model.specs.Script.{Script, IsScript}
 use Rattle.yard_model.specs.Words.{at}
 use Rattle.shard_store.specs.declared.store.Store.{Store}
-use Rattle.shard_store.specs.Stores.{entries_in, place_of, slot_at, IsHome}
+use Rattle.shard_store.specs.declared.store.StoreRef.{StoreRef}
+use Rattle.shard_store.specs.Stores.{entries_in, entries_of, slot_of, entries_of_ref, slot_of_ref, place_of, slot_at, IsHome}
 use Rattle.shard_lease.specs.Meaning.{Known, Meaning}
 
 -- by place: the store of each slot that nobody holds, and the holder of each other
@@ -57,3 +58,13 @@ meaning_of b = record {
   vouches = λ e p n. true;
   tells = tells_of b;
 }
+
+-- a store, as it is lent
+pub record IsLent (x : Store) (lent : StoreRef) : Type 0 where
+  pub slot_is : slot_of_ref lent ≡ slot_of x
+  pub entries_are : entries_of_ref lent ≡ entries_of x
+
+abbrev pub AreLent : Option Store → Option StoreRef → Type 0
+AreLent None None = Unit {0}
+AreLent (Some x) (Some lent) = IsLent x lent
+AreLent o r = ⊥

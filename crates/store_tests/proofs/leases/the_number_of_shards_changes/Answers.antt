@@ -3,7 +3,7 @@ use Rattle.std.specs.Prelude.{None}
 use Rattle.plain_laws.proofs.Booleans.{get_replicate}
 use Rattle.yard_model.specs.Words.{at}
 use Rattle.shard_store.specs.Stores.{place_of}
-use Rattle.shard_lease.proofs.tests.the_number_of_shards_changes.Goals as goal
+use Rattle.store_tests.proofs.leases.the_number_of_shards_changes.Goals as goal
 
 pub into_stores-stores-requires : goal.into_stores-stores-requires
 into_stores-stores-requires g c = λ s h.

@@ -1,3 +1,4 @@
+pub mod Again
 pub mod Built
 pub mod Found
 pub mod Gave

@@ -8,6 +8,7 @@ use Rattle.yard_model.specs.declared.out.Item.{Item}
 use Rattle.yard_model.specs.Entities.{is_hosted, start_remembered}
 use Rattle.yard_model.specs.Move.{told, took}
 use Rattle.yard_model.specs.Node.{Node, Rule, by_entities, after, acquire, of_entities}
+use Rattle.yard_model.specs.Region.{is_home}
 use Rattle.yard_model.specs.Script.{Script}
 use Rattle.yard_model.specs.SlotLists.{SlotLists, shard_list}
 use Rattle.yard_model.specs.SlotReads.{holder, epoch}
@@ -25,6 +26,10 @@ use Rattle.node_core.specs.Went.{Went}
 -- the slot that Start asks for, if it asks
 abbrev pub asks_start : ℕ → Node → Slot → Bool
 asks_start s st t = not (is_hosted st.entities s) && asks (slot.Shard s) t
+
+-- so Start of a tick, of a shard whose home is this node
+abbrev pub asks_again : ℕ → Node → Slot → Bool
+asks_again s st t = is_home st.region s && not (is_hosted st.entities s) && asks (slot.Shard s) t
 
 -- Start of a shard that isn't hosted
 abbrev pub take_shard : SlotLists → ℕ → Rule

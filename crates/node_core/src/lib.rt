@@ -16,7 +16,9 @@ mod node;
 mod packets;
 mod region_part;
 mod releasing;
+mod stand_ins;
 mod starting;
+mod ticking;
 
 pub use node::Node;
 

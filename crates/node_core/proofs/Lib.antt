@@ -23,3 +23,5 @@ pub mod StillRoutes
 pub mod ReleaseLaws
 pub mod StartLaws
 pub mod HomeLaws
+pub mod AgainLaws
+pub mod RepeatLaws

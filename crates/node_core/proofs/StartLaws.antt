@@ -210,7 +210,7 @@ ready_room {v} {spare} s sound ready = record {
   active = λ e named its active. let wide = ready.rooms s (active_hosted e sound named its active) in omega (arith, wide);
 }
 
-start_delivers : (set : Setting) (k s : ℕ) (st : Entities) → list_all (is_delivering set k) (start_remembered s st) ≡ true
+pub start_delivers : (set : Setting) (k s : ℕ) (st : Entities) → list_all (is_delivering set k) (start_remembered s st) ≡ true
 start_delivers set k s st =
     let es : List (List ℕ) = filter (λ e. is_remembered e (entries st e)) (names_of st.set s) in
     all_if (is_delivering set k) st.set.config.remember (flat_map (λ e. entities.start_entity e st) es) [] (all_each (is_delivering set k) (λ e. entities.start_entity e st) es (λ e. refl)) refl

@@ -96,7 +96,7 @@ one_less : (old : Spared Item) (m : Move) → (given_step old m).spare ≡ old.s
 one_less old (made i) = refl
 one_less old m = omega arith
 
-given_spare : (old : Spared Item) (ms : List Move) → (given old ms).spare ≡ old.spare - length (flat_map item_of ms)
+pub given_spare : (old : Spared Item) (ms : List Move) → (given old ms).spare ≡ old.spare - length (flat_map item_of ms)
 given_spare old [] = omega arith
 given_spare old (m ∷ ms) =
     let first : (given_step old m).spare ≡ old.spare - length (item_of m) = one_less old m in

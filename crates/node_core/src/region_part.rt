@@ -4,6 +4,7 @@ ghost use Rattle.yard_model.specs.Genuine.{is_genuine_packet};
 ghost use Rattle.yard_model.specs.Node as rules;
 ghost use Rattle.yard_model.specs.Region.{register, leave, tick_region};
 ghost use Rattle.region_actor.specs.Handled.{handled, to_do, is_genuine_todo};
+ghost use Rattle.node_core.specs.Releasing.{kept_all};
 ghost use Rattle.node_core.specs.Went.{Went};
 
 use crate::actors::Actors;
@@ -46,6 +47,13 @@ impl<B: Behaviour + Drop> Actors<B> {
         leave_room();
         same_law();
         self.region.leave(out);
+    }
+
+    /// No more messages are kept than the buffer has room for. It does nothing.
+    pub(crate) fn kept_room(&self)
+        ensures { kept_all self.now ≤ self.now.script.config.buffer }
+    {
+        self.region.kept_room();
     }
 
     /// The region's part of a tick.

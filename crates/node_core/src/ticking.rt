@@ -38,8 +38,8 @@ impl<B: Behaviour + Drop> Actors<B> {
     {
         tick_laws();
         self.knows();
-        self.region.kept_room();
         self.tick_members(charter, leases, out);
+        self.kept_room();
         self.tick_shards(leases, out);
         self.send_all_again(charter, out);
     }
@@ -51,8 +51,7 @@ impl<B: Behaviour + Drop> Actors<B> {
         requires rests { Rests (L.meaning leases.old) self.old.script self.old.state }
         requires entries { IfSome self.old.state.coordinator (λ k. 16 ≤ self.old.spare) }
         requires room { 4499 ≤ out.old.spare }
-        ensures ticked { Stepped 4499 (asks_lead self.old.state) (λ lists. tick_members lists self.old.state) self.old self.new (L.meaning leases.old) (L.meaning leases.new) out.old out.new }
-        ensures kept { self.new.state.region.kept ≡ self.old.state.region.kept }
+        ensures { Stepped 4499 (asks_lead self.old.state) (λ lists. tick_members lists self.old.state) self.old self.new (L.meaning leases.old) (L.meaning leases.new) out.old out.new }
     {
         tick_laws();
         self.knows();

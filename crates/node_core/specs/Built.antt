@@ -17,6 +17,7 @@ is_built_packet p = is_built_body p.body
 
 abbrev pub is_built_input : Input → Bool
 is_built_input (input.Packet p) = is_built_packet p
+is_built_input input.Tick = true
 is_built_input input.Leave = true
 is_built_input (input.Rebalance n) = true
 is_built_input (input.Passivate e) = true

@@ -42,6 +42,7 @@ impl<B: Behaviour + Drop> Actors<B> {
         self.knows();
         match input {
             Input::Packet(packet) => self.packet(charter, packet, leases, out),
+            Input::Tick => self.tick(charter, leases, out),
             Input::Leave => self.leave(out),
             Input::Rebalance(limit) => self.rebalance(*limit, out),
             Input::Passivate(entity) => self.ask_to_passivate(entity, out),

@@ -22,6 +22,14 @@ returns-in-Packet-clause-gave g c =
     subst (λ (i : Input). (asked : (Slot → Bool)) × Gave script asked (λ lists. rules.turn (all_sends script) lists i st) (moment old st c.args.out.now.items) (moment (g.L.Leases.meaning c.packet.new.leases) c.packet.new.self.state c.packet.new.out.items)) (sym c.in-Packet.is)
     (c.packet.ensures.gave.0, c.packet.ensures.gave.1)
 
+pub returns-in-Tick-clause-gave : goal.returns-in-Tick-clause-gave
+returns-in-Tick-clause-gave g c =
+    let old : Meaning = g.L.Leases.meaning c.args.leases.now in
+    let script : Script = c.args.self.now.script in
+    let st : Node = c.args.self.now.state in
+    subst (λ (i : Input). (asked : (Slot → Bool)) × Gave script asked (λ lists. rules.turn (all_sends script) lists i st) (moment old st c.args.out.now.items) (moment (g.L.Leases.meaning c.tick.new.leases) c.tick.new.self.state c.tick.new.out.items)) (sym c.in-Tick.is)
+    (c.tick.ensures.gave.0, c.tick.ensures.gave.1)
+
 pub returns-in-Leave-clause-gave : goal.returns-in-Leave-clause-gave
 returns-in-Leave-clause-gave g c =
     let old : Meaning = g.L.Leases.meaning c.args.leases.now in

@@ -36,7 +36,7 @@ use Rattle.plain_laws.proofs.Lists.{of_write, all_join, all_if}
 use Rattle.plain_laws.proofs.Members.{same_is, itself_is}
 use Rattle.node_core.specs.Releasing.{release_first, release_one, release_each, TookRoom, HasReleaseRoom, IsNext, IsOneLess, Releasing}
 use Rattle.node_core.specs.Standing.{Standing}
-use Rattle.node_core.specs.Went.{Went, rooms_after}
+use Rattle.node_core.specs.Went.{Went, rooms_after, queues_after}
 use Rattle.node_core.proofs.GaveLaws.{items_append}
 use Rattle.node_core.proofs.StepLaws.{went_nothing}
 use Rattle.node_core.proofs.RoomLaws.{deliver_room, away_room}
@@ -55,6 +55,7 @@ went_both {v} {w} {z} {before} {late} {last} xs ys f g = record {
     omega (arith, first, second, all);
   rooms_are = g.rooms_are ∙ (ap (λ (c : Script). fold (rooms_after (setting c)) w.rooms ys) f.script_is
     ∙ (ap (λ rs. fold (rooms_after (setting v.script)) rs ys) f.rooms_are ∙ sym (fold-append (rooms_after (setting v.script)) v.rooms xs ys)));
+  queues_are = g.queues_are ∙ (ap (λ qs. fold queues_after qs ys) f.queues_are ∙ sym (fold-append queues_after v.queues xs ys));
   office_is = let first = f.office_is in let second = g.office_is in omega (arith, first, second);
 }
 
@@ -231,6 +232,7 @@ taken_went {v} {w} {s} {m} before is = subst (λ (x : Standing). Went v x before
   items_are = sym (append-nil before.items);
   spare_is = omega arith;
   rooms_are = refl;
+  queues_are = refl;
   office_is = refl;
 })
 

@@ -34,6 +34,7 @@ use Rattle.shard_lease.specs.declared.leases.Acquire.TheVariants as acquired
 use Rattle.shard_lease.specs.Meaning.{Acquired, Meaning, Stays, Apart, Still, Hands, Refuses}
 use Rattle.shard_store.specs.declared.store.Store.TheVariants as store
 use Rattle.shard_store.specs.Shelf.{Shelf}
+use Rattle.producer_ctl.specs.Producing.{Producing}
 use Rattle.node_core.specs.Found.{none, asks}
 use Rattle.node_core.specs.Gave.{Gave, moment}
 use Rattle.node_core.specs.Leased.{Rests}
@@ -55,10 +56,10 @@ shard_granted c old new v s x before here inside free rests stays h apart =
     granted_gave c (slot.Shard s) by_entities old new v.state (with_store s x v).state (store.Shard x) before here (ap (option_map (λ (h : Hosted). h.entries)) free) (λ m. refl) rests stays h apart (λ n. refl)
     (record { held_is = ap (option_map (λ (h : Hosted). h.entries)) (get_or-set_same v.state.entities.hosted s (Some (record { entries = x.entries; stopping = None })) None inside); else_is = others })
   where
-    others : (t : Slot) → t ≢ slot.Shard s → held_list t (with_store s x v).state ≡ held_list t v.state
-    others (slot.Shard t) other = ap (option_map (λ (h : Hosted). h.entries)) (get_or-set_other v.state.entities.hosted s t (Some (record { entries = x.entries; stopping = None })) None (λ same. other (ap (λ i. slot.Shard i) same)))
-    others slot.Coordinator other = refl
-    others (slot.Queue p) other = refl
+    others : (t : Slot) → is_slot_of c t ≡ true → t ≢ slot.Shard s → held_list t (with_store s x v).state ≡ held_list t v.state
+    others (slot.Shard t) valid other = ap (option_map (λ (h : Hosted). h.entries)) (get_or-set_other v.state.entities.hosted s t (Some (record { entries = x.entries; stopping = None })) None (λ same. other (ap (λ i. slot.Shard i) same)))
+    others slot.Coordinator valid other = refl
+    others (slot.Queue p) valid other = refl
 
 -- A shard that another node holds.
 
@@ -155,7 +156,7 @@ start_there c s m v items there rests =
 
 -- Parts.
 
-pub parts_hosting : {c : Script} {kind : Kind} {version : ℕ} {region : Made} {e : Lodged} {office : Option Held} (s : ℕ) (x : Shelf) → AreParts c kind version region e office → AreParts c kind version region (hosting e s x) office
+pub parts_hosting : {c : Script} {kind : Kind} {version : ℕ} {region : Made} {e : Lodged} {queues : Producing} {office : Option Held} (s : ℕ) (x : Shelf) → AreParts c kind version region e queues office → AreParts c kind version region (hosting e s x) queues office
 parts_hosting s x p = record {
   script_is = p.script_is;
   kind_is = p.kind_is;
@@ -166,6 +167,9 @@ parts_hosting s x p = record {
   entities_who = p.entities_who;
   entities_set = p.entities_set;
   entities_version = p.entities_version;
+  queues_script = p.queues_script;
+  queues_who = p.queues_who;
+  queues_there = p.queues_there;
   coordinator = p.coordinator;
 }
 

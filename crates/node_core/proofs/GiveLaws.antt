@@ -70,7 +70,7 @@ free_move : (c : Script) (m : Meaning) (x : Move) → is_free_move x ≡ true �
 free_move c m (made (item.Fact f)) h = free_fact c m f h
 free_move c m x h = refl
 
-free_still : (c : Script) (m : Meaning) (st : Node) (ms : List Move) → list_all is_free_move ms ≡ true → list_all (is_still c m st) (map by_region ms) ≡ true
+pub free_still : (c : Script) (m : Meaning) (st : Node) (ms : List Move) → list_all is_free_move ms ≡ true → list_all (is_still c m st) (map by_region ms) ≡ true
 free_still c m st [] h = refl
 free_still c m st (x ∷ ms) h =
     let parts : (is_free_move x ≡ true) × (list_all is_free_move ms ≡ true) = and_both (is_free_move x) (list_all is_free_move ms) h in

@@ -19,5 +19,7 @@ pub mod SlotLaws
 pub mod CrashLaws
 pub mod TurnLaws
 pub mod BookLaws
+pub mod StillRoutes
 pub mod ReleaseLaws
 pub mod StartLaws
+pub mod HomeLaws

@@ -72,7 +72,7 @@ handled_free from (body.BeginHandOff s stamp) r = (region_is_free r).handed s st
 handled_free from b r = refl
 
 -- which frees nothing
-frees_nothing : (s : Slot) (ms : List Move) → frees_none s (map by_region ms) ≡ true
+pub frees_nothing : (s : Slot) (ms : List Move) → frees_none s (map by_region ms) ≡ true
 frees_nothing s [] = refl
 frees_nothing s (m ∷ ms) = frees_nothing s ms
 

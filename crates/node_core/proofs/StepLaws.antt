@@ -34,7 +34,7 @@ region_who : (r : Region) (ms : List Move) → (fold region_after r ms).who ≡ 
 region_who r [] = refl
 region_who r (m ∷ ms) = region_who (region_after r m) ms
 
-region_rooms : (set : Setting) (rooms : List ℕ) (ms : List Move) → rooms ≡ fold (rooms_after set) rooms (map by_region ms)
+pub region_rooms : (set : Setting) (rooms : List ℕ) (ms : List Move) → rooms ≡ fold (rooms_after set) rooms (map by_region ms)
 region_rooms set rooms [] = refl
 region_rooms set rooms (m ∷ ms) = region_rooms set rooms ms
 

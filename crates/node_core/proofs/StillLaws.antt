@@ -113,7 +113,6 @@ entered_is old t s f h = by (t == s) refl
         ap (option_map (λ (h : Hosted). h.entries)) (placed_beside old t s (option_map (λ (h : Hosted). record { entries = h.entries ++ f ∷ []; stopping = h.stopping }) (at old t)) (λ same. other_number t s e (sym same)))
         ∙ (grown_none (option_map (λ (h : Hosted). h.entries) (at old s)) ∙ ap (λ b. grown (if b then f ∷ [] else []) (option_map (λ (h : Hosted). h.entries) (at old s))) (sym e))
 
-
 abbrev lists_of_hosted : List (Option Hosted) → ℕ → Option (List Fact)
 lists_of_hosted old s = option_map (λ (h : Hosted). h.entries) (at old s)
 
@@ -336,13 +335,13 @@ kept_held c m st a of s set h = by (is_slot_of c s) refl
     by true e = ap (λ b. of s && is_slot_of c s && b) (ap is_some (held_step c m st a s set e h) ∙ grown_some (adds_move c s (move_of a)) (held_list s st))
     by false e = ap (λ b. of s && b && is_some (held_list s (after st a))) e ∙ (dead (of s) (is_some (held_list s (after st a))) ∙ (sym (dead (of s) (is_some (held_list s st))) ∙ ap (λ b. of s && b && is_some (held_list s st)) (sym e)))
 
-still_after : (c : Script) (m : Meaning) (st : Node) (a b : Act) → st.entities.set ≡ setting c → is_still c m st a ≡ true → is_still c m (after st a) b ≡ is_still c m st b
+pub still_after : (c : Script) (m : Meaning) (st : Node) (a b : Act) → st.entities.set ≡ setting c → is_still c m st a ≡ true → is_still c m (after st a) b ≡ is_still c m st b
 still_after c m st a (by_region x) set h = refl
 still_after c m st a (by_entities x) set h = move_same c m (is_held_of c st is_of_shards) (is_held_of c (after st a) is_of_shards) (λ s. kept_held c m st a is_of_shards s set h) x
 still_after c m st a (by_producer p x) set h = move_same c m (is_held_of c st (asks (slot.Queue p))) (is_held_of c (after st a) (asks (slot.Queue p))) (λ s. kept_held c m st a (asks (slot.Queue p)) s set h) x
 still_after c m st a (by_coordinator x) set h = move_same c m (is_held_of c st (asks slot.Coordinator)) (is_held_of c (after st a) (asks slot.Coordinator)) (λ s. kept_held c m st a (asks slot.Coordinator) s set h) x
 
-stills_after : (c : Script) (m : Meaning) (st : Node) (a : Act) (acts : List Act) → st.entities.set ≡ setting c → is_still c m st a ≡ true → list_all (is_still c m st) acts ≡ true → list_all (is_still c m (after st a)) acts ≡ true
+pub stills_after : (c : Script) (m : Meaning) (st : Node) (a : Act) (acts : List Act) → st.entities.set ≡ setting c → is_still c m st a ≡ true → list_all (is_still c m st) acts ≡ true → list_all (is_still c m (after st a)) acts ≡ true
 stills_after c m st a [] set h k = refl
 stills_after c m st a (b ∷ acts) set h k =
     let parts : (is_still c m st b ≡ true) × (list_all (is_still c m st) acts ≡ true) = and_both (is_still c m st b) (list_all (is_still c m st) acts) k in

@@ -1,4 +1,4 @@
--- Which packets and inputs a node takes so far: all but those that start a shard, and those of producers.
+-- Which packets and inputs a node takes so far: all but those of producers.
 use Rattle.std.specs.Prelude.{Bool, true, false}
 use Rattle.yard_model.specs.declared.input.Input.{Input}
 use Rattle.yard_model.specs.declared.input.Input.TheVariants as input
@@ -7,8 +7,6 @@ use Rattle.yard_model.specs.declared.packet.Body.TheVariants as body
 use Rattle.yard_model.specs.declared.packet.Packet.{Packet}
 
 abbrev pub is_built_body : Body → Bool
-is_built_body (body.ShardHome s h stamp) = false
-is_built_body (body.HostShard s stamp) = false
 is_built_body (body.Request p e n u) = false
 is_built_body (body.Resend p e n) = false
 is_built_body (body.Ack p e n) = false

@@ -1,5 +1,5 @@
 -- The messages that were kept of a shard, routed one after another.
-use Rattle.std.specs.Prelude.{◌≡◌, ℕ, ◌+◌, ◌*◌, ◌≤◌, true, List, [], ◌∷◌, ◌++◌, length, drop, None, slice_index_or, IsTrue}
+use Rattle.std.specs.Prelude.{◌≡◌, ◌≢◌, ℕ, ◌+◌, ◌*◌, ◌≤◌, true, List, [], ◌∷◌, ◌++◌, length, drop, None, slice_index_or, sum_by, IsTrue}
 use Rattle.yard_model.specs.declared.input.Phase.TheVariants as phase
 use Rattle.yard_model.specs.declared.out.Item.{Item}
 use Rattle.yard_model.specs.declared.packet.Message.{Message}
@@ -35,6 +35,15 @@ pub record HasReleaseRoom (n : ℕ) (v : Standing) (s : ℕ) : Type 0 where
   pub some : (hosted v.state.entities s ≡ None → ⊥) → 2 ≤ slice_index_or v.rooms s 0
   pub active : (e : List ℕ) → is_brought v.script e ≡ true → shard_of v.state.set e ≡ s → is_in_phase phase.Active v.state.entities e ≡ true → n ≤ slice_index_or v.rooms s 0
 
+-- after k messages of a shard: what room there is in it is for k less, and in every other for as many as before
+pub record LeavesRoom (s k : ℕ) (old new : Standing) : Type 0 where
+  pub here : (n : ℕ) → HasReleaseRoom (2 + (n + 2 * k)) old s → HasReleaseRoom (2 + n) new s
+  pub others : (t n : ℕ) → t ≢ s → HasReleaseRoom n old t → HasReleaseRoom n new t
+
+-- how many messages a node keeps
+abbrev pub kept_all : Standing → ℕ
+kept_all v = sum_by length v.state.region.kept
+
 -- the oldest message that is kept of a shard, and that it was taken out
 pub record IsNext (s : ℕ) (m : Message) (old new : Standing) : Type 0 where
   pub kept_is : kept_of old.state.region.kept s ≡ m ∷ drop 1 (kept_of old.state.region.kept s)
@@ -46,7 +55,8 @@ pub record IsNext (s : ℕ) (m : Message) (old new : Standing) : Type 0 where
 pub record IsOneLess (s : ℕ) (old new : Standing) : Type 0 where
   pub kept_is : kept_of new.state.region.kept s ≡ drop 1 (kept_of old.state.region.kept s)
   pub routable : is_routable new.state.region s (is_running new.state s) ≡ true
-  pub rooms : (n : ℕ) → HasReleaseRoom (2 + (n + 2)) old s → HasReleaseRoom (2 + n) new s
+  pub leaves : LeavesRoom s 1 old new
+  pub fewer : kept_all new + 1 ≡ kept_all old
 
 -- between them, after i: what is kept is still to be routed
 pub record Releasing (s i : ℕ) (old now : Standing) (before late : Spared Item) : Type 0 where
@@ -57,3 +67,5 @@ pub record Releasing (s i : ℕ) (old now : Standing) (before late : Spared Item
   pub routable : is_routable now.state.region s (is_running now.state s) ≡ true
   pub rooms : HasReleaseRoom (2 + 2 * length (kept_of now.state.region.kept s)) now s
   pub room : 4 * length (kept_of now.state.region.kept s) ≤ late.spare
+  pub leaves : LeavesRoom s i old now
+  pub spent : before.spare + 4 * kept_all now ≤ late.spare + 4 * kept_all old

@@ -1,5 +1,5 @@
 -- A shard that starts at a node.
-use Rattle.std.specs.Prelude.{◌≡◌, ℕ, ◌≤◌, Bool, not, ◌&&◌, [], ◌∷◌, map, Some, slice_set}
+use Rattle.std.specs.Prelude.{◌≡◌, ℕ, ◌+◌, ◌*◌, ◌≤◌, Bool, not, ◌&&◌, [], ◌∷◌, length, map, Some, slice_set, if◌then◌else◌}
 use Rattle.yard_model.specs.declared.fact.Fact.TheVariants as fact
 use Rattle.yard_model.specs.declared.incarnation.Incarnation.{Incarnation}
 use Rattle.yard_model.specs.declared.incarnation.Slot.{Slot}
@@ -7,8 +7,10 @@ use Rattle.yard_model.specs.declared.incarnation.Slot.TheVariants as slot
 use Rattle.yard_model.specs.declared.out.Item.{Item}
 use Rattle.yard_model.specs.Entities.{is_hosted, start_remembered}
 use Rattle.yard_model.specs.Move.{told, took}
-use Rattle.yard_model.specs.Node.{Node, Rule, by_entities, after, acquire, of_entities}
+use Rattle.yard_model.specs.Node.{Node, Rule, by_entities, after, acquire, of_entities, start}
+use Rattle.yard_model.specs.Region.{is_home}
 use Rattle.yard_model.specs.Script.{Script}
+use Rattle.yard_model.specs.Setting.{names_of}
 use Rattle.yard_model.specs.SlotLists.{SlotLists, shard_list}
 use Rattle.yard_model.specs.SlotReads.{holder, epoch}
 use Rattle.yard_model.specs.Spared.{Spared}
@@ -19,6 +21,7 @@ use Rattle.shard_lease.specs.declared.leases.Acquire.TheVariants as answer
 use Rattle.shard_store.specs.declared.store.Store.TheVariants as store
 use Rattle.shard_store.specs.Shelf.{Shelf}
 use Rattle.node_core.specs.Found.{asks}
+use Rattle.node_core.specs.Releasing.{HasReleaseRoom, kept_all}
 use Rattle.node_core.specs.Standing.{Standing}
 use Rattle.node_core.specs.Went.{Went}
 
@@ -56,3 +59,22 @@ abbrev pub TookShard : ℕ → Acquire → Standing → Standing → Spared Item
 TookShard s (answer.Granted (store.Shard x)) old new before late = Hosts s x old new before late
 TookShard s (answer.Granted x) old new before late = ⊥
 TookShard s (answer.Held h) old new before late = (new ≡ old) × (late ≡ given before (told (fact.Held (slot.Shard s) old.state.who h) ∷ []))
+
+-- what Start leaves: the region, and room to release any shard; it gives an item, and two for each name of the shard, at most
+pub record StartLeaves (s : ℕ) (old new : Standing) (before late : Spared Item) : Type 0 where
+  pub region_is : new.state.region ≡ old.state.region
+  pub rooms : (t n : ℕ) → HasReleaseRoom n old t → HasReleaseRoom n new t
+  pub room : before.spare ≤ late.spare + (1 + 2 * length (names_of old.state.set s))
+
+-- Start, where the home of the shard is this node
+abbrev pub start_home : SlotLists → ℕ → Rule
+start_home lists s st = if is_home st.region s then start lists s st else []
+
+-- the slot that it asks for, if it asks
+abbrev pub asks_again : ℕ → Node → Slot → Bool
+asks_again s st t = is_home st.region s && not (is_hosted st.entities s) && asks (slot.Shard s) t
+
+-- after a shard that isn't hosted is to start and is released: room as before, and what it gave at most
+pub record AgainLeaves (s : ℕ) (old new : Standing) (before late : Spared Item) : Type 0 where
+  pub rooms : (t n : ℕ) → HasReleaseRoom n old t → HasReleaseRoom n new t
+  pub room : before.spare + 4 * kept_all new ≤ late.spare + 4 * kept_all old + (1 + 2 * length (names_of old.state.set s))

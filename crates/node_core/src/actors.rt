@@ -94,14 +94,15 @@ impl<B: Behaviour + Drop> Actors<B> {
         self.region.who()
     }
 
-    /// What is so of their script and its setting. It does nothing.
+    /// What is so of their script, its setting and the rooms of its shards. It does nothing.
     pub(crate) fn knows(&self)
         ensures script { IsScript self.now.script }
         ensures set { self.now.state.set ≡ setting self.now.script }
         ensures entities { self.now.state.entities.set ≡ setting self.now.script }
         ensures region { self.now.state.region.set ≡ setting self.now.script }
+        ensures rooms { length self.now.rooms ≡ self.now.script.config.shards }
     {
-        let _ = &self.region;
+        self.entities.stands();
     }
 
     /// Whether there is a coordinator.

@@ -10,7 +10,7 @@ ghost use Rattle.node_core.specs.LetGo.{AreFreed, IsGone, IsSlotFreed, SlotFreed
 ghost use Rattle.node_core.specs.Slots.{queue_slots};
 ghost use Rattle.node_core.specs.Standing.{IsReady, IsEnding};
 
-use crate::actors::{producer_at, shard_at, Actors};
+use crate::actors::{Actors, producer_at, shard_at};
 use behaviour_core::Behaviour;
 use coordinator_actor::Coordinator;
 use durable_queue::QueueStore;
@@ -143,12 +143,7 @@ fn free_office_if_there<L: Leases>(
 }
 
 /// The coordinator's slot is freed.
-fn free_office<L: Leases>(
-    who: Incarnation,
-    coordinator: Coordinator,
-    leases: &mut L,
-    out: &mut Out,
-)
+fn free_office<L: Leases>(who: Incarnation, coordinator: Coordinator, leases: &mut L, out: &mut Out)
     requires office { MayGiveOffice (L.meaning leases.old) who coordinator }
     requires room { 1 ≤ out.old.spare }
     ensures { SlotFreed slot.Coordinator who coordinator.state.entries (L.meaning leases.old) (L.meaning leases.new) out.old out.new }

@@ -3,13 +3,15 @@
 //!
 //! `node` is the type that others see. `actors` has the parts side by side; `region_part`,
 //! `coordinator_part` and `entities_part` are the steps of one actor each, which ask for no lease;
-//! `lead` asks for one; `packets` and `inputs` put steps together; `end` is the crash.
+//! `lead` asks for one; so does `starting`, and `releasing` routes what was kept, which `homes` puts
+//! together; `packets` and `inputs` put steps together; `end` is the crash.
 #![tactic(auto)]
 
 mod actors;
 mod coordinator_part;
 mod end;
 mod entities_part;
+mod homes;
 mod inputs;
 mod lead;
 mod node;

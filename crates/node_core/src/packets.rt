@@ -84,6 +84,10 @@ impl<B: Behaviour + Drop> Actors<B> {
             Body::BeginHandOff(_, _) => {
                 self.hear(packet, out);
             }
+            Body::ShardHome(s, home, stamp) => {
+                self.shard_home(packet, *s, *home, *stamp, leases, out)
+            }
+            Body::HostShard(s, stamp) => self.host_shard(packet, *s, *stamp, leases, out),
             Body::HandOff(s, stamp) => self.hand_off(*s, *stamp, packet.from, leases, out),
             Body::Recovered(entity) => self.recovered(entity, out),
             Body::Passivate(entity) => self.passivate(entity, out),

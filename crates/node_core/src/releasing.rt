@@ -4,7 +4,7 @@ ghost use Rattle.yard_model.specs.Genuine.{is_shard};
 ghost use Rattle.yard_model.specs.Node as rules;
 ghost use Rattle.yard_model.specs.Node.{is_running};
 ghost use Rattle.yard_model.specs.Region.{is_routable, kept_of};
-ghost use Rattle.node_core.specs.Releasing.{release_one, HasReleaseRoom, IsNext, IsOneLess};
+ghost use Rattle.node_core.specs.Releasing.{release_one, kept_all, HasReleaseRoom, LeavesRoom, IsNext, IsOneLess};
 ghost use Rattle.node_core.specs.Went.{Went};
 
 use crate::actors::Actors;
@@ -18,7 +18,9 @@ impl<B: Behaviour + Drop> Actors<B> {
         requires shard { is_shard self.old.script s ≡ true }
         requires rooms { HasReleaseRoom (2 + 2 * length (kept_of self.old.state.region.kept s)) self.old s }
         requires room { 4 * length (kept_of self.old.state.region.kept s) ≤ out.old.spare }
-        ensures { Went self.old self.new out.old out.new (rules.release s self.old.state) }
+        ensures went { Went self.old self.new out.old out.new (rules.release s self.old.state) }
+        ensures leaves { LeavesRoom s (length (kept_of self.old.state.region.kept s)) self.old self.new }
+        ensures spent { out.old.spare + 4 * kept_all self.new ≤ out.new.spare + 4 * kept_all self.old }
     {
         let running = self.entities.running();
         if self.region.is_routable(s, running) {
@@ -32,7 +34,9 @@ impl<B: Behaviour + Drop> Actors<B> {
         requires routable { is_routable self.old.state.region s (is_running self.old.state s) ≡ true }
         requires rooms { HasReleaseRoom (2 + 2 * length (kept_of self.old.state.region.kept s)) self.old s }
         requires room { 4 * length (kept_of self.old.state.region.kept s) ≤ out.old.spare }
-        ensures { Went self.old self.new out.old out.new (rules.release s self.old.state) }
+        ensures went { Went self.old self.new out.old out.new (rules.release s self.old.state) }
+        ensures leaves { LeavesRoom s (length (kept_of self.old.state.region.kept s)) self.old self.new }
+        ensures spent { out.old.spare + 4 * kept_all self.new ≤ out.new.spare + 4 * kept_all self.old }
     {
         for _ in 0..self.region.kept_count(s) {
             self.release_one(s, out);

@@ -11,7 +11,7 @@ ghost use Rattle.node_core.specs.Found.{asks};
 ghost use Rattle.node_core.specs.Gave.{Gave, moment};
 ghost use Rattle.node_core.specs.Leased.{Rests};
 ghost use Rattle.node_core.specs.Taken.{IsGranted};
-ghost use Rattle.node_core.specs.Started.{take_shard, asks_start, IsShardGrant, IsShardGrantOf, TookShard, Hosts};
+ghost use Rattle.node_core.specs.Started.{take_shard, asks_start, IsShardGrant, IsShardGrantOf, StartLeaves, TookShard, Hosts};
 
 use crate::actors::Actors;
 use crate::lead::holder_in;
@@ -30,6 +30,7 @@ impl<B: Behaviour + Drop> Actors<B> {
         requires room { 1 + 2 * length (names_of self.old.state.set s) ≤ out.old.spare }
         ensures script { self.new.script ≡ self.old.script }
         ensures gave { Gave self.old.script (asks_start s self.old.state) (λ lists. rules.start lists s self.old.state) (moment (L.meaning leases.old) self.old.state out.old.items) (moment (L.meaning leases.new) self.new.state out.new.items) }
+        ensures leaves { StartLeaves s self.old self.new out.old out.new }
     {
         if !self.is_hosted(s) {
             self.take_shard(s, leases, out);
@@ -45,6 +46,7 @@ impl<B: Behaviour + Drop> Actors<B> {
         requires room { 1 + 2 * length (names_of self.old.state.set s) ≤ out.old.spare }
         ensures script { self.new.script ≡ self.old.script }
         ensures gave { Gave self.old.script (asks (slot.Shard s)) (λ lists. take_shard lists s self.old.state) (moment (L.meaning leases.old) self.old.state out.old.items) (moment (L.meaning leases.new) self.new.state out.new.items) }
+        ensures leaves { StartLeaves s self.old self.new out.old out.new }
     {
         self.knows();
         let who = self.who();

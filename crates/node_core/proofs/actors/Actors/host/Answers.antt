@@ -37,7 +37,7 @@ returns g c =
     let ms : List Move = start_remembered s mid.state in
     let before : Spared Item = c.args.out.now in
     let items : c.push.new.self.items ≡ before.items ++ item.Fact (fact.Granted (slot.Shard s) (epoch x.entries) r.who) ∷ []
-        = c.push.ensures.items ∙ (ap (λ n. before.items ++ item.Fact (fact.Granted (slot.Shard s) n c.who-who.result) ∷ []) c.epoch-epoch.ensures ∙ ap (λ (w : Incarnation). before.items ++ item.Fact (fact.Granted (slot.Shard s) (epoch x.entries) w) ∷ []) c.who-who.ensures) in
+    = c.push.ensures.items ∙ (ap (λ n. before.items ++ item.Fact (fact.Granted (slot.Shard s) n c.who-who.result) ∷ []) c.epoch-epoch.ensures ∙ ap (λ (w : Incarnation). before.items ++ item.Fact (fact.Granted (slot.Shard s) (epoch x.entries) w) ∷ []) c.who-who.ensures) in
     let pushed : c.push.new.self ≡ given before (told (fact.Granted (slot.Shard s) (epoch x.entries) r.who) ∷ []) = spared_is c.push.new.self before (item.Fact (fact.Granted (slot.Shard s) (epoch x.entries) r.who)) items c.push.ensures.spare in
     subst (λ (v : Standing). Hosts s x v (standing_of script r now c.self.inside.producers k) before c.start.new.out) c.self.view_is
     (entities_went script r mid now c.self.inside.producers k ms (given before (told (fact.Granted (slot.Shard s) (epoch x.entries) r.who) ∷ [])) c.start.new.out c.self.invariant.0.entities_set

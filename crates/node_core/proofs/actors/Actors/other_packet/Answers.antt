@@ -70,6 +70,22 @@ returns-in-Sequenced-clause-gave g c =
     subst (λ (b : Body). (asked : (Slot → Bool)) × Gave script asked (λ lists. rules.packet lists c.args.packet.now.from b st) (moment old st c.args.out.now.items) (moment old c.route.new.self.state c.route.new.out.items)) (sym c.in-Sequenced.is)
     (none, routed_gave old c.args.self.now c.route.new.self c.in-Sequenced.message c.args.out.now c.route.new.out c.shards_are_there.ensures c.knows.ensures.script c.requires.sound c.requires.rests c.route.ensures.went)
 
+pub returns-in-ShardHome-clause-gave : goal.returns-in-ShardHome-clause-gave
+returns-in-ShardHome-clause-gave g c =
+    let old : Meaning = g.L.Leases.meaning c.args.leases.now in
+    let script : Script = c.args.self.now.script in
+    let st : Node = c.args.self.now.state in
+    subst (λ (b : Body). (asked : (Slot → Bool)) × Gave script asked (λ lists. rules.packet lists c.args.packet.now.from b st) (moment old st c.args.out.now.items) (moment (g.L.Leases.meaning c.shard_home.new.leases) c.shard_home.new.self.state c.shard_home.new.out.items)) (sym c.in-ShardHome.is)
+    c.shard_home.ensures.gave
+
+pub returns-in-HostShard-clause-gave : goal.returns-in-HostShard-clause-gave
+returns-in-HostShard-clause-gave g c =
+    let old : Meaning = g.L.Leases.meaning c.args.leases.now in
+    let script : Script = c.args.self.now.script in
+    let st : Node = c.args.self.now.state in
+    subst (λ (b : Body). (asked : (Slot → Bool)) × Gave script asked (λ lists. rules.packet lists c.args.packet.now.from b st) (moment old st c.args.out.now.items) (moment (g.L.Leases.meaning c.host_shard.new.leases) c.host_shard.new.self.state c.host_shard.new.out.items)) (sym c.in-HostShard.is)
+    c.host_shard.ensures.gave
+
 -- what a genuine packet is about
 
 pub hand_off-requires-clause-shard : goal.hand_off-requires-clause-shard

@@ -2,6 +2,7 @@ use Rattle.std.proofs.Common.{◌≡◌, ◌<◌, length, sym, ap, subst, ◌∙
 use Rattle.yard_model.specs.Genuine.{is_shard}
 use Rattle.yard_model.specs.Region.{kept_of}
 use Rattle.yard_model.specs.Script.{Script}
+use Rattle.node_core.specs.Releasing.{LeavesRoom}
 use Rattle.node_core.specs.Standing.{Standing}
 use Rattle.node_core.proofs.ReleaseLaws.{releasing_first, releasing_next, released_all, room_left, some_left}
 use Rattle.node_core.proofs.actors.Actors.release_all.Goals as goal
@@ -35,10 +36,21 @@ loop-preserved g c =
     let all : c.kept_count-end.result ≡ length (kept_of c.args.self.now.state.region.kept c.args.s) = c.kept_count-end.ensures ∙ ap (λ (v : Standing). length (kept_of v.state.region.kept c.args.s)) c.self.view_is in
     releasing_next (subst (λ n. c.loop.counter < n) all c.loop-test.true) c.loop.invariant c.release_one.ensures.went c.release_one.ensures.less c.release_one.ensures.room
 
-pub returns : goal.returns
-returns g c =
+pub returns-clause-went : goal.returns-clause-went
+returns-clause-went g c =
     let all : c.kept_count-end.result ≡ length (kept_of c.args.self.now.state.region.kept c.args.s) = c.kept_count-end.ensures ∙ ap (λ (v : Standing). length (kept_of v.state.region.kept c.args.s)) c.self.view_is in
     let past = c.loop-test.false in
     let count = c.loop.invariant.count in
     let end : c.loop.counter ≡ length (kept_of c.args.self.now.state.region.kept c.args.s) = omega (arith, past, count, all) in
     released_all end c.requires.routable c.loop.invariant
+
+pub returns-clause-leaves : goal.returns-clause-leaves
+returns-clause-leaves g c =
+    let all : c.kept_count-end.result ≡ length (kept_of c.args.self.now.state.region.kept c.args.s) = c.kept_count-end.ensures ∙ ap (λ (v : Standing). length (kept_of v.state.region.kept c.args.s)) c.self.view_is in
+    let past = c.loop-test.false in
+    let count = c.loop.invariant.count in
+    let end : c.loop.counter ≡ length (kept_of c.args.self.now.state.region.kept c.args.s) = omega (arith, past, count, all) in
+    subst (λ i. LeavesRoom c.args.s i c.args.self.now c.loop.self) end c.loop.invariant.leaves
+
+pub returns-clause-spent : goal.returns-clause-spent
+returns-clause-spent g c = c.loop.invariant.spent

@@ -22,7 +22,6 @@ use Rattle.yard_model.specs.Entities.{Entities, Hosted, hosted, is_hosted, Cell,
 use Rattle.yard_model.specs.Genuine.{is_shard}
 use Rattle.yard_model.specs.Move.{Move, made, told, post, released}
 use Rattle.yard_model.specs.Node.{Node, Act, Rule, by_region, by_entities, by_producer, by_coordinator, after, of_coordinator, of_entities, of_region, is_running, acquire, acquire_by, all_in_turn, lead, start, release, route, start_again}
-use Rattle.yard_model.specs.Producer.{Producer}
 use Rattle.yard_model.specs.Region.{Region, is_home, is_routable, kept_of, oldest, route_away, tick_region}
 use Rattle.yard_model.specs.Script.{Script, IsScript, Setting, setting}
 use Rattle.yard_model.specs.Setting.{shard_of, shards, names_of, place}
@@ -45,6 +44,7 @@ use Rattle.node_laws.proofs.NodePackets.{TurnLaws}
 use Rattle.node_laws.proofs.NodeRoutes.{tick_region_node, tick_entities_node}
 use Rattle.node_laws.proofs.NodeTicks.{again_node}
 use Rattle.coordinator_actor.specs.Held.{Held}
+use Rattle.producer_ctl.specs.Producing.{Producing}
 use Rattle.shard_entities.specs.Lodged.{Lodged, lodged_after, moved, given}
 use Rattle.shard_lease.specs.Meaning.{Meaning}
 use Rattle.node_core.specs.Again.{TickLaws, Stepped, StartedAgain, AsksShards, starts_again, start_room, is_shard_under, tick_members, tick_shards}
@@ -295,7 +295,7 @@ reminds_stay : (v : Lodged) → moved v (tick_entities v.state) ≡ v
 reminds_stay v = moved_each v (λ s. flat_map (λ e. remind_by e v.state (cell v.state e).phase) (entities_of v.state s))
     (λ s. moved_each v (λ e. remind_by e v.state (cell v.state e).phase) (λ e. reminded v e (cell v.state e).phase refl) (entities_of v.state s)) (shards v.state.set)
 
-pub reminds_went : (c : Script) (r : Region) (e : Lodged) (ps : List (Option Producer)) (k : Option Held) (before late : Spared Item) → e.state.set ≡ setting c → late ≡ given before (tick_entities e.state)
+pub reminds_went : (c : Script) (r : Region) (e : Lodged) (ps : Producing) (k : Option Held) (before late : Spared Item) → e.state.set ≡ setting c → late ≡ given before (tick_entities e.state)
     → Went (standing_of c r e ps k) (standing_of c r e ps k) before late (of_entities tick_entities (node_of c r e ps k))
 reminds_went c r e ps k before late set_is told = entities_went c r e e ps k (tick_entities e.state) before late set_is (sym (reminds_stay e)) told
 

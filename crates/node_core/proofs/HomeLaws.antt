@@ -125,11 +125,11 @@ pub record IsLearnt (m : Meaning) (s : ℕ) (h : Incarnation) (stamp : Stamp) (v
 learnt : (m : Meaning) {v w : Standing} {before late : Spared Item} (s : ℕ) (h : Incarnation) (stamp : Stamp) → RegionKeeps → IsScript v.script → IsSoundNode v.script v.state → is_shard v.script s ≡ true → is_node v.script h ≡ true → Rests m v.script v.state
     → Went v w before late (of_region (learn s h stamp) v.state) → IsLearnt m s h stamp v w before late
 learnt m {v} {w} {before} {late} s h stamp law script sound shard node rests went = record {
-    gave = gave;
-    sound = subst (λ c. IsSoundNode c w.state) (sym went.script_is) (subst (IsSoundNode v.script) (sym went.node_is) (learn_node v.script m.vouches v.state s h stamp law script sound shard node).stands);
-    rests = subst (λ c. Rests m c w.state) (sym went.script_is) gave.rests;
-    rooms = region_rooms_stay (learn s h stamp v.state.region) went;
-  }
+  gave = gave;
+  sound = subst (λ c. IsSoundNode c w.state) (sym went.script_is) (subst (IsSoundNode v.script) (sym went.node_is) (learn_node v.script m.vouches v.state s h stamp law script sound shard node).stands);
+  rests = subst (λ c. Rests m c w.state) (sym went.script_is) gave.rests;
+  rooms = region_rooms_stay (learn s h stamp v.state.region) went;
+}
   where
     gave : Gave v.script none (λ lists. of_region (learn s h stamp) v.state) (moment m v.state before.items) (moment m w.state late.items)
     gave = region_gave m v w (learn s h stamp v.state.region) before late sound.entities.set_is ((region_is_free v.state.region).learnt s h stamp) rests went
@@ -182,9 +182,10 @@ release_room_left {v} {one} {two} {spare} {heard} {late} s script sound ready le
 pub release_has_room : {v w : Standing} {spare : ℕ} (s left : ℕ) → IsSoundNode v.script v.state → IsReady v spare → ((t n : ℕ) → HasReleaseRoom n v t → HasReleaseRoom n w t) → kept_all w ≤ v.script.config.buffer → 4 * v.script.config.buffer ≤ left
     → HasReleaseRoom (2 + 2 * length (kept_of w.state.region.kept s)) w s × (4 * length (kept_of w.state.region.kept s) ≤ left)
 release_has_room {v} {w} s left sound ready rooms few room =
-    let fewer : length (kept_of w.state.region.kept s) ≤ kept_all w = kept_within w.state.region.kept s in
-    (fewer_room (2 + 2 * v.script.config.buffer) (2 + 2 * length (kept_of w.state.region.kept s)) (omega (arith, few, fewer)) (rooms s (2 + 2 * v.script.config.buffer) (ready_room s sound ready)),
-    omega (arith, few, fewer, room))
+    let fewer : length (kept_of w.state.region.kept s) ≤ kept_all w = kept_within w.state.region.kept s in (
+      fewer_room (2 + 2 * v.script.config.buffer) (2 + 2 * length (kept_of w.state.region.kept s)) (omega (arith, few, fewer)) (rooms s (2 + 2 * v.script.config.buffer) (ready_room s sound ready)),
+      omega (arith, few, fewer, room),
+    )
 
 -- ShardHome.
 
@@ -216,21 +217,22 @@ home_refused c s h stamp now e rests = gave_same c none (λ lists. []) (λ lists
 abbrev pub posts_started : ℕ → Incarnation → Node → List Act
 posts_started s from st = by_region (post st.who from (body.ShardStarted s)) ∷ []
 
+pub posted_rooms : {v w : Standing} {before late : Spared Item} (s : ℕ) (from : Incarnation) → Went v w before late (posts_started s from v.state) → (t n : ℕ) → HasReleaseRoom n v t → HasReleaseRoom n w t
+posted_rooms {v} s from went = region_rooms_stay (post v.state.who from (body.ShardStarted s) ∷ []) went
+
 -- what stands once it is told, and what that gave
 pub record IsAnswered (m : Meaning) (s : ℕ) (from : Incarnation) (v w : Standing) (before late : Spared Item) : Type 0 where
   pub gave : Gave v.script none (λ lists. posts_started s from v.state) (moment m v.state before.items) (moment m w.state late.items)
   pub sound : IsSoundNode w.script w.state
   pub rests : Rests m w.script w.state
-  pub rooms : (t n : ℕ) → HasReleaseRoom n v t → HasReleaseRoom n w t
 
 pub answered : (m : Meaning) {v w : Standing} {before late : Spared Item} (s : ℕ) (from : Incarnation) → RegionKeeps → IsScript v.script → IsSoundNode v.script v.state → is_shard v.script s ≡ true → is_node v.script from ≡ true → Rests m v.script v.state
     → Went v w before late (posts_started s from v.state) → IsAnswered m s from v w before late
 answered m {v} {w} {before} {late} s from law script sound shard node rests went = record {
-    gave = gave;
-    sound = subst (λ c. IsSoundNode c w.state) (sym went.script_is) (subst (IsSoundNode v.script) (sym went.node_is) (answer_node v.script m.vouches v.state from (body.ShardStarted s) law script sound node shard).stands);
-    rests = subst (λ c. Rests m c w.state) (sym went.script_is) gave.rests;
-    rooms = region_rooms_stay (post v.state.who from (body.ShardStarted s) ∷ []) went;
-  }
+  gave = gave;
+  sound = subst (λ c. IsSoundNode c w.state) (sym went.script_is) (subst (IsSoundNode v.script) (sym went.node_is) (answer_node v.script m.vouches v.state from (body.ShardStarted s) law script sound node shard).stands);
+  rests = subst (λ c. Rests m c w.state) (sym went.script_is) gave.rests;
+}
   where
     gave : Gave v.script none (λ lists. posts_started s from v.state) (moment m v.state before.items) (moment m w.state late.items)
     gave = region_gave m v w (post v.state.who from (body.ShardStarted s) ∷ []) before late sound.entities.set_is refl rests went
@@ -294,12 +296,12 @@ again_has_room {v} {w} {before} {late} s sound away room leaves =
 -- what it leaves
 pub again_leaves : {v w x : Standing} {before mid late : Spared Item} (s k : ℕ) → IsSoundNode v.script v.state → hosted v.state.entities s ≡ None → StartLeaves s v w before mid → LeavesRoom s k w x → mid.spare + 4 * kept_all x ≤ late.spare + 4 * kept_all w → AgainLeaves s v x before late
 again_leaves {v} {w} {x} {before} {mid} {late} s k sound away leaves last spent = record {
-    rooms = λ t n room. by t n room (t == s) refl;
-    room =
+  rooms = λ t n room. by t n room (t == s) refl;
+  room =
       let same : kept_all w ≡ kept_all v = ap (λ (r : Region). sum_by length r.kept) leaves.region_is in
       let first = leaves.room in
       omega (arith, spent, same, first);
-  }
+}
   where
     by : (t n : ℕ) → HasReleaseRoom n v t → (b : Bool) → (t == s) ≡ b → HasReleaseRoom n x t
     by t n room true e =

@@ -37,7 +37,7 @@ use Rattle.plain_laws.proofs.Members.{same_is, itself_is}
 use Rattle.shard_entities.specs.Lodged.{less, rooms_step}
 use Rattle.node_core.specs.Releasing.{release_first, release_one, release_each, TookRoom, HasReleaseRoom, LeavesRoom, IsNext, IsOneLess, Releasing}
 use Rattle.node_core.specs.Standing.{Standing}
-use Rattle.node_core.specs.Went.{Went, rooms_after}
+use Rattle.node_core.specs.Went.{Went, rooms_after, queues_after}
 use Rattle.node_core.proofs.GaveLaws.{items_append}
 use Rattle.node_core.proofs.StepLaws.{region_rooms, went_nothing}
 use Rattle.node_core.proofs.RoomLaws.{deliver_room, away_room, released_room}
@@ -50,12 +50,13 @@ went_both {v} {w} {z} {before} {late} {last} xs ys f g = record {
   node_is = g.node_is ∙ (ap (λ st. fold after st ys) f.node_is ∙ sym (fold-append after v.state xs ys));
   items_are = g.items_are ∙ (ap (λ is. is ++ items_of ys) f.items_are ∙ (append_assoc before.items (items_of xs) (items_of ys) ∙ ap (λ is. before.items ++ is) (sym (items_append xs ys))));
   spare_is =
-    let first : late.spare ≡ before.spare - length (items_of xs) = f.spare_is in
-    let second : last.spare ≡ late.spare - length (items_of ys) = g.spare_is in
-    let all : length (items_of (xs ++ ys)) ≡ length (items_of xs) + length (items_of ys) = ap length (items_append xs ys) ∙ length-append (items_of xs) (items_of ys) in
-    omega (arith, first, second, all);
+      let first : late.spare ≡ before.spare - length (items_of xs) = f.spare_is in
+      let second : last.spare ≡ late.spare - length (items_of ys) = g.spare_is in
+      let all : length (items_of (xs ++ ys)) ≡ length (items_of xs) + length (items_of ys) = ap length (items_append xs ys) ∙ length-append (items_of xs) (items_of ys) in
+      omega (arith, first, second, all);
   rooms_are = g.rooms_are ∙ (ap (λ (c : Script). fold (rooms_after (setting c)) w.rooms ys) f.script_is
-    ∙ (ap (λ rs. fold (rooms_after (setting v.script)) rs ys) f.rooms_are ∙ sym (fold-append (rooms_after (setting v.script)) v.rooms xs ys)));
+      ∙ (ap (λ rs. fold (rooms_after (setting v.script)) rs ys) f.rooms_are ∙ sym (fold-append (rooms_after (setting v.script)) v.rooms xs ys)));
+  queues_are = g.queues_are ∙ (ap (λ qs. fold queues_after qs ys) f.queues_are ∙ sym (fold-append queues_after v.queues xs ys));
   office_is = let first = f.office_is in let second = g.office_is in omega (arith, first, second);
 }
 
@@ -281,13 +282,13 @@ region_rooms_stay {v} {w} {before} {late} ms went t n room =
 pub routed_rooms : {v w : Standing} (m : Message) {before late : Spared Item} → is_brought v.script m.entity ≡ true → v.state.set ≡ setting v.script → Went v w before late (route m v.state)
     → TookRoom (shard_in v.state m) (if is_in_phase phase.Active v.state.entities m.entity then 2 else 0) v w → LeavesRoom (shard_in v.state m) 1 v w
 routed_rooms {v} {w} m {before} {late} brought set_is went taken = record {
-    here = λ n room. record {
-      some = λ there. some_by n room there (is_in_phase phase.Active v.state.entities m.entity) refl;
-      active = λ e named its active. active_by n (room.active e (subst (λ (c : Script). is_brought c e ≡ true) went.script_is named) (subst (λ (z : Setting). shard_of z e ≡ shard_in v.state m) node_set its) (now_active e active))
-          (is_in_phase phase.Active v.state.entities m.entity) refl;
-    };
-    others = λ t n other room. room_stays n (record { script_is = went.script_is; set_is = node_set; ending_is = ending t; active = now_active }) (beside t other) room;
-  }
+  here = λ n room. record {
+    some = λ there. some_by n room there (is_in_phase phase.Active v.state.entities m.entity) refl;
+    active = λ e named its active. active_by n (room.active e (subst (λ (c : Script). is_brought c e ≡ true) went.script_is named) (subst (λ (z : Setting). shard_of z e ≡ shard_in v.state m) node_set its) (now_active e active))
+        (is_in_phase phase.Active v.state.entities m.entity) refl;
+  };
+  others = λ t n other room. room_stays n (record { script_is = went.script_is; set_is = node_set; ending_is = ending t; active = now_active }) (beside t other) room;
+}
   where
     leaves : IsRouted v.state (fold after v.state (route m v.state))
     leaves = routed_leaves v.state m
@@ -356,6 +357,7 @@ taken_went {v} {w} {s} {m} before is = subst (λ (x : Standing). Went v x before
   items_are = sym (append-nil before.items);
   spare_is = omega arith;
   rooms_are = refl;
+  queues_are = refl;
   office_is = refl;
 })
 
@@ -374,11 +376,11 @@ pub one_less : {v mid w : Standing} {s : ℕ} {m : Message} {before late : Spare
     → v.state.region.set ≡ v.state.set → v.state.set ≡ setting v.script → is_brought v.script m.entity ≡ true → is_routable v.state.region s (is_running v.state s) ≡ true → IsNext s m v mid
     → Went mid w before late (route m mid.state) → TookRoom (shard_of mid.state.set m.entity) (if is_in_phase phase.Active mid.state.entities m.entity then 2 else 0) mid w → IsOneLess s v w
 one_less {v} {mid} {w} {s} {m} {before} {late} region_set set_is brought ready is went taken = record {
-    kept_is = ap (λ (r : Region). kept_of r.kept s) region_is ∙ dropped v.state.region.kept s;
-    routable = ap (λ (r : Region). is_routable r s (is_running w.state s)) region_is ∙ (ap (is_routable v.state.region s) running_is ∙ ready);
-    leaves = record { here = λ n room. routed.here n (first s (2 + (n + 2)) room); others = λ t n other room. routed.others t n other (first t n room) };
-    fewer = ap (λ (r : Region). sum_by length r.kept + 1) region_is ∙ released_room v.state.region s m is.kept_is;
-  }
+  kept_is = ap (λ (r : Region). kept_of r.kept s) region_is ∙ dropped v.state.region.kept s;
+  routable = ap (λ (r : Region). is_routable r s (is_running w.state s)) region_is ∙ (ap (is_routable v.state.region s) running_is ∙ ready);
+  leaves = record { here = λ n room. routed.here n (first s (2 + (n + 2)) room); others = λ t n other room. routed.others t n other (first t n room) };
+  fewer = ap (λ (r : Region). sum_by length r.kept + 1) region_is ∙ released_room v.state.region s m is.kept_is;
+}
   where
     between : Node
     between = after v.state (by_region (released s))
@@ -437,13 +439,13 @@ releasing_next {v} {w} {x} {s} {i} {before} {mid} {late} within r went less spen
       acts = r.acts ++ release_one s w.state;
       went = went_both r.acts (release_one s w.state) r.went went;
       rest =
-        append_assoc r.acts (release_one s w.state) (release_each s (kept_of x.state.region.kept s) x.state)
-        ∙ (ap (λ acts. r.acts ++ (release_one s w.state ++ acts)) (ap (λ ms. release_each s ms x.state) less.kept_is ∙ ap (release_each s (drop 1 kept)) went.node_is)
-        ∙ (ap (λ acts. r.acts ++ acts) (each_first s kept w.state some) ∙ r.rest));
+          append_assoc r.acts (release_one s w.state) (release_each s (kept_of x.state.region.kept s) x.state)
+          ∙ (ap (λ acts. r.acts ++ (release_one s w.state ++ acts)) (ap (λ ms. release_each s ms x.state) less.kept_is ∙ ap (release_each s (drop 1 kept)) went.node_is)
+          ∙ (ap (λ acts. r.acts ++ acts) (each_first s kept w.state some) ∙ r.rest));
       count = let count = r.count in omega (arith, count, few, left);
       routable = less.routable;
       rooms = let narrow : HasReleaseRoom (2 + 2 * length (drop 1 kept)) x s = less.leaves.here (2 * length (drop 1 kept)) (subst (λ n. HasReleaseRoom n w s) (let e : 2 + 2 * length kept ≡ 2 + (2 * length (drop 1 kept) + 2) = omega (arith, few) in e) r.rooms) in
-        subst (λ n. HasReleaseRoom (2 + 2 * n) x s) (sym left) narrow;
+          subst (λ n. HasReleaseRoom (2 + 2 * n) x s) (sym left) narrow;
       room = let wide = r.room in omega (arith, wide, few, left, spent);
       leaves = leaves_next r.leaves less.leaves;
       spent = let all = r.spent in let fewer_kept = less.fewer in omega (arith, all, fewer_kept, spent);

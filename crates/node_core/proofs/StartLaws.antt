@@ -39,6 +39,7 @@ use Rattle.shard_lease.specs.declared.leases.Acquire.TheVariants as acquired
 use Rattle.shard_lease.specs.Meaning.{Acquired, Meaning, Stays, Apart, Still, Hands, Refuses}
 use Rattle.shard_store.specs.declared.store.Store.TheVariants as store
 use Rattle.shard_store.specs.Shelf.{Shelf}
+use Rattle.producer_ctl.specs.Producing.{Producing}
 use Rattle.node_core.specs.Found.{none, asks}
 use Rattle.node_core.specs.Gave.{Gave, moment}
 use Rattle.node_core.specs.Leased.{Rests}
@@ -63,10 +64,10 @@ shard_granted c old new v s x before here inside free rests stays h apart =
     granted_gave c (slot.Shard s) by_entities old new v.state (with_store s x v).state (store.Shard x) before here (ap (option_map (λ (h : Hosted). h.entries)) free) (λ m. refl) rests stays h apart (λ n. refl)
     (record { held_is = ap (option_map (λ (h : Hosted). h.entries)) (get_or-set_same v.state.entities.hosted s (Some (record { entries = x.entries; stopping = None })) None inside); else_is = others })
   where
-    others : (t : Slot) → t ≢ slot.Shard s → held_list t (with_store s x v).state ≡ held_list t v.state
-    others (slot.Shard t) other = ap (option_map (λ (h : Hosted). h.entries)) (get_or-set_other v.state.entities.hosted s t (Some (record { entries = x.entries; stopping = None })) None (λ same. other (ap (λ i. slot.Shard i) same)))
-    others slot.Coordinator other = refl
-    others (slot.Queue p) other = refl
+    others : (t : Slot) → is_slot_of c t ≡ true → t ≢ slot.Shard s → held_list t (with_store s x v).state ≡ held_list t v.state
+    others (slot.Shard t) valid other = ap (option_map (λ (h : Hosted). h.entries)) (get_or-set_other v.state.entities.hosted s t (Some (record { entries = x.entries; stopping = None })) None (λ same. other (ap (λ i. slot.Shard i) same)))
+    others slot.Coordinator valid other = refl
+    others (slot.Queue p) valid other = refl
 
 -- A shard that another node holds.
 
@@ -110,7 +111,7 @@ pub took_shard_gave : (old new : Meaning) (v w : Standing) (s : ℕ) (answer : A
 took_shard_gave old new v w s (acquired.Granted (store.Shard x)) before late set_is here inside free rests stays a t =
     let mid : Standing = with_store s x v in
     let granted : Gave v.script (asks (slot.Shard s)) (λ lists. map by_entities (acquire (slot.Shard s) v.state.who (shard_list lists s))) (moment old v.state before.items) (moment new mid.state (before.items ++ item.Fact (fact.Granted (slot.Shard s) (epoch x.entries) v.state.who) ∷ []))
-        = shard_granted v.script old new v s x before.items here inside free rests stays a.0 a.1 in
+    = shard_granted v.script old new v s x before.items here inside free rests stays a.0 a.1 in
     gave_then v.script (asks (slot.Shard s)) (λ lists. map by_entities (acquire (slot.Shard s) v.state.who (shard_list lists s))) (λ lists. of_entities (start_remembered s)) (moment old v.state before.items)
     (moment new mid.state (before.items ++ item.Fact (fact.Granted (slot.Shard s) (epoch x.entries) v.state.who) ∷ [])) (moment new w.state late.items) granted
     (entities_gave new mid w (start_remembered s mid.state.entities) (given before (told (fact.Granted (slot.Shard s) (epoch x.entries) v.state.who) ∷ [])) late set_is
@@ -119,7 +120,7 @@ took_shard_gave old new v w s (acquired.Granted (store.Coordinator x)) before la
 took_shard_gave old new v w s (acquired.Granted (store.Queue x)) before late set_is here inside free rests stays a t = absurd t
 took_shard_gave old new v w s (acquired.Held h) before late set_is here inside free rests stays a t =
     let refused : Gave v.script (asks (slot.Shard s)) (λ lists. map by_entities (acquire (slot.Shard s) v.state.who (shard_list lists s))) (moment old v.state before.items) (moment new v.state (before.items ++ item.Fact (fact.Held (slot.Shard s) v.state.who h) ∷ []))
-        = shard_refused v.script old new v.state s h before.items here free rests stays a.0 a.1 in
+    = shard_refused v.script old new v.state s h before.items here free rests stays a.0 a.1 in
     subst (λ (x : Standing). Gave v.script (asks (slot.Shard s)) (λ lists. take_shard lists s v.state) (moment old v.state before.items) (moment new x.state late.items)) (sym t.0)
     (subst (λ (x : Spared Item). Gave v.script (asks (slot.Shard s)) (λ lists. take_shard lists s v.state) (moment old v.state before.items) (moment new v.state x.items)) (sym t.1)
     (gave_then v.script (asks (slot.Shard s)) (λ lists. map by_entities (acquire (slot.Shard s) v.state.who (shard_list lists s))) (λ lists. of_entities (start_remembered s)) (moment old v.state before.items)
@@ -163,7 +164,7 @@ start_there c s m v items there rests =
 
 -- Parts.
 
-pub parts_hosting : {c : Script} {kind : Kind} {version : ℕ} {region : Made} {e : Lodged} {office : Option Held} (s : ℕ) (x : Shelf) → AreParts c kind version region e office → AreParts c kind version region (hosting e s x) office
+pub parts_hosting : {c : Script} {kind : Kind} {version : ℕ} {region : Made} {e : Lodged} {queues : Producing} {office : Option Held} (s : ℕ) (x : Shelf) → AreParts c kind version region e queues office → AreParts c kind version region (hosting e s x) queues office
 parts_hosting s x p = record {
   script_is = p.script_is;
   kind_is = p.kind_is;
@@ -174,6 +175,9 @@ parts_hosting s x p = record {
   entities_who = p.entities_who;
   entities_set = p.entities_set;
   entities_version = p.entities_version;
+  queues_script = p.queues_script;
+  queues_who = p.queues_who;
+  queues_there = p.queues_there;
   coordinator = p.coordinator;
 }
 
@@ -217,15 +221,15 @@ start_delivers set k s st =
 
 hosts_leaves : {v w : Standing} {before late : Spared Item} (s : ℕ) (x : Shelf) → IsSoundNode v.script v.state → s < length v.rooms → hosted v.state.entities s ≡ None → 2 ≤ x.spare → Hosts s x v w before late → StartLeaves s v w before late
 hosts_leaves {v} {w} {before} {late} s x sound inside away wide went = record {
-    region_is = ap (λ (n : Node). n.region) goes;
-    rooms = λ t n room. by t n room (t == s) refl;
-    room =
+  region_is = ap (λ (n : Node). n.region) goes;
+  rooms = λ t n room. by t n room (t == s) refl;
+  room =
       let given_one : (given before (told (fact.Granted (slot.Shard s) (epoch x.entries) v.state.who) ∷ [])).spare ≡ before.spare - 1 = refl in
       let less : late.spare ≡ (given before (told (fact.Granted (slot.Shard s) (epoch x.entries) v.state.who) ∷ [])).spare - length (items_of (of_entities (start_remembered s) (with_store s x v).state)) = went.spare_is in
       let few : length (items_of (of_entities (start_remembered s) (with_store s x v).state)) ≤ 2 * length (names_of v.state.entities.set s) = subst (λ is. length is ≤ 2 * length (names_of v.state.entities.set s)) (sym (entities_items (start_remembered s (with_store s x v).state.entities))) (start_remembered_room s (with_store s x v).state.entities) in
       let same : length (names_of v.state.entities.set s) ≡ length (names_of v.state.set s) = ap (λ (z : Setting). length (names_of z s)) (sound.entities.set_is ∙ sym sound.set_is) in
       omega (arith, given_one, less, few, same);
-  }
+}
   where
     goes : w.state ≡ record (with_store s x v).state { entities = fold entities_after (with_store s x v).state.entities (start_remembered s (with_store s x v).state.entities) }
     goes = went.node_is ∙ entities_alone (with_store s x v).state (start_remembered s (with_store s x v).state.entities)

@@ -113,7 +113,6 @@ entered_is old t s f h = by (t == s) refl
         ap (option_map (λ (h : Hosted). h.entries)) (placed_beside old t s (option_map (λ (h : Hosted). record { entries = h.entries ++ f ∷ []; stopping = h.stopping }) (at old t)) (λ same. other_number t s e (sym same)))
         ∙ (grown_none (option_map (λ (h : Hosted). h.entries) (at old s)) ∙ ap (λ b. grown (if b then f ∷ [] else []) (option_map (λ (h : Hosted). h.entries) (at old s))) (sym e))
 
-
 abbrev lists_of_hosted : List (Option Hosted) → ℕ → Option (List Fact)
 lists_of_hosted old s = option_map (λ (h : Hosted). h.entries) (at old s)
 

@@ -9,8 +9,8 @@ ghost use Rattle.node_core.specs.Went.{Went, CoordinatorWent};
 
 use crate::actors::Actors;
 use behaviour_core::Behaviour;
-use coordinator_actor::laws::{lost_room, same_law};
 use coordinator_actor::Coordinator;
+use coordinator_actor::laws::{lost_room, same_law};
 use region_actor::Region;
 use yard_model::{Out, Packet};
 

@@ -9,8 +9,8 @@ ghost use Rattle.node_core.specs.Went.{Went};
 
 use crate::actors::Actors;
 use behaviour_core::Behaviour;
-use region_actor::laws::{handle_room, leave_room, register_room, same_law, tick_room};
 use region_actor::Todo;
+use region_actor::laws::{handle_room, leave_room, register_room, same_law, tick_room};
 use yard_model::{Out, Packet};
 
 impl<B: Behaviour + Drop> Actors<B> {

@@ -18,8 +18,8 @@ use shard_store::Stores;
 use std::alloc::{AllocError, Global};
 use std::test::Fail;
 use yard_model::{
-    Body, Charter, Command, Config, EntityName, Fact, Incarnation, Input, Item, Kind, Line, Members,
-    NodeNo, Order, Out, Packet, ProducerNo,
+    Body, Charter, Command, Config, EntityName, Fact, Incarnation, Input, Item, Kind, Line,
+    Members, NodeNo, Order, Out, Packet, ProducerNo,
 };
 
 const ONE: Incarnation = Incarnation {

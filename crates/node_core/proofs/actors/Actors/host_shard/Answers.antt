@@ -11,6 +11,8 @@ take_host-requires-clause-taken g c = ap (λ (v : Standing). takes_host c.args.s
 
 pub returns-else-takes_host-clause-gave : goal.returns-else-takes_host-clause-gave
 returns-else-takes_host-clause-gave g c =
-    let v : Standing = c.args.self.now in
-    (none, host_refused v.script c.args.s c.args.stamp c.args.packet.now.from (moment (g.L.Leases.meaning c.args.leases.now) v.state c.args.out.now.items)
-    (ap (λ (x : Standing). takes_host c.args.s c.args.stamp x.state.region) (sym c.self.view_is) ∙ (sym c.takes_host.ensures ∙ c.if-takes_host.false)) c.requires.rests)
+    let v : Standing = c.args.self.now in (
+      none,
+      host_refused v.script c.args.s c.args.stamp c.args.packet.now.from (moment (g.L.Leases.meaning c.args.leases.now) v.state c.args.out.now.items)
+          (ap (λ (x : Standing). takes_host c.args.s c.args.stamp x.state.region) (sym c.self.view_is) ∙ (sym c.takes_host.ensures ∙ c.if-takes_host.false)) c.requires.rests,
+    )

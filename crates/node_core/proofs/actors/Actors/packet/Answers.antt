@@ -13,6 +13,8 @@ returns-then-is_for_coordinator-clause-gave g c =
     let script : Script = c.args.self.now.script in
     let st : Node = c.args.self.now.state in
     let from = c.args.packet.now.from in
-    let b : Body = c.args.packet.now.body in
-    (none, office_packet script old c.args.self.now c.coordinate.new.self from b c.args.out.now c.coordinate.new.out refl (sym c.is_for_coordinator.ensures ∙ c.if-is_for_coordinator.true)
-    (coordinated_gave old c.args.self.now c.coordinate.new.self from b c.args.out.now c.coordinate.new.out c.requires.sound c.requires.within c.requires.rests c.coordinate.ensures))
+    let b : Body = c.args.packet.now.body in (
+      none,
+      office_packet script old c.args.self.now c.coordinate.new.self from b c.args.out.now c.coordinate.new.out refl (sym c.is_for_coordinator.ensures ∙ c.if-is_for_coordinator.true)
+          (coordinated_gave old c.args.self.now c.coordinate.new.self from b c.args.out.now c.coordinate.new.out c.requires.sound c.requires.within c.requires.rests c.coordinate.ensures),
+    )

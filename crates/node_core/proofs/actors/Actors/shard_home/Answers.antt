@@ -11,6 +11,8 @@ take_home-requires-clause-taken g c = ap (λ (v : Standing). takes_home c.args.s
 
 pub returns-else-takes_home-clause-gave : goal.returns-else-takes_home-clause-gave
 returns-else-takes_home-clause-gave g c =
-    let v : Standing = c.args.self.now in
-    (none, home_refused v.script c.args.s c.args.home c.args.stamp (moment (g.L.Leases.meaning c.args.leases.now) v.state c.args.out.now.items)
-    (ap (λ (x : Standing). takes_home c.args.s c.args.home c.args.stamp x.state.region) (sym c.self.view_is) ∙ (sym c.takes_home.ensures ∙ c.if-takes_home.false)) c.requires.rests)
+    let v : Standing = c.args.self.now in (
+      none,
+      home_refused v.script c.args.s c.args.home c.args.stamp (moment (g.L.Leases.meaning c.args.leases.now) v.state c.args.out.now.items)
+          (ap (λ (x : Standing). takes_home c.args.s c.args.home c.args.stamp x.state.region) (sym c.self.view_is) ∙ (sym c.takes_home.ensures ∙ c.if-takes_home.false)) c.requires.rests,
+    )

@@ -11,8 +11,7 @@ use Rattle.node_core.specs.Leased.{Rests}
 use Rattle.node_core.specs.Releasing.{kept_all}
 use Rattle.node_core.specs.Standing.{Standing}
 use Rattle.node_core.specs.Started.{asks_start}
-use Rattle.node_core.proofs.HomeLaws.{IsAnswered, IsLearnt, host_gave, host_genuine, answered, host_learnt, posts_started, release_has_room, release_room_left, start_has_room, started_sound}
-use Rattle.node_core.proofs.ReleaseLaws.{region_rooms_stay}
+use Rattle.node_core.proofs.HomeLaws.{IsAnswered, IsLearnt, host_gave, host_genuine, answered, host_learnt, posted_rooms, posts_started, release_has_room, release_room_left, start_has_room, started_sound}
 use Rattle.node_core.proofs.StillRoutes.{released_gave}
 use Rattle.node_core.proofs.actors.Actors.take_host.Goals as goal
 
@@ -55,7 +54,7 @@ release-requires-clause-rooms g c =
     host_learnt (g.L.Leases.meaning c.args.leases.now) c.args.packet.now c.args.s c.args.stamp c.region_keeps.ensures c.knows.ensures.script c.requires.body c.requires.genuine c.requires.taken c.requires.sound c.requires.rests c.hear.ensures.went in
     let few : kept_all c.post_started.new.self ≤ v.script.config.buffer =
     subst (λ (d : Script). kept_all c.post_started.new.self ≤ d.config.buffer) (c.post_started.ensures.went.script_is ∙ (c.start.ensures.script ∙ c.hear.ensures.went.script_is)) c.keeps_few.ensures in
-    (release_has_room c.args.s (4 * v.script.config.buffer) c.requires.sound c.requires.ready (λ t n room. region_rooms_stay _ c.post_started.ensures.went t n (c.start.ensures.leaves.rooms t n (learnt.rooms t n room))) few
+    (release_has_room c.args.s (4 * v.script.config.buffer) c.requires.sound c.requires.ready (λ t n room. posted_rooms c.args.s c.args.packet.now.from c.post_started.ensures.went t n (c.start.ensures.leaves.rooms t n (learnt.rooms t n room))) few
     (let e : 4 * v.script.config.buffer ≤ 4 * v.script.config.buffer = omega arith in e)).0
 
 pub release-requires-clause-room : goal.release-requires-clause-room
@@ -69,7 +68,7 @@ release-requires-clause-room g c =
     let script : IsScript one.script = subst IsScript (sym c.hear.ensures.went.script_is) c.knows.ensures.script in
     let left : 4 * v.script.config.buffer + 1 ≤ c.start.new.out.spare = release_room_left c.args.s script learnt.sound c.requires.ready c.hear.ensures.room c.start.ensures.leaves in
     let less = c.post_started.ensures.room in
-    (release_has_room c.args.s c.post_started.new.out.spare c.requires.sound c.requires.ready (λ t n room. region_rooms_stay _ c.post_started.ensures.went t n (c.start.ensures.leaves.rooms t n (learnt.rooms t n room))) few (omega (arith, left, less))).1
+    (release_has_room c.args.s c.post_started.new.out.spare c.requires.sound c.requires.ready (λ t n room. posted_rooms c.args.s c.args.packet.now.from c.post_started.ensures.went t n (c.start.ensures.leaves.rooms t n (learnt.rooms t n room))) few (omega (arith, left, less))).1
 
 pub returns-clause-script : goal.returns-clause-script
 returns-clause-script g c = c.release.ensures.went.script_is ∙ (c.post_started.ensures.went.script_is ∙ (c.start.ensures.script ∙ c.hear.ensures.went.script_is))

@@ -11,7 +11,8 @@ use Rattle.yard_model.specs.declared.out.Item.{Item}
 use Rattle.yard_model.specs.Spared.{Spared}
 use Rattle.coordinator_actor.specs.Held.{Held}
 use Rattle.shard_entities.specs.Lodged.{Lodged}
-use Rattle.node_core.specs.Standing.{Standing, standing_of, no_producers}
+use Rattle.producer_ctl.specs.Producing.{Producing}
+use Rattle.node_core.specs.Standing.{Standing, standing_of}
 use Rattle.node_core.specs.Went.{Went}
 use Rattle.node_core.proofs.AgainLaws.{reminds_went, reminded_room}
 use Rattle.node_core.proofs.RoomLaws.{few_names_in, tick_entities_moves, tick_entities_room}
@@ -31,7 +32,7 @@ returns-clause-went g c =
     let script : Script = c.self.inside.script.value in
     let r : Region = c.self.inside.region.state in
     let e : Lodged = c.self.inside.entities in
-    let ps : List (Option Producer) = no_producers script in
+    let ps : Producing = c.self.inside.producers in
     let k : Option Held = c.self.inside.coordinator in
     subst (λ (v : Standing). Went v v c.args.out.now c.tick.new.out (rules.of_entities tick_entities v.state)) c.self.view_is
     (reminds_went script r e ps k c.args.out.now c.tick.new.out c.self.invariant.0.entities_set c.tick.ensures)
@@ -48,7 +49,7 @@ returns-clause-rooms g c = λ t n room.
     let script : Script = c.self.inside.script.value in
     let r : Region = c.self.inside.region.state in
     let e : Lodged = c.self.inside.entities in
-    let ps : List (Option Producer) = no_producers script in
+    let ps : Producing = c.self.inside.producers in
     let k : Option Held = c.self.inside.coordinator in
     reminded_room t n (subst (λ (v : Standing). Went v v c.args.out.now c.tick.new.out (rules.of_entities tick_entities v.state)) c.self.view_is
     (reminds_went script r e ps k c.args.out.now c.tick.new.out c.self.invariant.0.entities_set c.tick.ensures)) room

@@ -1,9 +1,8 @@
 -- What it gives that a shard starts and what is kept of it is released: once its home is learnt, and at the tick.
 use Rattle.std.proofs.Common.{◌≡◌, ℕ, ◌+◌, ◌*◌, ◌≤◌, List, [], ◌∷◌, ◌++◌, length, sym, ap, subst, ◌∙◌, refl, true, false, true≢false, append-nil, arith}
-use Rattle.std.specs.Prelude.{Bool, ◌&&◌, ◌==◌, not, fold, map, Option, Some, None, sum_by, if◌then◌else◌}
+use Rattle.std.specs.Prelude.{Bool, ◌&&◌, ◌==◌, not, fold, map, None, sum_by, if◌then◌else◌}
 use Rattle.std.specs.Option.{option_map}
 use Rattle.yard_model.specs.declared.incarnation.Incarnation.{Incarnation}
-use Rattle.yard_model.specs.declared.incarnation.Slot.{Slot}
 use Rattle.yard_model.specs.declared.incarnation.Slot.TheVariants as slot
 use Rattle.yard_model.specs.declared.incarnation.Stamp.{Stamp}
 use Rattle.yard_model.specs.declared.out.Item.{Item}
@@ -12,21 +11,20 @@ use Rattle.yard_model.specs.declared.packet.Body.TheVariants as body
 use Rattle.yard_model.specs.declared.packet.Packet.{Packet}
 use Rattle.yard_model.specs.Entities.{Hosted, hosted, is_hosted}
 use Rattle.yard_model.specs.Genuine.{is_node, is_shard, is_genuine_body, is_genuine_packet}
-use Rattle.yard_model.specs.Move.{Move, post}
+use Rattle.yard_model.specs.Move.{post}
 use Rattle.yard_model.specs.Node as rules
 use Rattle.yard_model.specs.Node.{Node, Act, by_region, after, all_in_turn, of_region, start, release}
 use Rattle.yard_model.specs.Region.{Region, is_home, kept_of, learn, takes_home, takes_host}
-use Rattle.yard_model.specs.Script.{Script, IsScript, Setting, setting}
+use Rattle.yard_model.specs.Script.{Script, IsScript, setting}
 use Rattle.yard_model.specs.Setting.{names_of}
 use Rattle.yard_model.specs.SlotLists.{SlotLists}
 use Rattle.yard_model.specs.Spared.{Spared}
 use Rattle.plain_laws.proofs.Booleans.{and_both, other_number, same_number}
 use Rattle.yard_laws.proofs.FreeLaws.{region_is_free}
 use Rattle.actor_laws.specs.Hands.{held_list}
-use Rattle.actor_laws.specs.RegionStands.{RegionKeeps, ShardsAreThere}
+use Rattle.actor_laws.specs.RegionStands.{RegionKeeps}
 use Rattle.actor_laws.specs.ShardStart.{ShardStarts}
 use Rattle.node_laws.specs.NodeStands.{IsSoundNode}
-use Rattle.node_laws.proofs.NodeMessages.{RouteLaws}
 use Rattle.node_laws.proofs.NodeRoutes.{answer_node}
 use Rattle.node_laws.proofs.NodeStarts.{learn_node, not_hosted, starts_node}
 use Rattle.region_actor.specs.Handled.{handled}
@@ -38,11 +36,11 @@ use Rattle.node_core.specs.Releasing.{HasReleaseRoom, LeavesRoom, kept_all}
 use Rattle.node_core.specs.Standing.{Standing, IsReady}
 use Rattle.node_core.specs.Started.{asks_start, asks_again, start_home, take_shard, StartLeaves, AgainLeaves}
 use Rattle.node_core.specs.Went.{Went}
-use Rattle.node_core.proofs.BesideLaws.{frees_none, gave_keeps}
+use Rattle.node_core.proofs.BesideLaws.{gave_keeps}
 use Rattle.node_core.proofs.FoundLaws.{alike_itself}
 use Rattle.node_core.proofs.GaveLaws.{gave_asked, gave_first, gave_nothing, gave_same, gave_then}
 use Rattle.node_core.proofs.GiveLaws.{region_gave}
-use Rattle.node_core.proofs.PacketLaws.{frees_nothing, handled_free}
+use Rattle.node_core.proofs.PacketLaws.{frees_nothing}
 use Rattle.node_core.proofs.ReleaseLaws.{region_rooms_stay}
 use Rattle.node_core.proofs.RoomLaws.{few_names_in, filter_few, kept_within}
 use Rattle.node_core.proofs.StartLaws.{away_room, fewer_room, ready_room}

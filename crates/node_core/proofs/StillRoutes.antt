@@ -1,13 +1,13 @@
 -- Messages that are routed one after another: no slot changes hands by any of them, so they are still where the first is.
-use Rattle.std.proofs.Common.{◌≡◌, ℕ, ◌-◌, List, [], ◌∷◌, ◌++◌, sym, ap, subst, ◌∙◌, refl, true, false}
-use Rattle.std.specs.Prelude.{Bool, ◌&&◌, ◌==◌, fold, Option, Some, None, if◌then◌else◌}
+use Rattle.std.proofs.Common.{◌≡◌, ℕ, ◌-◌, List, [], ◌∷◌, ◌++◌, sym, subst, ◌∙◌, refl, true, false}
+use Rattle.std.specs.Prelude.{Bool, ◌==◌, fold, Option, Some, None, if◌then◌else◌}
 use Rattle.std.specs.List.{list_all}
 use Rattle.yard_model.specs.declared.out.Item.{Item}
 use Rattle.yard_model.specs.declared.packet.Message.{Message}
 use Rattle.yard_model.specs.Entities as entities
 use Rattle.yard_model.specs.Genuine.{is_genuine}
 use Rattle.yard_model.specs.Move.{released}
-use Rattle.yard_model.specs.Node.{Node, Act, by_region, by_entities, after, of_entities, of_region, is_running, route, release, route_numbers}
+use Rattle.yard_model.specs.Node.{Node, Act, by_region, by_entities, after, is_running, route, release, route_numbers}
 use Rattle.yard_model.specs.Producer.{Producer, message_of}
 use Rattle.yard_model.specs.Region.{is_routable, kept_of, route_away}
 use Rattle.yard_model.specs.Script.{Script, IsScript, setting}

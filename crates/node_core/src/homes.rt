@@ -3,7 +3,7 @@ ghost use Rattle.std.specs.Prelude.{◌≡◌, ◌+◌, ◌*◌, ◌≤◌, ◌&
 ghost use Rattle.yard_model.specs.declared.incarnation.Slot.{Slot};
 ghost use Rattle.yard_model.specs.declared.packet.Body.TheVariants as body;
 ghost use Rattle.yard_model.specs.Entities.{is_hosted};
-ghost use Rattle.yard_model.specs.Genuine.{is_genuine_packet, is_node, is_shard};
+ghost use Rattle.yard_model.specs.Genuine.{is_genuine_packet, is_shard};
 ghost use Rattle.yard_model.specs.Move.{post};
 ghost use Rattle.yard_model.specs.Node as rules;
 ghost use Rattle.yard_model.specs.Node.{by_region};

@@ -1,5 +1,5 @@
-use Rattle.std.proofs.Common.{◌≡◌, ◌∙◌, sym, ap, true, false}
-use Rattle.std.specs.Prelude.{Bool, ◌&&◌, not}
+use Rattle.std.proofs.Common.{◌≡◌, ◌∙◌, sym, true}
+use Rattle.std.specs.Prelude.{not}
 use Rattle.yard_model.specs.Entities.{is_hosted}
 use Rattle.yard_model.specs.Region.{is_home}
 use Rattle.plain_laws.proofs.Booleans.{and_both, of_not}

@@ -1,5 +1,4 @@
 use Rattle.std.proofs.Common.{◌≡◌, ◌∙◌, sym, subst, true}
-use Rattle.std.specs.Prelude.{None}
 use Rattle.yard_model.specs.Entities.{hosted}
 use Rattle.yard_model.specs.Genuine.{is_shard}
 use Rattle.yard_model.specs.Node.{release}

@@ -1,4 +1,4 @@
-use Rattle.std.proofs.Common.{◌≡◌, ◌≤◌, ◌+◌, ◌*◌, ◌∙◌, ℕ, sym, ap, subst, true, arith}
+use Rattle.std.proofs.Common.{◌≡◌, ◌≤◌, ◌+◌, ◌*◌, ◌∙◌, sym, subst, true, arith}
 use Rattle.yard_model.specs.Genuine.{is_shard}
 use Rattle.yard_model.specs.Node.{release}
 use Rattle.yard_model.specs.Script.{Script, IsScript}

@@ -515,10 +515,14 @@ under_shards n (slot.Queue p) h = absurd (true≢false (sym h))
 
 pub shards_stepped : {v w x : Standing} {m0 m1 : Meaning} {before late last : Spared Item} (n : ℕ) → n ≡ v.script.config.shards → TickLaws → StartedAgain n v w m0 m1 before late → Went w x late last (of_entities tick_entities w.state) → late.spare ≤ last.spare + 1000
     → ((t k : ℕ) → HasReleaseRoom k w t → HasReleaseRoom k x t) → (asked : (Slot → Bool)) × (AsksShards asked × Stepped (start_room 0 v.state + 1000) asked (λ lists. tick_shards v.script lists v.state) v x m0 m1 before last)
-shards_stepped {v} {w} {x} {m0} {m1} {before} {late} {last} n all laws r went room rooms =
-    (r.asked, ((λ s h. under_shards n s (r.asks_under s h)),
+shards_stepped {v} {w} {x} {m0} {m1} {before} {late} {last} n all laws r went room rooms = (
+  r.asked,
+  (
+    (λ s h. under_shards n s (r.asks_under s h)),
     stepped_then (start_room 0 v.state) 1000 r.asked (λ lists. starts_again v.script.config.shards lists v.state) (λ lists. of_entities tick_entities) started
-    (entities_stepped m1 laws (subst (λ (c : Script). IsSoundNode c w.state) (sym r.script_is) r.stands) (subst (λ (c : Script). Rests m1 c w.state) (sym r.script_is) r.gave.rests) went room rooms)))
+        (entities_stepped m1 laws (subst (λ (c : Script). IsSoundNode c w.state) (sym r.script_is) r.stands) (subst (λ (c : Script). Rests m1 c w.state) (sym r.script_is) r.gave.rests) went room rooms),
+  ),
+)
   where
     started : Stepped (start_room 0 v.state) r.asked (λ lists. starts_again v.script.config.shards lists v.state) v w m0 m1 before late
     started = record {

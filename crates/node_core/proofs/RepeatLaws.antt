@@ -172,10 +172,11 @@ fewer q i xs =
 pub names_room : {v w : Standing} {before late : Spared Item} (p i : ℕ) → NamesSent p (take i v.state.set.names) v w before late
     → ((t : ℕ) → HasReleaseRoom (4 + 2 * length (repeated_at (queues v.state) v.state.set t v.state.set.names p)) v t) → 4 + 4 * length (repeated (queues v.state) v.state.set.names p) ≤ before.spare
     → (4 ≤ late.spare) × ((t : ℕ) → HasReleaseRoom 4 w t)
-names_room {v} {w} {before} {late} p i r rooms room =
-    ((let spent = r.room in let few = fewer (repeats (queues v.state) p) i v.state.set.names in omega (arith, spent, room, few)),
-    λ t. let few = fewer (λ e. repeats (queues v.state) p e && (shard_of v.state.set e == t)) i v.state.set.names in
-    r.rooms t 2 (fewer_room (4 + 2 * length (repeated_at (queues v.state) v.state.set t v.state.set.names p)) (2 + (2 + 2 * length (repeated_at (queues v.state) v.state.set t (take i v.state.set.names) p))) (omega (arith, few)) (rooms t)))
+names_room {v} {w} {before} {late} p i r rooms room = (
+  (let spent = r.room in let few = fewer (repeats (queues v.state) p) i v.state.set.names in omega (arith, spent, room, few)),
+  λ t. let few = fewer (λ e. repeats (queues v.state) p e && (shard_of v.state.set e == t)) i v.state.set.names in
+      r.rooms t 2 (fewer_room (4 + 2 * length (repeated_at (queues v.state) v.state.set t v.state.set.names p)) (2 + (2 + 2 * length (repeated_at (queues v.state) v.state.set t (take i v.state.set.names) p))) (omega (arith, few)) (rooms t)),
+)
 
 pub names_next : {v w x : Standing} {before late last : Spared Item} (p i : ℕ) → TickLaws → IsScript v.script → IsSoundNode v.script v.state → 0 < p → i < length v.state.set.names → NamesSent p (take i v.state.set.names) v w before late
     → Went w x late last (send_again p (slice_index_or w.state.set.names i []) w.state)
@@ -354,21 +355,20 @@ wanted laws c st script is t n less =
 pub producers_room : {v w : Standing} {before late : Spared Item} (n : ℕ) → TickLaws → IsScript v.script → IsSoundNode v.script v.state → n < v.script.config.producers → ProducersSent n v w before late
     → ((t : ℕ) → HasReleaseRoom (room_wanted v.script t) v t) → 4 + 4 * length (pairs_in v.script.orders) ≤ before.spare
     → ((t : ℕ) → HasReleaseRoom (4 + 2 * length (repeated_at (queues w.state) w.state.set t w.state.set.names (n + 1))) w t) × (4 + 4 * length (repeated (queues w.state) w.state.set.names (n + 1)) ≤ late.spare)
-producers_room {v} {w} {before} {late} n laws script is within r rooms room =
-    (
-      (λ t.
+producers_room {v} {w} {before} {late} n laws script is within r rooms room = (
+  (λ t.
       let own : ℕ = length (repeated_at (queues w.state) w.state.set t w.state.set.names (n + 1)) in
       let same : own ≡ length (repeated_at lists v.state.set t names (n + 1)) = ap₂ (λ l (z : Setting). length (repeated_at l z t z.names (n + 1))) r.lists_are set_is in
       let more = each_count (repeated_at lists v.state.set t names) n in
       let few = wanted laws v.script v.state script is t (n + 1) (omega (arith, within)) in
       fewer_room (2 + (2 + 2 * own)) (4 + 2 * own) (omega arith)
       (r.rooms t (2 + 2 * own) (fewer_room (room_wanted v.script t) (2 + ((2 + 2 * own) + 2 * length (flat_map (repeated_at lists v.state.set t names) (numbers 1 n)))) (omega (arith, same, more, few)) (rooms t)))),
-      (let spent = r.room in
+  (let spent = r.room in
       let same : length (repeated (queues w.state) w.state.set.names (n + 1)) ≡ length (repeated lists names (n + 1)) = ap₂ (λ l (z : Setting). length (repeated l z.names (n + 1))) r.lists_are set_is in
       let more = each_count (repeated lists names) n in
       let few = all_few laws v.script v.state is (n + 1) in
       omega (arith, spent, room, same, more, few)),
-    )
+)
   where
     names : List (List ℕ)
     names = v.state.set.names
@@ -408,9 +408,10 @@ pair_still c m p e st laws script is above =
     well {mid} k stands g = (laws.sends c k (stands.producers p k above g).stands).repeated_well e
 
 pairs_calm : (c : Script) (m : Meaning) (p : ℕ) (es : List (List ℕ)) → TickLaws → IsScript c → 0 < p → IsCalm c m (λ p. for_each after (send_again p) es) p
-pairs_calm c m p es laws script above st is =
-    (each_still c m (send_again p) (λ e. true) (λ e good st is. (pair_still c m p e st laws script is above, (sends_again c vouches_all p e st (laws_of laws) script is above).stands)) es (all_true es) st is,
-    (names_again c vouches_all p es st (laws_of laws) script is above).stands)
+pairs_calm c m p es laws script above st is = (
+  each_still c m (send_again p) (λ e. true) (λ e good st is. (pair_still c m p e st laws script is above, (sends_again c vouches_all p e st (laws_of laws) script is above).stands)) es (all_true es) st is,
+  (names_again c vouches_all p es st (laws_of laws) script is above).stands,
+)
   where
     all_true : (es : List (List ℕ)) → list_all (λ e. true) es ≡ true
     all_true [] = refl
@@ -475,10 +476,12 @@ pub tick_gave : {v w x y : Standing} {m0 m1 m2 : Meaning} {before one two late :
     → ((asked : (Slot → Bool)) × (AsksShards asked × Stepped k asked (λ lists. tick_shards w.script lists w.state) w x m1 m2 one two))
     → ProducersSent x.script.config.producers x y two late
     → (asked : (Slot → Bool)) × Gave v.script asked (λ lists. tick lists v.state) (moment m0 v.state before.items) (moment m2 y.state late.items)
-tick_gave {v} {w} {x} {y} {m0} {m1} {m2} {before} {one} {two} {late} k laws script is first (asked, (alone, second)) third =
-    (both_asked, gave_same v.script both_asked (λ lists. acts lists ++ pairs_of (setting v.script) (fold after v.state (acts lists))) (λ lists. tick lists v.state) (moment m0 v.state before.items) (moment m2 y.state late.items)
-    (λ lists. tick_is v.script lists v.state ∙ ap (λ set. tick_of set lists v.state) (sym is.set_is))
-    (gave_then v.script both_asked acts (λ lists. pairs_of (setting v.script)) (moment m0 v.state before.items) (moment m2 x.state two.items) (moment m2 y.state late.items) mid.gave last))
+tick_gave {v} {w} {x} {y} {m0} {m1} {m2} {before} {one} {two} {late} k laws script is first (asked, (alone, second)) third = (
+  both_asked,
+  gave_same v.script both_asked (λ lists. acts lists ++ pairs_of (setting v.script) (fold after v.state (acts lists))) (λ lists. tick lists v.state) (moment m0 v.state before.items) (moment m2 y.state late.items)
+      (λ lists. tick_is v.script lists v.state ∙ ap (λ set. tick_of set lists v.state) (sym is.set_is))
+      (gave_then v.script both_asked acts (λ lists. pairs_of (setting v.script)) (moment m0 v.state before.items) (moment m2 x.state two.items) (moment m2 y.state late.items) mid.gave last),
+)
   where
     both_asked : Slot → Bool
     both_asked = either (asks_lead v.state) asked

@@ -13,7 +13,7 @@ ghost use Rattle.node_core.specs.Leased.{Rests};
 ghost use Rattle.node_core.specs.Releasing.{HasReleaseRoom};
 ghost use Rattle.node_core.specs.Standing.{IsReady};
 
-use crate::actors::{shard_at, Actors};
+use crate::actors::{Actors, shard_at};
 use actor_laws::coordinator::coordinator_begins;
 use actor_laws::entities::entities_stand;
 use actor_laws::messages::genuine_is_message;

@@ -23,3 +23,6 @@ pub mod StillRoutes
 pub mod ReleaseLaws
 pub mod StartLaws
 pub mod HomeLaws
+pub mod CallLaws
+pub mod FitLaws
+pub mod ProduceLaws

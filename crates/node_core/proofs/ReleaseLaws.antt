@@ -336,7 +336,7 @@ leaves_next {v} {w} {x} {s} {i} f g = record {
 }
 
 -- At most four items.
-routed_room : (m : Message) (st : Node) → length (items_of (route m st)) ≤ 4
+pub routed_room : (m : Message) (st : Node) → length (items_of (route m st)) ≤ 4
 routed_room m st = by (is_home st.region (shard_of st.set m.entity) && is_running st (shard_of st.set m.entity))
   where
     by : (b : Bool) → length (items_of (if b then of_entities (entities.deliver m) st else of_region (route_away m) st)) ≤ 4

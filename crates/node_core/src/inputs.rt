@@ -13,7 +13,12 @@ ghost use Rattle.node_core.specs.Leased.{Rests, IsFor, IfPacket, IfProduce};
 ghost use Rattle.node_core.specs.Standing.{IsReady};
 
 use crate::actors::Actors;
+use actor_laws::entities::entities_stand;
+use actor_laws::messages::genuine_is_message;
+use actor_laws::producer::{producer_keeps, producer_routes};
+use actor_laws::region::{region_keeps, shards_are_there};
 use behaviour_core::Behaviour;
+use producer_ctl::rules_are_calls;
 use shard_lease::Leases;
 use yard_model::{Charter, Input, Out};
 
@@ -42,6 +47,18 @@ impl<B: Behaviour + Drop> Actors<B> {
         self.knows();
         match input {
             Input::Packet(packet) => self.packet(charter, packet, leases, out),
+            Input::Produce(p) => self.produce(*p, leases, out),
+            Input::Rest(p) => self.rest(*p, leases, out),
+            Input::Send(p) => {
+                producer_keeps();
+                producer_routes();
+                region_keeps();
+                entities_stand();
+                genuine_is_message();
+                shards_are_there();
+                rules_are_calls();
+                self.send(*p, charter, out);
+            }
             Input::Leave => self.leave(out),
             Input::Rebalance(limit) => self.rebalance(*limit, out),
             Input::Passivate(entity) => self.ask_to_passivate(entity, out),

@@ -1,5 +1,5 @@
-//! One incarnation of a node: its region, its entities and, while it holds the coordinator's slot, the
-//! shard coordinator (Akka 2.6, Cluster Sharding concepts). Each input is handled whole before the next.
+//! One incarnation of a node: its region, its entities, the producers whose queue it holds and, while it
+//! holds the coordinator's slot, the shard coordinator (Akka 2.6, Cluster Sharding concepts). Each input is handled whole before the next.
 //!
 //! `node` is the type that others see. `actors` has the parts side by side; `region_part`,
 //! `coordinator_part` and `entities_part` are the steps of one actor each, which ask for no lease;
@@ -16,6 +16,7 @@ mod inputs;
 mod lead;
 mod node;
 mod packets;
+mod producing;
 mod region_part;
 mod releasing;
 mod starting;

@@ -25,3 +25,6 @@ pub mod StartLaws
 pub mod HomeLaws
 pub mod AgainLaws
 pub mod RepeatLaws
+pub mod CallLaws
+pub mod FitLaws
+pub mod ProduceLaws

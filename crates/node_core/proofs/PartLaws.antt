@@ -2,6 +2,7 @@
 use Rattle.std.proofs.Common.{◌≡◌, ◌≢◌, ℕ, zero, suc, ◌+◌, ◌-◌, ◌*◌, ◌≤◌, List, [], ◌∷◌, length, sym, ap, subst, ◌∙◌, refl, true, arith}
 use Rattle.std.specs.Prelude.{slice_index_or, slice_set, Option, Some, None, is_some, IfSome}
 use Rattle.std.specs.Option.{option_map}
+use Rattle.std.proofs.lemmas.List.{length-set}
 use Rattle.yard_model.specs.declared.event.Kind.{Kind}
 use Rattle.yard_model.specs.declared.fact.Fact.{Fact}
 use Rattle.yard_model.specs.declared.incarnation.Slot.{Slot}
@@ -9,10 +10,10 @@ use Rattle.yard_model.specs.declared.incarnation.Slot.TheVariants as slot
 use Rattle.yard_model.specs.Entities.{Entities, Hosted, hosted, entries_in}
 use Rattle.yard_model.specs.Genuine.{is_node, is_producer, is_slot_of}
 use Rattle.yard_model.specs.Move.{Move}
-use Rattle.yard_model.specs.Node.{Node}
+use Rattle.yard_model.specs.Node.{Node, producer_by}
 use Rattle.yard_model.specs.Producer.{Producer}
 use Rattle.yard_model.specs.Region.{Region}
-use Rattle.yard_model.specs.Script.{Script, IsScript}
+use Rattle.yard_model.specs.Script.{Script, IsScript, setting}
 use Rattle.yard_model.specs.SlotReads.{holder}
 use Rattle.yard_model.specs.Words.{at}
 use Rattle.plain_laws.proofs.Booleans.{true_is_not_false}
@@ -24,7 +25,7 @@ use Rattle.shard_entities.specs.Lodged.{Lodged, IsStore, moved, without}
 use Rattle.shard_entities.specs.Roomy.{room_wanted}
 use Rattle.shard_store.specs.Shelf.{Shelf}
 use Rattle.shard_lease.specs.Meaning.{Meaning, Serves}
-use Rattle.producer_ctl.specs.Producing.{Producing, held}
+use Rattle.producer_ctl.specs.Producing.{Producing, Routing, held, moved_by, producing_after, routing}
 use Rattle.node_core.specs.Leased.{Rests, IsHandOf, MayGiveBack}
 use Rattle.node_core.specs.Standing.{AreParts, IsReady, IsSameOffice, node_of, standing_of, spare_in, places_in}
 use Rattle.node_core.proofs.LetGoLaws.{Frees}
@@ -122,6 +123,34 @@ may_give_back c m st s x who here script shard leased room rests holds hand = re
 -- the room of a hosted shard's store
 pub store_room : (v : Lodged) (s n : ℕ) (x : Shelf) → IsStore v s x → ((hosted v.state s ≡ None → ⊥) → n ≤ slice_index_or v.rooms s 0) → n ≤ x.spare
 store_room v s n x is room = subst (λ z. n ≤ z) (sym is.room_is) (room (λ none. true_is_not_false (sym (ap is_some (sym none ∙ (store_hosted v s x is).hosted_is)))))
+
+-- The parts after moves of a producer.
+
+moved_parts : (p : ℕ) (ps : Producing) (ms : List Move) → ((moved_by p ps ms).script ≡ ps.script) × ((moved_by p ps ms).who ≡ ps.who) × (length (moved_by p ps ms).producers ≡ length ps.producers)
+moved_parts p ps [] = (refl, refl, refl)
+moved_parts p ps (m ∷ ms) =
+    let rest = moved_parts p (producing_after p ps m) ms in
+    (rest.0, rest.1, rest.2 ∙ length-set ps.producers (p - 1) (producer_by (setting ps.script) ps.who p (at ps.producers (p - 1)) m))
+
+pub parts_produced : {c : Script} {kind : Kind} {version : ℕ} {region : Made} {e : Lodged} {queues now : Producing} {office : Option Held} (p : ℕ) (ms : List Move) (r : Routing) → now ≡ routing r (moved_by p queues ms)
+    → AreParts c kind version region e queues office → AreParts c kind version region e now office
+parts_produced {queues = queues} p ms r goes parts =
+    let same = moved_parts p queues ms in
+    record {
+      script_is = parts.script_is;
+      kind_is = parts.kind_is;
+      who_is = parts.who_is;
+      region_script = parts.region_script;
+      region_set = parts.region_set;
+      entities_script = parts.entities_script;
+      entities_who = parts.entities_who;
+      entities_set = parts.entities_set;
+      entities_version = parts.entities_version;
+      queues_script = ap (λ (v : Producing). v.script) goes ∙ (same.0 ∙ parts.queues_script);
+      queues_who = ap (λ (v : Producing). v.who) goes ∙ (same.1 ∙ parts.queues_who);
+      queues_there = ap (λ (v : Producing). length v.producers) goes ∙ (same.2 ∙ parts.queues_there);
+      coordinator = parts.coordinator;
+    }
 
 -- The parts with more room.
 

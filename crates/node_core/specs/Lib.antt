@@ -1,5 +1,5 @@
 pub mod Again
-pub mod Built
+pub mod Calling
 pub mod Found
 pub mod Gave
 pub mod Leased

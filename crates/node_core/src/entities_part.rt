@@ -36,6 +36,7 @@ impl<B: Behaviour + Drop> Actors<B> {
         requires room { 4 ≤ out.old.spare }
         ensures went { Went self.old self.new out.old out.new (rules.of_entities (deliver message) self.old.state) }
         ensures taken { TookRoom (shard_of self.old.state.set message.entity) (if is_in_phase phase.Active self.old.state.entities message.entity then 2 else 0) self.old self.new }
+        ensures pending { self.new.pending ≡ self.old.pending }
     {
         genuine_is_message();
         self.entities.deliver(message, &self.behaviour, out);

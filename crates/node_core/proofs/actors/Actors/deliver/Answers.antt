@@ -1,4 +1,4 @@
-use Rattle.std.proofs.Common.{List, sym, subst, ◌≡◌, true}
+use Rattle.std.proofs.Common.{List, sym, ap, subst, ◌≡◌, true}
 use Rattle.std.specs.Prelude.{Option, if◌then◌else◌}
 use Rattle.yard_model.specs.Genuine.{is_brought, is_genuine, is_producer}
 use Rattle.yard_model.specs.Node as rules
@@ -49,3 +49,6 @@ returns-clause-taken g c =
     let m : Message = c.args.message in
     let takes : Takes e now (shard_of (setting script) m.entity) (if is_in_phase phase.Active e.state m.entity then 2 else 0) = subst (λ (d : Script). Takes e now (shard_of (setting d) m.entity) (if is_in_phase phase.Active e.state m.entity then 2 else 0)) c.self.invariant.0.entities_script c.deliver.ensures.takes in
     subst (λ (v : Standing). TookRoom (shard_of v.state.set m.entity) (if is_in_phase phase.Active v.state.entities m.entity then 2 else 0) v (standing_of script c.self.inside.region.state now c.self.inside.producers c.self.inside.coordinator)) c.self.view_is takes.room_is
+
+pub returns-clause-pending : goal.returns-clause-pending
+returns-clause-pending g c = ap (λ (v : Standing). v.pending) c.self.view_is

@@ -12,6 +12,7 @@ use Rattle.node_core.specs.Gave.{Gave, moment}
 use Rattle.region_actor.specs.Handled.{handled}
 use Rattle.node_core.proofs.GiveLaws.{region_gave}
 use Rattle.node_core.proofs.PacketLaws.{brought_of, genuine_of, handled_free, passivated_gave, recovered_gave, routed_gave}
+use Rattle.node_core.proofs.ProduceLaws.{no_other}
 use Rattle.node_core.proofs.actors.Actors.other_packet.Goals as goal
 
 pub returns-in-HandOff-clause-gave : goal.returns-in-HandOff-clause-gave
@@ -96,3 +97,7 @@ route-requires-clause-genuine g c = genuine_of c.args.self.now.script c.args.pac
 
 pub route-requires-clause-rooms : goal.route-requires-clause-rooms
 route-requires-clause-rooms g c there = let wide = c.requires.ready.rooms (shard_of c.args.self.now.state.set c.in-Sequenced.message.entity) there in omega (arith, wide)
+
+pub unreachable-requires : goal.unreachable-requires
+unreachable-requires g c = no_other c.args.packet.now.body c.requires.other c.requires.others c.in_default.not-View c.in_default.not-RegisterAck c.in_default.not-ShardHome c.in_default.not-HostShard c.in_default.not-BeginHandOff c.in_default.not-HandOff
+    c.in_default.not-StopEntity c.in_default.not-Recovered c.in_default.not-Passivate c.in_default.not-Sequenced

@@ -38,3 +38,6 @@ returns-clause-went g c =
 
 pub returns-clause-rooms : goal.returns-clause-rooms
 returns-clause-rooms g c = ap (λ (v : Standing). v.rooms) c.self.view_is
+
+pub returns-clause-pending : goal.returns-clause-pending
+returns-clause-pending g c = ap (λ (v : Standing). v.pending) c.self.view_is

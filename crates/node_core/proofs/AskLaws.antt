@@ -137,9 +137,9 @@ held_by None node list t h = absurd t
 held_by (Some k) node list t h = record { who = h.0; holder_is = sym t.holder_is ∙ h.1; node_is = h.2 }
 
 -- the store of a slot is taken: it is held with this list, and the others are as they were
-pub record Takes (s : Slot) (list : List Fact) (st to : Node) : Type 0 where
+pub record Takes (c : Script) (s : Slot) (list : List Fact) (st to : Node) : Type 0 where
   pub held_is : held_list s to ≡ Some list
-  pub else_is : (t : Slot) → t ≢ s → held_list t to ≡ held_list t st
+  pub else_is : (t : Slot) → is_slot_of c t ≡ true → t ≢ s → held_list t to ≡ held_list t st
 
 -- moves of one of the actors
 items_by : (by : Move → Act) → ((m : Move) → move_of (by m) ≡ m) → (ms : List Move) → items_of (map by ms) ≡ flat_map item_of ms
@@ -206,7 +206,7 @@ module _ (c : Script) (s : Slot) (st : Node) (here : is_slot_of c s ≡ true) (f
 
   granted : (by : Move → Act) → ((m : Move) → move_of (by m) ≡ m) → (old new : Meaning) (x : Store) (to : Node) (before : List Item)
       → Rests old c st → Stays old new → Hands old st.who s x new → Apart st.who.node s old new
-      → ((n : ℕ) → to ≡ fold after st (map by (told (fact.Granted s n st.who) ∷ took s (entries_of x) ∷ []))) → Takes s (entries_of x) st to
+      → ((n : ℕ) → to ≡ fold after st (map by (told (fact.Granted s n st.who) ∷ took s (entries_of x) ∷ []))) → Takes c s (entries_of x) st to
       → Gave c (asks s) (λ lists. map by (acquire s st.who (list_at lists s))) (moment old st before) (moment new to (before ++ item.Fact (fact.Granted s (epoch (entries_of x)) st.who) ∷ []))
   granted by moves old new x to before rests stays h apart goes takes = record {
     told = acts;
@@ -223,7 +223,7 @@ module _ (c : Script) (s : Slot) (st : Node) (here : is_slot_of c s ≡ true) (f
     alike = λ lists full t hand. found_alike lists h.before (alike_same (list_at lists s) h.before (free lists t).list_is);
     tells = λ lists full t hand. subst (Tells new c) (sym (after_is lists)) (λ z v. told_at lists full t z v (asks s z) refl);
     in_hand = λ lists full t hand. subst (λ l. AreInHand c l to) (sym (after_is lists)) (λ z v. hand_at lists full (free lists t) hand z v (asks s z) refl);
-    left = λ z v e none. record { held_is = takes.else_is z (asks_other s z e) ∙ none; tells_is = apart.tells_is z (asks_other s z e) };
+    left = λ z v e none. record { held_is = takes.else_is z v (asks_other s z e) ∙ none; tells_is = apart.tells_is z (asks_other s z e) };
     rests = record {
       script_is = stays.script_is ∙ rests.script_is;
       serves_is = subst (λ w. new.serves w ≡ true) (sym who_is) (stays.serves_is st.who ∙ rests.serves_is);
@@ -281,22 +281,22 @@ module _ (c : Script) (s : Slot) (st : Node) (here : is_slot_of c s ≡ true) (f
       hand_at lists full f hand z v true a = subst (λ y. IfSome (held_list y to) (λ l. list_at (with_entry grant lists (Some s)) y ≡ l)) (asks_is s z a)
           (subst (λ o. IfSome o (λ l. list_at (with_entry grant lists (Some s)) s ≡ l)) (sym takes.held_is)
           (entry_here c lists grant s full here ∙ (ap (λ l. l ++ grant ∷ []) f.list_is ∙ sym h.list_is)))
-      hand_at lists full f hand z v false a = subst (λ o. IfSome o (λ l. list_at (with_entry grant lists (Some s)) z ≡ l)) (sym (takes.else_is z (asks_other s z a)))
+      hand_at lists full f hand z v false a = subst (λ o. IfSome o (λ l. list_at (with_entry grant lists (Some s)) z ≡ l)) (sym (takes.else_is z v (asks_other s z a)))
           (subst (λ y. IfSome (held_list z st) (λ l. y ≡ l)) (sym (entry_else c lists grant s z here v (asks_other s z a))) (hand z v))
 
       held_at_z : (z : Slot) → is_slot_of c z ≡ true → (b : Bool) → asks s z ≡ b → new.holds st.who.node z ≡ is_some (held_list z to)
       held_at_z z v true a = subst (λ y. new.holds st.who.node y ≡ is_some (held_list y to)) (asks_is s z a) (h.holds_is ∙ sym (ap is_some takes.held_is))
-      held_at_z z v false a = apart.holds_is st.who.node z (inr (asks_other s z a)) ∙ (rests.held_is z v ∙ ap is_some (sym (takes.else_is z (asks_other s z a))))
+      held_at_z z v false a = apart.holds_is st.who.node z (inr (asks_other s z a)) ∙ (rests.held_is z v ∙ ap is_some (sym (takes.else_is z v (asks_other s z a))))
 
       leased_at_z : (z : Slot) → is_slot_of c z ≡ true → (b : Bool) → asks s z ≡ b → IfSome (held_list z to) (λ l. holder l ≡ Some to.who)
       leased_at_z z v true a = subst (λ y. IfSome (held_list y to) (λ l. holder l ≡ Some to.who)) (asks_is s z a)
           (subst (λ o. IfSome o (λ l. holder l ≡ Some to.who)) (sym takes.held_is)
           (ap holder h.list_is ∙ (fold-append holder_step None h.before (grant ∷ []) ∙ ap Some (sym who_is))))
-      leased_at_z z v false a = subst (λ o. IfSome o (λ l. holder l ≡ Some to.who)) (sym (takes.else_is z (asks_other s z a))) (subst (λ w. IfSome (held_list z st) (λ l. holder l ≡ Some w)) (sym who_is) (rests.leased_are z v))
+      leased_at_z z v false a = subst (λ o. IfSome o (λ l. holder l ≡ Some to.who)) (sym (takes.else_is z v (asks_other s z a))) (subst (λ w. IfSome (held_list z st) (λ l. holder l ≡ Some w)) (sym who_is) (rests.leased_are z v))
 
       list_at_z : (z : Slot) → is_slot_of c z ≡ true → (b : Bool) → asks s z ≡ b → IfSome (held_list z to) (IsHandOf new z)
       list_at_z z v true a = subst (λ y. IfSome (held_list y to) (IsHandOf new y)) (asks_is s z a) (subst (λ o. IfSome o (IsHandOf new s)) (sym takes.held_is) (record { extends = h.extends; taken = h.taken; vouched = h.vouched }))
-      list_at_z z v false a = subst (λ o. IfSome o (IsHandOf new z)) (sym (takes.else_is z (asks_other s z a))) (some_hand old new z (held_list z st) stays (apart.told_is z (asks_other s z a)) (rests.lists_are z v))
+      list_at_z z v false a = subst (λ o. IfSome o (IsHandOf new z)) (sym (takes.else_is z v (asks_other s z a))) (some_hand old new z (held_list z st) stays (apart.told_is z (asks_other s z a)) (rests.lists_are z v))
 
   refused : (by : Move → Act) → ((m : Move) → move_of (by m) ≡ m) → (old new : Meaning) (node : ℕ) (before : List Item)
       → own c s (fact.Granted s 1 (record { node = node; number = 1 }) ∷ []) ≡ true
@@ -358,7 +358,7 @@ module _ (c : Script) (s : Slot) (st : Node) (here : is_slot_of c s ≡ true) (f
 
 pub granted_gave : (c : Script) (s : Slot) (by : Move → Act) (old new : Meaning) (st to : Node) (x : Store) (before : List Item) → is_slot_of c s ≡ true → held_list s st ≡ None → ((m : Move) → move_of (by m) ≡ m)
     → Rests old c st → Stays old new → Hands old st.who s x new → Apart st.who.node s old new
-    → ((n : ℕ) → to ≡ fold after st (map by (told (fact.Granted s n st.who) ∷ took s (entries_of x) ∷ []))) → Takes s (entries_of x) st to
+    → ((n : ℕ) → to ≡ fold after st (map by (told (fact.Granted s n st.who) ∷ took s (entries_of x) ∷ []))) → Takes c s (entries_of x) st to
     → Gave c (asks s) (λ lists. map by (acquire s st.who (list_at lists s))) (moment old st before) (moment new to (before ++ item.Fact (fact.Granted s (epoch (entries_of x)) st.who) ∷ []))
 granted_gave c s by old new st to x before here free moves rests stays h apart goes takes = granted c s st here free by moves old new x to before rests stays h apart goes takes
 

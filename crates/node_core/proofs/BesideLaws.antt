@@ -39,7 +39,7 @@ frees s a = false
 abbrev pub frees_none : Slot → List Act → Bool
 frees_none s acts = list_all (λ a. not (frees s a)) acts
 
-none_mapped : {A B : Type 0} (f : A → B) (o : Option A) → option_map f o ≡ None → o ≡ None
+pub none_mapped : {A B : Type 0} (f : A → B) (o : Option A) → option_map f o ≡ None → o ≡ None
 none_mapped f None h = refl
 none_mapped f (Some x) h = cc
 
@@ -97,7 +97,7 @@ act_keeps st (by_producer p m) slot.Coordinator k h = h
 act_keeps st (by_coordinator m) (slot.Shard s) k h = h
 act_keeps st (by_coordinator m) (slot.Queue q) k h = h
 
-acts_keep : (st : Node) (acts : List Act) (s : Slot) → frees_none s acts ≡ true → held_list s (fold after st acts) ≡ None → held_list s st ≡ None
+pub acts_keep : (st : Node) (acts : List Act) (s : Slot) → frees_none s acts ≡ true → held_list s (fold after st acts) ≡ None → held_list s st ≡ None
 acts_keep st [] s k h = h
 acts_keep st (a ∷ acts) s k h =
     let parts : (not (frees s a) ≡ true) × (frees_none s acts ≡ true) = and_both (not (frees s a)) (frees_none s acts) k in

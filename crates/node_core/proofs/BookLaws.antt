@@ -10,17 +10,16 @@ use Rattle.yard_model.specs.Node.{Node, new_node}
 use Rattle.yard_model.specs.Script.{Script, setting}
 use Rattle.yard_model.specs.SlotReads.{holder}
 use Rattle.yard_model.specs.Words.{at}
-use Rattle.plain_laws.proofs.Booleans.{both}
+use Rattle.plain_laws.proofs.Booleans.{both, get_replicate}
 use Rattle.actor_laws.specs.Hands.{held_list}
 use Rattle.shard_store.specs.Stores.{place_of}
 use Rattle.shard_lease.specs.Book.{Book, is_of_node, meaning_of}
 use Rattle.node_core.specs.Leased.{Rests, IsHandOf}
-use Rattle.node_core.proofs.SlotLaws.{same_at}
 
 none_held : (c : Script) (version : ℕ) (who : Incarnation) (s : Slot) → held_list s (new_node (setting c) version who) ≡ None
-none_held c version who (slot.Shard s) = ap (λ o. option_map (λ h. h.entries) o) (same_at None c.config.shards s)
+none_held c version who (slot.Shard s) = ap (λ o. option_map (λ h. h.entries) o) (get_replicate c.config.shards s None)
 none_held c version who slot.Coordinator = refl
-none_held c version who (slot.Queue p) = ap (λ o. option_map (λ h. h.entries) o) (same_at None c.config.producers (p - 1))
+none_held c version who (slot.Queue p) = ap (λ o. option_map (λ h. h.entries) o) (get_replicate c.config.producers (p - 1) None)
 
 and_false : (b : Bool) → (b && false) ≡ false
 and_false true = refl
@@ -32,7 +31,7 @@ new_rests c b version who n st same none node new = subst (Rests (meaning_of b) 
   serves_is = ap (λ s. is_node s who) same ∙ node;
   number_is = refl;
   admits_is = λ s v q. both (is_node b.script who) (is_slot_of b.script s) (ap (λ x. is_node x who) same ∙ node) (ap (λ x. is_slot_of x s) same ∙ v);
-  held_is = λ s v. ap (λ o. is_slot_of b.script s && is_of_node who.node o) (ap (λ l. at l (place_of b.script.config s)) none ∙ same_at None n (place_of b.script.config s))
+  held_is = λ s v. ap (λ o. is_slot_of b.script s && is_of_node who.node o) (ap (λ l. at l (place_of b.script.config s)) none ∙ get_replicate n (place_of b.script.config s) None)
       ∙ (and_false (is_slot_of b.script s) ∙ sym (ap is_some (none_held c version who s)));
   lists_are = λ s v. subst (λ o. IfSome o (IsHandOf (meaning_of b) s)) (sym (none_held c version who s)) tt;
   leased_are = λ s v. subst (λ o. IfSome o (λ l. holder l ≡ Some who)) (sym (none_held c version who s)) tt;

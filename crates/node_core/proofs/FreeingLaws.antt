@@ -43,6 +43,7 @@ use Rattle.shard_entities.specs.Settled as settled
 use Rattle.shard_entities.specs.Settled.{frees}
 use Rattle.shard_store.specs.Shelf.{Shelf}
 use Rattle.shard_lease.specs.Meaning.{Meaning, Stays}
+use Rattle.producer_ctl.specs.Producing.{Producing}
 use Rattle.node_core.specs.Found.{none}
 use Rattle.node_core.specs.Gave.{Gave, moment}
 use Rattle.node_core.specs.Leased.{Rests, IsFreed, MayGiveBack, GaveBack}
@@ -67,17 +68,17 @@ of_entries st s l who e leased = by (hosted st s) refl
     by (Some x) h = record { host = x; hosted_is = h; entries_are = sym (ap entries_in h) ∙ e }
 
 -- the shard is freed by a move of the entities
-frees_shard : (st : Node) (s n : ℕ) → Frees (slot.Shard s) st (after st (by_entities (told (fact.Freed (slot.Shard s) n cause.Released))))
-frees_shard st s n = record {
+frees_shard : (c : Script) (st : Node) (s n : ℕ) → Frees c (slot.Shard s) st (after st (by_entities (told (fact.Freed (slot.Shard s) n cause.Released))))
+frees_shard c st s n = record {
   who_is = refl;
   held_is = ap (option_map (λ (x : Hosted). x.entries)) (none_there st.entities.hosted s);
   else_is = others;
 }
   where
-    others : (t : Slot) → t ≢ slot.Shard s → held_list t (after st (by_entities (told (fact.Freed (slot.Shard s) n cause.Released)))) ≡ held_list t st
-    others (slot.Shard t) other = ap (option_map (λ (x : Hosted). x.entries)) (placed_beside st.entities.hosted s t None (λ same. other (ap (λ n. slot.Shard n) same)))
-    others slot.Coordinator other = refl
-    others (slot.Queue p) other = refl
+    others : (t : Slot) → is_slot_of c t ≡ true → t ≢ slot.Shard s → held_list t (after st (by_entities (told (fact.Freed (slot.Shard s) n cause.Released)))) ≡ held_list t st
+    others (slot.Shard t) valid other = ap (option_map (λ (x : Hosted). x.entries)) (placed_beside st.entities.hosted s t None (λ same. other (ap (λ n. slot.Shard n) same)))
+    others slot.Coordinator valid other = refl
+    others (slot.Queue p) valid other = refl
 
 module _ (c : Script) (old new : Meaning) (st to : Node) (s : ℕ) (list : List Fact) (x : Incarnation) (b : Body) (before : List Move) (all : List Move) (items late : List Item)
     (set_is : st.entities.set ≡ setting c) (here : is_slot_of c (slot.Shard s) ≡ true)
@@ -126,7 +127,7 @@ module _ (c : Script) (old new : Meaning) (st to : Node) (s : ℕ) (list : List 
   two : Gave c none (λ lists. gone) (moment old mid (items ++ items_of first)) (moment new next ((items ++ items_of first) ++ item.Fact (fact.Freed (slot.Shard s) (epoch list) cause.Released) ∷ []))
   unfolding next gone
   two = freed_gave c (slot.Shard s) cause.Released by_entities old new mid next list (items ++ items_of first) here held_mid (λ m. refl) one.rests stays
-      (subst (λ w. IsFreed old w (slot.Shard s) (list ++ fact.Freed (slot.Shard s) (epoch list) cause.Released ∷ []) new) (sym mid_who) freed) (frees_shard mid s (epoch list)) refl
+      (subst (λ w. IsFreed old w (slot.Shard s) (list ++ fact.Freed (slot.Shard s) (epoch list) cause.Released ∷ []) new) (sym mid_who) freed) (frees_shard c mid s (epoch list)) refl
 
   next_set : next.entities.set ≡ setting c
   unfolding next gone
@@ -209,7 +210,7 @@ stop_rooms e entity s = by ((cell e.state entity).passivating && is_remembered e
 
 -- A hand off, whole.
 
-pub back_of_hand_off : (c : Script) (m : Meaning) (r : Region) (e : Lodged) (ps : List (Option Producer)) (k : Option Held) (s : ℕ) (A : Type 0) → is_node c r.who ≡ true → is_slot_of c (slot.Shard s) ≡ true → e.script ≡ c → e.state.who ≡ r.who
+pub back_of_hand_off : (c : Script) (m : Meaning) (r : Region) (e : Lodged) (ps : Producing) (k : Option Held) (s : ℕ) (A : Type 0) → is_node c r.who ≡ true → is_slot_of c (slot.Shard s) ≡ true → e.script ≡ c → e.state.who ≡ r.who
     → ((hosted e.state s ≡ None → ⊥) → 101 ≤ slice_index_or e.rooms s 0) → Rests m c (node_of c r e ps k) → (o : Option Shelf) → MatchOption o A (IsStore e s) → IfSome o (MayGiveBack m r.who s)
 back_of_hand_off c m r e ps k s A who here script same room rests None is = tt
 back_of_hand_off c m r e ps k s A who here script same room rests (Some x) is =
@@ -220,7 +221,7 @@ back_of_hand_off c m r e ps k s A who here script same room rests (Some x) is =
     (subst (λ n. 101 ≤ n) (sym is.room_is) (room (λ none. true_is_not_false (sym (ap is_some (sym none ∙ host.hosted_is))))))
     rests (holds_it c m st (slot.Shard s) x.entries here held rests) (hand_of c m st (slot.Shard s) x.entries here held rests)
 
-pub handed_gave : (c : Script) (old new : Meaning) (r : Region) (e now : Lodged) (ps : List (Option Producer)) (k : Option Held) (s : ℕ) (stamp : Stamp) (to : Incarnation) (before late : Spared Item)
+pub handed_gave : (c : Script) (old new : Meaning) (r : Region) (e now : Lodged) (ps : Producing) (k : Option Held) (s : ℕ) (stamp : Stamp) (to : Incarnation) (before late : Spared Item)
     → e.state.set ≡ setting c → e.state.who ≡ r.who → is_slot_of c (slot.Shard s) ≡ true → Rests old c (node_of c r e ps k)
     → now ≡ moved e (hand_off s stamp to e.state) → late ≡ given before (hand_off s stamp to e.state)
     → (o : Option Shelf) → MatchOption o (list_any frees (hand_off s stamp to e.state) ≡ false) (IsStore e s)
@@ -247,7 +248,7 @@ handed_gave c old new r e now ps k s stamp to before late set_is who here rests 
 stop_host : (e : Lodged) (entity : List ℕ) (s : ℕ) (x : Shelf) → IsStore (moved e (stop_first entity e.state)) s x → IsOfHosted (fold entities_after e.state (stop_first entity e.state)) s x.entries
 stop_host e entity s x is = subst (λ (z : Entities). IsOfHosted z s x.entries) (moved_state e (stop_first entity e.state)) (store_hosted (moved e (stop_first entity e.state)) s x is)
 
-pub stopped_gave : (c : Script) (old new : Meaning) (r : Region) (e now : Lodged) (ps : List (Option Producer)) (k : Option Held) (entity : List ℕ) (before late : Spared Item)
+pub stopped_gave : (c : Script) (old new : Meaning) (r : Region) (e now : Lodged) (ps : Producing) (k : Option Held) (entity : List ℕ) (before late : Spared Item)
     → ShardsAreThere → IsScript c → IsSoundNode c (node_of c r e ps k) → is_brought c entity ≡ true → e.state.set ≡ setting c → e.state.who ≡ r.who → Rests old c (node_of c r e ps k)
     → now ≡ moved e (stop entity e.state) → late ≡ given before (stop entity e.state)
     → (o : Option Stopped) → MatchOption o (list_any frees (stop entity e.state) ≡ false) (settled.IsStopped e (moved e (stop_first entity e.state)) (shard_of (setting c) entity))
@@ -274,7 +275,7 @@ stopped_gave c old new r e now ps k entity before late there script sound brough
     went.node_is went.items_are
 
 -- the first moves of a stop write at most an entry, of its shard
-pub back_of_stop : (c : Script) (m : Meaning) (r : Region) (e : Lodged) (ps : List (Option Producer)) (k : Option Held) (entity : List ℕ) (A : Type 0)
+pub back_of_stop : (c : Script) (m : Meaning) (r : Region) (e : Lodged) (ps : Producing) (k : Option Held) (entity : List ℕ) (A : Type 0)
     → ShardsAreThere → IsScript c → IsSoundNode c (node_of c r e ps k) → is_brought c entity ≡ true → e.script ≡ c → e.state.set ≡ setting c → e.state.who ≡ r.who
     → ((hosted e.state (shard_of (setting c) entity) ≡ None → ⊥) → 102 ≤ slice_index_or e.rooms (shard_of (setting c) entity) 0) → Rests m c (node_of c r e ps k)
     → (o : Option Stopped) → MatchOption o A (settled.IsStopped e (moved e (stop_first entity e.state)) (shard_of (setting c) entity))

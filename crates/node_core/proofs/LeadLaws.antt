@@ -9,7 +9,7 @@ use Rattle.yard_model.specs.declared.incarnation.Slot.TheVariants as slot
 use Rattle.yard_model.specs.declared.out.Item.{Item}
 use Rattle.yard_model.specs.declared.out.Item.TheVariants as item
 use Rattle.yard_model.specs.Coordinator.{new_coordinator}
-use Rattle.yard_model.specs.Genuine.{is_node}
+use Rattle.yard_model.specs.Genuine.{is_node, is_slot_of}
 use Rattle.yard_model.specs.Lawful.{own}
 use Rattle.yard_model.specs.Node.{Node, Act, by_coordinator, acquire}
 use Rattle.yard_model.specs.Region.{Region, oldest}
@@ -26,6 +26,7 @@ use Rattle.shard_entities.specs.Lodged.{Lodged}
 use Rattle.shard_lease.specs.declared.leases.Acquire.{Acquire}
 use Rattle.shard_lease.specs.declared.leases.Acquire.TheVariants as acquired
 use Rattle.shard_lease.specs.Meaning.{Acquired, Meaning, Stays, Apart, Still, Hands, Refuses}
+use Rattle.producer_ctl.specs.Producing.{Producing}
 use Rattle.node_core.specs.Leased.{Rests}
 use Rattle.node_core.specs.Standing.{node_of}
 use Rattle.node_core.specs.Taken.{Took, IsGrant}
@@ -58,10 +59,10 @@ coordinator_granted c old new st x before rests stays h apart =
     granted_gave c slot.Coordinator by_coordinator old new (record st { coordinator = None }) (record st { coordinator = Some (new_coordinator st.set st.who (entries_of x)) }) x before refl refl (λ m. refl) rests stays h apart (λ n. refl)
     (record { held_is = refl; else_is = others })
   where
-    others : (t : Slot) → t ≢ slot.Coordinator → held_list t (record st { coordinator = Some (new_coordinator st.set st.who (entries_of x)) }) ≡ held_list t (record st { coordinator = None })
-    others (slot.Shard s) other = refl
-    others slot.Coordinator other = absurd (other refl)
-    others (slot.Queue p) other = refl
+    others : (t : Slot) → is_slot_of c t ≡ true → t ≢ slot.Coordinator → held_list t (record st { coordinator = Some (new_coordinator st.set st.who (entries_of x)) }) ≡ held_list t (record st { coordinator = None })
+    others (slot.Shard s) valid other = refl
+    others slot.Coordinator valid other = absurd (other refl)
+    others (slot.Queue p) valid other = refl
 
 pub coordinator_refused : (c : Script) (old new : Meaning) (st : Node) (node : ℕ) (before : List Item)
     → Rests old c (record st { coordinator = None })
@@ -78,7 +79,7 @@ coordinator_refused c old new st node before rests stays h still =
 
 -- What is asked for is taken.
 
-pub acquired_gave : (c : Script) (old new : Meaning) (r : Region) (e : Lodged) (p : List (Option Producer)) (answer : Acquire) (k : Option Held) (before now : List Item)
+pub acquired_gave : (c : Script) (old new : Meaning) (r : Region) (e : Lodged) (p : Producing) (answer : Acquire) (k : Option Held) (before now : List Item)
     → Rests old c (node_of c r e p None)
     → Stays old new
     → Acquired old r.who slot.Coordinator answer new
@@ -108,7 +109,7 @@ taken_is true acts e = refl
 taken_is false acts e = absurd (true≢false (sym e))
 
 -- where it is the oldest and isn't the coordinator
-pub took_gave : (c : Script) (old new : Meaning) (r : Region) (e : Lodged) (p : List (Option Producer)) (answer : Acquire) (k : Option Held) (before now : List Item)
+pub took_gave : (c : Script) (old new : Meaning) (r : Region) (e : Lodged) (p : Producing) (answer : Acquire) (k : Option Held) (before now : List Item)
     → is_at r.who (oldest r) ≡ true
     → Rests old c (node_of c r e p None)
     → Stays old new
@@ -121,13 +122,13 @@ took_gave c old new r e p answer k before now first rests stays a t =
     (acquired_gave c old new r e p answer k before now rests stays a t)
 
 -- where it is to lead
-pub slot_gave : (c : Script) (old new : Meaning) (r : Region) (e : Lodged) (p : List (Option Producer)) (k : Option Held) (answer : Acquire) (now : Option Held) (before items : List Item)
+pub slot_gave : (c : Script) (old new : Meaning) (r : Region) (e : Lodged) (p : Producing) (k : Option Held) (answer : Acquire) (now : Option Held) (before items : List Item)
     → is_to_lead (node_of c r e p k) ≡ true → Rests old c (node_of c r e p k) → Stays old new → Acquired old r.who slot.Coordinator answer new → Took c r.who answer now before items
     → Gave c office (λ lists. take_lead lists (node_of c r e p k)) (moment old (node_of c r e p k) before) (moment new (node_of c r e p now) items)
 slot_gave c old new r e p None answer now before items leads rests stays a t = took_gave c old new r e p answer now before items (and_both (is_at r.who (oldest r)) true leads).0 rests stays a t
 slot_gave c old new r e p (Some k) answer now before items leads rests stays a t = absurd (true≢false (sym (and_both (is_at r.who (oldest r)) false leads).1))
 
 -- nobody is the coordinator where it is to lead
-pub leads_alone : (c : Script) (r : Region) (e : Lodged) (p : List (Option Producer)) (k : Option Held) → is_to_lead (node_of c r e p k) ≡ true → k ≡ None
+pub leads_alone : (c : Script) (r : Region) (e : Lodged) (p : Producing) (k : Option Held) → is_to_lead (node_of c r e p k) ≡ true → k ≡ None
 leads_alone c r e p None leads = refl
 leads_alone c r e p (Some k) leads = absurd (true≢false (sym (and_both (is_at r.who (oldest r)) false leads).1))

@@ -30,10 +30,10 @@ use Rattle.node_core.proofs.FoundLaws.{hand_found, none_alike}
 use Rattle.node_core.proofs.GaveLaws.{step_there, stays_same, stays_both}
 
 -- the slot isn't held any more, and the others are as they were
-pub record Frees (s : Slot) (st to : Node) : Type 0 where
+pub record Frees (c : Script) (s : Slot) (st to : Node) : Type 0 where
   pub who_is : to.who ≡ st.who
   pub held_is : held_list s to ≡ None
-  pub else_is : (t : Slot) → t ≢ s → held_list t to ≡ held_list t st
+  pub else_is : (t : Slot) → is_slot_of c t ≡ true → t ≢ s → held_list t to ≡ held_list t st
 
 some_told : (o : Option Known) (list : List Fact) (A R : Type 0) → IsSomeAnd o (IsTold list) → MatchOption o A (λ k. R) → R
 some_told None list A R t h = absurd t
@@ -50,7 +50,7 @@ other_of : (s z : Slot) → asks s z ≡ false → z ≢ s
 other_of s z a = λ same. true_is_not_false (sym (ap (asks s) same ∙ asks_itself s) ∙ a)
 
 module _ (c : Script) (s : Slot) (why : Cause) (old new : Meaning) (st to : Node) (list : List Fact) (before : List Item) (here : is_slot_of c s ≡ true)
-    (held : held_list s st ≡ Some list) (rests : Rests old c st) (stays : Stays old new) (freed : IsFreed old st.who s (list ++ fact.Freed s (epoch list) why ∷ []) new) (frees : Frees s st to) where
+    (held : held_list s st ≡ Some list) (rests : Rests old c st) (stays : Stays old new) (freed : IsFreed old st.who s (list ++ fact.Freed s (epoch list) why ∷ []) new) (frees : Frees c s st to) where
   entry : Fact
   entry = fact.Freed s (epoch list) why
 
@@ -70,21 +70,21 @@ module _ (c : Script) (s : Slot) (why : Cause) (old new : Meaning) (st to : Node
   hand_at : (lists : SlotLists) → AreInHand c lists st → (z : Slot) → is_slot_of c z ≡ true → (b : Bool) → asks s z ≡ b → IfSome (held_list z to) (λ l. list_at (with_entry entry lists (Some s)) z ≡ l)
   hand_at lists hand z v true a = subst (λ y. IfSome (held_list y to) (λ l. list_at (with_entry entry lists (Some s)) y ≡ l)) (asks_is s z a)
       (subst (λ o. IfSome o (λ l. list_at (with_entry entry lists (Some s)) s ≡ l)) (sym frees.held_is) tt)
-  hand_at lists hand z v false a = subst (λ o. IfSome o (λ l. list_at (with_entry entry lists (Some s)) z ≡ l)) (sym (frees.else_is z (other_of s z a)))
+  hand_at lists hand z v false a = subst (λ o. IfSome o (λ l. list_at (with_entry entry lists (Some s)) z ≡ l)) (sym (frees.else_is z v (other_of s z a)))
       (subst (λ y. IfSome (held_list z st) (λ l. y ≡ l)) (sym (entry_else c lists entry s z here v (other_of s z a))) (hand z v))
 
   holds_at : (z : Slot) → is_slot_of c z ≡ true → (b : Bool) → asks s z ≡ b → new.holds st.who.node z ≡ is_some (held_list z to)
   holds_at z v true a = subst (λ y. new.holds st.who.node y ≡ is_some (held_list y to)) (asks_is s z a) (freed.holds_is ∙ sym (ap is_some frees.held_is))
-  holds_at z v false a = freed.apart.holds_is st.who.node z (inr (other_of s z a)) ∙ (rests.held_is z v ∙ ap is_some (sym (frees.else_is z (other_of s z a))))
+  holds_at z v false a = freed.apart.holds_is st.who.node z (inr (other_of s z a)) ∙ (rests.held_is z v ∙ ap is_some (sym (frees.else_is z v (other_of s z a))))
 
   lists_at : (z : Slot) → is_slot_of c z ≡ true → (b : Bool) → asks s z ≡ b → IfSome (held_list z to) (IsHandOf new z)
   lists_at z v true a = subst (λ y. IfSome (held_list y to) (IsHandOf new y)) (asks_is s z a) (subst (λ o. IfSome o (IsHandOf new s)) (sym frees.held_is) tt)
-  lists_at z v false a = subst (λ o. IfSome o (IsHandOf new z)) (sym (frees.else_is z (other_of s z a)))
+  lists_at z v false a = subst (λ o. IfSome o (IsHandOf new z)) (sym (frees.else_is z v (other_of s z a)))
       (some_hand_of (IsHandOf old z) (IsHandOf new z) (held_list z st) (λ l h. hand_stays old new z l stays (freed.apart.told_is z (other_of s z a)) h) (rests.lists_are z v))
 
   leased_at : (z : Slot) → is_slot_of c z ≡ true → (b : Bool) → asks s z ≡ b → IfSome (held_list z to) (λ l. holder l ≡ Some st.who)
   leased_at z v true a = subst (λ y. IfSome (held_list y to) (λ l. holder l ≡ Some st.who)) (asks_is s z a) (subst (λ o. IfSome o (λ l. holder l ≡ Some st.who)) (sym frees.held_is) tt)
-  leased_at z v false a = subst (λ o. IfSome o (λ l. holder l ≡ Some st.who)) (sym (frees.else_is z (other_of s z a))) (rests.leased_are z v)
+  leased_at z v false a = subst (λ o. IfSome o (λ l. holder l ≡ Some st.who)) (sym (frees.else_is z v (other_of s z a))) (rests.leased_are z v)
 
   rests_then : Rests new c to
   rests_then = record {
@@ -111,16 +111,16 @@ module _ (c : Script) (s : Slot) (why : Cause) (old new : Meaning) (st to : Node
 
   left_at : (z : Slot) → is_slot_of c z ≡ true → held_list z st ≡ None → (b : Bool) → asks s z ≡ b → IsLeft (moment old st before) (moment new to (before ++ item.Fact (fact.Freed s (epoch list) why) ∷ [])) z
   left_at z v free true a = absurd (true_is_not_false (sym (ap is_some (sym free ∙ (ap (λ y. held_list y st) (sym (asks_is s z a)) ∙ held)))))
-  left_at z v free false a = record { held_is = frees.else_is z (other_of s z a) ∙ free; tells_is = freed.apart.tells_is z (other_of s z a) }
+  left_at z v free false a = record { held_is = frees.else_is z v (other_of s z a) ∙ free; tells_is = freed.apart.tells_is z (other_of s z a) }
 
 pub freed_goes : (c : Script) (s : Slot) (why : Cause) (old new : Meaning) (st to : Node) (list : List Fact) (before : List Item) → is_slot_of c s ≡ true → held_list s st ≡ Some list
-    → Rests old c st → Stays old new → IsFreed old st.who s (list ++ fact.Freed s (epoch list) why ∷ []) new → Frees s st to
+    → Rests old c st → Stays old new → IsFreed old st.who s (list ++ fact.Freed s (epoch list) why ∷ []) new → Frees c s st to
     → LetGo c (fact.Freed s (epoch list) why ∷ []) (moment old st before) (moment new to (before ++ item.Fact (fact.Freed s (epoch list) why) ∷ []))
 freed_goes c s why old new st to list before here held rests stays freed frees = goes c s why old new st to list before here held rests stays freed frees
 
 -- so where an actor tells it by an act of its own
 pub freed_gave : (c : Script) (s : Slot) (why : Cause) (by : Move → Act) (old new : Meaning) (st to : Node) (list : List Fact) (before : List Item) → is_slot_of c s ≡ true → held_list s st ≡ Some list → ((m : Move) → move_of (by m) ≡ m)
-    → Rests old c st → Stays old new → IsFreed old st.who s (list ++ fact.Freed s (epoch list) why ∷ []) new → Frees s st to
+    → Rests old c st → Stays old new → IsFreed old st.who s (list ++ fact.Freed s (epoch list) why ∷ []) new → Frees c s st to
     → to ≡ after st (by (told (fact.Freed s (epoch list) why)))
     → Gave c none (λ lists. by (told (fact.Freed s (epoch list) why)) ∷ []) (moment old st before) (moment new to (before ++ item.Fact (fact.Freed s (epoch list) why) ∷ []))
 freed_gave c s why by old new st to list before here held moves rests stays freed frees to_is = record {

@@ -23,3 +23,8 @@ pub mod StillRoutes
 pub mod ReleaseLaws
 pub mod StartLaws
 pub mod HomeLaws
+pub mod AgainLaws
+pub mod RepeatLaws
+pub mod CallLaws
+pub mod FitLaws
+pub mod ProduceLaws

@@ -40,6 +40,7 @@ use Rattle.region_actor.specs.Handled.{handled, routed}
 use Rattle.shard_entities.specs.Lodged.{Lodged}
 use Rattle.shard_entities.specs.Settled.{frees}
 use Rattle.shard_lease.specs.Meaning.{Meaning}
+use Rattle.producer_ctl.specs.Producing.{Producing}
 use Rattle.node_core.specs.Standing.{Standing, node_of, AreSeen}
 use Rattle.node_core.specs.Leased.{Rests, IsHandOf, is_for_coordinator, is_newer, is_view}
 use Rattle.node_core.specs.Found.{none, asks}
@@ -182,7 +183,7 @@ view_gave c from (body.View v xs) old heard led new newer first second last =
 view_gave c from b old heard led new newer first second last = absurd (true≢false (sym newer))
 
 -- where every registered region is in the view
-pub seen_of : (c : Script) (r : Region) (e : Lodged) (ps : List (Option Producer)) (k : Option Held) → IsViewed (node_of c r e ps k) → AreSeen r.view k
+pub seen_of : (c : Script) (r : Region) (e : Lodged) (ps : Producing) (k : Option Held) → IsViewed (node_of c r e ps k) → AreSeen r.view k
 seen_of c r e ps None h = tt
 seen_of c r e ps (Some k) h = h
 
@@ -317,6 +318,10 @@ office_packet c m v w from b before late same h gave = absurd (true≢false (sym
 -- of a packet about an entity
 pub brought_of : (c : Script) (e : List ℕ) (p : Packet) → p.body ≡ body.Recovered e → is_genuine_packet c p ≡ true → is_brought c e ≡ true
 brought_of c e p is h = (and_both (is_node c p.from && is_node c p.to) (is_brought c e) (ap (λ b. is_node c p.from && is_node c p.to && is_genuine_body c b) (sym is) ∙ h)).1
+
+-- of any genuine packet
+pub genuine_of : (c : Script) (p : Packet) (b : Body) → p.body ≡ b → is_genuine_packet c p ≡ true → is_genuine_body c b ≡ true
+genuine_of c p b is h = (and_both (is_node c p.from && is_node c p.to) (is_genuine_body c b) (ap (λ x. is_node c p.from && is_node c p.to && is_genuine_body c x) (sym is) ∙ h)).1
 
 -- HandOff.
 

@@ -37,7 +37,7 @@ use Rattle.plain_laws.proofs.Members.{same_is, itself_is}
 use Rattle.shard_entities.specs.Lodged.{less, rooms_step}
 use Rattle.node_core.specs.Releasing.{release_first, release_one, release_each, TookRoom, HasReleaseRoom, LeavesRoom, IsNext, IsOneLess, Releasing}
 use Rattle.node_core.specs.Standing.{Standing}
-use Rattle.node_core.specs.Went.{Went, rooms_after}
+use Rattle.node_core.specs.Went.{Went, rooms_after, queues_after}
 use Rattle.node_core.proofs.GaveLaws.{items_append}
 use Rattle.node_core.proofs.StepLaws.{region_rooms, went_nothing}
 use Rattle.node_core.proofs.RoomLaws.{deliver_room, away_room, released_room}
@@ -56,6 +56,7 @@ went_both {v} {w} {z} {before} {late} {last} xs ys f g = record {
       omega (arith, first, second, all);
   rooms_are = g.rooms_are ∙ (ap (λ (c : Script). fold (rooms_after (setting c)) w.rooms ys) f.script_is
       ∙ (ap (λ rs. fold (rooms_after (setting v.script)) rs ys) f.rooms_are ∙ sym (fold-append (rooms_after (setting v.script)) v.rooms xs ys)));
+  queues_are = g.queues_are ∙ (ap (λ qs. fold queues_after qs ys) f.queues_are ∙ sym (fold-append queues_after v.queues xs ys));
   office_is = let first = f.office_is in let second = g.office_is in omega (arith, first, second);
 }
 
@@ -106,7 +107,7 @@ write_delivers set s m r pos st None its =
     (all_if (is_delivering set s) (r.number % st.set.config.snapshot == 0) (told (fact.Snapshot m.entity r.number) ∷ []) [] (both (shard_of set m.entity == s) true its refl) refl)
     (all_if (is_delivering set s) (nat_le (slice_index_or (cell st m.entity).reach (m.producer - 1) 0) (pos + st.set.config.window / 2)) (post st.who m.origin (body.Request m.producer m.entity pos (pos + st.set.config.window)) ∷ []) [] refl refl))
 
-phase_delivers : (set : Setting) (s : ℕ) (m : Message) (st : Entities) (p : Phase) → (shard_of set m.entity == s) ≡ true → list_all (is_delivering set s) (entities.deliver_by m st p) ≡ true
+pub phase_delivers : (set : Setting) (s : ℕ) (m : Message) (st : Entities) (p : Phase) → (shard_of set m.entity == s) ≡ true → list_all (is_delivering set s) (entities.deliver_by m st p) ≡ true
 phase_delivers set s m st phase.Absent its = refl
 phase_delivers set s m st phase.Loading its = all_if (is_delivering set s) (nat_lt (length (cell st m.entity).stash) st.set.config.window) (told (fact.Stashed st.who m) ∷ []) (told (fact.Dropped st.who m) ∷ []) refl refl
 phase_delivers set s m st phase.Stopping its = all_if (is_delivering set s) (nat_lt (length (cell st m.entity).stash) st.set.config.window) (told (fact.Stashed st.who m) ∷ []) (told (fact.Dropped st.who m) ∷ []) refl refl
@@ -245,7 +246,7 @@ ending_running None (Some h) e = absurd (some_is_not_none (sym e))
 ending_running (Some h) None e = absurd (some_is_not_none e)
 ending_running (Some h) (Some k) e = ap is_none (some_same e)
 
-ending_none : (o : Option Hosted) (p : Option Hosted) → ending_in o ≡ ending_in p → p ≡ None → o ≡ None
+pub ending_none : (o : Option Hosted) (p : Option Hosted) → ending_in o ≡ ending_in p → p ≡ None → o ≡ None
 ending_none None p e none = refl
 ending_none (Some h) p e none = absurd (some_is_not_none (subst (λ (x : Option Hosted). Some h.stopping ≡ ending_in x) none e))
 
@@ -335,7 +336,7 @@ leaves_next {v} {w} {x} {s} {i} f g = record {
 }
 
 -- At most four items.
-routed_room : (m : Message) (st : Node) → length (items_of (route m st)) ≤ 4
+pub routed_room : (m : Message) (st : Node) → length (items_of (route m st)) ≤ 4
 routed_room m st = by (is_home st.region (shard_of st.set m.entity) && is_running st (shard_of st.set m.entity))
   where
     by : (b : Bool) → length (items_of (if b then of_entities (entities.deliver m) st else of_region (route_away m) st)) ≤ 4
@@ -356,6 +357,7 @@ taken_went {v} {w} {s} {m} before is = subst (λ (x : Standing). Went v x before
   items_are = sym (append-nil before.items);
   spare_is = omega arith;
   rooms_are = refl;
+  queues_are = refl;
   office_is = refl;
 })
 

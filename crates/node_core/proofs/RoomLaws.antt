@@ -35,7 +35,7 @@ use Rattle.yard_model.specs.Equal.{is_command}
 use Rattle.yard_model.specs.Genuine.{is_genuine, is_node, is_planned}
 use Rattle.std.specs.Option.{option_and_then, option_map_or}
 use Rattle.actor_laws.specs.ProducerStands.{IsProducer, ProducerRoutes}
-use Rattle.yard_model.specs.Move.{handed_off, passivates, Move, made, told, post, marked, released, demanded, pushed, acknowledged, quits, started, item_of}
+use Rattle.yard_model.specs.Move.{handed_off, passivates, Move, made, took, told, post, marked, released, demanded, pushed, acknowledged, quits, started, item_of}
 use Rattle.yard_model.specs.Producer as producer
 use Rattle.yard_model.specs.Producer.{Producer, Progress, progress, producer_after}
 use Rattle.yard_model.specs.Region as region
@@ -45,6 +45,7 @@ use Rattle.yard_model.specs.Setting.{shards, shard_of, names_of, place}
 use Rattle.yard_model.specs.SlotReads.{epoch, journal, position, is_remembered, queued, confirmed, confirmed_step}
 use Rattle.yard_model.specs.Turns.{for_each, where_some}
 use Rattle.yard_model.specs.Words.{numbers, at, is_at, is_among, is_same, is_empty, is_below, is_stamp, without}
+use Rattle.plain_laws.proofs.Lists.{all_each}
 use Rattle.plain_laws.proofs.Booleans.{and_both, at_most, below, both, get_replicate, left_of, not_below, number_itself, of_not, right_of, same_name, same_number, true_is_not_false}
 use Rattle.plain_laws.proofs.Lists.{by_place}
 use Rattle.plain_laws.proofs.Names.{name_itself}
@@ -500,6 +501,30 @@ tick_entities_room st =
     let all : Gives (1 * length (flat_map (λ s. names_of st.set s) (shards st.set))) (entities.tick_entities st) = by_names st.set 1 p one 0 st.set.config.shards in
     omega (arith, all, names_few st.set)
 
+-- each of its moves is an item
+pub tick_entities_moves : (st : Entities) → length (entities.tick_entities st) ≤ length st.set.names
+tick_entities_moves st =
+    let items : length (flat_map item_of (entities.tick_entities st)) ≡ length (entities.tick_entities st) = all_items (entities.tick_entities st)
+    (all_each is_item (λ s. flat_map (λ e. entities.remind_by e st (cell st e).phase) (entities.entities_of st s)) (shards st.set)
+    (λ s. all_each is_item (λ e. entities.remind_by e st (cell st e).phase) (entities.entities_of st s) (λ e. reminds e (cell st e).phase))) in
+    omega (arith, items, tick_entities_room st)
+  where
+    is_item : Move → Bool
+    is_item (made i) = true
+    is_item m = false
+
+    all_items : (ms : List Move) → list_all is_item ms ≡ true → length (flat_map item_of ms) ≡ length ms
+    all_items [] h = refl
+    all_items (made i ∷ ms) h = ap suc (all_items ms h)
+    all_items (took s list ∷ ms) h = absurd (true_is_not_false (sym h))
+    all_items (m ∷ ms) h = absurd (true_is_not_false (sym h))
+
+    reminds : (e : List ℕ) (p : Phase) → list_all is_item (entities.remind_by e st p) ≡ true
+    reminds e phase.Absent = refl
+    reminds e phase.Loading = refl
+    reminds e phase.Active = refl
+    reminds e phase.Stopping = refl
+
 -- What a script may have at most.
 
 -- each setting of a script is in range
@@ -805,7 +830,7 @@ either_few {X} q r (x ∷ xs) = by (q x) (r x) (either_few q r xs)
     by false true h = omega (arith, h)
     by false false h = omega (arith, h)
 
-fewer_pass : {X : Type 0} (q r : X → Bool) → ((x : X) → q x ≡ true → r x ≡ true) → (xs : List X) → length (filter q xs) ≤ length (filter r xs)
+pub fewer_pass : {X : Type 0} (q r : X → Bool) → ((x : X) → q x ≡ true → r x ≡ true) → (xs : List X) → length (filter q xs) ≤ length (filter r xs)
 fewer_pass q r h [] = omega arith
 fewer_pass q r h (x ∷ xs) = by (q x) (r x) refl refl (fewer_pass q r h xs)
   where
@@ -933,27 +958,3 @@ queued_pair law c st stands e some =
     let planned : (is_planned c st.number e 1 m.command ≡ true) × (is_node c st.who ≡ true) = and_both (is_planned c st.number e 1 m.command) (is_node c st.who) genuine in
     let got : (nat_lt 0 1 ≡ true) × (option_map_or (is_command m.command) (slice_get (plan c st.number e) 0) false ≡ true) = and_both (nat_lt 0 1) (option_map_or (is_command m.command) (slice_get (plan c st.number e) 0) false) planned.0 in
     sends_pair c st.number e (got_one m.command e (sends c st.number) 0 got.1)
-
--- the producer p runs, and has a number queued to e that isn't confirmed
-abbrev pub is_repeating : List (Option Producer) → ℕ → List ℕ → Bool
-is_repeating ks p e = option_map_or (λ (k : Producer). nat_lt (confirmed e k.entries) (queued e k.entries)) (at ks (p - 1)) false
-
--- the producers from a on repeat no more numbers than there are pairs
-pub repeats_left : ProducerRoutes → (c : Script) (ks : List (Option Producer)) (a n : ℕ) → 0 < a → ((p : ℕ) (k : Producer) → 0 < p → at ks (p - 1) ≡ Some k → IsProducer c k × (k.number ≡ p))
-    → length (flat_map (λ p. filter (is_repeating ks p) (names_in c.orders)) (numbers a n)) ≤ length (pairs_in c.orders)
-repeats_left law c ks a n up stand = pairs_left c (is_repeating ks) a n (λ p e low. by p e (at ks (p - 1)) (λ k. stand p k (omega (arith, up, low))))
-  where
-    by : (p : ℕ) (e : List ℕ) (o : Option Producer) → ((k : Producer) → o ≡ Some k → IsProducer c k × (k.number ≡ p))
-        → option_map_or (λ (k : Producer). nat_lt (confirmed e k.entries) (queued e k.entries)) o false ≡ true → list_any (is_pair p e) (pairs_in c.orders) ≡ true
-    by p e None h is = absurd (true_is_not_false (sym is))
-    by p e (Some k) h is =
-        let less : confirmed e k.entries < queued e k.entries = below (confirmed e k.entries) (queued e k.entries) is in
-        ap (λ q. list_any (is_pair q e) (pairs_in c.orders)) (sym (h k refl).1) ∙ queued_pair law c k (h k refl).0 e (omega (arith, less))
-
--- whether it repeats one decides how many
-pub repeat_count : (e : List ℕ) (st : Producer) → length (producer.to_repeat e st) ≡ (if nat_lt (confirmed e st.entries) (queued e st.entries) then 1 else 0)
-repeat_count e st = by (nat_lt (confirmed e st.entries) (queued e st.entries))
-  where
-    by : (b : Bool) → length (if b then (confirmed e st.entries + 1) ∷ [] else []) ≡ (if b then 1 else 0)
-    by true = refl
-    by false = refl

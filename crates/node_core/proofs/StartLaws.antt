@@ -39,6 +39,7 @@ use Rattle.shard_lease.specs.declared.leases.Acquire.TheVariants as acquired
 use Rattle.shard_lease.specs.Meaning.{Acquired, Meaning, Stays, Apart, Still, Hands, Refuses}
 use Rattle.shard_store.specs.declared.store.Store.TheVariants as store
 use Rattle.shard_store.specs.Shelf.{Shelf}
+use Rattle.producer_ctl.specs.Producing.{Producing}
 use Rattle.node_core.specs.Found.{none, asks}
 use Rattle.node_core.specs.Gave.{Gave, moment}
 use Rattle.node_core.specs.Leased.{Rests}
@@ -63,10 +64,10 @@ shard_granted c old new v s x before here inside free rests stays h apart =
     granted_gave c (slot.Shard s) by_entities old new v.state (with_store s x v).state (store.Shard x) before here (ap (option_map (λ (h : Hosted). h.entries)) free) (λ m. refl) rests stays h apart (λ n. refl)
     (record { held_is = ap (option_map (λ (h : Hosted). h.entries)) (get_or-set_same v.state.entities.hosted s (Some (record { entries = x.entries; stopping = None })) None inside); else_is = others })
   where
-    others : (t : Slot) → t ≢ slot.Shard s → held_list t (with_store s x v).state ≡ held_list t v.state
-    others (slot.Shard t) other = ap (option_map (λ (h : Hosted). h.entries)) (get_or-set_other v.state.entities.hosted s t (Some (record { entries = x.entries; stopping = None })) None (λ same. other (ap (λ i. slot.Shard i) same)))
-    others slot.Coordinator other = refl
-    others (slot.Queue p) other = refl
+    others : (t : Slot) → is_slot_of c t ≡ true → t ≢ slot.Shard s → held_list t (with_store s x v).state ≡ held_list t v.state
+    others (slot.Shard t) valid other = ap (option_map (λ (h : Hosted). h.entries)) (get_or-set_other v.state.entities.hosted s t (Some (record { entries = x.entries; stopping = None })) None (λ same. other (ap (λ i. slot.Shard i) same)))
+    others slot.Coordinator valid other = refl
+    others (slot.Queue p) valid other = refl
 
 -- A shard that another node holds.
 
@@ -163,7 +164,7 @@ start_there c s m v items there rests =
 
 -- Parts.
 
-pub parts_hosting : {c : Script} {kind : Kind} {version : ℕ} {region : Made} {e : Lodged} {office : Option Held} (s : ℕ) (x : Shelf) → AreParts c kind version region e office → AreParts c kind version region (hosting e s x) office
+pub parts_hosting : {c : Script} {kind : Kind} {version : ℕ} {region : Made} {e : Lodged} {queues : Producing} {office : Option Held} (s : ℕ) (x : Shelf) → AreParts c kind version region e queues office → AreParts c kind version region (hosting e s x) queues office
 parts_hosting s x p = record {
   script_is = p.script_is;
   kind_is = p.kind_is;
@@ -174,6 +175,9 @@ parts_hosting s x p = record {
   entities_who = p.entities_who;
   entities_set = p.entities_set;
   entities_version = p.entities_version;
+  queues_script = p.queues_script;
+  queues_who = p.queues_who;
+  queues_there = p.queues_there;
   coordinator = p.coordinator;
 }
 
@@ -210,7 +214,7 @@ ready_room {v} {spare} s sound ready = record {
   active = λ e named its active. let wide = ready.rooms s (active_hosted e sound named its active) in omega (arith, wide);
 }
 
-start_delivers : (set : Setting) (k s : ℕ) (st : Entities) → list_all (is_delivering set k) (start_remembered s st) ≡ true
+pub start_delivers : (set : Setting) (k s : ℕ) (st : Entities) → list_all (is_delivering set k) (start_remembered s st) ≡ true
 start_delivers set k s st =
     let es : List (List ℕ) = filter (λ e. is_remembered e (entries st e)) (names_of st.set s) in
     all_if (is_delivering set k) st.set.config.remember (flat_map (λ e. entities.start_entity e st) es) [] (all_each (is_delivering set k) (λ e. entities.start_entity e st) es (λ e. refl)) refl

@@ -19,12 +19,13 @@ use Rattle.yard_laws.proofs.PartsLaws.{region_alone, region_items, entities_alon
 use Rattle.coordinator_actor.specs.Held.{Held}
 use Rattle.shard_entities.specs.Lodged.{Lodged, lodged_after, moved, given, given_step}
 use Rattle.shard_lease.specs.Meaning.{Meaning}
+use Rattle.producer_ctl.specs.Producing.{Producing}
 use Rattle.node_core.specs.Found.{none}
 use Rattle.node_core.specs.Gave.{Gave, moment}
 use Rattle.node_core.specs.Leased.{Rests}
 use Rattle.node_core.specs.Standing.{Standing, standing_of, node_of}
 use Rattle.node_core.specs.Still.{is_still}
-use Rattle.node_core.specs.Went.{Went, CoordinatorWent, rooms_after, entries_of_office}
+use Rattle.node_core.specs.Went.{Went, CoordinatorWent, rooms_after, queues_after, entries_of_office}
 use Rattle.node_core.proofs.StillLaws.{still_gave}
 
 -- The region.
@@ -37,13 +38,17 @@ pub region_rooms : (set : Setting) (rooms : List ℕ) (ms : List Move) → rooms
 region_rooms set rooms [] = refl
 region_rooms set rooms (m ∷ ms) = region_rooms set rooms ms
 
+region_queues : (queues : List ℕ) (ms : List Move) → queues ≡ fold queues_after queues (map by_region ms)
+region_queues queues [] = refl
+region_queues queues (m ∷ ms) = region_queues queues ms
+
 less_of : (a b n : ℕ) → a + n ≡ b → a ≡ b - n
 less_of a b n h = omega (arith, h)
 
-node_same : (c : Script) (r s : Region) (e : Lodged) (p : List (Option Producer)) (k : Option Held) → s.who ≡ r.who → node_of c s e p k ≡ record (node_of c r e p k) { region = s }
+node_same : (c : Script) (r s : Region) (e : Lodged) (p : Producing) (k : Option Held) → s.who ≡ r.who → node_of c s e p k ≡ record (node_of c r e p k) { region = s }
 node_same c r s e p k w = ap (λ (x : Incarnation). record (node_of c (record r { who = x }) e p k) { region = s }) w
 
-pub region_went : (c : Script) (r now : Region) (e : Lodged) (p : List (Option Producer)) (k : Option Held) (ms : List Move) (before late : Spared Item)
+pub region_went : (c : Script) (r now : Region) (e : Lodged) (p : Producing) (k : Option Held) (ms : List Move) (before late : Spared Item)
     → now ≡ fold region_after r ms → late.items ≡ before.items ++ flat_map item_of ms → late.spare + length (flat_map item_of ms) ≡ before.spare
     → Went (standing_of c r e p k) (standing_of c now e p k) before late (map by_region ms)
 region_went c r now e p k ms before late goes items spare = record {
@@ -52,6 +57,7 @@ region_went c r now e p k ms before late goes items spare = record {
   items_are = items ∙ ap (λ is. before.items ++ is) (sym (region_items ms));
   spare_is = less_of late.spare before.spare (length (flat_map item_of ms)) spare ∙ ap (λ is. before.spare - length is) (sym (region_items ms));
   rooms_are = region_rooms (setting c) e.rooms ms;
+  queues_are = region_queues p.rooms ms;
   office_is = refl;
 }
 
@@ -68,6 +74,10 @@ moved_script v (m ∷ ms) = moved_script (lodged_after v m) ms
 moved_rooms : (v : Lodged) (ms : List Move) → (moved v ms).rooms ≡ fold (rooms_after v.state.set) v.rooms (map by_entities ms)
 moved_rooms v [] = refl
 moved_rooms v (m ∷ ms) = moved_rooms (lodged_after v m) ms
+
+entities_queues : (queues : List ℕ) (ms : List Move) → queues ≡ fold queues_after queues (map by_entities ms)
+entities_queues queues [] = refl
+entities_queues queues (m ∷ ms) = entities_queues queues ms
 
 pub moved_who : (v : Lodged) (ms : List Move) → (moved v ms).state.who ≡ v.state.who
 moved_who v [] = refl
@@ -96,7 +106,7 @@ one_less : (old : Spared Item) (m : Move) → (given_step old m).spare ≡ old.s
 one_less old (made i) = refl
 one_less old m = omega arith
 
-given_spare : (old : Spared Item) (ms : List Move) → (given old ms).spare ≡ old.spare - length (flat_map item_of ms)
+pub given_spare : (old : Spared Item) (ms : List Move) → (given old ms).spare ≡ old.spare - length (flat_map item_of ms)
 given_spare old [] = omega arith
 given_spare old (m ∷ ms) =
     let first : (given_step old m).spare ≡ old.spare - length (item_of m) = one_less old m in
@@ -104,7 +114,7 @@ given_spare old (m ∷ ms) =
     let all : length (item_of m ++ flat_map item_of ms) ≡ length (item_of m) + length (flat_map item_of ms) = length-append (item_of m) (flat_map item_of ms) in
     omega (arith, first, rest, all)
 
-pub entities_went : (c : Script) (r : Region) (e now : Lodged) (p : List (Option Producer)) (k : Option Held) (ms : List Move) (before late : Spared Item)
+pub entities_went : (c : Script) (r : Region) (e now : Lodged) (p : Producing) (k : Option Held) (ms : List Move) (before late : Spared Item)
     → e.state.set ≡ setting c → now ≡ moved e ms → late ≡ given before ms → Went (standing_of c r e p k) (standing_of c r now p k) before late (map by_entities ms)
 entities_went c r e now p k ms before late set_is goes told = record {
   script_is = refl;
@@ -112,6 +122,7 @@ entities_went c r e now p k ms before late set_is goes told = record {
   items_are = ap (λ (x : Spared Item). x.items) told ∙ (given_items before ms ∙ ap (λ is. before.items ++ is) (sym (entities_items ms)));
   spare_is = ap (λ (x : Spared Item). x.spare) told ∙ (given_spare before ms ∙ ap (λ is. before.spare - length is) (sym (entities_items ms)));
   rooms_are = ap (λ (v : Lodged). v.rooms) goes ∙ (moved_rooms e ms ∙ ap (λ set. fold (rooms_after set) e.rooms (map by_entities ms)) set_is);
+  queues_are = entities_queues p.rooms ms;
   office_is = refl;
 }
 
@@ -121,6 +132,10 @@ office_rooms : (set : Setting) (rooms : List ℕ) (ms : List Move) → rooms ≡
 office_rooms set rooms [] = refl
 office_rooms set rooms (m ∷ ms) = office_rooms set rooms ms
 
+office_queues : (queues : List ℕ) (ms : List Move) → queues ≡ fold queues_after queues (map by_coordinator ms)
+office_queues queues [] = refl
+office_queues queues (m ∷ ms) = office_queues queues ms
+
 -- its moves, where there is one
 ruled : (p : Coordinator → List Move) (o : Option Coordinator) → items_of (where_some (λ k. map by_coordinator (p k)) o) ≡ flat_map item_of (where_some p o)
 ruled p None = refl
@@ -129,6 +144,10 @@ ruled p (Some k) = coordinator_items (p k)
 ruled_rooms : (set : Setting) (rooms : List ℕ) (p : Coordinator → List Move) (o : Option Coordinator) → rooms ≡ fold (rooms_after set) rooms (where_some (λ k. map by_coordinator (p k)) o)
 ruled_rooms set rooms p None = refl
 ruled_rooms set rooms p (Some k) = office_rooms set rooms (p k)
+
+ruled_queues : (queues : List ℕ) (p : Coordinator → List Move) (o : Option Coordinator) → queues ≡ fold queues_after queues (where_some (λ k. map by_coordinator (p k)) o)
+ruled_queues queues p None = refl
+ruled_queues queues p (Some k) = office_queues queues (p k)
 
 -- so the rooms stay
 pub office_rooms_same : (v w : Standing) (before late : Spared Item) (p : Coordinator → List Move) → Went v w before late (of_coordinator p v.state) → w.rooms ≡ v.rooms
@@ -159,7 +178,7 @@ mapped_twice : (p : Coordinator → List Move) (o : Option Held) → option_map 
 mapped_twice p None = refl
 mapped_twice p (Some k) = refl
 
-pub coordinator_went : (c : Script) (r : Region) (e : Lodged) (ps : List (Option Producer)) (p : Coordinator → List Move) (k now : Option Held) (before late : Spared Item)
+pub coordinator_went : (c : Script) (r : Region) (e : Lodged) (ps : Producing) (p : Coordinator → List Move) (k now : Option Held) (before late : Spared Item)
     → TakesNone p → CoordinatorWent p k now before late → Went (standing_of c r e ps k) (standing_of c r e ps now) before late (of_coordinator p (node_of c r e ps k))
 coordinator_went c r e ps p k now before late takes w = record {
   script_is = refl;
@@ -167,6 +186,7 @@ coordinator_went c r e ps p k now before late takes w = record {
   items_are = w.items_are ∙ ap (λ is. before.items ++ is) (sym (ruled p (option_map (λ k. k.state) k)));
   spare_is = w.spare_is ∙ ap (λ is. before.spare - length is) (sym (ruled p (option_map (λ k. k.state) k)));
   rooms_are = ruled_rooms (setting c) e.rooms p (option_map (λ k. k.state) k);
+  queues_are = ruled_queues ps.rooms p (option_map (λ k. k.state) k);
   office_is = w.office_is;
 }
 
@@ -192,14 +212,15 @@ coordinator_absent p o before e = subst (λ (x : Option Held). CoordinatorWent p
 
 -- An act that is an item and changes nothing else.
 
-pub item_went : (v : Standing) (a : Act) (i : Item) (before late : Spared Item) → v.state ≡ after v.state a → items_of (a ∷ []) ≡ i ∷ [] → v.rooms ≡ rooms_after (setting v.script) v.rooms a
+pub item_went : (v : Standing) (a : Act) (i : Item) (before late : Spared Item) → v.state ≡ after v.state a → items_of (a ∷ []) ≡ i ∷ [] → v.rooms ≡ rooms_after (setting v.script) v.rooms a → v.queues ≡ queues_after v.queues a
     → late.items ≡ before.items ++ i ∷ [] → late.spare + 1 ≡ before.spare → Went v v before late (a ∷ [])
-item_went v a i before late same item rooms items spare = record {
+item_went v a i before late same item rooms queues items spare = record {
   script_is = refl;
   node_is = same;
   items_are = items ∙ ap (λ is. before.items ++ is) (sym item);
   spare_is = less_of late.spare before.spare 1 spare ∙ ap (λ is. before.spare - length is) (sym item);
   rooms_are = rooms;
+  queues_are = queues;
   office_is = refl;
 }
 
@@ -212,6 +233,7 @@ went_nothing v before = record {
   items_are = sym (append-nil before.items);
   spare_is = omega arith;
   rooms_are = refl;
+  queues_are = refl;
   office_is = refl;
 }
 

@@ -19,6 +19,8 @@ use Rattle.yard_model.specs.SlotLists.{SlotLists}
 use Rattle.yard_model.specs.SlotReads.{epoch, holder}
 use Rattle.yard_model.specs.Trace.{list_at}
 use Rattle.actor_laws.specs.Hands.{held_list}
+use Rattle.coordinator_actor.specs.Held.{Held}
+use Rattle.durable_queue.specs.Queue.{Queue}
 use Rattle.shard_lease.specs.Meaning.{Known, Meaning, Apart, Begins, IsVouched, Serves, Stays, is_taken}
 use Rattle.shard_store.specs.Shelf.{Shelf}
 
@@ -99,7 +101,31 @@ pub record MayGiveBack (m : Meaning) (who : Incarnation) (s : ℕ) (x : Shelf) :
   pub hand : IsHandOf m (slot.Shard s) x.entries
   pub room : 101 ≤ x.spare
 
--- it was given back, as released
+-- a queue's store that it may
+pub record MayGiveQueue (m : Meaning) (who : Incarnation) (p : ℕ) (x : Queue) : Type 0 where
+  pub serves : Serves m who (slot.Queue p)
+  pub holds : m.holds who.node (slot.Queue p) ≡ true
+  pub script_is : x.script ≡ m.script
+  pub producer_is : x.producer ≡ p
+  pub leased : holder x.entries ≡ Some who
+  pub hand : IsHandOf m (slot.Queue p) x.entries
+  pub room : 101 ≤ x.spare
+
+-- a coordinator whose store it may
+pub record MayGiveOffice (m : Meaning) (who : Incarnation) (k : Held) : Type 0 where
+  pub serves : Serves m who slot.Coordinator
+  pub holds : m.holds who.node slot.Coordinator ≡ true
+  pub script_is : k.script ≡ m.script
+  pub who_is : k.state.who ≡ who
+  pub hand : IsHandOf m slot.Coordinator k.state.entries
+  pub room : 101 ≤ k.spare
+
+-- a shard was given back, as released
 pub record GaveBack (old : Meaning) (who : Incarnation) (s : ℕ) (list : List Fact) (new : Meaning) : Type 0 where
   pub stays : Stays old new
   pub freed : IsFreed old who (slot.Shard s) (list ++ fact.Freed (slot.Shard s) (epoch list) cause.Released ∷ []) new
+
+-- so a queue
+pub record GaveQueue (old : Meaning) (who : Incarnation) (p : ℕ) (list : List Fact) (new : Meaning) : Type 0 where
+  pub stays : Stays old new
+  pub freed : IsFreed old who (slot.Queue p) (list ++ fact.Freed (slot.Queue p) (epoch list) cause.Released ∷ []) new

@@ -1,5 +1,6 @@
 -- Slots that are freed: what is told, and what the leases and the node are then.
-use Rattle.std.specs.Prelude.{◌≡◌, ℕ, ◌+◌, List, [], ◌∷◌, ◌++◌, map, fold, false, IsTrue, Option, MatchOption}
+use Rattle.std.specs.Prelude.{◌≡◌, ◌+◌, ◌≤◌, Bool, List, [], ◌∷◌, ◌++◌, map, fold, length, true, false, IsTrue, Option, None, MatchOption}
+use Rattle.std.specs.List.{flat_map, list_any}
 use Rattle.yard_model.specs.declared.fact.Fact.{Fact}
 use Rattle.yard_model.specs.declared.fact.Fact.TheVariants as fact
 use Rattle.yard_model.specs.declared.incarnation.Cause.TheVariants as cause
@@ -8,7 +9,6 @@ use Rattle.yard_model.specs.declared.incarnation.Slot.{Slot}
 use Rattle.yard_model.specs.declared.incarnation.Slot.TheVariants as slot
 use Rattle.yard_model.specs.declared.out.Item.{Item}
 use Rattle.yard_model.specs.declared.out.Item.TheVariants as item
-use Rattle.yard_model.specs.Entities.{hosted}
 use Rattle.yard_model.specs.Genuine.{is_slot_of}
 use Rattle.yard_model.specs.Node.{Node, crash, freed_stopped}
 use Rattle.yard_model.specs.Script.{Script, setting}
@@ -17,11 +17,12 @@ use Rattle.yard_model.specs.SlotReads.{epoch}
 use Rattle.yard_model.specs.Spared.{Spared}
 use Rattle.yard_model.specs.Trace.{lists_step}
 use Rattle.yard_model.specs.Turns.{where_some}
-use Rattle.shard_store.specs.Shelf.{Shelf}
 use Rattle.shard_lease.specs.Meaning.{Meaning, Stays}
-use Rattle.actor_laws.specs.Hands.{AreInHand}
-use Rattle.node_core.specs.Gave.{Moment, ForLists, AreOthersSame}
+use Rattle.actor_laws.specs.Hands.{held_list, AreInHand}
+use Rattle.node_core.specs.Found.{asks}
+use Rattle.node_core.specs.Gave.{Moment, moment, ForLists, AreOthersSame}
 use Rattle.node_core.specs.Leased.{Rests, IsFreed, Tells}
+use Rattle.node_core.specs.Standing.{Standing, IsEnding}
 
 -- the lists with these entries
 abbrev pub lists_then : Script → SlotLists → List Fact → SlotLists
@@ -37,12 +38,24 @@ pub record LetGo (c : Script) (fs : List Fact) (old new : Moment) : Type 0 where
   pub stays : Stays old.meaning new.meaning
   pub others : AreOthersSame old.node.who.node old.meaning new.meaning
 
--- what a crash frees of a shard, and of the coordinator's slot
-abbrev pub shard_ends : ℕ → Node → List Fact
-shard_ends s st = where_some (λ h. freed_stopped (slot.Shard s) h.entries) (hosted st.entities s)
+-- what a crash frees of a slot, and of slots
+abbrev pub slot_ends : Slot → Node → List Fact
+slot_ends s st = where_some (freed_stopped s) (held_list s st)
 
-abbrev pub office_ends : Node → List Fact
-office_ends st = where_some (λ k. freed_stopped slot.Coordinator k.entries) st.coordinator
+abbrev pub slots_end : List Slot → Node → List Fact
+slots_end ss st = flat_map (λ s. slot_ends s st) ss
+
+abbrev pub is_in : List Slot → Slot → Bool
+is_in ss s = list_any (asks s) ss
+
+-- these slots were freed, as stopped, if they were held, and no other was changed
+pub record AreFreed (gone : List Slot) (old new : Standing) (m n : Meaning) (before late : Spared Item) : Type 0 where
+  pub script_is : new.script ≡ old.script
+  pub goes : LetGo old.script (slots_end gone old.state) (moment m old.state before.items) (moment n new.state late.items)
+  pub gone_are : (s : Slot) → IsTrue (is_slot_of old.script s) → is_in gone s ≡ true → held_list s new.state ≡ None
+  pub else_are : (s : Slot) → IsTrue (is_slot_of old.script s) → is_in gone s ≡ false → held_list s new.state ≡ held_list s old.state
+  pub ending : IsEnding new
+  pub room : before.spare ≤ late.spare + length gone
 
 -- the end: all that a crash frees is freed, and the node holds nothing any more
 pub record IsGone (c : Script) (old : Moment) (meaning : Meaning) (items : List Item) : Type 0 where
@@ -52,13 +65,13 @@ pub record IsGone (c : Script) (old : Moment) (meaning : Meaning) (items : List 
   pub stays : Stays old.meaning meaning
   pub others : AreOthersSame old.node.who.node old.meaning meaning
 
--- a shard's slot was freed, as stopped
-pub record ShardFreed (s : ℕ) (who : Incarnation) (x : Shelf) (old new : Meaning) (before late : Spared Item) : Type 0 where
-  pub items_are : late.items ≡ before.items ++ item.Fact (fact.Freed (slot.Shard s) (epoch x.entries) cause.Stopped) ∷ []
+-- a slot was freed, as stopped, whose list was this
+pub record SlotFreed (s : Slot) (who : Incarnation) (list : List Fact) (old new : Meaning) (before late : Spared Item) : Type 0 where
+  pub items_are : late.items ≡ before.items ++ item.Fact (fact.Freed s (epoch list) cause.Stopped) ∷ []
   pub spare_is : late.spare + 1 ≡ before.spare
   pub stays : Stays old new
-  pub freed : IsFreed old who (slot.Shard s) (x.entries ++ fact.Freed (slot.Shard s) (epoch x.entries) cause.Stopped ∷ []) new
+  pub freed : IsFreed old who s (list ++ fact.Freed s (epoch list) cause.Stopped ∷ []) new
 
--- where its store was there
-abbrev pub IsShardFreed : ℕ → Incarnation → Option Shelf → Meaning → Meaning → Spared Item → Spared Item → Type 0
-IsShardFreed s who o old new before late = MatchOption o ((new ≡ old) × (late ≡ before)) (λ x. ShardFreed s who x old new before late)
+-- where it was held
+abbrev pub IsSlotFreed : Slot → Incarnation → Option (List Fact) → Meaning → Meaning → Spared Item → Spared Item → Type 0
+IsSlotFreed s who o old new before late = MatchOption o ((new ≡ old) × (late ≡ before)) (λ list. SlotFreed s who list old new before late)

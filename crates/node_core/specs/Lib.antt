@@ -1,4 +1,5 @@
-pub mod Built
+pub mod Again
+pub mod Calling
 pub mod Found
 pub mod Gave
 pub mod Leased

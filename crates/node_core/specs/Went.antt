@@ -1,5 +1,5 @@
 -- What a step of a node did that asks for nothing: it is after these acts, whose items it told.
-use Rattle.std.specs.Prelude.{◌≡◌, ℕ, ◌+◌, ◌-◌, List, [], ◌++◌, length, fold, Option, Some, None, IfSome}
+use Rattle.std.specs.Prelude.{◌≡◌, ℕ, ◌+◌, ◌-◌, List, [], ◌++◌, length, fold, Option, Some, None, IfSome, slice_index_or, slice_set}
 use Rattle.std.specs.List.{flat_map}
 use Rattle.std.specs.Option.{option_map}
 use Rattle.yard_model.specs.declared.fact.Fact.{Fact}
@@ -7,11 +7,12 @@ use Rattle.yard_model.specs.declared.out.Item.{Item}
 use Rattle.yard_model.specs.declared.incarnation.Incarnation.{Incarnation}
 use Rattle.yard_model.specs.Coordinator.{Coordinator, coordinator_after}
 use Rattle.yard_model.specs.Move.{Move, item_of}
-use Rattle.yard_model.specs.Node.{Act, by_entities, after, items_of}
+use Rattle.yard_model.specs.Node.{Act, by_entities, by_producer, after, items_of}
 use Rattle.yard_model.specs.Script.{Script, Setting, setting}
 use Rattle.yard_model.specs.Spared.{Spared}
 use Rattle.yard_model.specs.Turns.{where_some}
 use Rattle.coordinator_actor.specs.Held.{Held}
+use Rattle.producer_ctl.specs.Produced.{room_step}
 use Rattle.shard_entities.specs.Lodged.{rooms_step}
 use Rattle.node_core.specs.Standing.{Standing, IsOf, spare_in}
 
@@ -19,6 +20,11 @@ use Rattle.node_core.specs.Standing.{Standing, IsOf, spare_in}
 abbrev pub rooms_after : Setting → List ℕ → Act → List ℕ
 rooms_after set old (by_entities m) = rooms_step set old m
 rooms_after set old a = old
+
+-- the room of each queue, as an act leaves it
+abbrev pub queues_after : List ℕ → Act → List ℕ
+queues_after old (by_producer p m) = slice_set old (p - 1) (room_step (slice_index_or old (p - 1) 0) m)
+queues_after old a = old
 
 abbrev pub entries_of_office : Option Coordinator → List Fact
 entries_of_office None = []
@@ -30,6 +36,7 @@ pub record Went (old new : Standing) (before now : Spared Item) (acts : List Act
   pub items_are : now.items ≡ before.items ++ items_of acts
   pub spare_is : now.spare ≡ before.spare - length (items_of acts)
   pub rooms_are : new.rooms ≡ fold (rooms_after (setting old.script)) old.rooms acts
+  pub queues_are : new.queues ≡ fold queues_after old.queues acts
   -- what the coordinator writes is off the spare of its store
   pub office_is : new.spare + length (entries_of_office new.state.coordinator) ≡ old.spare + length (entries_of_office old.state.coordinator)
 

@@ -1,5 +1,5 @@
 //! The actors of a node.
-ghost use Rattle.std.specs.Prelude.{◌≡◌, ℕ, ◌-◌, ◌<◌, ◌≤◌, true, is_some, IfOk, OnOk, Some, IfSome, MatchOption, length, slice_get};
+ghost use Rattle.std.specs.Prelude.{◌≡◌, ℕ, ◌+◌, ◌-◌, ◌<◌, ◌≤◌, true, is_some, IfOk, OnOk, Some, IfSome, MatchOption, length, slice_get};
 ghost use Rattle.yard_model.specs.declared.input.Phase.TheVariants as phase;
 ghost use Rattle.yard_model.specs.Entities.{is_in_phase};
 ghost use Rattle.yard_model.specs.Genuine.{is_node, is_brought};
@@ -8,11 +8,12 @@ ghost use Rattle.yard_model.specs.Script.{IsScript, setting, is_version};
 ghost use Rattle.yard_model.specs.Words.{at};
 ghost use Rattle.actor_laws.specs.Hands.{held_list};
 ghost use Rattle.shard_store.specs.Stores.{script_of_ref, slot_of_ref, entries_of_ref};
-ghost use Rattle.node_core.specs.Slots.{held_slots};
-ghost use Rattle.node_core.specs.Standing.{IsReady};
+ghost use Rattle.node_core.specs.Slots.{held_slots, held_of, last_slots, queue_slots};
+ghost use Rattle.node_core.specs.Standing.{IsReady, IsSameOffice};
 
 use behaviour_core::Behaviour;
 use coordinator_actor::Coordinator;
+use producer_ctl::Producers;
 use region_actor::Region;
 use shard_entities::Entities;
 use shard_store::StoreRef;
@@ -23,8 +24,8 @@ use yard_model::{
     Body, Charter, EntityName, Fact, Incarnation, Out, Packet, ProducerNo, ShardNo, Slot, State,
 };
 
-/// The actors of a node side by side, of one script and one incarnation: the region, the entities
-/// and, while the node holds its slot, the coordinator. Each step of an input is a call of its own,
+/// The actors of a node side by side, of one script and one incarnation: the region, the entities,
+/// the producers whose queue the node holds and, while it holds its slot, the coordinator. Each step of an input is a call of its own,
 /// which changes the actors that it is about, tells its items, and says what it gave.
 #[derive(Drop)]
 pub(crate) struct Actors<B: Behaviour> {
@@ -34,19 +35,22 @@ pub(crate) struct Actors<B: Behaviour> {
     pub(crate) behaviour: B,
     pub(crate) region: Region,
     pub(crate) entities: Entities,
+    pub(crate) producers: Producers,
+    /// How many producers the script has.
+    pub(crate) queues: u8,
     pub(crate) coordinator: Option<Coordinator>,
     pub(crate) holds: PhantomData<(Fact, Packet, Body, State, Slot, Incarnation)>,
 }
 
 impl<B: Behaviour> Model for Actors<B> {
     ghost use Rattle.std.specs.Prelude.{◌≡◌};
-    ghost use Rattle.node_core.specs.Standing.{Standing, standing_of, no_producers, AreParts};
+    ghost use Rattle.node_core.specs.Standing.{Standing, standing_of, AreParts};
 
     ghost Value = { Standing };
 
-    ghost view = { λ n. standing_of n.script.value n.region.state n.entities (no_producers n.script.value) n.coordinator };
+    ghost view = { λ n. standing_of n.script.value n.region.state n.entities n.producers n.coordinator };
 
-    ghost invariant = { λ n. AreParts n.script.value (B.kind_of n.behaviour) (B.version_of n.behaviour) n.region n.entities n.coordinator × (n.buffer ≡ n.script.value.config.buffer) };
+    ghost invariant = { λ n. AreParts n.script.value (B.kind_of n.behaviour) (B.version_of n.behaviour) n.region n.entities n.producers n.coordinator × ((n.buffer ≡ n.script.value.config.buffer) × (n.queues ≡ n.script.value.config.producers)) };
 }
 
 impl<B: Behaviour + Drop> Actors<B> {
@@ -64,9 +68,11 @@ impl<B: Behaviour + Drop> Actors<B> {
         ensures state { IfOk result (λ n. n.state ≡ new_node (setting charter.now) (B.version_of behaviour) who) }
     {
         let buffer = charter.config().buffer;
+        let queues = charter.config().producers;
         let version = behaviour.version();
         let region = Region::new(alloc, who, charter)?;
         let entities = Entities::new(alloc, region.who(), version, charter)?;
+        let producers = Producers::new(alloc, region.who(), charter)?;
         Ok(Actors {
             alloc,
             script: Snapshot::of(charter),
@@ -74,6 +80,8 @@ impl<B: Behaviour + Drop> Actors<B> {
             behaviour,
             region,
             entities,
+            producers,
+            queues,
             coordinator: None,
             holds: PhantomData,
         })
@@ -116,10 +124,8 @@ impl<B: Behaviour + Drop> Actors<B> {
         let wanted = 28_000 + 5 * self.buffer as u32;
         out.reserve(wanted)?;
         self.entities.reserve()?;
-        match &mut self.coordinator {
-            Some(coordinator) => coordinator.reserve(),
-            None => Ok(()),
-        }
+        self.producers.reserve()?;
+        reserve_office(&mut self.coordinator)
     }
 
     /// Whether an entity is active here.
@@ -134,9 +140,7 @@ impl<B: Behaviour + Drop> Actors<B> {
     pub(crate) fn holds_queue(&self, p: ProducerNo) -> bool
         ensures { result ≡ is_some (at self.now.state.producers (p - 1)) }
     {
-        let _ = &self.region;
-        let _ = p;
-        false
+        p.get() <= self.queues && self.producers.holds(p)
     }
 
     /// The held slot at this place, with its store: shards rising, the coordinator, queues rising.
@@ -156,13 +160,56 @@ impl<B: Behaviour + Drop> Actors<B> {
                 left -= 1;
             }
         }
+        self.held_last(left)
+    }
+
+    /// The held slot at this place among the coordinator's and the queues.
+    fn held_last(&self, at: u16) -> Option<(Slot, StoreRef<'_>)>
+        ensures slot { MatchOption result (length (held_of (last_slots self.now.script) self.now.state) ≤ at) (λ x. slice_get (held_of (last_slots self.now.script) self.now.state) at ≡ Some x.0) }
+        ensures store { IfSome result (λ x. held_list x.0 self.now.state ≡ Some (entries_of_ref x.1)) }
+        ensures kind { IfSome result (λ x. (slot_of_ref x.1 ≡ x.0) × (script_of_ref x.1 ≡ self.now.script)) }
+    {
         match &self.coordinator {
-            Some(coordinator) if left == 0 => Some((
-                Slot::Coordinator,
-                StoreRef::Coordinator(coordinator.store()),
-            )),
-            _ => None,
+            Some(coordinator) => {
+                if at > 0 {
+                    return self.held_queue(at - 1);
+                }
+                let store = StoreRef::Coordinator(coordinator.store());
+                Some((Slot::Coordinator, store))
+            }
+            None => self.held_queue(at),
         }
+    }
+
+    /// The held slot at this place among the queues.
+    fn held_queue(&self, at: u16) -> Option<(Slot, StoreRef<'_>)>
+        ensures slot { MatchOption result (length (held_of (queue_slots self.now.script) self.now.state) ≤ at) (λ x. slice_get (held_of (queue_slots self.now.script) self.now.state) at ≡ Some x.0) }
+        ensures store { IfSome result (λ x. held_list x.0 self.now.state ≡ Some (entries_of_ref x.1)) }
+        ensures kind { IfSome result (λ x. (slot_of_ref x.1 ≡ x.0) × (script_of_ref x.1 ≡ self.now.script)) }
+    {
+        let mut left = at;
+        for place in 0..self.queues {
+            let p = producer_at(place);
+            if let Some(store) = self.producers.store(p) {
+                if left == 0 {
+                    return Some((Slot::Queue(p), StoreRef::Queue(store)));
+                }
+                left -= 1;
+            }
+        }
+        None
+    }
+}
+
+/// Makes room in the coordinator's store, where there is a coordinator, and for one region more that
+/// leaves. The only error is want of memory.
+fn reserve_office(office: &mut Option<Coordinator>) -> Result<(), AllocError>
+    ensures same { IsSameOffice office.old office.new }
+    ensures ready { OnOk result (IfSome office.new (λ k. (300 ≤ k.spare) × (1 ≤ k.places))) }
+{
+    match office {
+        Some(coordinator) => coordinator.reserve(),
+        None => Ok(()),
     }
 }
 
@@ -173,6 +220,17 @@ pub(crate) fn shard_at(s: u8) -> ShardNo
 {
     match ShardNo::new(s, 128) {
         Some(shard) => shard,
+        None => unreachable!(),
+    }
+}
+
+/// The producer at this place, from 0.
+pub(crate) fn producer_at(place: u8) -> ProducerNo
+    requires { place < 32 }
+    ensures { result ≡ place + 1 }
+{
+    match ProducerNo::new(place + 1) {
+        Some(producer) => producer,
         None => unreachable!(),
     }
 }

@@ -33,6 +33,15 @@ impl<B: Behaviour + Drop> Actors<B> {
         rebalance(&mut self.coordinator, limit, out);
     }
 
+    /// The coordinator's part of a tick.
+    pub(crate) fn tick_coordinator(&mut self, out: &mut Out)
+        requires room { 2304 ≤ out.old.spare }
+        ensures went { Went self.old self.new out.old out.new (rules.of_coordinator tick_coordinator self.old.state) }
+        ensures room { out.old.spare ≤ out.new.spare + 2304 }
+    {
+        tick_coordinator(&mut self.coordinator, out);
+    }
+
     /// The regions that are lost are terminated: each registered one that isn't in the view.
     pub(crate) fn drop_lost(&mut self, out: &mut Out)
         requires entries { IfSome self.old.state.coordinator (λ k. 16 ≤ self.old.spare) }
@@ -92,5 +101,19 @@ fn drop_lost(region: &Region, coordinator: &mut Option<Coordinator>, out: &mut O
         coordinator.room();
         coordinator.who();
         coordinator.view_taken(region.view(), out);
+    }
+}
+
+/// Its part of a tick, where it is there.
+fn tick_coordinator(coordinator: &mut Option<Coordinator>, out: &mut Out)
+    requires room { 2304 ≤ out.old.spare }
+    ensures went { CoordinatorWent tick_coordinator coordinator.old coordinator.new out.old out.new }
+    ensures room { out.old.spare ≤ out.new.spare + 2304 }
+{
+    same_law();
+    if let Some(coordinator) = coordinator {
+        coordinator.room();
+        coordinator.who();
+        coordinator.tick(out);
     }
 }

@@ -1,9 +1,9 @@
 //! The entities' steps.
-ghost use Rattle.std.specs.Prelude.{◌≡◌, ◌≤◌, [], ◌∷◌, None, true, IfSome, MatchOption, if◌then◌else◌};
+ghost use Rattle.std.specs.Prelude.{◌≡◌, ℕ, ◌+◌, ◌≤◌, [], ◌∷◌, None, true, IfSome, MatchOption, if◌then◌else◌};
 ghost use Rattle.yard_model.specs.declared.fact.Fact.TheVariants as fact;
 ghost use Rattle.yard_model.specs.declared.packet.Body.TheVariants as body;
 ghost use Rattle.yard_model.specs.declared.input.Phase.TheVariants as phase;
-ghost use Rattle.yard_model.specs.Entities.{hosted, is_in_phase, deliver, recovered, passivate, hand_off, stop};
+ghost use Rattle.yard_model.specs.Entities.{hosted, is_in_phase, deliver, recovered, passivate, hand_off, stop, tick_entities};
 ghost use Rattle.yard_model.specs.Genuine.{is_brought, is_genuine, is_shard};
 ghost use Rattle.yard_model.specs.Move.{post, told};
 ghost use Rattle.yard_model.specs.Node as rules;
@@ -13,7 +13,7 @@ ghost use Rattle.node_laws.specs.NodeStands.{IsSoundNode};
 ghost use Rattle.node_core.specs.Found.{none};
 ghost use Rattle.node_core.specs.Gave.{Gave, moment};
 ghost use Rattle.node_core.specs.Leased.{Rests, MayGiveBack, GaveBack};
-ghost use Rattle.node_core.specs.Releasing.{TookRoom};
+ghost use Rattle.node_core.specs.Releasing.{TookRoom, HasReleaseRoom};
 ghost use Rattle.node_core.specs.Standing.{IsReady, IsHostedWith};
 ghost use Rattle.node_core.specs.Went.{Went};
 
@@ -36,6 +36,7 @@ impl<B: Behaviour + Drop> Actors<B> {
         requires room { 4 ≤ out.old.spare }
         ensures went { Went self.old self.new out.old out.new (rules.of_entities (deliver message) self.old.state) }
         ensures taken { TookRoom (shard_of self.old.state.set message.entity) (if is_in_phase phase.Active self.old.state.entities message.entity then 2 else 0) self.old self.new }
+        ensures pending { self.new.pending ≡ self.old.pending }
     {
         genuine_is_message();
         self.entities.deliver(message, &self.behaviour, out);
@@ -57,6 +58,17 @@ impl<B: Behaviour + Drop> Actors<B> {
         ensures { Went self.old self.new out.old out.new (rules.of_entities (passivate entity.now) self.old.state) }
     {
         self.entities.passivate(entity, out);
+    }
+
+    /// The entities' part of a tick: each that recovers or stops is reminded.
+    pub(crate) fn tick_entities(&mut self, out: &mut Out)
+        requires room { 1000 ≤ out.old.spare }
+        ensures went { Went self.old self.new out.old out.new (rules.of_entities tick_entities self.old.state) }
+        ensures room { out.old.spare ≤ out.new.spare + 1000 }
+        ensures rooms { (t n : ℕ) → HasReleaseRoom n self.old t → HasReleaseRoom n self.new t }
+    {
+        self.knows();
+        self.entities.tick(out);
     }
 
     /// The next write of an entity is to fail, and so.

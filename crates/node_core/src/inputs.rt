@@ -1,5 +1,5 @@
 //! The inputs of a node.
-ghost use Rattle.std.specs.Prelude.{◌≡◌, Bool, true, IsTrue};
+ghost use Rattle.std.specs.Prelude.{◌≡◌, Bool, true};
 ghost use Rattle.yard_model.specs.declared.incarnation.Slot.{Slot};
 ghost use Rattle.yard_model.specs.declared.incarnation.Slot.TheVariants as slot;
 ghost use Rattle.yard_model.specs.Node.{turn};
@@ -7,13 +7,17 @@ ghost use Rattle.yard_model.specs.Script.{IsScript};
 ghost use Rattle.yard_model.specs.World.{all_sends};
 ghost use Rattle.node_laws.specs.NodeStands.{IsSoundNode, IsViewed};
 ghost use Rattle.node_laws.specs.NodeTurns.{MayTake};
-ghost use Rattle.node_core.specs.Built.{is_built_input};
 ghost use Rattle.node_core.specs.Gave.{Gave, moment};
 ghost use Rattle.node_core.specs.Leased.{Rests, IsFor, IfPacket, IfProduce};
 ghost use Rattle.node_core.specs.Standing.{IsReady};
 
 use crate::actors::Actors;
+use actor_laws::entities::entities_stand;
+use actor_laws::messages::genuine_is_message;
+use actor_laws::producer::{producer_keeps, producer_routes};
+use actor_laws::region::{region_keeps, shards_are_there};
 use behaviour_core::Behaviour;
+use producer_ctl::rules_are_calls;
 use shard_lease::Leases;
 use yard_model::{Charter, Input, Out};
 
@@ -28,7 +32,6 @@ impl<B: Behaviour + Drop> Actors<B> {
     )
         requires charter { charter.now ≡ self.old.script }
         requires script { IsScript self.old.script }
-        requires built { IsTrue (is_built_input input.now) }
         requires addressed { IfPacket input.now (IsFor (L.meaning leases.old) self.old.state.who) }
         requires may { MayTake self.old.script (L.meaning leases.old).vouches self.old.state input.now }
         requires produces { IfProduce input.now (λ p. (L.meaning leases.old).admits self.old.state.who.node (slot.Queue p) ≡ true) }
@@ -42,11 +45,23 @@ impl<B: Behaviour + Drop> Actors<B> {
         self.knows();
         match input {
             Input::Packet(packet) => self.packet(charter, packet, leases, out),
+            Input::Tick => self.tick(charter, leases, out),
+            Input::Produce(p) => self.produce(*p, leases, out),
+            Input::Rest(p) => self.rest(*p, leases, out),
+            Input::Send(p) => {
+                producer_keeps();
+                producer_routes();
+                region_keeps();
+                entities_stand();
+                genuine_is_message();
+                shards_are_there();
+                rules_are_calls();
+                self.send(*p, charter, out);
+            }
             Input::Leave => self.leave(out),
             Input::Rebalance(limit) => self.rebalance(*limit, out),
             Input::Passivate(entity) => self.ask_to_passivate(entity, out),
             Input::FailWrite(entity, keep) => self.arm(entity, *keep, out),
-            _ => unreachable!(),
         }
     }
 }

@@ -8,7 +8,6 @@ ghost use Rattle.yard_model.specs.Node.{new_node, turn};
 ghost use Rattle.yard_model.specs.Script.{setting, is_version};
 ghost use Rattle.yard_model.specs.Words.{at};
 ghost use Rattle.yard_model.specs.World.{all_sends};
-ghost use Rattle.node_core.specs.Built.{is_built_input};
 ghost use Rattle.actor_laws.specs.Hands.{held_list};
 ghost use Rattle.node_laws.specs.NodeStands.{IsSoundNode, IsViewed};
 ghost use Rattle.node_laws.specs.NodeTurns.{MayTake};
@@ -114,7 +113,6 @@ impl<B: Behaviour + Drop> Node<B> {
         out: &mut Out,
     )
         requires charter { charter.now ≡ self.old.script }
-        requires built { IsTrue (is_built_input input) }
         requires addressed { IfPacket input (IsFor (L.meaning leases.old) self.old.state.who) }
         requires may { MayTake self.old.script (L.meaning leases.old).vouches self.old.state input }
         requires produces { IfProduce input (λ p. (L.meaning leases.old).admits self.old.state.who.node (slot.Queue p) ≡ true) }

@@ -10,8 +10,9 @@ ghost use Rattle.yard_model.specs.Node as rules;
 ghost use Rattle.yard_model.specs.Node.{by_region};
 ghost use Rattle.yard_model.specs.Region.{route_away};
 ghost use Rattle.yard_model.specs.Setting.{shard_of};
-ghost use Rattle.node_core.specs.Built.{is_built_packet};
+ghost use Rattle.node_core.specs.Calling.{is_for_producer};
 ghost use Rattle.node_laws.specs.NodeStands.{IsSoundNode, IsViewed};
+ghost use Rattle.node_laws.specs.NodeTurns.{Promised};
 ghost use Rattle.node_core.specs.Found.{none};
 ghost use Rattle.node_core.specs.Gave.{Gave, moment, is_local};
 ghost use Rattle.node_core.specs.Leased.{Rests, is_for_coordinator, is_newer, is_view};
@@ -20,8 +21,12 @@ ghost use Rattle.node_core.specs.Standing.{IsReady, HasRoomFor};
 ghost use Rattle.node_core.specs.Went.{Went};
 
 use crate::actors::Actors;
-use actor_laws::region::shards_are_there;
+use actor_laws::entities::entities_stand;
+use actor_laws::messages::genuine_is_message;
+use actor_laws::producer::{producer_keeps, producer_routes};
+use actor_laws::region::{region_keeps, shards_are_there};
 use behaviour_core::Behaviour;
+use producer_ctl::rules_are_calls;
 use region_actor::laws::{route_room, same_law};
 use shard_extract::shard_of;
 use shard_lease::Leases;
@@ -37,8 +42,8 @@ impl<B: Behaviour + Drop> Actors<B> {
         out: &mut Out,
     )
         requires charter { charter.now ≡ self.old.script }
-        requires built { IsTrue (is_built_packet packet.now) }
         requires genuine { IsTrue (is_genuine_packet self.old.script packet.now) }
+        requires promised { Promised (L.meaning leases.old).vouches self.old.state packet.now.body }
         requires within { (L.meaning leases.old).within packet.now.from.number ≡ true }
         requires sound { IsSoundNode self.old.script self.old.state }
         requires viewed { IsViewed self.old.state }
@@ -51,12 +56,20 @@ impl<B: Behaviour + Drop> Actors<B> {
         shards_are_there();
         if is_for_coordinator(&packet.body) {
             self.coordinate(packet, out);
+        } else if is_for_producer(&packet.body) {
+            producer_keeps();
+            producer_routes();
+            region_keeps();
+            entities_stand();
+            genuine_is_message();
+            rules_are_calls();
+            self.produce_on(packet, out);
         } else {
             self.other_packet(charter, packet, leases, out);
         }
     }
 
-    /// A packet that isn't for the coordinator.
+    /// A packet that is neither for the coordinator nor for a producer.
     fn other_packet<L: Leases>(
         &mut self,
         charter: &Charter,
@@ -65,8 +78,8 @@ impl<B: Behaviour + Drop> Actors<B> {
         out: &mut Out,
     )
         requires charter { charter.now ≡ self.old.script }
-        requires built { IsTrue (is_built_packet packet.now) }
         requires other { is_for_coordinator packet.now.body ≡ false }
+        requires others { is_for_producer packet.now.body ≡ false }
         requires genuine { IsTrue (is_genuine_packet self.old.script packet.now) }
         requires sound { IsSoundNode self.old.script self.old.state }
         requires ready { IsReady self.old out.old.spare }
@@ -184,6 +197,7 @@ impl<B: Behaviour + Drop> Actors<B> {
         requires room { 4 ≤ out.old.spare }
         ensures went { Went self.old self.new out.old out.new (rules.route message.now self.old.state) }
         ensures taken { TookRoom (shard_of self.old.state.set message.now.entity) (if is_in_phase phase.Active self.old.state.entities message.now.entity then 2 else 0) self.old self.new }
+        ensures pending { self.new.pending ≡ self.old.pending }
     {
         if self.is_local(message) {
             self.deliver(*message, out);
@@ -208,6 +222,7 @@ impl<B: Behaviour + Drop> Actors<B> {
         requires room { 2 ≤ out.old.spare }
         ensures went { Went self.old self.new out.old out.new (rules.of_region (route_away message.now) self.old.state) }
         ensures rooms { self.new.rooms ≡ self.old.rooms }
+        ensures pending { self.new.pending ≡ self.old.pending }
     {
         route_room();
         same_law();
@@ -229,5 +244,15 @@ fn is_for_coordinator(body: &Body) -> bool
             | Body::BeginHandOffAck(_, _)
             | Body::ShardStopped(_, _)
             | Body::GracefulShutdownReq
+    )
+}
+
+/// Whether a packet is for a producer.
+fn is_for_producer(body: &Body) -> bool
+    ensures { result ≡ is_for_producer body.now }
+{
+    matches!(
+        body,
+        Body::Request { .. } | Body::Resend { .. } | Body::Ack { .. }
     )
 }

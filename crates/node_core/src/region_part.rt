@@ -2,14 +2,15 @@
 ghost use Rattle.std.specs.Prelude.{◌≡◌, ◌+◌, ◌≤◌, IsTrue};
 ghost use Rattle.yard_model.specs.Genuine.{is_genuine_packet};
 ghost use Rattle.yard_model.specs.Node as rules;
-ghost use Rattle.yard_model.specs.Region.{register, leave};
+ghost use Rattle.yard_model.specs.Region.{register, leave, tick_region};
 ghost use Rattle.region_actor.specs.Handled.{handled, to_do, is_genuine_todo};
+ghost use Rattle.node_core.specs.Releasing.{kept_all};
 ghost use Rattle.node_core.specs.Went.{Went};
 
 use crate::actors::Actors;
 use behaviour_core::Behaviour;
 use region_actor::Todo;
-use region_actor::laws::{handle_room, leave_room, register_room, same_law};
+use region_actor::laws::{handle_room, leave_room, register_room, same_law, tick_room};
 use yard_model::{Out, Packet};
 
 impl<B: Behaviour + Drop> Actors<B> {
@@ -46,5 +47,24 @@ impl<B: Behaviour + Drop> Actors<B> {
         leave_room();
         same_law();
         self.region.leave(out);
+    }
+
+    /// No more messages are kept than the buffer has room for. It does nothing.
+    pub(crate) fn kept_room(&self)
+        ensures { kept_all self.now ≤ self.now.script.config.buffer }
+    {
+        self.region.kept_room();
+    }
+
+    /// The region's part of a tick.
+    pub(crate) fn tick_region(&mut self, out: &mut Out)
+        requires room { 130 ≤ out.old.spare }
+        ensures went { Went self.old self.new out.old out.new (rules.of_region tick_region self.old.state) }
+        ensures room { out.old.spare ≤ out.new.spare + 130 }
+    {
+        tick_room();
+        same_law();
+        self.region.shards();
+        self.region.tick(out);
     }
 }

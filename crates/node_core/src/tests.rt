@@ -6,7 +6,6 @@ ghost use Rattle.yard_model.specs.declared.event.Kind.TheVariants as kind;
 ghost use Rattle.yard_model.specs.Genuine.{is_node, is_genuine_body};
 ghost use Rattle.yard_model.specs.Node.{new_node};
 ghost use Rattle.yard_model.specs.Script.{setting};
-ghost use Rattle.node_core.specs.Built.{is_built_body};
 ghost use Rattle.node_laws.specs.Members.{is_different_body};
 ghost use Rattle.shard_lease.specs.Book.{meaning_of};
 ghost use Rattle.node_core.specs.Leased.{Rests};
@@ -49,7 +48,6 @@ fn hand(
     requires nodes { node.old.script.config.nodes ≡ 2 }
     requires genuine { IsTrue (is_genuine_body node.old.script body.now) }
     requires different { IsTrue (is_different_body body.now) }
-    requires built { IsTrue (is_built_body body.now) }
     requires rests { Rests (meaning_of book.old) node.old.script node.old.state }
     ensures script { node.new.script ≡ node.old.script }
     ensures who { node.new.state.who ≡ node.old.state.who }

@@ -5,7 +5,8 @@ use Rattle.yard_model.specs.Region.{Region}
 use Rattle.yard_model.specs.Script.{Script}
 use Rattle.coordinator_actor.specs.Held.{Held}
 use Rattle.shard_entities.specs.Lodged.{Lodged}
-use Rattle.node_core.specs.Standing.{Standing, standing_of, no_producers}
+use Rattle.producer_ctl.specs.Producing.{Producing}
+use Rattle.node_core.specs.Standing.{Standing, standing_of}
 use Rattle.node_core.specs.Went.{Went}
 use Rattle.std.specs.Prelude.{[], ◌∷◌}
 use Rattle.yard_model.specs.declared.fact.Fact.TheVariants as fact
@@ -19,7 +20,7 @@ returns g c =
     let script : Script = c.self.inside.script.value in
     let r : Region = c.self.inside.region.state in
     let e : Lodged = c.self.inside.entities in
-    let ps : List (Option Producer) = no_producers script in
+    let ps : Producing = c.self.inside.producers in
     let k : Option Held = c.self.inside.coordinator in
     subst (λ (v : Standing). Went v (standing_of script r c.arm.new.self ps k) c.args.out.now c.arm.new.out (by_entities (told (fact.Armed c.args.entity.now c.args.keep)) ∷ [])) c.self.view_is
     (entities_went script r e c.arm.new.self ps k (told (fact.Armed c.args.entity.now c.args.keep) ∷ []) c.args.out.now c.arm.new.out c.self.invariant.0.entities_set c.arm.ensures.state c.arm.ensures.out)

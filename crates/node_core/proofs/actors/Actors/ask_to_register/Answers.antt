@@ -6,7 +6,8 @@ use Rattle.yard_model.specs.Region.{Region}
 use Rattle.yard_model.specs.Script.{Script}
 use Rattle.coordinator_actor.specs.Held.{Held}
 use Rattle.shard_entities.specs.Lodged.{Lodged}
-use Rattle.node_core.specs.Standing.{Standing, no_producers}
+use Rattle.producer_ctl.specs.Producing.{Producing}
+use Rattle.node_core.specs.Standing.{Standing}
 use Rattle.node_core.specs.Went.{Went}
 use Rattle.yard_model.specs.Region.{register}
 use Rattle.node_core.proofs.StepLaws.{region_went}
@@ -17,7 +18,7 @@ returns g c =
     let script : Script = c.self.inside.script.value in
     let r : Region = c.self.inside.region.state in
     let e : Lodged = c.self.inside.entities in
-    let ps : List (Option Producer) = no_producers script in
+    let ps : Producing = c.self.inside.producers in
     let k : Option Held = c.self.inside.coordinator in
     subst (λ (v : Standing). Went v v c.args.out.now c.register.new.out (rules.of_region (register) v.state)) c.self.view_is
     (region_went script r r e ps k (register r) c.args.out.now c.register.new.out c.register.ensures.state c.register.ensures.items c.register.ensures.spare)

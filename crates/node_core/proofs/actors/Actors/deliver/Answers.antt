@@ -1,4 +1,4 @@
-use Rattle.std.proofs.Common.{List, sym, subst, ◌≡◌, true}
+use Rattle.std.proofs.Common.{List, sym, ap, subst, ◌≡◌, true}
 use Rattle.std.specs.Prelude.{Option, if◌then◌else◌}
 use Rattle.yard_model.specs.Genuine.{is_brought, is_genuine, is_producer}
 use Rattle.yard_model.specs.Node as rules
@@ -7,7 +7,8 @@ use Rattle.yard_model.specs.Region.{Region}
 use Rattle.yard_model.specs.Script.{Script, setting}
 use Rattle.coordinator_actor.specs.Held.{Held}
 use Rattle.shard_entities.specs.Lodged.{Lodged}
-use Rattle.node_core.specs.Standing.{Standing, standing_of, no_producers}
+use Rattle.producer_ctl.specs.Producing.{Producing}
+use Rattle.node_core.specs.Standing.{Standing, standing_of}
 use Rattle.node_core.specs.Went.{Went}
 use Rattle.yard_model.specs.declared.input.Phase.TheVariants as phase
 use Rattle.yard_model.specs.declared.packet.Message.{Message}
@@ -24,7 +25,7 @@ returns-clause-went g c =
     let script : Script = c.self.inside.script.value in
     let r : Region = c.self.inside.region.state in
     let e : Lodged = c.self.inside.entities in
-    let ps : List (Option Producer) = no_producers script in
+    let ps : Producing = c.self.inside.producers in
     let k : Option Held = c.self.inside.coordinator in
     subst (λ (v : Standing). Went v (standing_of script r c.deliver.new.self ps k) c.args.out.now c.deliver.new.out (rules.of_entities (deliver c.args.message) v.state)) c.self.view_is
     (entities_went script r e c.deliver.new.self ps k (deliver c.args.message e.state) c.args.out.now c.deliver.new.out c.self.invariant.0.entities_set c.deliver.ensures.state c.deliver.ensures.out)
@@ -47,4 +48,7 @@ returns-clause-taken g c =
     let now : Lodged = c.deliver.new.self in
     let m : Message = c.args.message in
     let takes : Takes e now (shard_of (setting script) m.entity) (if is_in_phase phase.Active e.state m.entity then 2 else 0) = subst (λ (d : Script). Takes e now (shard_of (setting d) m.entity) (if is_in_phase phase.Active e.state m.entity then 2 else 0)) c.self.invariant.0.entities_script c.deliver.ensures.takes in
-    subst (λ (v : Standing). TookRoom (shard_of v.state.set m.entity) (if is_in_phase phase.Active v.state.entities m.entity then 2 else 0) v (standing_of script c.self.inside.region.state now (no_producers script) c.self.inside.coordinator)) c.self.view_is takes.room_is
+    subst (λ (v : Standing). TookRoom (shard_of v.state.set m.entity) (if is_in_phase phase.Active v.state.entities m.entity then 2 else 0) v (standing_of script c.self.inside.region.state now c.self.inside.producers c.self.inside.coordinator)) c.self.view_is takes.room_is
+
+pub returns-clause-pending : goal.returns-clause-pending
+returns-clause-pending g c = ap (λ (v : Standing). v.pending) c.self.view_is

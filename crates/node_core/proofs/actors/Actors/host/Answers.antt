@@ -14,7 +14,7 @@ use Rattle.yard_model.specs.Spared.{Spared}
 use Rattle.coordinator_actor.specs.Held.{Held}
 use Rattle.shard_entities.specs.Lodged.{Lodged, hosting, given}
 use Rattle.shard_store.specs.Shelf.{Shelf}
-use Rattle.node_core.specs.Standing.{Standing, standing_of, no_producers}
+use Rattle.node_core.specs.Standing.{Standing, standing_of}
 use Rattle.node_core.specs.Started.{Hosts}
 use Rattle.node_core.proofs.PartLaws.{parts_moved}
 use Rattle.node_core.proofs.StartLaws.{parts_hosting, spared_is}
@@ -39,6 +39,6 @@ returns g c =
     let items : c.push.new.self.items ≡ before.items ++ item.Fact (fact.Granted (slot.Shard s) (epoch x.entries) r.who) ∷ []
     = c.push.ensures.items ∙ (ap (λ n. before.items ++ item.Fact (fact.Granted (slot.Shard s) n c.who-who.result) ∷ []) c.epoch-epoch.ensures ∙ ap (λ (w : Incarnation). before.items ++ item.Fact (fact.Granted (slot.Shard s) (epoch x.entries) w) ∷ []) c.who-who.ensures) in
     let pushed : c.push.new.self ≡ given before (told (fact.Granted (slot.Shard s) (epoch x.entries) r.who) ∷ []) = spared_is c.push.new.self before (item.Fact (fact.Granted (slot.Shard s) (epoch x.entries) r.who)) items c.push.ensures.spare in
-    subst (λ (v : Standing). Hosts s x v (standing_of script r now (no_producers script) k) before c.start.new.out) c.self.view_is
-    (entities_went script r mid now (no_producers script) k ms (given before (told (fact.Granted (slot.Shard s) (epoch x.entries) r.who) ∷ [])) c.start.new.out c.self.invariant.0.entities_set
+    subst (λ (v : Standing). Hosts s x v (standing_of script r now c.self.inside.producers k) before c.start.new.out) c.self.view_is
+    (entities_went script r mid now c.self.inside.producers k ms (given before (told (fact.Granted (slot.Shard s) (epoch x.entries) r.who) ∷ [])) c.start.new.out c.self.invariant.0.entities_set
     c.start.ensures.state (subst (λ (o : Spared Item). c.start.new.out ≡ given o ms) pushed c.start.ensures.out))

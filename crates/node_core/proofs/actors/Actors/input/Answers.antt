@@ -5,12 +5,15 @@ use Rattle.yard_model.specs.Node as rules
 use Rattle.yard_model.specs.Node.{Node}
 use Rattle.yard_model.specs.Script.{Script}
 use Rattle.shard_lease.specs.Meaning.{Meaning}
+use Rattle.node_laws.specs.NodeTurns.{MayTake}
+use Rattle.node_core.specs.Calling.{asks_queue}
 use Rattle.node_core.specs.Found.{none}
 use Rattle.node_core.specs.Gave.{Gave, moment}
 use Rattle.yard_model.specs.declared.input.Input.{Input}
 use Rattle.yard_model.specs.Region.{leave}
 use Rattle.yard_model.specs.World.{all_sends}
 use Rattle.node_core.proofs.GiveLaws.{region_gave}
+use Rattle.node_core.proofs.ProduceLaws.{sent_gave}
 use Rattle.node_core.proofs.PacketLaws.{leaves_free, rebalanced_gave, silent_gave}
 use Rattle.node_core.proofs.actors.Actors.input.Goals as goal
 
@@ -21,6 +24,14 @@ returns-in-Packet-clause-gave g c =
     let st : Node = c.args.self.now.state in
     subst (λ (i : Input). (asked : (Slot → Bool)) × Gave script asked (λ lists. rules.turn (all_sends script) lists i st) (moment old st c.args.out.now.items) (moment (g.L.Leases.meaning c.packet.new.leases) c.packet.new.self.state c.packet.new.out.items)) (sym c.in-Packet.is)
     (c.packet.ensures.gave.0, c.packet.ensures.gave.1)
+
+pub returns-in-Tick-clause-gave : goal.returns-in-Tick-clause-gave
+returns-in-Tick-clause-gave g c =
+    let old : Meaning = g.L.Leases.meaning c.args.leases.now in
+    let script : Script = c.args.self.now.script in
+    let st : Node = c.args.self.now.state in
+    subst (λ (i : Input). (asked : (Slot → Bool)) × Gave script asked (λ lists. rules.turn (all_sends script) lists i st) (moment old st c.args.out.now.items) (moment (g.L.Leases.meaning c.tick.new.leases) c.tick.new.self.state c.tick.new.out.items)) (sym c.in-Tick.is)
+    (c.tick.ensures.gave.0, c.tick.ensures.gave.1)
 
 pub returns-in-Leave-clause-gave : goal.returns-in-Leave-clause-gave
 returns-in-Leave-clause-gave g c =
@@ -53,3 +64,32 @@ returns-in-FailWrite-clause-gave g c =
     let st : Node = c.args.self.now.state in
     subst (λ (i : Input). (asked : (Slot → Bool)) × Gave script asked (λ lists. rules.turn (all_sends script) lists i st) (moment old st c.args.out.now.items) (moment old c.arm.new.self.state c.arm.new.out.items)) (sym c.in-FailWrite.is)
     (none, silent_gave old c.args.self.now c.arm.new.self _ c.args.out.now c.arm.new.out c.requires.sound refl c.requires.rests c.arm.ensures)
+
+pub returns-in-Produce-clause-gave : goal.returns-in-Produce-clause-gave
+returns-in-Produce-clause-gave g c =
+    let old : Meaning = g.L.Leases.meaning c.args.leases.now in
+    let script : Script = c.args.self.now.script in
+    let st : Node = c.args.self.now.state in
+    subst (λ (i : Input). (asked : (Slot → Bool)) × Gave script asked (λ lists. rules.turn (all_sends script) lists i st) (moment old st c.args.out.now.items) (moment (g.L.Leases.meaning c.produce.new.leases) c.produce.new.self.state c.produce.new.out.items)) (sym c.in-Produce.is)
+    (asks_queue c.in-Produce.p st, c.produce.ensures.gave)
+
+pub returns-in-Rest-clause-gave : goal.returns-in-Rest-clause-gave
+returns-in-Rest-clause-gave g c =
+    let old : Meaning = g.L.Leases.meaning c.args.leases.now in
+    let script : Script = c.args.self.now.script in
+    let st : Node = c.args.self.now.state in
+    subst (λ (i : Input). (asked : (Slot → Bool)) × Gave script asked (λ lists. rules.turn (all_sends script) lists i st) (moment old st c.args.out.now.items) (moment (g.L.Leases.meaning c.rest.new.leases) c.rest.new.self.state c.rest.new.out.items)) (sym c.in-Rest.is)
+    (none, c.rest.ensures.gave)
+
+pub returns-in-Send-clause-gave : goal.returns-in-Send-clause-gave
+returns-in-Send-clause-gave g c =
+    let old : Meaning = g.L.Leases.meaning c.args.leases.now in
+    let script : Script = c.args.self.now.script in
+    let st : Node = c.args.self.now.state in
+    subst (λ (i : Input). (asked : (Slot → Bool)) × Gave script asked (λ lists. rules.turn (all_sends script) lists i st) (moment old st c.args.out.now.items) (moment old c.send.new.self.state c.send.new.out.items)) (sym c.in-Send.is)
+    (
+      none,
+      sent_gave c.producer_keeps.ensures c.producer_routes.ensures (record { region = c.region_keeps.ensures; entities = c.entities_stand.ensures; message = c.genuine_is_message.ensures }) c.shards_are_there.ensures old c.args.self.now c.send.new.self
+          c.knows.ensures.script c.requires.sound c.requires.rests c.in-Send.p c.args.out.now c.send.new.out c.rules_are_calls.ensures.sends
+          (subst (λ (i : Input). MayTake script old.vouches st i) c.in-Send.is c.requires.may) c.send.ensures,
+    )

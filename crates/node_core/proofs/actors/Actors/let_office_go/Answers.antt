@@ -1,48 +1,46 @@
-use Rattle.std.proofs.Common.{[], ◌∷◌, ◌++◌}
-use Rattle.yard_model.specs.declared.fact.Fact.TheVariants as fact
-use Rattle.yard_model.specs.declared.incarnation.Cause.TheVariants as cause
-use Rattle.yard_model.specs.SlotReads.{epoch}
-use Rattle.std.proofs.Common.{List, sym, subst, refl}
-use Rattle.std.specs.Prelude.{Option, Some, None}
+use Rattle.std.proofs.Common.{[], ◌∷◌, sym, subst, refl}
+use Rattle.std.specs.Prelude.{Option, None, IfSome}
+use Rattle.std.specs.Option.{option_map}
 use Rattle.yard_model.specs.declared.incarnation.Slot.TheVariants as slot
-use Rattle.yard_model.specs.declared.incarnation.Incarnation.{Incarnation}
-use Rattle.yard_model.specs.Producer.{Producer}
 use Rattle.yard_model.specs.Region.{Region}
 use Rattle.yard_model.specs.Script.{Script}
 use Rattle.coordinator_actor.specs.Held.{Held}
+use Rattle.producer_ctl.specs.Producing.{Producing}
 use Rattle.shard_entities.specs.Lodged.{Lodged}
 use Rattle.shard_lease.specs.Meaning.{Meaning}
-use Rattle.node_core.specs.Gave.{moment}
-use Rattle.node_core.specs.Leased.{Rests, IsFreed}
-use Rattle.node_core.specs.LetGo.{LetGo, office_ends}
-use Rattle.node_core.specs.Standing.{Standing, node_of, no_producers}
-use Rattle.node_core.proofs.CrashLaws.{office_let_go}
-use Rattle.node_core.proofs.PartLaws.{hand_of}
+use Rattle.node_core.specs.Leased.{Rests, MayGiveOffice}
+use Rattle.node_core.specs.LetGo.{AreFreed, IsSlotFreed}
+use Rattle.node_core.specs.Standing.{Standing, IsEnding, standing_of}
+use Rattle.node_core.proofs.CrashLaws.{freed_one, office_list_is, office_ending, office_frees, back_of_office}
 use Rattle.node_core.proofs.actors.Actors.let_office_go.Goals as goal
 
-pub free_office-requires-clause-hand : goal.free_office-requires-clause-hand
-free_office-requires-clause-hand g c =
+pub free_office_if_there-requires-clause-office : goal.free_office_if_there-requires-clause-office
+free_office_if_there-requires-clause-office g c =
     let script : Script = c.self.inside.script.value in
     let r : Region = c.self.inside.region.state in
     let e : Lodged = c.self.inside.entities in
-    let ps : List (Option Producer) = no_producers script in
+    let ps : Producing = c.self.inside.producers in
     let k : Option Held = c.self.inside.coordinator in
     let old : Meaning = g.L.Leases.meaning c.args.leases.now in
-    let here : Rests old script (node_of script r e ps k) = subst (λ (v : Standing). Rests old v.script v.state) (sym c.self.view_is) c.requires.rests in
-    hand_of script old (node_of script r e ps (Some c.in-Some.coordinator)) slot.Coordinator c.in-Some.coordinator.state.entries refl refl (subst (λ (o : Option Held). Rests old script (node_of script r e ps o)) c.in-Some.is here)
+    subst (λ (o : Option Held). IfSome o (MayGiveOffice old c.who.result)) (sym c.take-coordinator.ensures.value)
+    (subst (λ w. IfSome c.self.inside.coordinator (MayGiveOffice old w)) (sym c.who.ensures)
+    (back_of_office script old r e ps k c.self.invariant.0.who_is c.self.invariant.0.coordinator (subst IsEnding (sym c.self.view_is) c.requires.ending)
+    (subst (λ (v : Standing). Rests old v.script v.state) (sym c.self.view_is) c.requires.rests)))
 
-pub returns-in-Some : goal.returns-in-Some
-returns-in-Some g c =
+pub returns : goal.returns
+returns g c =
     let script : Script = c.self.inside.script.value in
     let r : Region = c.self.inside.region.state in
     let e : Lodged = c.self.inside.entities in
-    let ps : List (Option Producer) = no_producers script in
+    let ps : Producing = c.self.inside.producers in
     let k : Option Held = c.self.inside.coordinator in
     let old : Meaning = g.L.Leases.meaning c.args.leases.now in
-    let new : Meaning = g.L.Leases.meaning c.free_office.new.leases in
-    let x : Held = c.in-Some.coordinator in
-    let here : Rests old script (node_of script r e ps k) = subst (λ (v : Standing). Rests old v.script v.state) (sym c.self.view_is) c.requires.rests in
-    subst (λ (v : Standing). LetGo v.script (office_ends v.state) (moment old v.state c.args.out.now.items) (moment new (record v.state { coordinator = None }) c.free_office.new.out.items)) c.self.view_is
-    (subst (λ (o : Option Held). LetGo script (office_ends (node_of script r e ps o)) (moment old (node_of script r e ps o) c.args.out.now.items) (moment new (node_of script r e ps None) c.free_office.new.out.items)) (sym c.in-Some.is)
-    (office_let_go script old new r e ps x c.args.out.now.items c.free_office.new.out.items (subst (λ (o : Option Held). Rests old script (node_of script r e ps o)) c.in-Some.is here) c.free_office.ensures.stays
-    (subst (λ (w : Incarnation). IsFreed old w slot.Coordinator (x.state.entries ++ fact.Freed slot.Coordinator (epoch x.state.entries) cause.Stopped ∷ []) new) c.who.ensures c.free_office.ensures.freed) c.free_office.ensures.items))
+    let new : Meaning = g.L.Leases.meaning c.free_office_if_there.new.leases in
+    subst (λ (o : Option Held). AreFreed (slot.Coordinator ∷ []) c.args.self.now (standing_of script r e ps o) old new c.args.out.now c.free_office_if_there.new.out) (sym c.take-coordinator.ensures.after)
+    (subst (λ (v : Standing). AreFreed (slot.Coordinator ∷ []) v (standing_of script r e ps None) old new c.args.out.now c.free_office_if_there.new.out) c.self.view_is
+    (freed_one (standing_of script r e ps k) (standing_of script r e ps None) slot.Coordinator (option_map (λ (x : Held). x.state.entries) k) old new c.args.out.now c.free_office_if_there.new.out refl refl
+    (office_list_is script r e ps k) (office_frees script r e ps k)
+    (subst (λ (o : Option Held). IsSlotFreed slot.Coordinator r.who (option_map (λ (x : Held). x.state.entries) o) old new c.args.out.now c.free_office_if_there.new.out) c.take-coordinator.ensures.value
+    (subst (λ w. IsSlotFreed slot.Coordinator w (option_map (λ (x : Held). x.state.entries) c.take-coordinator.result) old new c.args.out.now c.free_office_if_there.new.out) c.who.ensures c.free_office_if_there.ensures))
+    (subst (λ (v : Standing). Rests old v.script v.state) (sym c.self.view_is) c.requires.rests)
+    (office_ending script r e ps k (subst IsEnding (sym c.self.view_is) c.requires.ending))))

@@ -1,16 +1,18 @@
-use Rattle.std.proofs.Common.{sym, subst}
+use Rattle.std.proofs.Common.{sym, subst, arith}
 use Rattle.std.specs.Prelude.{Bool}
 use Rattle.yard_model.specs.declared.incarnation.Slot.{Slot}
 use Rattle.yard_model.specs.declared.packet.Body.{Body}
 use Rattle.yard_model.specs.Node as rules
 use Rattle.yard_model.specs.Node.{Node}
 use Rattle.yard_model.specs.Script.{Script}
+use Rattle.yard_model.specs.Setting.{shard_of}
 use Rattle.shard_lease.specs.Meaning.{Meaning}
 use Rattle.node_core.specs.Found.{none}
 use Rattle.node_core.specs.Gave.{Gave, moment}
 use Rattle.region_actor.specs.Handled.{handled}
 use Rattle.node_core.proofs.GiveLaws.{region_gave}
-use Rattle.node_core.proofs.PacketLaws.{brought_of, handled_free, passivated_gave, recovered_gave, routed_gave}
+use Rattle.node_core.proofs.PacketLaws.{brought_of, genuine_of, handled_free, passivated_gave, recovered_gave, routed_gave}
+use Rattle.node_core.proofs.ProduceLaws.{no_other}
 use Rattle.node_core.proofs.actors.Actors.other_packet.Goals as goal
 
 pub returns-in-HandOff-clause-gave : goal.returns-in-HandOff-clause-gave
@@ -84,3 +86,18 @@ returns-in-HostShard-clause-gave g c =
     let st : Node = c.args.self.now.state in
     subst (λ (b : Body). (asked : (Slot → Bool)) × Gave script asked (λ lists. rules.packet lists c.args.packet.now.from b st) (moment old st c.args.out.now.items) (moment (g.L.Leases.meaning c.host_shard.new.leases) c.host_shard.new.self.state c.host_shard.new.out.items)) (sym c.in-HostShard.is)
     c.host_shard.ensures.gave
+
+-- what a genuine packet is about
+
+pub hand_off-requires-clause-shard : goal.hand_off-requires-clause-shard
+hand_off-requires-clause-shard g c = genuine_of c.args.self.now.script c.args.packet.now _ c.in-HandOff.is c.requires.genuine
+
+pub route-requires-clause-genuine : goal.route-requires-clause-genuine
+route-requires-clause-genuine g c = genuine_of c.args.self.now.script c.args.packet.now _ c.in-Sequenced.is c.requires.genuine
+
+pub route-requires-clause-rooms : goal.route-requires-clause-rooms
+route-requires-clause-rooms g c there = let wide = c.requires.ready.rooms (shard_of c.args.self.now.state.set c.in-Sequenced.message.entity) there in omega (arith, wide)
+
+pub unreachable-requires : goal.unreachable-requires
+unreachable-requires g c = no_other c.args.packet.now.body c.requires.other c.requires.others c.in_default.not-View c.in_default.not-RegisterAck c.in_default.not-ShardHome c.in_default.not-HostShard c.in_default.not-BeginHandOff c.in_default.not-HandOff
+    c.in_default.not-StopEntity c.in_default.not-Recovered c.in_default.not-Passivate c.in_default.not-Sequenced

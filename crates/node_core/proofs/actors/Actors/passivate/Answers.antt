@@ -6,7 +6,8 @@ use Rattle.yard_model.specs.Region.{Region}
 use Rattle.yard_model.specs.Script.{Script}
 use Rattle.coordinator_actor.specs.Held.{Held}
 use Rattle.shard_entities.specs.Lodged.{Lodged}
-use Rattle.node_core.specs.Standing.{Standing, standing_of, no_producers}
+use Rattle.producer_ctl.specs.Producing.{Producing}
+use Rattle.node_core.specs.Standing.{Standing, standing_of}
 use Rattle.node_core.specs.Went.{Went}
 use Rattle.yard_model.specs.Entities.{passivate}
 use Rattle.node_core.proofs.StepLaws.{entities_went}
@@ -17,7 +18,7 @@ returns g c =
     let script : Script = c.self.inside.script.value in
     let r : Region = c.self.inside.region.state in
     let e : Lodged = c.self.inside.entities in
-    let ps : List (Option Producer) = no_producers script in
+    let ps : Producing = c.self.inside.producers in
     let k : Option Held = c.self.inside.coordinator in
     subst (λ (v : Standing). Went v (standing_of script r c.passivate.new.self ps k) c.args.out.now c.passivate.new.out (rules.of_entities (passivate c.args.entity.now) v.state)) c.self.view_is
     (entities_went script r e c.passivate.new.self ps k (passivate c.args.entity.now e.state) c.args.out.now c.passivate.new.out c.self.invariant.0.entities_set c.passivate.ensures.state c.passivate.ensures.out)

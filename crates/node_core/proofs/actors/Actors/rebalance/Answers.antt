@@ -6,7 +6,8 @@ use Rattle.yard_model.specs.Region.{Region}
 use Rattle.yard_model.specs.Script.{Script}
 use Rattle.coordinator_actor.specs.Held.{Held}
 use Rattle.shard_entities.specs.Lodged.{Lodged}
-use Rattle.node_core.specs.Standing.{Standing, standing_of, no_producers}
+use Rattle.producer_ctl.specs.Producing.{Producing}
+use Rattle.node_core.specs.Standing.{Standing, standing_of}
 use Rattle.node_core.specs.Went.{Went}
 use Rattle.yard_model.specs.Coordinator.{rebalance}
 use Rattle.node_core.proofs.StepLaws.{coordinator_went}
@@ -18,7 +19,7 @@ returns g c =
     let script : Script = c.self.inside.script.value in
     let r : Region = c.self.inside.region.state in
     let e : Lodged = c.self.inside.entities in
-    let ps : List (Option Producer) = no_producers script in
+    let ps : Producing = c.self.inside.producers in
     let k : Option Held = c.self.inside.coordinator in
     subst (λ (v : Standing). Went v (standing_of script r e ps c.rebalance.new.coordinator) c.args.out.now c.rebalance.new.out (rules.of_coordinator (rebalance c.args.limit) v.state)) c.self.view_is
     (coordinator_went script r e ps (rebalance c.args.limit) k c.rebalance.new.coordinator c.args.out.now c.rebalance.new.out (takes_rebalance script c.args.limit) c.rebalance.ensures)

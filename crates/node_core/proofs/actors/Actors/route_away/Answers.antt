@@ -14,7 +14,7 @@ use Rattle.coordinator_actor.specs.Held.{Held}
 use Rattle.region_actor.specs.Handled.{routed}
 use Rattle.shard_entities.specs.Lodged.{Lodged}
 use Rattle.node_core.specs.Gave.{is_local}
-use Rattle.node_core.specs.Standing.{Standing, standing_of, no_producers}
+use Rattle.node_core.specs.Standing.{Standing, standing_of}
 use Rattle.node_core.specs.Went.{Went}
 use Rattle.node_core.proofs.PacketLaws.{away_is}
 use Rattle.node_core.proofs.StepLaws.{region_went}
@@ -32,9 +32,12 @@ returns-clause-went g c =
     let runs : has c.running.result here ≡ is_running e.state here = c.running.ensures here (subst (λ (d : Script). here < d.config.shards) (sym c.self.invariant.0.entities_script) within) in
     let away : (is_home r here && is_running e.state here) ≡ false = subst (λ (z : Setting). (is_home r (shard_of z m.entity) && is_running e.state (shard_of z m.entity)) ≡ false) (sym c.self.invariant.0.region_set) (subst (λ (v : Standing). is_local m v.state ≡ false) (sym c.self.view_is) c.requires.away) in
     let same : routed m (has c.running.result here) r ≡ route_away m r = away_is m (has c.running.result here) r (ap (λ b. is_home r here && b) runs ∙ away) in
-    subst (λ (v : Standing). Went v (standing_of script c.route.new.self.state e (no_producers script) k) c.args.out.now c.route.new.out (rules.of_region (route_away m) v.state)) c.self.view_is
-    (subst (λ ms. Went (standing_of script r e (no_producers script) k) (standing_of script c.route.new.self.state e (no_producers script) k) c.args.out.now c.route.new.out (map by_region ms)) same
-    (region_went script r c.route.new.self.state e (no_producers script) k (routed m (has c.running.result here) r) c.args.out.now c.route.new.out c.route.ensures.state c.route.ensures.items c.route.ensures.spare))
+    subst (λ (v : Standing). Went v (standing_of script c.route.new.self.state e c.self.inside.producers k) c.args.out.now c.route.new.out (rules.of_region (route_away m) v.state)) c.self.view_is
+    (subst (λ ms. Went (standing_of script r e c.self.inside.producers k) (standing_of script c.route.new.self.state e c.self.inside.producers k) c.args.out.now c.route.new.out (map by_region ms)) same
+    (region_went script r c.route.new.self.state e c.self.inside.producers k (routed m (has c.running.result here) r) c.args.out.now c.route.new.out c.route.ensures.state c.route.ensures.items c.route.ensures.spare))
 
 pub returns-clause-rooms : goal.returns-clause-rooms
 returns-clause-rooms g c = ap (λ (v : Standing). v.rooms) c.self.view_is
+
+pub returns-clause-pending : goal.returns-clause-pending
+returns-clause-pending g c = ap (λ (v : Standing). v.pending) c.self.view_is

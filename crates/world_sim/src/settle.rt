@@ -116,7 +116,7 @@ impl<B: Behaviour + Copy + Drop> Yard<B> {
 
     /// Node 1 takes every queue; with each the ordered sends that wait are queued.
     fn take_all(&mut self, facts: &mut Facts) -> Result<(), AllocError>
-        requires world { (w : World) × IsSound self.old w }
+        requires { (w : World) × IsSound self.old w }
         ensures { Stepped IsSound 0 (all_taken self.old.script) result self.old self.new facts.old facts.new }
     {
         standing_is_kept();
@@ -204,7 +204,7 @@ impl<B: Behaviour + Copy + Drop> Yard<B> {
 
     /// A tick at node 1, where it is up.
     fn tick_first(&mut self, facts: &mut Facts) -> Result<(), AllocError>
-        requires world { (w : World) × IsSound self.old w }
+        requires { (w : World) × IsSound self.old w }
         ensures { Stepped IsSound 0 (given 1 input.Tick) result self.old self.new facts.old facts.new }
     {
         let n = first();

@@ -20,7 +20,7 @@ loop-i-init g c = record { way = way_first takes (numbers 1 c.args.self.now.scri
 pub produce-requires-clause-world : goal.produce-requires-clause-world
 produce-requires-clause-world g c =
     let n = c.args.self.now.script.config.producers in
-    way_now takes (numbers 1 n) (numbers (c.loop-i.i + 1) (n - c.loop-i.i)) 0 c.args.self.now c.loop-i.self c.args.facts.now c.loop-i.facts c.loop-i.invariant.way c.requires.world
+    way_now takes (numbers 1 n) (numbers (c.loop-i.i + 1) (n - c.loop-i.i)) 0 c.args.self.now c.loop-i.self c.args.facts.now c.loop-i.facts c.loop-i.invariant.way c.requires
 
 pub produce-requires-clause-producer : goal.produce-requires-clause-producer
 produce-requires-clause-producer g c =
@@ -34,7 +34,7 @@ produce-requires-clause-producer g c =
 pub produce-requires-clause-node : goal.produce-requires-clause-node
 produce-requires-clause-node g c =
     let n = c.args.self.now.script.config.producers in
-    let r = way_now takes (numbers 1 n) (numbers (c.loop-i.i + 1) (n - c.loop-i.i)) 0 c.args.self.now c.loop-i.self c.args.facts.now c.loop-i.facts c.loop-i.invariant.way c.requires.world in
+    let r = way_now takes (numbers 1 n) (numbers (c.loop-i.i + 1) (n - c.loop-i.i)) 0 c.args.self.now c.loop-i.self c.args.facts.now c.loop-i.facts c.loop-i.invariant.way c.requires in
     ap (is_in 1 c.loop-i.self.script.config.nodes) c.first.ensures ∙ first_in c.loop-i.self r
 
 pub returns-then-is_full : goal.returns-then-is_full

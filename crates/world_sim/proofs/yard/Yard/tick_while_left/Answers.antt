@@ -23,15 +23,13 @@ returns-then-not-is_any_left g c =
 pub returns-then-is_full : goal.returns-then-is_full
 returns-then-is_full g c =
     let one : c.args.bound - c.loop.counter ≡ suc (c.args.bound - (c.loop.counter + 1)) = omega (arith, c.loop-test.true) in
-    let left = λ w s. sym (c.is_any_left.ensures w s) ∙ c.if-not-is_any_left.false in
-    way_stops (tick_while_left c.args.from c.args.bound) c.args.bound (c.args.bound - c.loop.counter) (c.args.bound - (c.loop.counter + 1)) 0 0 0 (ticked c.args.from c.args.bound) c.args.self.now c.loop.self c.tick_and_drain.new.self c.args.facts.now c.loop.facts c.tick_and_drain.new.facts (omega arith) c.loop.invariant.way (ticks_next c.loop.self c.args.from c.args.bound (c.args.bound - c.loop.counter) (c.args.bound - (c.loop.counter + 1)) one left) c.in_ok-tick_and_drain.ensures (sym c.is_full.ensures ∙ c.if-is_full.true)
+    way_stops (tick_while_left c.args.from c.args.bound) c.args.bound (c.args.bound - c.loop.counter) (c.args.bound - (c.loop.counter + 1)) 0 0 0 (ticked c.args.from c.args.bound) c.args.self.now c.loop.self c.tick_and_drain.new.self c.args.facts.now c.loop.facts c.tick_and_drain.new.facts (omega arith) c.loop.invariant.way (ticks_next c.loop.self c.args.from c.args.bound (c.args.bound - c.loop.counter) (c.args.bound - (c.loop.counter + 1)) one (λ w s. sym (c.is_any_left.ensures w s) ∙ c.if-not-is_any_left.false)) c.in_ok-tick_and_drain.ensures (sym c.is_full.ensures ∙ c.if-is_full.true)
 
 pub loop-preserved : goal.loop-preserved
 loop-preserved g c =
     let one : c.args.bound - c.loop.counter ≡ suc (c.args.bound - (c.loop.counter + 1)) = omega (arith, c.loop-test.true) in
-    let left = λ w s. sym (c.is_any_left.ensures w s) ∙ c.if-not-is_any_left.false in
     record {
-      way = way_on (tick_while_left c.args.from c.args.bound) c.args.bound (c.args.bound - c.loop.counter) (c.args.bound - (c.loop.counter + 1)) 0 0 (ticked c.args.from c.args.bound) c.args.self.now c.loop.self c.tick_and_drain.new.self c.args.facts.now c.loop.facts c.tick_and_drain.new.facts c.loop.invariant.way (ticks_next c.loop.self c.args.from c.args.bound (c.args.bound - c.loop.counter) (c.args.bound - (c.loop.counter + 1)) one left)
+      way = way_on (tick_while_left c.args.from c.args.bound) c.args.bound (c.args.bound - c.loop.counter) (c.args.bound - (c.loop.counter + 1)) 0 0 (ticked c.args.from c.args.bound) c.args.self.now c.loop.self c.tick_and_drain.new.self c.args.facts.now c.loop.facts c.tick_and_drain.new.facts c.loop.invariant.way (ticks_next c.loop.self c.args.from c.args.bound (c.args.bound - c.loop.counter) (c.args.bound - (c.loop.counter + 1)) one (λ w s. sym (c.is_any_left.ensures w s) ∙ c.if-not-is_any_left.false))
           (λ w s. c.standing_is_kept.ensures.ticks_one c.loop.self.script w c.args.from c.args.bound s.stands_is) c.in_ok-tick_and_drain.ensures (sym c.is_full.ensures ∙ c.if-is_full.false);
       within = omega (arith, c.loop-test.true);
     }
@@ -42,6 +40,5 @@ returns g c = way_ends (tick_while_left c.args.from c.args.bound) c.args.bound (
 pub returns-in_err-tick_and_drain : goal.returns-in_err-tick_and_drain
 returns-in_err-tick_and_drain g c =
     let one : c.args.bound - c.loop.counter ≡ suc (c.args.bound - (c.loop.counter + 1)) = omega (arith, c.loop-test.true) in
-    let left = λ w s. sym (c.is_any_left.ensures w s) ∙ c.if-not-is_any_left.false in
     step_err IsSound 0 (tick_while_left c.args.from c.args.bound c.args.bound) c.from_residual.result _ _ _ _ c.from_residual.ensures.0
-    (way_cut (tick_while_left c.args.from c.args.bound) c.args.bound (c.args.bound - c.loop.counter) (c.args.bound - (c.loop.counter + 1)) 0 (ticked c.args.from c.args.bound) c.args.self.now c.loop.self c.tick_and_drain.new.self c.args.facts.now c.loop.facts c.tick_and_drain.new.facts c.loop.invariant.way (ticks_next c.loop.self c.args.from c.args.bound (c.args.bound - c.loop.counter) (c.args.bound - (c.loop.counter + 1)) one left) c.in_err-tick_and_drain.ensures)
+    (way_cut (tick_while_left c.args.from c.args.bound) c.args.bound (c.args.bound - c.loop.counter) (c.args.bound - (c.loop.counter + 1)) 0 (ticked c.args.from c.args.bound) c.args.self.now c.loop.self c.tick_and_drain.new.self c.args.facts.now c.loop.facts c.tick_and_drain.new.facts c.loop.invariant.way (ticks_next c.loop.self c.args.from c.args.bound (c.args.bound - c.loop.counter) (c.args.bound - (c.loop.counter + 1)) one (λ w s. sym (c.is_any_left.ensures w s) ∙ c.if-not-is_any_left.false)) c.in_err-tick_and_drain.ensures)

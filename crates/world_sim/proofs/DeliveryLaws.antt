@@ -38,7 +38,7 @@ use Rattle.world_sim.proofs.KeepLaws.{stands_noted}
 use Rattle.world_sim.proofs.PlaceLaws.{state_at}
 use Rattle.world_sim.proofs.RestsLaws.{may_of}
 use Rattle.world_sim.proofs.UpLaws.{one_more}
-use Rattle.world_sim.proofs.StepLaws.{goes_then, goes_stop, goes_still, cut_first, cut_next, counts_same, counts_both, step_as, step_then, step_told, plays_of, if_true, if_false}
+use Rattle.world_sim.proofs.StepLaws.{goes_then, goes_stop, goes_still, cut_first, cut_next, counts_same, counts_both, step_as, step_then, step_told, plays_of, plays_more, if_true, if_false}
 
 -- A packet is marked.
 
@@ -203,6 +203,9 @@ over_given y p k r new before after above m g =
 -- the order is this one
 pub play_as : {E : Type 0} (n : ℕ) (o p : Order) (r : Result (Unit {0}) E) (old new : Yard) (before after : List Fact) → o ≡ p → n ≤ 20 → Stepped IsSound n (world.play p) r old new before after → Plays 20 (world.play o) r old new before after
 play_as n o p r old new before after e less s = subst (λ x. Plays 20 (world.play x) r old new before after) (sym e) (plays_of n 20 (world.play p) r old new before after less s)
+
+pub plays_as : {E : Type 0} (n : ℕ) (o p : Order) (r : Result (Unit {0}) E) (old new : Yard) (before after : List Fact) → o ≡ p → n ≤ 20 → Plays n (world.play p) r old new before after → Plays 20 (world.play o) r old new before after
+plays_as n o p r old new before after e less s = subst (λ x. Plays 20 (world.play x) r old new before after) (sym e) (plays_more n 20 (world.play p) r old new before after less s)
 
 pub ping_stepped : {E : Type 0} (o : Order) (p : ℕ) (r : Result (Unit {0}) E) (y : Yard) (before after : List Fact) → o ≡ order.Ping p → OnOk r (after ≡ before ++ fact.Nothing ∷ []) → OnErr r (after ≡ before) → Plays 20 (world.play o) r y y before after
 ping_stepped o p r y before after e ok err = play_as 0 o (order.Ping p) r y y before after e (omega arith) (nothing_stepped (world.play (order.Ping p)) 0 r y before after ok err (λ w s. refl))

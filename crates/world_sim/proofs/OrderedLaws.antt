@@ -1,6 +1,6 @@
 -- No step of the world changes how many sends were ordered.
 use Rattle.std.proofs.Common.{◌≡◌, ℕ, zero, suc, ◌-◌, List, [], ◌∷◌, ◌++◌, refl, ◌∙◌}
-use Rattle.std.specs.Prelude.{Bool, true, false, ◌==◌, ◌&&◌, ◌||◌, map, nat_lt, filter, fold, Option, Some, None, is_none, if◌then◌else◌}
+use Rattle.std.specs.Prelude.{Bool, true, false, ◌==◌, ◌&&◌, ◌||◌, length, map, nat_lt, filter, fold, Option, Some, None, is_none, if◌then◌else◌}
 use Rattle.std.specs.List.{list_any, slice_get}
 use Rattle.yard_model.specs.declared.fact.Fact.{Fact}
 use Rattle.yard_model.specs.declared.fact.Fact.TheVariants as fact
@@ -17,7 +17,7 @@ use Rattle.yard_model.specs.SlotReads.{holder, queued_in_all}
 use Rattle.yard_model.specs.Words.{is_among, is_empty, numbers}
 use Rattle.yard_model.specs.World as world
 use Rattle.yard_model.specs.World.{World, Made, Step, world_after, tell, then_step, in_order, input_facts, node_at, node_of, queue_holder, is_of_node, ordered_of, active_node, with_order, is_left, is_any_up, greatest_epoch, settle_bound}
-use Rattle.std.specs.Prelude.{length}
+use Rattle.world_sim.proofs.SeenLaws.{view_items}
 
 -- from one world to another
 abbrev pub IsSame : World → World → Type 0
@@ -77,7 +77,7 @@ drain_leaves from (suc n) w = by (filter (nat_lt from) w.fresh) (drain_leaves fr
     by (k ∷ ks) rest = then_leaves w (world.deliver k w) (world.drain from n) (deliver_leaves k w) rest
 
 views_leave : Leaves world.views
-views_leave w = facts_leave _ w
+views_leave w = facts_leave (input_facts w (view_items w.version w.members w.members)) w
 
 come_up_leaves : (n : ℕ) → Leaves (world.come_up n)
 come_up_leaves n w = then_leaves w (tell (fact.Up _ ∷ []) w) world.views refl views_leave

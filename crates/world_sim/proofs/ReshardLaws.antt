@@ -18,14 +18,14 @@ use Rattle.yard_model.specs.SlotReads.{holder}
 use Rattle.yard_model.specs.Trace.{list_at}
 use Rattle.yard_model.specs.Words.{numbers, at}
 use Rattle.yard_model.specs.World as world
-use Rattle.yard_model.specs.World.{World, Step, tell, is_any_up, greatest_epoch}
+use Rattle.yard_model.specs.World.{World, Made, Step, tell, is_any_up, greatest_epoch}
 use Rattle.shard_lease.specs.Book.{Book, known_at, meaning_of}
 use Rattle.shard_store.specs.Stores.{entries_in, entries_at, lists_at, place_of}
 use Rattle.node_core.specs.Leased.{IsTold, Tells}
 use Rattle.node_core.specs.Standing.{Standing}
 use Rattle.plain_laws.proofs.Booleans.{true_is_not_false, and_both, at_most, below, get_replicate}
 use Rattle.world_sim.specs.Keeps.{Keeps}
-use Rattle.world_sim.specs.Mail.{Mails}
+use Rattle.world_sim.specs.Mail.{Mails, ToldSome}
 use Rattle.world_sim.specs.Stands.{Stands}
 use Rattle.world_sim.specs.Stepped.{Counts, IsWhole, IsPlayed, Plays, Stepped}
 use Rattle.world_sim.specs.Steps.{resharded, upgraded}
@@ -53,6 +53,10 @@ any_up y w s = sym (any_state y.nodes) ∙ ap (list_any is_some) s.nodes_are
 
 down_at : (y : Yard) (w : World) → IsSeen y w → list_any is_some y.nodes ≡ false → (k : ℕ) → at w.nodes k ≡ None
 down_at y w s h k = node_kept y w k s ∙ ap state_in (none_any y.nodes h k)
+
+pub neither : (a b : Bool) → (a || b) ≡ false → (a ≡ false) × (b ≡ false)
+neither false b h = (refl, h)
+neither true b h = absurd (true_is_not_false h)
 
 -- Another version.
 
@@ -122,7 +126,7 @@ is_resharded n y new (Ok u) before after h s = record {
 }
 is_resharded n y new (Err e) before after h s = record {
   script_is = s.script_is;
-  told = λ w k. subst (λ (m : world.Made). _ before after m.facts) (if_false (is_any_up w || (n == w.set.config.shards)) (world.nothing w) (resharded n w) (reshard_is n y w k.seen_is ∙ h)) (s.told w k);
+  told = λ w k. subst (λ (m : Made). ToldSome before after m.facts) (if_false (is_any_up w || (n == w.set.config.shards)) (world.nothing w) (resharded n w) (reshard_is n y w k.seen_is ∙ h)) (s.told w k);
 }
 
 -- so nobody holds a slot
@@ -143,7 +147,7 @@ number_at f a (suc n) zero h = let same : a ≡ a + 0 = omega arith in ap f same
 number_at f a (suc n) (suc i) h = let same : (a + 1) + i ≡ a + suc i = omega arith in number_at f (a + 1) n i (omega (arith, h)) ∙ ap f same
 
 entries_are : (c : Script) (b : Book) (s : Slot) → is_slot_of c s ≡ true → entries_at b.places (place_of c.config s) ≡ list_at (lists_at c.config b.places) s
-entries_are c b (slot.Shard k) i = sym (number_at (entries_at b.places) 0 c.config.shards k (below k c.config.shards i))
+entries_are c b (slot.Shard k) i = let same : 0 + k ≡ k = omega arith in sym (number_at (entries_at b.places) 0 c.config.shards k (below k c.config.shards i) ∙ ap (entries_at b.places) same)
 entries_are c b slot.Coordinator i = refl
 entries_are c b (slot.Queue p) i =
     let m : (nat_le 1 p ≡ true) × (nat_le p c.config.producers ≡ true) = and_both (nat_le 1 p) (nat_le p c.config.producers) i in
@@ -211,6 +215,16 @@ reshaped_seen keeps n y z w s quiet fits other r =
       book_is = r.book_is;
       tells_is = tells_free z.script z.book v.lists (length z.book.places) r.book_is r.holders_none lists (λ t i. none_holds z.script v t stands (λ k less. down k) i);
     }
+
+-- the lists are the code's
+pub relisted : (a b : Book) (s c : Script) (n : ℕ) (lists : SlotLists) → b ≡ a → c ≡ with_shards n s → lists ≡ reshaped (setting b.script) c.config.shards (greatest_epoch (lists_at b.script.config b.places)) (lists_at b.script.config b.places)
+    → lists ≡ reshaped (setting a.script) n (greatest_epoch (lists_at a.script.config a.places)) (lists_at a.script.config a.places)
+relisted a b s c n lists e f g =
+    g ∙ (ap (λ (b : Book). reshaped (setting b.script) c.config.shards (greatest_epoch (lists_at b.script.config b.places)) (lists_at b.script.config b.places)) e
+    ∙ ap (λ (c : Script). reshaped (setting a.script) c.config.shards (greatest_epoch (lists_at a.script.config a.places)) (lists_at a.script.config a.places)) f)
+
+pub played_as : (n : ℕ) (q : Step) (y old new : Yard) (before after : List Fact) → y ≡ old → IsPlayed n q y new before after → IsPlayed n q old new before after
+played_as n q y old new before after e s = subst (λ o. IsPlayed n q o new before after) e s
 
 pub reshaped_played : Keeps → (n epoch : ℕ) (y z : Yard) (before after : List Fact) → list_any is_some y.nodes ≡ false → is_in 1 128 n ≡ true → is_same_number n y ≡ false → epoch ≡ greatest_epoch (lists_at y.book.script.config y.book.places) → IsReshaped n y z
     → after ≡ before ++ fact.Reshard n epoch ∷ [] → IsPlayed 0 (resharded n) y z before after

@@ -192,3 +192,7 @@ plays_of n m q (Err e) old new before after l s = s
 pub plays_err : {E : Type 0} (n : ℕ) (q : Step) (r : Result (Unit {0}) E) (old new : Yard) (before after : List Fact) → IsErr r → IsCut IsSound q old new before after → Plays n q r old new before after
 plays_err n q (Ok u) old new before after h s = absurd (true_is_not_false (sym h))
 plays_err n q (Err e) old new before after h s = s
+
+pub plays_more : {E : Type 0} (n m : ℕ) (q : Step) (r : Result (Unit {0}) E) (old new : Yard) (before after : List Fact) → n ≤ m → Plays n q r old new before after → Plays m q r old new before after
+plays_more n m q (Ok u) old new before after l s = record { script_is = s.script_is; counts = counts_more n m old new l s.counts; goes = s.goes }
+plays_more n m q (Err e) old new before after l s = s

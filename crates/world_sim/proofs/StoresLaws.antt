@@ -192,7 +192,7 @@ stopping_next keeps old y z start after i n one node s g =
 
 -- Where no node is up, nobody holds a slot.
 
-none_holds : (c : Script) (w : World) (s : Slot) → Stands c w → ((k : ℕ) → k < c.config.nodes → at w.nodes k ≡ None) → is_slot_of c s ≡ true → holder (list_at w.lists s) ≡ None
+pub none_holds : (c : Script) (w : World) (s : Slot) → Stands c w → ((k : ℕ) → k < c.config.nodes → at w.nodes k ≡ None) → is_slot_of c s ≡ true → holder (list_at w.lists s) ≡ None
 none_holds c w s stands down i = by (holder (list_at w.lists s)) refl
   where
     by : (o : Option Incarnation) → holder (list_at w.lists s) ≡ o → o ≡ None

@@ -1,5 +1,5 @@
 //! Orders after which the number of shards, or the version of the behaviours, is another.
-ghost use Rattle.std.specs.Prelude.{◌≡◌, ◌==◌, IsTrue, false, is_some};
+ghost use Rattle.std.specs.Prelude.{◌≡◌, ◌==◌, ◌||◌, IsTrue, false, is_some};
 ghost use Rattle.std.specs.List.{list_any};
 ghost use Rattle.yard_model.specs.declared.charter.Order.TheVariants as order;
 ghost use Rattle.yard_model.specs.Behaviour.{is_in};
@@ -29,10 +29,17 @@ impl<B: Behaviour + Copy + Drop> Yard<B> {
         requires shards { IsTrue (is_in 1 128 shards) }
         ensures { Plays 0 (play (order.Reshard shards)) result self.old self.new facts.old facts.new }
     {
-        if is_any_up(&self.nodes) || shards == self.charter.config().shards {
+        if self.keeps_shards(shards) {
             return facts.push(Fact::Nothing);
         }
         self.reshape(shards, facts)
+    }
+
+    /// Whether a node is up, or the number of shards is this one.
+    fn keeps_shards(&self, shards: u8) -> bool
+        ensures { result ≡ (list_any is_some self.now.nodes || (shards == self.now.script.config.shards)) }
+    {
+        is_any_up(&self.nodes) || shards == self.charter.config().shards
     }
 
     /// The number of shards is another from now on: the leases are those of stores whose lists begin
@@ -63,10 +70,17 @@ impl<B: Behaviour + Copy + Drop> Yard<B> {
         requires { (w : World) × IsSound self.old w }
         ensures { Stepped IsSound 0 (play order.Upgrade) result self.old self.new facts.old facts.new }
     {
-        if is_any_up(&self.nodes) || self.behaviour.version() == LAST {
+        if self.keeps_version() {
             return facts.push(Fact::Nothing);
         }
         self.go_over(facts)
+    }
+
+    /// Whether a node is up, or version 2 is in force.
+    fn keeps_version(&self) -> bool
+        ensures { result ≡ (list_any is_some self.now.nodes || (self.now.force.version == 2)) }
+    {
+        is_any_up(&self.nodes) || self.behaviour.version() == LAST
     }
 
     /// Version 2 is in force from now on: nodes that come up have it.

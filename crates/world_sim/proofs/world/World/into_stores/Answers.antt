@@ -30,7 +30,9 @@ pub returns-clause-set : goal.returns-clause-set
 returns-clause-set g c =
     let found : c.self.inside.fault ≢ Some fault.OutOfMemory = λ e. c.requires (sym (ap (λ (p : Played). p.fault) c.self.view_is) ∙ e) in
     let firm = firm_kept c.self.inside.script.value c.self.inside.yard c.self.inside.count c.self.inside.fault c.self.invariant found in
-    both_ok c.into_stores.result _ _ _ (λ r e f. ap setting e ∙ (sym firm.seen_is.set_is ∙ ap (λ (p : Played). (made_of p.script p.count).world.set) c.self.view_is)) c.into_stores.ensures.charter c.into_stores.ensures.script
+    subst (λ (p : Played). IfOk c.into_stores.result (λ r. setting r.0 ≡ (made_of p.script p.count).world.set)) c.self.view_is
+    (both_ok c.into_stores.result (λ r. r.0 ≡ c.self.inside.yard.script) (λ r. r.1.script ≡ c.self.inside.yard.script) (λ r. setting r.0 ≡ (made_of c.self.inside.script.value c.self.inside.count).world.set) (λ r e f. ap setting e ∙ sym firm.seen_is.set_is)
+    c.into_stores.ensures.charter c.into_stores.ensures.script)
 
 pub returns-clause-lists : goal.returns-clause-lists
 returns-clause-lists g c =

@@ -28,8 +28,8 @@ returns-clause-lists c =
     let next : Script → List (Option Store) → SlotLists = λ d l. reshaped (setting d) c.args.charter.now.config.shards (greatest_epoch (lists_at d.config l)) (lists_at d.config l) in
     IfOk-weaker c.new.result (λ b. b.places ≡ c.in_ok-stores.stores.places) (λ b. lists_at c.args.charter.now.config b.places ≡ next c.args.self.script c.args.self.places)
     (λ b e. ap (lists_at c.args.charter.now.config) e
-        ∙ (c.in_ok-stores.ensures.lists
-        ∙ (ap (λ d. next d c.from_parts-stores.result.places) c.from_parts-stores.ensures.script
-        ∙ (ap (next c.self.inside.script.value) c.from_parts-stores.ensures.places
-        ∙ ap (λ (b : Book). next b.script b.places) c.self.view_is))))
+    ∙ (c.in_ok-stores.ensures.lists
+    ∙ (ap (λ d. next d c.from_parts-stores.result.places) c.from_parts-stores.ensures.script
+    ∙ (ap (next c.self.inside.script.value) c.from_parts-stores.ensures.places
+    ∙ ap (λ (b : Book). next b.script b.places) c.self.view_is))))
     c.new.ensures.places

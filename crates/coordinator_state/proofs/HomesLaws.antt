@@ -1,6 +1,6 @@
 -- Homes and loads after a change.
 use Rattle.std.proofs.Common.{◌≡◌, ◌≢◌, ◌<◌, ℕ, suc, ◌+◌, sym, subst, ap, ◌∙◌, refl, arith, length, length-append}
-use Rattle.std.specs.Prelude.{Bool, true, false, ◌==◌, ◌||◌, not, List, [], ◌∷◌, ◌++◌, map, filter, take, drop, Option, Some, None, slice_index_or, slice_set, if◌then◌else◌, cond}
+use Rattle.std.specs.Prelude.{Bool, true, false, ◌==◌, ◌||◌, not, List, [], ◌∷◌, ◌++◌, map, filter, take, drop, replicate, Option, Some, None, slice_index_or, slice_set, if◌then◌else◌, cond}
 use Rattle.std.specs.List.{All, AllPairs}
 use Rattle.std.specs.Option.{ForSome}
 use Rattle.std.proofs.Math.ListN.{get_or-map}
@@ -15,7 +15,8 @@ use Rattle.yard_model.specs.declared.load.Load.{Load}
 use Rattle.yard_model.specs.ShardSet.{has}
 use Rattle.yard_model.specs.Words.{is_same, is_at, is_among, without, at}
 use Rattle.coordinator_state.specs.Coord.{AreApart}
-use Rattle.coordinator_state.specs.Homes.{regions_of, home_without, is_of_other, HasHomes, AreDifferent, AreRegistered, AreHomes}
+use Rattle.coordinator_state.specs.Homes.{regions_of, home_without, is_of_other, HasHomes, HasNone, AreDifferent, AreRegistered, AreHomes}
+use Rattle.plain_laws.proofs.Booleans.{get_replicate}
 use Rattle.coordinator_state.proofs.Same.{true_is_not_false, not_so, same_is, same_turned, some_is, at_none, among_more, among_without}
 
 -- One load.
@@ -140,6 +141,23 @@ placed_homes homes loads after s home within k new regions each = record {
   different = subst AreDifferent (sym regions) k.different;
   few = omega (arith, k.few, length-map loads (λ (x : Load). x.region), length-map after (λ (x : Load). x.region), ap length regions);
 }
+
+-- No homes.
+
+pub cleared_homes : (homes old : List (Option Incarnation)) (loads after : List Load) → AreHomes old loads → homes ≡ replicate 128 None → regions_of after ≡ regions_of loads → All HasNone after → AreHomes homes after
+cleared_homes homes old loads after k none regions each = record {
+  size = ap length none;
+  each = λ i d h s below. each i d h s ∙ ap (is_at (slice_index_or after i d).region) (sym (nobody s));
+  registered = λ s r e. absurd (none_is_not_some r (sym (nobody s) ∙ e));
+  different = subst AreDifferent (sym regions) k.different;
+  few = omega (arith, k.few, length-map loads (λ (x : Load). x.region), length-map after (λ (x : Load). x.region), ap length regions);
+}
+  where
+    nobody : (s : ℕ) → at homes s ≡ None
+    nobody s = ap (λ hs. at hs s) none ∙ get_replicate 128 s None
+
+    none_is_not_some : (r : Incarnation) → None ≡ Some r → ⊥
+    none_is_not_some r e = cc
 
 -- Loads apart.
 

@@ -1,5 +1,5 @@
 -- What is kept beside a list, after one entry more.
-use Rattle.std.proofs.Common.{◌≡◌, ◌<◌, ◌≤◌, ℕ, ◌+◌, sym, ap, ◌∙◌, refl, arith, length, length-append}
+use Rattle.std.proofs.Common.{◌≡◌, ◌<◌, ◌≤◌, ℕ, ◌+◌, sym, ap, subst, ◌∙◌, refl, arith, length, length-append}
 use Rattle.std.specs.Prelude.{Bool, true, false, ◌==◌, ◌&&◌, not, nat_lt, List, [], ◌∷◌, ◌++◌, map, Option, Some, None, is_some, is_none, slice_set, if◌then◌else◌}
 use Rattle.std.proofs.lemmas.List.{map-append, get_or-set_same, get_or-set_other}
 use Rattle.std.proofs.lemmas.List.Sums.{fold-append}
@@ -10,13 +10,15 @@ use Rattle.yard_model.specs.declared.entry.CoordEntry.{CoordEntry}
 use Rattle.yard_model.specs.declared.incarnation.Incarnation.{Incarnation}
 use Rattle.yard_model.specs.declared.incarnation.Cause.{Cause}
 use Rattle.yard_model.specs.declared.incarnation.Slot.TheVariants as slot
-use Rattle.yard_model.specs.Script.{Script}
+use Rattle.yard_model.specs.Script.{Script, IsScript, with_shards}
+use Rattle.yard_model.specs.Behaviour.{is_in}
 use Rattle.yard_model.specs.Words.{is_among, without, at}
 use Rattle.yard_model.specs.Entry.{coord_fact}
 use Rattle.yard_model.specs.Genuine.{is_node, is_shard}
-use Rattle.yard_model.specs.Lawful.{is_held, is_coordinator_entry, may_follow}
+use Rattle.yard_model.specs.Lawful.{own, is_held, is_coordinator_entry, may_follow}
 use Rattle.yard_model.specs.SlotReads.{holder, holder_step, epoch, epoch_step, regions, regions_step, allocation, allocation_step}
 use Rattle.yard_model.proofs.FollowLaws.{own_more}
+use Rattle.era_laws.proofs.ReshapeLaws.{coordinator_begun}
 use Rattle.coordinator_state.specs.Homes.{Placed, home_without}
 use Rattle.coordinator_state.specs.Kept.{IsKept}
 use Rattle.coordinator_state.proofs.Same.{true_is_not_false, both}
@@ -117,3 +119,27 @@ freed_kept c xs p n b why k held =
     kept_more c xs p p n n b false (fact.Freed slot.Coordinator n why) k
     (both (is_held xs && (n == epoch xs)) true (both (is_held xs) (n == epoch xs) held ((Decides-eqb n (epoch xs)).1 k.epoch)) refl)
     refl (λ s h. refl) refl (omega (arith, k.few)) refl
+
+-- The number of shards.
+
+pub resharded_kept : (c new : Script) (xs : List Fact) (p q : Placed) (n k : ℕ) (b : Bool) → IsKept c xs p n b → c.config.shards ≤ 128 → is_in 1 128 new.config.shards ≡ true → is_held xs ≡ false → new ≡ with_shards new.config.shards c
+    → q.regions ≡ p.regions → ((s : ℕ) → at q.homes s ≡ None) → IsKept new (xs ++ fact.Reshard new.config.shards k ∷ []) q n b
+resharded_kept c new xs p q n k b kept most range free same regions homes =
+    let f : Fact = fact.Reshard new.config.shards k in
+    record {
+      lawful = subst (λ x. own x slot.Coordinator (xs ++ f ∷ []) ≡ true) (sym same) (coordinator_begun c new.config.shards k xs most range free kept.lawful);
+      registered = regions ∙ (kept.registered ∙ sym (regions_more xs f));
+      homes = λ s h. homes s ∙ sym (allocation_more s xs f);
+      epoch = kept.epoch ∙ sym (epoch_more xs f);
+      few = omega (arith, kept.few, length-append xs (f ∷ []));
+      held = kept.held ∙ ap is_some (sym (holder_more xs f));
+    }
+
+pub shards_range : (c : Script) → IsScript c → is_in 1 128 c.config.shards ≡ true
+shards_range c k = second (is_in 1 16 c.config.nodes) (is_in 1 128 c.config.shards) (is_in 1 32 c.config.producers) (is_in 1 1000 c.config.buffer) (is_in 1 64 c.config.window) (is_in 1 10000 c.config.snapshot) (is_in 1 10 c.config.keep) k.config
+  where
+    second : (a b d e f g i : Bool) → (a && b && d && e && f && g && i) ≡ true → b ≡ true
+    second true true d e f g i h = refl
+    second true false d e f g i h = h
+    second false true d e f g i h = refl
+    second false false d e f g i h = h

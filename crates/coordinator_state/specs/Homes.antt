@@ -25,6 +25,10 @@ is_of_other r l = not (is_same r l.region)
 abbrev pub HasHomes : List (Option Incarnation) → Load → Type 0
 HasHomes homes l = (s : ℕ) → s < 128 → has l.shards s ≡ is_at l.region (at homes s)
 
+-- the load has no shard
+abbrev pub HasNone : Load → Type 0
+HasNone l = (s : ℕ) → has l.shards s ≡ false
+
 -- no region stands twice
 abbrev pub AreDifferent : List Incarnation → Type 0
 AreDifferent xs = AllPairs (λ x y. is_same x y ≡ false) xs

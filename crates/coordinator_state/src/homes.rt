@@ -6,7 +6,7 @@ ghost use Rattle.yard_model.specs.Words.{is_among, without, at};
 ghost use Rattle.coordinator_state.specs.Coord.{AreApart};
 ghost use Rattle.coordinator_state.specs.Homes.{regions_of, home_without, HasHomes};
 
-use crate::moved::{clear_homes, has_region, loads_after, loads_without};
+use crate::moved::{clear_homes, has_region, loads_after, loads_cleared, loads_without};
 use std::alloc::{AllocError, Global};
 use std::marker::Model;
 use yard_model::{Incarnation, Load, Loads, ShardNo, ShardSet};
@@ -78,6 +78,18 @@ impl Homes {
         let place = s.get() as usize;
         self.loads = loads_after(&self.loads, s, &home);
         self.homes[place] = home;
+    }
+
+    /// The same regions, and no homes. The only error is want of memory.
+    pub(crate) fn cleared(&self, alloc: Global) -> Result<Homes, AllocError>
+        ensures regions { IfOk result (λ h. h.regions ≡ self.now.regions) }
+        ensures homes { IfOk result (λ h. h.homes ≡ replicate 128 None) }
+    {
+        let homes = vec![in alloc; None; SHARDS]?;
+        Ok(Homes {
+            homes,
+            loads: loads_cleared(&self.loads),
+        })
     }
 
     pub(crate) fn home(&self, s: ShardNo) -> Option<Incarnation>

@@ -1,11 +1,11 @@
 //! What one change of a home, or the loss of a region, does to homes and loads.
-ghost use Rattle.std.specs.Prelude.{◌≡◌, ◌≢◌, ℕ, ◌<◌, List, length, map, filter, Option, slice_set, not};
+ghost use Rattle.std.specs.Prelude.{◌≡◌, ◌≢◌, ℕ, ◌<◌, List, length, map, filter, replicate, None, Option, slice_set, not};
 ghost use Rattle.std.specs.List.{All};
 ghost use Rattle.yard_model.specs.declared.incarnation.Incarnation.{Incarnation};
 ghost use Rattle.yard_model.specs.declared.load.Load.{Load};
 ghost use Rattle.yard_model.specs.ShardSet.{has};
 ghost use Rattle.yard_model.specs.Words.{is_same as same, is_at, is_among};
-ghost use Rattle.coordinator_state.specs.Homes.{regions_of, home_without, is_of_other, HasHomes};
+ghost use Rattle.coordinator_state.specs.Homes.{regions_of, home_without, is_of_other, HasHomes, HasNone};
 
 use yard_model::{Incarnation, Load, Loads, ShardNo, ShardSet};
 
@@ -76,6 +76,21 @@ pub(crate) fn loads_without(loads: &Loads, r: &Incarnation) -> Loads
         }
     }
     others
+}
+
+/// The same regions with no shards.
+pub(crate) fn loads_cleared(loads: &Loads) -> Loads
+    ensures regions { regions_of result ≡ regions_of loads.now }
+    ensures none { All HasNone result }
+{
+    let mut cleared = Loads::empty();
+    for load in loads.as_slice() {
+        cleared = cleared.with(Load {
+            region: load.region,
+            shards: ShardSet::empty(),
+        });
+    }
+    cleared
 }
 
 /// Takes away every home that is this region.

@@ -7,6 +7,7 @@ ghost use Rattle.yard_model.specs.Words.{is_among};
 ghost use Rattle.yard_model.specs.Entry.{coord_fact};
 ghost use Rattle.yard_model.specs.Genuine.{is_node, is_shard};
 ghost use Rattle.yard_model.specs.Lawful.{own, is_held};
+ghost use Rattle.yard_model.specs.Script.{with_shards};
 ghost use Rattle.yard_model.specs.SlotReads as reads;
 ghost use Rattle.yard_model.specs.SlotReads.{regions, allocation};
 ghost use Rattle.coordinator_state.specs.Coord.{IsLoadOf, AreApart};
@@ -164,6 +165,43 @@ impl CoordStore {
     {
         self.entries.push(CoordEntry::Freed(self.epoch, cause));
         self.leased = false;
+    }
+
+    /// The number of shards becomes that of `charter`, which says the same beside it, and `epoch` is
+    /// the greatest of any shard's lease so far: no shard has a home, and the regions stay
+    /// registered. The only error is want of memory.
+    pub fn reshard(
+        self,
+        alloc: Global,
+        charter: &Charter,
+        epoch: u32,
+    ) -> Result<CoordStore, AllocError>
+        requires spare { 0 < self.spare }
+        requires free { is_held self.entries ≡ false }
+        requires shards { self.script.config.shards ≤ 128 }
+        requires charter { charter.now ≡ with_shards charter.now.config.shards self.script }
+        ensures script { IfOk result (λ c. c.script ≡ charter.now) }
+        ensures entries { IfOk result (λ c. c.entries ≡ self.entries ++ fact.Reshard charter.now.config.shards epoch ∷ []) }
+        ensures spare { IfOk result (λ c. c.spare + 1 ≡ self.spare) }
+    {
+        let CoordStore {
+            script: _,
+            entries,
+            homes,
+            epoch: number,
+            leased,
+        } = self;
+        let mut entries = entries;
+        let shards = charter.config().shards;
+        let homes = homes.cleared(alloc)?;
+        entries.push(CoordEntry::Reshard { shards, epoch });
+        Ok(CoordStore {
+            script: Ghost::of(charter),
+            entries,
+            homes,
+            epoch: number,
+            leased,
+        })
     }
 
     /// The home of a shard, a registered region; None exactly where it has none.

@@ -5,7 +5,7 @@ ghost use Rattle.yard_model.specs.declared.incarnation.Slot.TheVariants as slot;
 ghost use Rattle.yard_model.specs.Entry.{queue_fact};
 ghost use Rattle.yard_model.specs.Genuine.{is_node, is_producer};
 ghost use Rattle.yard_model.specs.Lawful.{is_held, own};
-ghost use Rattle.yard_model.specs.Script.{sends, plan};
+ghost use Rattle.yard_model.specs.Script.{sends, plan, with_shards};
 ghost use Rattle.yard_model.specs.SlotReads as reads;
 
 use crate::counts::{count_of, put, zeros_of};
@@ -177,6 +177,18 @@ impl QueueStore {
             self.free = wanted;
         }
         Ok(())
+    }
+
+    /// The same queue under `charter`, which has another number of shards and says the same beside
+    /// it.
+    pub fn reshard(self, charter: &Charter) -> QueueStore
+        requires { charter.now ≡ with_shards charter.now.config.shards self.script }
+        ensures { result ≡ record self { script = charter.now } }
+    {
+        QueueStore {
+            script: Ghost::of(charter),
+            ..self
+        }
     }
 
     /// A grant to this incarnation, in a new epoch, which it answers.

@@ -125,11 +125,11 @@ dated c s list o =
 
 -- The entries of a name may be brought where none of that name stands yet.
 
-snapshot_reads : (e : List ℕ) → Reads e (snapshot_step e)
+pub snapshot_reads : (e : List ℕ) → Reads e (snapshot_step e)
 snapshot_reads e old (fact.Snapshot y n) m = ap (λ b. cond b n old) m
 snapshot_reads e old f m = refl
 
-remembered_reads : (e : List ℕ) → Reads e (remembered_step e)
+pub remembered_reads : (e : List ℕ) → Reads e (remembered_step e)
 remembered_reads e old (fact.Remembered y) m = ap (λ b. cond b true old) m
 remembered_reads e old (fact.Forgotten y) m = ap (λ b. cond b false old) m
 remembered_reads e old f m = refl
@@ -239,7 +239,7 @@ new_still before x list (y ∷ ys) d h =
     (list_all-append (λ f. not (is_of_name y f)) before (filter (is_of_name x) list) ∙ both (none_of y before) (none_of y (filter (is_of_name x) list)) b.0 (others_none x y list (of_not (is_name x y) a.0)))
     (new_still before x list ys a.1 b.1)
 
-all_carried : (c : Script) (n s k : ℕ) (lists : SlotLists) → Owns c lists → ((t : ℕ) → epoch (shard_list lists t) ≤ k) → (before : List Fact) (names : List (List ℕ))
+all_carried : (c : Script) (n s k : ℕ) (lists : SlotLists) → ((t : ℕ) → own c (slot.Shard t) (shard_list lists t) ≡ true) → ((t : ℕ) → epoch (shard_list lists t) ≤ k) → (before : List Fact) (names : List (List ℕ))
     → AllDiffer names → are_new before names ≡ true → list_all (λ x. shard n x == s) names ≡ true
     → each_follows (may_be_brought (with_shards n c) s k) before (flat_map (entries_of (setting c) lists) names) ≡ true
 all_carried c n s k lists o low before [] d new of_it = refl
@@ -249,9 +249,9 @@ all_carried c n s k lists o low before (x ∷ xs) d new of_it =
     let list : List Fact = shard_list lists t in
     let a : (none_of x before ≡ true) × (are_new before xs ≡ true) = and_both (none_of x before) (are_new before xs) new in
     let b : ((shard n x == s) ≡ true) × (list_all (λ x. shard n x == s) xs ≡ true) = and_both (shard n x == s) (list_all (λ x. shard n x == s) xs) of_it in
-    let up : list_all (is_up_to k) list ≡ true = all_up_more (epoch list) k list (low t) (dated c t list (o.shard t)).all in
+    let up : list_all (is_up_to k) list ≡ true = all_up_more (epoch list) k list (low t) (dated c t list (o t)).all in
     follows_join may before (filter (is_of_name x) list) (flat_map (entries_of (setting c) lists) xs)
-    (carried c n s t k x before list b.0 a.0 (o.shard t) up)
+    (carried c n s t k x before list b.0 a.0 (o t) up)
     (all_carried c n s k lists o low (before ++ filter (is_of_name x) list) xs d.1 (new_still before x list xs d.0 a.1) b.1)
 
 -- none begins a list anew
@@ -306,7 +306,8 @@ all_new : (names : List (List ℕ)) → are_new [] names ≡ true
 all_new [] = refl
 all_new (x ∷ xs) = all_new xs
 
-shard_begun : (c : Script) (n s k : ℕ) (lists : SlotLists) → Owns c lists → ((t : ℕ) → epoch (shard_list lists t) ≤ k)
+-- of a shard
+pub shard_begun : (c : Script) (n s k : ℕ) (lists : SlotLists) → ((t : ℕ) → own c (slot.Shard t) (shard_list lists t) ≡ true) → ((t : ℕ) → epoch (shard_list lists t) ≤ k)
     → own (with_shards n c) (slot.Shard s) (base (setting c) (set_shards n (setting c)) lists s ++ fact.Resharded s n k ∷ []) ≡ true
 shard_begun c n s k lists o low =
     let new : Script = with_shards n c in
@@ -351,7 +352,7 @@ all_before c list most o =
     (λ l f h m. follows_more (may_be_before c) [] l f ∙ both (each_follows (may_be_before c) [] l) (may_be_before c l f) h (stands_before c l f most m))
     list o
 
-coordinator_begun : (c : Script) (n k : ℕ) (list : List Fact) → c.config.shards ≤ 128 → is_in 1 128 n ≡ true → is_held list ≡ false → own c slot.Coordinator list ≡ true → own (with_shards n c) slot.Coordinator (list ++ fact.Reshard n k ∷ []) ≡ true
+pub coordinator_begun : (c : Script) (n k : ℕ) (list : List Fact) → c.config.shards ≤ 128 → is_in 1 128 n ≡ true → is_held list ≡ false → own c slot.Coordinator list ≡ true → own (with_shards n c) slot.Coordinator (list ++ fact.Reshard n k ∷ []) ≡ true
 coordinator_begun c n k list most range free o =
     let f : Fact = fact.Reshard n k in
     begun (with_shards n c) slot.Coordinator list f refl
@@ -394,5 +395,5 @@ reshaped_is_lawful c n k lists config range h free low =
     (all_map (list_all (is_recorded c lists)) (list_all (is_recorded (with_shards n c) new)) (λ l e. all_map (is_recorded c lists) (is_recorded (with_shards n c) new) (λ f r. recorded_still c n k lists range h f r) l e) lists.queues o.1)
   where
     shard_at : (s : ℕ) (b : Bool) → nat_lt s n ≡ b → length (reshaped (setting c) n k lists).shards ≡ n → Owns c lists → own (with_shards n c) (slot.Shard s) (shard_list (reshaped (setting c) n k lists) s) ≡ true
-    shard_at s true e long o = ap (own (with_shards n c) (slot.Shard s)) (reshaped_list (setting c) n k lists s (below s n e)) ∙ shard_begun c n s k lists o low
+    shard_at s true e long o = ap (own (with_shards n c) (slot.Shard s)) (reshaped_list (setting c) n k lists s (below s n e)) ∙ shard_begun c n s k lists o.shard low
     shard_at s false e long o = ap (own (with_shards n c) (slot.Shard s)) (get_or_past (reshaped (setting c) n k lists).shards s [] (let past : n ≤ s = not_below s n e in omega (arith, long)))

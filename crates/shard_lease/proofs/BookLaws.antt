@@ -330,6 +330,17 @@ book_homes b is nobody = record {
     there s None h = h
     there s (Some x) h = h.0
 
+-- what stands in a book isn't leased
+pub book_free : (b : Book) → IsBook b → (places : List (Option Store)) → places ≡ b.places → (k : ℕ) → k < length places → is_held (entries_at places k) ≡ false
+book_free b is places same k within =
+    ap (λ l. is_held (entries_at l k)) same ∙ free (slot_at b.script.config k) (at b.places k) (at b.holders k) (is.each k (subst (λ l. k < length l) same within))
+  where
+    free : (s : Slot) (o : Option Store) (h : Option Incarnation) → IsPlace b.script s o h → is_held (entries_in o) ≡ false
+    free s (Some x) None h = h.1
+    free s None (Some who) h = refl
+    free s (Some x) (Some who) h = absurd h
+    free s None None h = absurd h
+
 -- A store that was handed out, and reserved, may be given back.
 
 pub may_return : (old new : Meaning) (who : Incarnation) (s : Slot) (x y : Store) → Stays old new → Hands old who s x new → script_of y ≡ script_of x → slot_of y ≡ slot_of x → entries_of y ≡ entries_of x → 101 ≤ spare_of y → Returns new who s y

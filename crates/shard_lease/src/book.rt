@@ -4,12 +4,14 @@ ghost use Rattle.yard_model.specs.declared.fact.Fact.TheVariants as fact;
 ghost use Rattle.yard_model.specs.Lawful.{own, is_held};
 ghost use Rattle.yard_model.specs.Words.{at};
 ghost use Rattle.yard_model.specs.Genuine.{is_node, is_slot_of};
-ghost use Rattle.yard_model.specs.Script.{Script};
+ghost use Rattle.yard_model.specs.Era.{reshaped};
+ghost use Rattle.yard_model.specs.Script.{Script, setting, with_shards};
 ghost use Rattle.yard_model.specs.SlotReads.{epoch};
-ghost use Rattle.shard_store.specs.Stores.{place_of, entries_at, script_of, slot_of, entries_of, spare_of};
+ghost use Rattle.yard_model.specs.World.{greatest_epoch};
+ghost use Rattle.shard_store.specs.Stores.{place_of, entries_at, lists_at, script_of, slot_of, entries_of, spare_of};
 
 use crate::leases::{Acquire, Leases};
-use shard_store::{Parts, Store, Stores};
+use shard_store::{Parts, Store, Stores, greatest_of};
 use std::alloc::{AllocError, Global};
 use std::marker::{Model, PhantomData};
 use std::snapshot::Snapshot as Ghost;
@@ -58,6 +60,39 @@ impl LeaseBook {
             holders,
             holds: PhantomData,
         })
+    }
+
+    /// The greatest epoch of a shard's lease, 0 before the first; a shard that is held doesn't count.
+    pub fn greatest_epoch(&self) -> u32
+        ensures { result ≡ greatest_epoch (lists_at self.now.script.config self.now.places) }
+    {
+        greatest_of(self.places.as_slice(), self.shards)
+    }
+
+    /// The book for another number of shards, that of `charter`, which says the same beside it, where
+    /// nobody holds a slot: each shard's list begins anew with the entries of its names. The only error
+    /// is want of memory.
+    pub fn reshape(self, alloc: Global, charter: &Charter) -> Result<LeaseBook, AllocError>
+        requires charter { charter.now ≡ with_shards charter.now.config.shards self.script }
+        requires free { (s : Slot) → IsTrue (is_slot_of self.script s) → at self.holders (place_of self.script.config s) ≡ None }
+        ensures script { IfOk result (λ b. b.script ≡ charter.now) }
+        ensures lists { IfOk result (λ b. lists_at charter.now.config b.places ≡ reshaped (setting self.script) charter.now.config.shards (greatest_epoch (lists_at self.script.config self.places)) (lists_at self.script.config self.places)) }
+        ensures holders { IfOk result (λ b. b.holders ≡ replicate (length b.places) None) }
+    {
+        let LeaseBook {
+            script,
+            shards,
+            places,
+            holders: _,
+            holds: _,
+        } = self;
+        let stores = Stores::from_parts(Parts {
+            script,
+            shards,
+            places,
+        });
+        let stores = stores.reshape(alloc, charter)?;
+        LeaseBook::new(alloc, stores)
     }
 
     /// The stores, where nobody holds a slot.

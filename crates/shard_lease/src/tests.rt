@@ -8,8 +8,8 @@ use shard_store::{Store, Stores};
 use std::alloc::{AllocError, Global};
 use std::test::Fail;
 use yard_model::{
-    Cause, Charter, Config, Incarnation, Kind, Line, Lists, NodeNo, Order, ProducerNo, QueueEntry,
-    Slot,
+    Cause, Charter, Config, CoordEntry, Incarnation, Kind, Line, Lists, NodeNo, Order, ProducerNo,
+    QueueEntry, ShardEntry, ShardNo, Slot,
 };
 
 /// A script in which a producer is told twice to take its queue.
@@ -126,5 +126,37 @@ fn the_stores_come_back(rt: HostRuntime) -> Result<(), Fail> {
     ];
     assert!(rt; stores.queue(p) == wanted.as_slice());
     assert!(rt; stores.coordinator().is_empty());
+    Ok(())
+}
+
+/// Whether each of these lists has one entry, which says that there are 20 shards from here on.
+fn have_begun(shard: &[ShardEntry], coordinator: &[CoordEntry]) -> bool {
+    shard
+        == [ShardEntry::Reshard {
+            shards: 20,
+            epoch: 0,
+        }]
+        .as_slice()
+        && coordinator
+            == [CoordEntry::Reshard {
+                shards: 20,
+                epoch: 0,
+            }]
+            .as_slice()
+}
+
+#[test]
+fn the_number_of_shards_changes(rt: HostRuntime) -> Result<(), Fail> {
+    let alloc = rt.alloc();
+    let p = ProducerNo::new(1).ok_or("1 is a producer")?;
+    let last = ShardNo::new(19, 20).ok_or("19 is a shard")?;
+    let two = NodeNo::new(2).ok_or("2 is a node")?;
+    let charter = two_produces(alloc, p, NodeNo::FIRST, two)?;
+    let book = LeaseBook::new(alloc, Stores::new(alloc, &charter)?)?;
+    assert!(rt; book.greatest_epoch() == 0);
+    let more = charter.with_shards(alloc, 20)?;
+    let book = book.reshape(alloc, &more)?;
+    let stores = book.into_stores();
+    assert!(rt; have_begun(stores.shard(last), stores.coordinator()));
     Ok(())
 }

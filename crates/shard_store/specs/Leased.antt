@@ -11,11 +11,11 @@ pub record Listed : Type 0 where
   pub entries : List Fact
   pub spare : ℕ
 
--- the lease that the list tells of; how many entries there can be
+-- the lease that the list tells of, of which each epoch yet to come fits; how many entries there can be
 pub record IsLease (l : Listed) (epoch_now : ℕ) (leased : Bool) (room : ℕ) : Type 0 where
   pub epoch_is : epoch_now ≡ epoch l.entries
   pub leased_is : leased ≡ is_held l.entries
-  pub counted : epoch_now ≤ length l.entries
+  pub counted : epoch_now + l.spare < 2 ^ 32
   pub few : length l.entries + l.spare < 2 ^ 32
   pub room_is : length l.entries + l.spare ≤ room
 

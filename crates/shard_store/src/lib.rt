@@ -5,13 +5,14 @@
 mod list;
 mod names;
 mod positions;
+mod reshape;
 mod shelf;
 mod store;
 mod stores;
 
 pub use shelf::ShardStore;
 pub use store::{Store, StoreRef};
-pub use stores::{Parts, Stores};
+pub use stores::{Parts, Stores, greatest_of};
 
 #[cfg(test)]
 mod tests;

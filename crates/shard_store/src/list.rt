@@ -1,5 +1,5 @@
 //! The list of a shard's slot, with the lease that it tells of.
-ghost use Rattle.std.specs.Prelude.{◌≡◌, ◌+◌, ◌-◌, ◌<◌, ◌≤◌, [], ◌∷◌, ◌++◌, length, map, true, false, OnOk, OnErr, max};
+ghost use Rattle.std.specs.Prelude.{◌≡◌, ◌+◌, ◌-◌, ◌<◌, ◌≤◌, [], ◌∷◌, ◌++◌, length, map, true, false, IfOk, OnOk, OnErr, max};
 ghost use Rattle.yard_model.specs.declared.fact.Fact.TheVariants as fact;
 ghost use Rattle.yard_model.specs.declared.incarnation.Slot.TheVariants as slot;
 ghost use Rattle.yard_model.specs.Entry.{shard_fact};
@@ -49,8 +49,35 @@ impl SlotList {
         }
     }
 
+    /// The list that begins anew with these entries, which lease nothing, and the number of shards
+    /// from here on; grants go on above `epoch`. There is no spare. The only error is want of memory,
+    /// also where there would be more than 4,294,967,295 entries.
+    pub(crate) fn begun(
+        s: ShardNo,
+        entries: Vec<ShardEntry>,
+        shards: u8,
+        epoch: u32,
+    ) -> Result<SlotList, AllocError>
+        requires { is_held (map (shard_fact s) entries.items) ≡ false }
+        ensures { IfOk result (λ l. l ≡ record { shard = s; entries = map (shard_fact s) entries.items ++ fact.Resharded s shards epoch ∷ []; spare = 0 }) }
+    {
+        let mut entries = entries;
+        if entries.len() >= u32::MAX as usize {
+            return Err(AllocError);
+        }
+        entries.push(ShardEntry::Reshard { shards, epoch })?;
+        Ok(SlotList {
+            shard: s,
+            entries,
+            spare: 0,
+            epoch,
+            leased: false,
+            holds: PhantomData,
+        })
+    }
+
     /// Makes the spare at least `n`. The only error is want of memory, also where there would be
-    /// more than 4,294,967,295 entries, and then nothing changes.
+    /// more than 4,294,967,295 entries, or could be an epoch above that, and then nothing changes.
     pub(crate) fn reserve(&mut self, n: u32) -> Result<(), AllocError>
         ensures list { self.new ≡ record self.old { spare = self.new.spare } }
         ensures ok { OnOk result (n ≤ self.new.spare) }
@@ -62,7 +89,7 @@ impl SlotList {
             return Ok(());
         }
         let len = self.entries.len() as u32;
-        if n > u32::MAX - len {
+        if n > u32::MAX - len || n > u32::MAX - self.epoch {
             return Err(AllocError);
         }
         self.entries.reserve(n as usize)?;

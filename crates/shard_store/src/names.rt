@@ -54,6 +54,13 @@ impl Names {
         self.names.len()
     }
 
+    /// The names.
+    pub(crate) fn as_slice(&self) -> &[EntityName]
+        ensures { result.now ≡ self.now }
+    {
+        self.names.as_slice()
+    }
+
     /// The place of a name among them.
     pub(crate) fn place(&self, name: &EntityName) -> usize
         requires { list_any (is_name name.now) self.now ≡ true }

@@ -8,7 +8,7 @@ ghost use Rattle.yard_model.specs.Genuine.{is_node};
 ghost use Rattle.yard_model.specs.Lawful.{own, is_held, is_of_shard};
 ghost use Rattle.yard_model.specs.SlotReads.{epoch, journal, last_snapshot, is_remembered};
 ghost use Rattle.shard_store.specs.Shelf.{Shelf, slot_of, may, with_entry};
-ghost use Rattle.shard_store.specs.Shelved.{IsSnapshot, IsThere, no_journal, AreReserved};
+ghost use Rattle.shard_store.specs.Shelved.{IsSnapshot, IsThere, IsShelf, no_journal, AreReserved};
 
 use crate::list::SlotList;
 use crate::names::Names;
@@ -72,9 +72,35 @@ impl ShardStore {
         })
     }
 
+    /// The store of shard `s` of this charter, of a list that has just begun anew, with what is at hand
+    /// of each of the shard's names.
+    pub(crate) fn begun(
+        charter: &Charter,
+        list: SlotList,
+        names: Names,
+        journals: Vec<Journal>,
+        snapshots: Vec<Snapshots>,
+        remembered: Remembered,
+        s: ShardNo,
+    ) -> ShardStore
+        requires { IsShelf (record { script = charter.now; shard = s; entries = list.entries; spare = list.spare }) list.shard names journals.items snapshots.items remembered }
+        ensures { result ≡ record { script = charter.now; shard = s; entries = list.entries; spare = list.spare } }
+    {
+        ShardStore {
+            script: Ghost::of(charter),
+            shard: s,
+            list,
+            names,
+            journals,
+            snapshots,
+            remembered,
+            holds: PhantomData,
+        }
+    }
+
     /// Makes the spare at least `n`, and at once twice that where it is less. The only error is want
-    /// of memory, also where there would be more than 4,294,967,295 entries; the list stays, though
-    /// the spare may have grown.
+    /// of memory, also where there would be more than 4,294,967,295 entries, or could be an epoch above
+    /// that; the list stays, though the spare may have grown.
     pub fn reserve(&mut self, n: u32) -> Result<(), AllocError>
         ensures list { self.new ≡ record self.old { spare = self.new.spare } }
         ensures ok { OnOk result (n ≤ self.new.spare) }
@@ -83,7 +109,7 @@ impl ShardStore {
         if n <= self.list.spare() {
             return Ok(());
         }
-        let wanted = twice(n, self.list.entries().len() as u32);
+        let wanted = twice(n, self.list.entries().len() as u32, self.list.epoch());
         reserve_each(&mut self.journals, wanted)?;
         self.list.reserve(wanted)
     }
@@ -343,11 +369,15 @@ fn no_snapshots(alloc: Global, count: usize, keep: u8) -> Result<Vec<Snapshots>,
     Ok(lists)
 }
 
-/// Twice as many, where so many more fit beside `len` entries; else as many.
-fn twice(n: u32, len: u32) -> u32
+/// Twice as many, where so many more fit beside `len` entries and above `epoch`; else as many.
+fn twice(n: u32, len: u32, epoch: u32) -> u32
     ensures { n ≤ result }
 {
-    if n <= (u32::MAX - len) / 2 { 2 * n } else { n }
+    if n <= (u32::MAX - len) / 2 && n <= (u32::MAX - epoch) / 2 {
+        2 * n
+    } else {
+        n
+    }
 }
 
 /// Makes the spare of each journal at least `n`. The only error is want of memory.

@@ -85,6 +85,28 @@ impl Store {
         }
     }
 
+    /// The epoch of the last grant; before the first 0, or that above which the grants go on. Its list
+    /// is lawful by itself.
+    pub fn epoch(&self) -> u32
+        ensures epoch { result ≡ epoch (entries_of self.now) }
+        ensures own { IsTrue (own (script_of self.now) (slot_of self.now) (entries_of self.now)) }
+    {
+        match self {
+            Store::Shard(store) => {
+                store.entries();
+                store.epoch()
+            }
+            Store::Coordinator(store) => {
+                store.entries();
+                store.epoch()
+            }
+            Store::Queue(store) => {
+                store.entries();
+                store.epoch()
+            }
+        }
+    }
+
     /// Whether the last grant stands. Its list is lawful by itself.
     pub fn is_leased(&self) -> bool
         ensures leased { result ≡ is_held (entries_of self.now) }

@@ -1,24 +1,34 @@
 //! The stores of all slots.
-ghost use Rattle.std.specs.Prelude.{◌≡◌, ℕ, ◌+◌, ◌-◌, ◌<◌, ◌≤◌, [], nat_lt, map, IfOk, if◌then◌else◌};
+ghost use Rattle.std.specs.Prelude.{◌≡◌, ℕ, ◌+◌, ◌-◌, ◌<◌, ◌≤◌, [], true, nat_lt, fold, length, map, max, Some, IfOk, IsTrue, if◌then◌else◌};
 ghost use Rattle.yard_model.specs.declared.incarnation.Slot.TheVariants as slot;
 ghost use Rattle.yard_model.specs.Entry.{shard_fact, coord_fact, queue_fact};
+ghost use Rattle.yard_model.specs.Genuine.{is_brought};
+ghost use Rattle.yard_model.specs.Lawful.{own, is_of_shard};
 ghost use Rattle.yard_model.specs.Script.{Script, setting};
+ghost use Rattle.yard_model.specs.SlotLists.{shard_list};
+ghost use Rattle.yard_model.specs.SlotReads.{epoch};
 ghost use Rattle.yard_model.specs.Trace.{no_lists};
-ghost use Rattle.shard_store.specs.Stores.{IsNew, AreNew, AreHomes, slot_at, lists_at, entries_at};
+ghost use Rattle.yard_model.specs.Words.{numbers, at};
+ghost use Rattle.yard_model.specs.World.{greatest_epoch};
+ghost use Rattle.shard_store.specs.declared.store.Store.TheVariants as store;
+ghost use Rattle.shard_store.specs.Reshaped.{slot_lists, list_of, IsOwn};
+ghost use Rattle.shard_store.specs.Stores.{IsNew, AreNew, AreHomes, slot_at, lists_at, entries_at, entries_in};
 
 use crate::shelf::ShardStore;
 use crate::store::Store;
 use coordinator_state::CoordStore;
 use durable_queue::QueueStore;
+use shard_extract::shard_of;
 use std::alloc::{AllocError, Global};
 use std::marker::{Model, PhantomData};
 use std::snapshot::Snapshot as Ghost;
 use yard_model::{
-    Charter, CoordEntry, Incarnation, Lists, ProducerNo, QueueEntry, ShardEntry, ShardNo,
+    Charter, CoordEntry, EntityName, Incarnation, Lists, ProducerNo, QueueEntry, ShardEntry,
+    ShardNo,
 };
 
 /// How many entries a store takes with no memory while it isn't leased.
-const SPARE: u32 = 100;
+pub(crate) const SPARE: u32 = 100;
 
 /// The store of each slot of a charter: the shards, the coordinator, the queues. Each one that isn't
 /// leased takes a hundred entries with no memory taken; seen as the charter's script and the stores
@@ -58,6 +68,24 @@ impl Stores {
             places,
             holds: PhantomData,
         })
+    }
+
+    /// The greatest epoch of a shard's lease, 0 before the first. Each shard's list is lawful by itself.
+    pub fn greatest_epoch(&self) -> u32
+        ensures greatest { result ≡ greatest_epoch (lists_at self.now.script.config self.now.places) }
+        ensures own { (s : ℕ) → IsTrue (own self.now.script (slot.Shard s) (shard_list (lists_at self.now.script.config self.now.places) s)) }
+    {
+        greatest_of(self.places.as_slice(), self.shards)
+    }
+
+    /// The store of the shard of a name that the charter brings.
+    pub(crate) fn store_of(&self, name: &EntityName) -> &ShardStore
+        requires { is_brought self.now.script name.now ≡ true }
+        ensures script { result.now.script ≡ self.now.script }
+        ensures name { IsTrue (is_of_shard result.now.script result.now.shard name.now) }
+        ensures list { result.now.entries ≡ list_of self.now name.now }
+    {
+        store_at(self.places.as_slice(), shard_of(name, self.shards))
     }
 
     /// The stores of these parts, where each slot has its store.
@@ -196,6 +224,49 @@ impl Lists for Stores {
 
     fn queue(&self, p: ProducerNo) -> &[QueueEntry] {
         queue_entries(self.places.as_slice(), self.shards, p)
+    }
+}
+
+/// The greatest epoch of the slots at the first places, 0 where none was leased. The list of each store
+/// there is lawful by itself.
+pub fn greatest_of(places: &[Option<Store>], count: u8) -> u32
+    requires { count ≤ length places.now }
+    ensures greatest { result ≡ fold (λ m l. max m (epoch l)) 0 (map (entries_at places.now) (numbers 0 count)) }
+    ensures own { (k : ℕ) → k < count → IsOwn (at places.now k) }
+{
+    let mut greatest = 0;
+    for place in 0..count {
+        greatest = larger(greatest, epoch_of(&places[place as usize]));
+    }
+    greatest
+}
+
+/// The larger one.
+fn larger(a: u32, b: u32) -> u32
+    ensures { result ≡ max a b }
+{
+    if a < b { b } else { a }
+}
+
+/// The epoch of a store's slot, 0 where there is no store. Its list is lawful by itself.
+fn epoch_of(store: &Option<Store>) -> u32
+    ensures epoch { result ≡ epoch (entries_in store.now) }
+    ensures own { IsOwn store.now }
+{
+    match store {
+        Some(store) => store.epoch(),
+        None => 0,
+    }
+}
+
+/// The store of a shard.
+fn store_at(places: &[Option<Store>], s: ShardNo) -> &ShardStore
+    requires { (c : Script) × AreHomes c places.now × (s < c.config.shards) }
+    ensures { at places.now s ≡ Some (store.Shard result.now) }
+{
+    match &places[s.get() as usize] {
+        Some(Store::Shard(store)) => store,
+        _ => unreachable!(),
     }
 }
 

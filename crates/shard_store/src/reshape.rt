@@ -1,0 +1,339 @@
+//! The stores for another number of shards: each shard's list begins anew with the entries of its names.
+ghost use Rattle.std.specs.Prelude.{◌≡◌, ℕ, ◌+◌, ◌-◌, ◌<◌, ◌≤◌, ◌++◌, true, false, None, filter, length, map, slice_set, IfOk, OnOk, IsTrue};
+ghost use Rattle.std.specs.List.{list_all, flat_map};
+ghost use Rattle.yard_model.specs.declared.incarnation.Slot.TheVariants as slot;
+ghost use Rattle.yard_model.specs.Entry.{shard_fact};
+ghost use Rattle.yard_model.specs.Era.{entries_of as named_entries, reshaped};
+ghost use Rattle.yard_model.specs.Genuine.{is_brought};
+ghost use Rattle.yard_model.specs.Lawful.{is_held, is_of_shard};
+ghost use Rattle.yard_model.specs.Script.{setting, with_shards};
+ghost use Rattle.yard_model.specs.Setting.{names_of};
+ghost use Rattle.yard_model.specs.SlotLists.{shard_list};
+ghost use Rattle.yard_model.specs.SlotReads.{journal, last_snapshot};
+ghost use Rattle.yard_model.specs.Words.{at};
+ghost use Rattle.yard_model.specs.World.{greatest_epoch};
+ghost use Rattle.shard_store.specs.Reshaped.{slot_lists, next_lists, MayGoOver, is_entry_of, AreEach, IsJournalOf, IsLatestOf, IsMarkOf, IsAfter, IsAfterAt, going_on, is_of_shards};
+ghost use Rattle.shard_store.specs.Shelved.{no_journal, no_snapshots, IsLatest};
+ghost use Rattle.shard_store.specs.Stores.{AreHomes, lists_at, slot_at, script_of, slot_of, entries_of, entries_at, spare_of};
+
+use crate::list::SlotList;
+use crate::names::Names;
+use crate::shelf::ShardStore;
+use crate::store::Store;
+use crate::stores::{Parts, SPARE, Stores};
+use entity_journal::Journal;
+use entity_snapshot::Snapshots;
+use remember_store::Remembered;
+use std::alloc::{AllocError, Global};
+use std::snapshot::Snapshot as Ghost;
+use yard_model::{Charter, EntityName, ShardEntry, ShardNo};
+
+impl Stores {
+    /// The stores for another number of shards, that of `charter`, which says the same beside it; no
+    /// slot is leased. Each shard's list begins anew with the entries of its names. The only error is
+    /// want of memory.
+    pub fn reshape(self, alloc: Global, charter: &Charter) -> Result<Stores, AllocError>
+        requires charter { charter.now ≡ with_shards charter.now.config.shards self.script }
+        requires free { (k : ℕ) → k < length self.places → is_held (entries_at self.places k) ≡ false }
+        ensures script { IfOk result (λ s. s.script ≡ charter.now) }
+        ensures lists { IfOk result (λ s. lists_at charter.now.config s.places ≡ reshaped (setting self.script) charter.now.config.shards (greatest_epoch (lists_at self.script.config self.places)) (lists_at self.script.config self.places)) }
+        ensures free { IfOk result (λ s. (k : ℕ) → k < length s.places → is_held (entries_at s.places k) ≡ false) }
+    {
+        let epoch = self.greatest_epoch();
+        let shards = charter.config().shards;
+        let places = shards_after(alloc, &self, charter, epoch)?;
+        let places = others_after(alloc, places, self.into_parts(), charter, epoch)?;
+        Ok(Stores::from_parts(Parts {
+            script: Ghost::of(charter),
+            shards,
+            places,
+        }))
+    }
+}
+
+/// The stores of the shards from here on. The only error is want of memory.
+fn shards_after(
+    alloc: Global,
+    stores: &Stores,
+    charter: &Charter,
+    epoch: u32,
+) -> Result<Vec<Option<Store>>, AllocError>
+    requires { MayGoOver stores.now charter.now epoch }
+    ensures { IfOk result (λ places. AreEach None (λ k. IsAfterAt charter.now (next_lists stores.now charter.now.config.shards epoch) (slot.Shard k)) places.items charter.now.config.shards) }
+{
+    let shards = charter.config().shards;
+    let mut places = Vec::new(alloc);
+    for s in 0..shards {
+        let store = shard_after(alloc, stores, charter, s, epoch)?;
+        places.push(Some(store))?;
+    }
+    Ok(places)
+}
+
+/// The store of a shard from here on. The only error is want of memory.
+fn shard_after(
+    alloc: Global,
+    stores: &Stores,
+    charter: &Charter,
+    s: u8,
+    epoch: u32,
+) -> Result<Store, AllocError>
+    requires over { MayGoOver stores.now charter.now epoch }
+    requires within { s < charter.now.config.shards }
+    ensures { IfOk result (IsAfter charter.now (slot.Shard s) (shard_list (next_lists stores.now charter.now.config.shards epoch) s)) }
+{
+    let shards = charter.config().shards;
+    let Some(shard) = ShardNo::new(s, shards) else {
+        unreachable!()
+    };
+    let mut store = shelf_after(alloc, stores, charter, shard, epoch)?;
+    store.reserve(SPARE)?;
+    Ok(Store::Shard(store))
+}
+
+/// The same, with no spare.
+fn shelf_after(
+    alloc: Global,
+    stores: &Stores,
+    charter: &Charter,
+    s: ShardNo,
+    epoch: u32,
+) -> Result<ShardStore, AllocError>
+    requires over { MayGoOver stores.now charter.now epoch }
+    requires within { s < charter.now.config.shards }
+    ensures { IfOk result (λ x. x ≡ record { script = charter.now; shard = s; entries = shard_list (next_lists stores.now charter.now.config.shards epoch) s; spare = 0 }) }
+{
+    let names = Names::of_shard(alloc, charter, s)?;
+    let list = list_after(alloc, stores, charter, &names, s, epoch)?;
+    let journals = journals_of(alloc, stores, names.as_slice())?;
+    let snapshots = snapshots_of(alloc, stores, names.as_slice(), charter.config().keep)?;
+    let remembered = marks_of(alloc, stores, names.as_slice())?;
+    Ok(ShardStore::begun(charter, list, names, journals, snapshots, remembered, s))
+}
+
+/// The list of a shard from here on.
+fn list_after(
+    alloc: Global,
+    stores: &Stores,
+    charter: &Charter,
+    names: &Names,
+    s: ShardNo,
+    epoch: u32,
+) -> Result<SlotList, AllocError>
+    requires over { MayGoOver stores.now charter.now epoch }
+    requires within { s < charter.now.config.shards }
+    requires names { names.now ≡ names_of (setting charter.now) s }
+    ensures { IfOk result (λ l. l ≡ record { shard = s; entries = shard_list (next_lists stores.now charter.now.config.shards epoch) s; spare = 0 }) }
+{
+    let shards = charter.config().shards;
+    let entries = entries_of_names(alloc, stores, names.as_slice())?;
+    SlotList::begun(s, entries, shards, epoch)
+}
+
+/// The entries of these names, name by name. The only error is want of memory.
+fn entries_of_names(
+    alloc: Global,
+    stores: &Stores,
+    names: &[EntityName],
+) -> Result<Vec<ShardEntry>, AllocError>
+    requires { list_all (is_brought stores.now.script) names.now ≡ true }
+    ensures { IfOk result (λ v. (s : ℕ) → map (shard_fact s) v.items ≡ flat_map (named_entries (setting stores.now.script) (slot_lists stores.now)) names.now) }
+{
+    let mut entries = Vec::new(alloc);
+    for name in names {
+        add_entries(&mut entries, stores.store_of(name).entries(), name)?;
+    }
+    Ok(entries)
+}
+
+/// Adds the entries of a name. The only error is want of memory.
+fn add_entries(
+    entries: &mut Vec<ShardEntry>,
+    list: &[ShardEntry],
+    name: &EntityName,
+) -> Result<(), AllocError>
+    ensures { OnOk result (entries.new.items ≡ entries.old.items ++ filter (is_entry_of name.now) list.now) }
+{
+    for entry in list {
+        if is_of(entry, name) {
+            entries.push(*entry)?;
+        }
+    }
+    Ok(())
+}
+
+/// Whether this is an entry of that name.
+fn is_of(entry: &ShardEntry, name: &EntityName) -> bool
+    ensures { result ≡ is_entry_of name.now entry.now }
+{
+    match entry {
+        ShardEntry::Wrote(other, _) => *other == *name,
+        ShardEntry::Snapshot(other, _) => *other == *name,
+        ShardEntry::Remembered(other) => *other == *name,
+        ShardEntry::Forgotten(other) => *other == *name,
+        _ => false,
+    }
+}
+
+/// The journals of these names. The only error is want of memory.
+fn journals_of(
+    alloc: Global,
+    stores: &Stores,
+    names: &[EntityName],
+) -> Result<Vec<Journal>, AllocError>
+    requires { list_all (is_brought stores.now.script) names.now ≡ true }
+    ensures { IfOk result (λ v. AreEach no_journal (IsJournalOf stores.now names.now) v.items (length names.now)) }
+{
+    let mut journals = Vec::new(alloc);
+    for name in names {
+        let journal = journal_of(alloc, stores.store_of(name).journal(name))?;
+        journals.push(journal)?;
+    }
+    Ok(journals)
+}
+
+/// A journal of the same records. The only error is want of memory.
+fn journal_of(alloc: Global, journal: &Journal) -> Result<Journal, AllocError>
+    ensures { IfOk result (λ j. j.items ≡ journal.now.items) }
+{
+    let mut same = Journal::new(alloc);
+    same.reserve(journal.len())?;
+    for entry in journal.tail(0) {
+        same.append(*entry);
+    }
+    Ok(same)
+}
+
+/// The latest snapshot of each of these names. The only error is want of memory.
+fn snapshots_of(
+    alloc: Global,
+    stores: &Stores,
+    names: &[EntityName],
+    keep: u8,
+) -> Result<Vec<Snapshots>, AllocError>
+    requires names { list_all (is_brought stores.now.script) names.now ≡ true }
+    requires keep { 0 < keep }
+    ensures { IfOk result (λ v. AreEach no_snapshots (IsLatestOf stores.now names.now) v.items (length names.now)) }
+{
+    let mut lists = Vec::new(alloc);
+    for name in names {
+        let list = latest_of(alloc, stores.store_of(name), name, keep)?;
+        lists.push(list)?;
+    }
+    Ok(lists)
+}
+
+/// The latest snapshot of an entity, of which the last `keep` will stay. The only error is want of
+/// memory.
+fn latest_of(
+    alloc: Global,
+    store: &ShardStore,
+    name: &EntityName,
+    keep: u8,
+) -> Result<Snapshots, AllocError>
+    requires name { IsTrue (is_of_shard store.now.script store.now.shard name.now) }
+    requires keep { 0 < keep }
+    ensures { IfOk result (IsLatest store.now.script.config.kind (journal name.now store.now.entries) (last_snapshot name.now store.now.entries)) }
+{
+    let mut snapshots = Snapshots::new(alloc, keep)?;
+    if let Some(latest) = store.latest(name) {
+        snapshots.save(*latest);
+    }
+    Ok(snapshots)
+}
+
+/// Which of these names are remembered. The only error is want of memory.
+fn marks_of(alloc: Global, stores: &Stores, names: &[EntityName]) -> Result<Remembered, AllocError>
+    requires names { list_all (is_brought stores.now.script) names.now ≡ true }
+    requires few { length names.now ≤ 1000 }
+    ensures { IfOk result (λ marks. AreEach false (IsMarkOf stores.now names.now) marks (length names.now)) }
+{
+    let count = names.len() as u16;
+    let mut marks = Remembered::new(alloc, count)?;
+    for place in 0..count {
+        let name = &names[place as usize];
+        let is_remembered = stores.store_of(name).is_remembered(name);
+        set_mark(&mut marks, place, is_remembered);
+    }
+    Ok(marks)
+}
+
+/// Puts a place in or takes it out.
+fn set_mark(marks: &mut Remembered, place: u16, mark: bool)
+    requires { place < length marks.old }
+    ensures { marks.new ≡ slice_set marks.old place mark }
+{
+    if mark {
+        marks.add(place);
+    } else {
+        marks.drop_name(place);
+    }
+}
+
+/// The stores of all slots: those of the other slots come after those of the shards. The only error
+/// is want of memory.
+fn others_after(
+    alloc: Global,
+    places: Vec<Option<Store>>,
+    old: Parts,
+    charter: &Charter,
+    epoch: u32,
+) -> Result<Vec<Option<Store>>, AllocError>
+    requires homes { AreHomes old.script.value old.places.items }
+    requires shards { old.shards ≡ old.script.value.config.shards }
+    requires charter { charter.now ≡ with_shards charter.now.config.shards old.script.value }
+    requires free { (k : ℕ) → k < length old.places.items → is_held (entries_at old.places.items k) ≡ false }
+    requires first { AreEach None (λ k. IsAfterAt charter.now (reshaped (setting old.script.value) charter.now.config.shards epoch (lists_at old.script.value.config old.places.items)) (slot.Shard k)) places.items charter.now.config.shards }
+    ensures { IfOk result (λ all. AreEach None (λ k. IsAfterAt charter.now (reshaped (setting old.script.value) charter.now.config.shards epoch (lists_at old.script.value.config old.places.items)) (slot_at charter.now.config k)) all.items (charter.now.config.shards + charter.now.config.producers + 1)) }
+{
+    let mut places = places;
+    let Parts {
+        script: _,
+        shards,
+        places: mut stores,
+    } = old;
+    let first = shards as usize;
+    for place in first..stores.len() {
+        let Some(store) = take_out(&mut stores, place) else {
+            unreachable!()
+        };
+        let store = store_after(alloc, store, charter, epoch)?;
+        places.push(Some(store))?;
+    }
+    Ok(places)
+}
+
+/// Takes what stands at a place.
+fn take_out(places: &mut Vec<Option<Store>>, place: usize) -> Option<Store>
+    requires { place < length places.old.items }
+    ensures taken { result ≡ at places.old.items place }
+    ensures places { places.new.items ≡ slice_set places.old.items place None }
+{
+    places[place].take()
+}
+
+/// The store of a slot that isn't a shard's, from here on. The only error is want of memory.
+fn store_after(
+    alloc: Global,
+    store: Store,
+    charter: &Charter,
+    epoch: u32,
+) -> Result<Store, AllocError>
+    requires charter { charter.now ≡ with_shards charter.now.config.shards (script_of store) }
+    requires shards { (script_of store).config.shards ≤ 128 }
+    requires other { is_of_shards (slot_of store) ≡ false }
+    requires free { is_held (entries_of store) ≡ false }
+    requires spare { 100 ≤ spare_of store }
+    ensures { IfOk result (IsAfter charter.now (slot_of store) (going_on charter.now.config.shards epoch (slot_of store) (entries_of store))) }
+{
+    match store {
+        Store::Shard(_) => unreachable!(),
+        Store::Coordinator(store) => {
+            let mut store = store;
+            store.reserve(SPARE + 1)?;
+            let store = store.reshard(alloc, charter, epoch)?;
+            Ok(Store::Coordinator(store))
+        }
+        Store::Queue(store) => Ok(Store::Queue(store.reshard(charter))),
+    }
+}

@@ -1,6 +1,6 @@
 -- What one call of a book of leases does.
 use Rattle.std.proofs.Common.{◌≡◌, ◌≢◌, ℕ, zero, suc, ◌+◌, ◌-◌, ◌<◌, ◌≤◌, ◌⊎◌, inl, inr, List, length, sym, ap, subst, ◌∙◌, refl, true, false, true≢false, arith}
-use Rattle.std.specs.Prelude.{Bool, [], ◌∷◌, ◌++◌, ◌==◌, ◌&&◌, is_some, Option, Some, None, MatchOption, replicate, slice_set, if◌then◌else◌}
+use Rattle.std.specs.Prelude.{Bool, [], ◌∷◌, ◌++◌, ◌==◌, ◌&&◌, is_some, Option, Some, None, MatchOption, replicate, slice_set, if◌then◌else◌, is_none}
 use Rattle.std.specs.List.{list_all}
 use Rattle.std.proofs.lemmas.Bool.Decides.{nat_tests, Decides-eqb}
 use Rattle.std.proofs.lemmas.List.Folds.{list_all-append}
@@ -452,3 +452,32 @@ all_free_again b0 b1 b2 who s x y why n none first second apart slot_is back t t
     by_place : (place_of b0.script.config t ≡ place_of b0.script.config s) ⊎ (place_of b0.script.config t ≢ place_of b0.script.config s) → at b2.holders (place_of b2.script.config t) ≡ None
     by_place (inl e) = same (sym (slot_back b0.script t there_0) ∙ (ap (slot_at b0.script.config) e ∙ slot_back b0.script s slot_is))
     by_place (inr e) = other (λ z. e (ap (place_of b0.script.config) z))
+
+-- A store that is lent.
+
+-- the store at the slot's place is the slot's, which nobody holds
+pub record IsLent (b : Book) (s : Slot) (x : Store) : Type 0 where
+  pub slot_is : slot_of x ≡ s
+  pub free : is_none (at b.holders (place_of b.script.config s)) ≡ true
+
+pub lent : (b : Book) (s : Slot) (x : Store) → IsBook b → is_slot_of b.script s ≡ true → at b.places (place_of b.script.config s) ≡ Some x → IsLent b s x
+lent b s x book i e = by (at b.holders (place_of b.script.config s)) (subst (λ o. IsPlace b.script s o (at b.holders (place_of b.script.config s))) e (place_is b s book i)) refl
+  where
+    by : (h : Option Incarnation) → IsPlace b.script s (Some x) h → at b.holders (place_of b.script.config s) ≡ h → IsLent b s x
+    by None p f = record { slot_is = p.0.slot_is; free = ap is_none f }
+    by (Some who) p f = absurd p
+
+-- where there is none the slot is held
+pub not_lent : (b : Book) (s : Slot) → IsBook b → is_slot_of b.script s ≡ true → at b.places (place_of b.script.config s) ≡ None → is_none (at b.holders (place_of b.script.config s)) ≡ false
+not_lent b s book i e = by (at b.holders (place_of b.script.config s)) (subst (λ o. IsPlace b.script s o (at b.holders (place_of b.script.config s))) e (place_is b s book i)) refl
+  where
+    by : (h : Option Incarnation) → IsPlace b.script s None h → at b.holders (place_of b.script.config s) ≡ h → is_none (at b.holders (place_of b.script.config s)) ≡ false
+    by None p f = absurd p
+    by (Some who) p f = ap is_none f
+
+-- a slot's place is within
+pub place_inside : (b v : Book) (s : Slot) (k : ℕ) → b ≡ v → IsBook b → is_slot_of v.script s ≡ true → k ≡ place_of b.script.config s → k < length b.places
+place_inside b v s k e book i same =
+    let less : place_of b.script.config s < b.script.config.shards + b.script.config.producers + 1 = place_within b.script s (subst (λ (b : Book). is_slot_of b.script s ≡ true) (sym e) i) in
+    let all : length b.places ≡ b.script.config.shards + b.script.config.producers + 1 = book.all in
+    omega (arith, same, less, all)

@@ -1,5 +1,5 @@
 //! The plain form of leases: a book of all slots.
-ghost use Rattle.std.specs.Prelude.{◌≡◌, ℕ, ◌+◌, ◌-◌, ◌<◌, [], ◌∷◌, ◌++◌, false, Some, None, length, replicate, slice_set, IfOk, IsTrue};
+ghost use Rattle.std.specs.Prelude.{◌≡◌, ℕ, ◌+◌, ◌-◌, ◌<◌, [], ◌∷◌, ◌++◌, false, Some, None, length, replicate, slice_set, IfOk, IsTrue, IfSome, is_some, is_none};
 ghost use Rattle.yard_model.specs.declared.fact.Fact.TheVariants as fact;
 ghost use Rattle.yard_model.specs.Lawful.{own, is_held};
 ghost use Rattle.yard_model.specs.Words.{at};
@@ -8,10 +8,10 @@ ghost use Rattle.yard_model.specs.Era.{reshaped};
 ghost use Rattle.yard_model.specs.Script.{Script, setting, with_shards};
 ghost use Rattle.yard_model.specs.SlotReads.{epoch};
 ghost use Rattle.yard_model.specs.World.{greatest_epoch};
-ghost use Rattle.shard_store.specs.Stores.{place_of, entries_at, lists_at, script_of, slot_of, entries_of, spare_of};
+ghost use Rattle.shard_store.specs.Stores.{place_of, entries_at, lists_at, script_of, slot_of, entries_of, spare_of, slot_of_ref, entries_of_ref};
 
 use crate::leases::{Acquire, Leases};
-use shard_store::{Parts, Store, Stores, greatest_of};
+use shard_store::{Parts, Store, StoreRef, Stores, greatest_of};
 use std::alloc::{AllocError, Global};
 use std::marker::{Model, PhantomData};
 use std::snapshot::Snapshot as Ghost;
@@ -93,6 +93,20 @@ impl LeaseBook {
         });
         let stores = stores.reshape(alloc, charter)?;
         LeaseBook::new(alloc, stores)
+    }
+
+    /// The store of a slot that nobody holds, lent; None exactly where the slot is held.
+    pub fn store(&self, slot: Slot) -> Option<StoreRef<'_>>
+        requires { IsTrue (is_slot_of self.now.script slot) }
+        ensures held { is_some result ≡ is_none (at self.now.holders (place_of self.now.script.config slot)) }
+        ensures slot { IfSome result (λ s. slot_of_ref s ≡ slot) }
+        ensures entries { IfSome result (λ s. entries_of_ref s ≡ entries_at self.now.places (place_of self.now.script.config slot)) }
+    {
+        let place = place_in(self.shards, slot);
+        match &self.places[place] {
+            Some(store) => Some(store.as_ref()),
+            None => None,
+        }
     }
 
     /// The stores, where nobody holds a slot.

@@ -147,8 +147,7 @@ settle_leaves w =
     ∷ world.drain from bound
     ∷ world.tick_while_left from bound bound
     ∷ world.settle_end from
-    ∷ [])
-    (
+    ∷ []) (
       order_leaves (map world.go_down (numbers 1 w.set.config.nodes)) (each_leaves world.go_down (numbers 1 w.set.config.nodes) go_down_leaves),
       (
         come_up_leaves 1,

@@ -157,14 +157,14 @@ settle_is y w from bound e f s =
   where
     by_setting : Setting → ℕ → ℕ → Step
     by_setting set from bound = in_order (
-      in_order (map go_down (numbers 1 set.config.nodes))
-          ∷ world.come_up 1
-          ∷ world.drain from bound
-          ∷ in_order (map (λ p. produce p 1) (producers set))
-          ∷ world.drain from bound
-          ∷ world.tick_while_left from bound bound
-          ∷ world.settle_end from
-          ∷ [])
+        in_order (map go_down (numbers 1 set.config.nodes))
+        ∷ world.come_up 1
+        ∷ world.drain from bound
+        ∷ in_order (map (λ p. produce p 1) (producers set))
+        ∷ world.drain from bound
+        ∷ world.tick_while_left from bound bound
+        ∷ world.settle_end from
+        ∷ [])
 
 pub settle_stepped : {E : Type 0} (y new : Yard) (from bound : ℕ) (r : Result (Unit {0}) E) (before after : List Fact) → from ≡ length y.mail.packets → ((w : World) → IsSound y w → bound ≡ world.settle_bound w)
     → Stepped IsSound 18 (settled_by y.script from bound) r y new before after → Stepped IsSound 18 world.settle r y new before after

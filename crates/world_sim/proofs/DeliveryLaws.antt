@@ -17,7 +17,7 @@ use Rattle.yard_model.specs.Behaviour.{is_in, is_of_kind}
 use Rattle.yard_model.specs.Genuine.{is_node, is_genuine_body}
 use Rattle.yard_model.specs.Words.{at, is_among, is_empty}
 use Rattle.yard_model.specs.Node.{Node}
-use Rattle.yard_model.specs.Script.{Script, is_order}
+use Rattle.yard_model.specs.Script.{Script, is_order, with_shards}
 use Rattle.yard_model.specs.SlotLists.{SlotLists}
 use Rattle.yard_model.specs.World as world
 use Rattle.yard_model.specs.World.{World, Made, Step, tell, then_step, node_at, with_order}
@@ -30,14 +30,15 @@ use Rattle.play_laws.specs.Sound.{IsWell}
 use Rattle.world_sim.specs.Keeps.{Keeps}
 use Rattle.world_sim.specs.Mail.{Mails, Heads, ToldSome}
 use Rattle.world_sim.specs.Stands.{Stands}
-use Rattle.world_sim.specs.Stepped.{Counts, IsWhole, IsCut, Stepped}
+use Rattle.world_sim.specs.Stepped.{Counts, IsWhole, IsCut, Plays, Stepped}
 use Rattle.world_sim.specs.Steps.{given, marked}
 use Rattle.world_sim.specs.Yard.{Yard, IsSeen, IsSound, IsSoundFor, MayGive, Goes, noted, state_in}
 use Rattle.world_sim.proofs.EndLaws.{kept_is}
 use Rattle.world_sim.proofs.KeepLaws.{stands_noted}
 use Rattle.world_sim.proofs.PlaceLaws.{state_at}
 use Rattle.world_sim.proofs.RestsLaws.{may_of}
-use Rattle.world_sim.proofs.StepLaws.{goes_then, goes_stop, goes_still, cut_first, cut_next, counts_same, counts_both, step_as, step_then, step_told, if_true, if_false}
+use Rattle.world_sim.proofs.UpLaws.{one_more}
+use Rattle.world_sim.proofs.StepLaws.{goes_then, goes_stop, goes_still, cut_first, cut_next, counts_same, counts_both, step_as, step_then, step_told, plays_of, plays_more, if_true, if_false}
 
 -- A packet is marked.
 
@@ -47,6 +48,8 @@ goes_marked y mail w k before after s p f i u e = record {
   seen_is = record {
     set_is = s.set_is;
     kind_is = s.kind_is;
+    behaviour_is = s.behaviour_is;
+    past_is = s.past_is;
     limit_is = s.limit_is;
     members_are = s.members_are;
     version_is = s.version_is;
@@ -79,22 +82,23 @@ posted_at : {A : Type 0} (ps : List A) (k : ℕ) → 0 < k → (if k == 0 then N
 posted_at ps k h = let e : (k == 0) ≡ false = grind (arith, nat_tests) in ap (λ b. if b then None else slice_get ps (k - 1)) e
 
 -- after it is marked it may be on the wire
-pub marked_sound : Keeps → (y z : Yard) (w : World) (k : ℕ) (p : Packet) (before after : List Fact) → IsSound y w → 0 < k → packet_at y.mail.packets k ≡ Some p → z.script ≡ y.script → Goes before after z (marked k w) → IsSoundFor p z (marked k w).world
+pub marked_sound : Keeps → (y z : Yard) (w : World) (k : ℕ) (p : Packet) (before after : List Fact) → IsSound y w → 0 < k → packet_at y.mail.packets k ≡ Some p → z.script ≡ y.script → Goes before after z (marked k w) → IsSoundFor k p z (marked k w).world
 marked_sound keeps y z w k p before after s h e script g =
     let got : slice_get w.wire (k - 1) ≡ Some p = ap (λ ps. slice_get ps (k - 1)) (sym s.seen_is.wire_is) ∙ (sym (posted_at y.mail.packets k h) ∙ e) in
-    let well : IsWell y.script w.lists p = s.stands_is.sound.wire_is (k - 1) p (subst (λ n. n ≤ k - 1) (sym s.stands_is.built.past_is) (none k)) got in
     record {
       sound = record { seen_is = g.seen_is; stands_is = subst (λ c. Stands c (marked k w).world) (sym script) (keeps.marks y.script w k s.stands_is); going_is = s.going_is };
-      well = subst (λ c. IsWell c w.lists p) (sym script) (record { genuine = well.genuine; different = well.different; carried = well.carried });
+      well = λ later.
+          let well : IsWell y.script w.lists p = s.stands_is.sound.wire_is (k - 1) p (before_it w.past k later) got in
+          subst (λ c. IsWell c w.lists p) (sym script) (record { genuine = well.genuine; different = well.different; carried = well.carried });
     }
   where
-    none : (k : ℕ) → 0 ≤ k - 1
-    none k = omega arith
+    before_it : (a k : ℕ) → a < k → a ≤ k - 1
+    before_it a k h = omega (arith, h)
 
 pub over_stepped : {E : Type 0} (keeps : Keeps) (y z : Yard) (k : ℕ) (p : Packet) (r : Result (Unit {0}) E) (new : Yard) (before between after : List Fact) → 0 < k → packet_at y.mail.packets k ≡ Some p → IsWhole IsSound 0 (marked k) y z before between
-    → Stepped (IsSoundFor p) 0 (world.hand_over k p) r z new between after → Stepped IsSound 0 (world.deliver_by k (Some p)) r y new before after
+    → Stepped (IsSoundFor k p) 0 (world.hand_over k p) r z new between after → Stepped IsSound 0 (world.deliver_by k (Some p)) r y new before after
 over_stepped keeps y z k p r new before between after h e m s =
-    step_then IsSound (IsSoundFor p) 0 0 (marked k) (world.hand_over k p) r y z new before between after m (λ w f g. (f.going_is, marked_sound keeps y z w k p before between f h e m.script_is g)) s
+    step_then IsSound (IsSoundFor k p) 0 0 (marked k) (world.hand_over k p) r y z new before between after m (λ w f g. (f.going_is, marked_sound keeps y z w k p before between f h e m.script_is g)) s
 
 -- Delivering a number is by what was posted under it.
 
@@ -139,21 +143,26 @@ to_some c lists p well =
     let to : is_node c p.to ≡ true = (and_both (is_node c p.from) (is_node c p.to) nodes).1 in
     at_most 1 p.to.node (and_both (nat_le 1 p.to.node) (nat_le p.to.node c.config.nodes) to).0
 
-pub may_packet : (y : Yard) (w : World) (p : Packet) → IsSoundFor p y w → is_among p.to y.members ≡ true → MayGive (input.Packet p) p.to.node y w
-may_packet y w p s m =
+-- it was posted since the number of shards last changed
+pub well_of : (k : ℕ) (y : Yard) (w : World) (p : Packet) → IsSoundFor k p y w → y.force.past < k → IsWell y.script w.lists p
+well_of k y w p s later = s.well (subst (λ n. n < k) s.sound.seen_is.past_is later)
+
+pub may_packet : (k : ℕ) (y : Yard) (w : World) (p : Packet) → IsSoundFor k p y w → y.force.past < k → is_among p.to y.members ≡ true → MayGive (input.Packet p) p.to.node y w
+may_packet k y w p s later m =
+    let well : IsWell y.script w.lists p = well_of k y w p s later in
     let t : IsHere y p.to = here y w p.to s.sound m in
     record {
-      stands_at = record { sound = s.sound; some = to_some y.script w.lists p s.well; up = ap is_none t.is_up };
+      stands_at = record { sound = s.sound; some = to_some y.script w.lists p well; up = ap is_none t.is_up };
       offered = λ st e.
           let it : t.node.state ≡ st = some_is t.node.state st (sym (kept_is p.to.node t.node y w s.sound.seen_is t.is_up) ∙ e) in
-          record { addressed = sym t.who_is ∙ ap (λ (x : Node). x.who) it; may = may_of y.script w (p.to.node - 1) st p s.sound.stands_is s.well e };
+          record { addressed = sym t.who_is ∙ ap (λ (x : Node). x.who) it; may = may_of y.script w (p.to.node - 1) st p s.sound.stands_is well e };
     }
 
 and_none : (a b : Bool) → b ≡ false → (a && b) ≡ false
 and_none true b e = e
 and_none false b e = refl
 
-pub over_apart : (y : Yard) (k : ℕ) (p : Packet) (before : List Fact) → is_among p.to y.members ≡ false → IsWhole (IsSoundFor p) 0 (world.hand_over k p) y y before before
+pub over_apart : (y : Yard) (k : ℕ) (p : Packet) (before : List Fact) → is_among p.to y.members ≡ false → IsWhole (IsSoundFor k p) 0 (world.hand_over k p) y y before before
 over_apart y k p before h = record {
   script_is = refl;
   counts = counts_same y y 0 refl refl;
@@ -165,23 +174,40 @@ over_apart y k p before h = record {
 lt_is : (a b : ℕ) → a < b → nat_lt a b ≡ true
 lt_is a b h = grind (arith, nat_tests)
 
-over_is : (y : Yard) (w : World) (k : ℕ) (p : Packet) → 0 < k → IsSoundFor p y w → is_among p.to y.members ≡ true → given p.to.node (input.Packet p) w ≡ world.hand_over k p w
+not_less : (a b : ℕ) → b ≤ a → nat_lt a b ≡ false
+not_less a b h = grind (arith, nat_tests)
+
+-- one that was posted before goes nowhere
+pub over_past : (y : Yard) (k : ℕ) (p : Packet) (before : List Fact) → k ≤ y.force.past → IsWhole (IsSoundFor k p) 0 (world.hand_over k p) y y before before
+over_past y k p before h = record {
+  script_is = refl;
+  counts = counts_same y y 0 refl refl;
+  goes = λ w s.
+      let past : nat_lt w.past k ≡ false = ap (λ n. nat_lt n k) (sym s.sound.seen_is.past_is) ∙ not_less y.force.past k h in
+      subst (Goes before before y) (if_false (nat_lt w.past k && is_among p.to w.members) (world.give (input.Packet p) (node_at w p.to.node) w) (tell [] w) (ap (λ b. b && is_among p.to w.members) past))
+      (goes_still y w before s.sound.seen_is);
+}
+
+over_is : (y : Yard) (w : World) (k : ℕ) (p : Packet) → y.force.past < k → IsSoundFor k p y w → is_among p.to y.members ≡ true → given p.to.node (input.Packet p) w ≡ world.hand_over k p w
 over_is y w k p h s m =
-    let past : nat_lt w.past k ≡ true = ap (λ n. nat_lt n k) s.sound.stands_is.built.past_is ∙ lt_is 0 k h in
+    let past : nat_lt w.past k ≡ true = ap (λ n. nat_lt n k) (sym s.sound.seen_is.past_is) ∙ lt_is y.force.past k h in
     if_true (nat_lt w.past k && is_among p.to w.members) (world.give (input.Packet p) (node_at w p.to.node) w) (tell [] w) (both (nat_lt w.past k) (is_among p.to w.members) past (ap (is_among p.to) (sym s.sound.seen_is.members_are) ∙ m))
 
-pub over_given : {E : Type 0} (y : Yard) (p : Packet) (k : ℕ) (r : Result (Unit {0}) E) (new : Yard) (before after : List Fact) → 0 < k → is_among p.to y.members ≡ true
-    → Stepped (MayGive (input.Packet p) p.to.node) 0 (given p.to.node (input.Packet p)) r y new before after → Stepped (IsSoundFor p) 0 (world.hand_over k p) r y new before after
+pub over_given : {E : Type 0} (y : Yard) (p : Packet) (k : ℕ) (r : Result (Unit {0}) E) (new : Yard) (before after : List Fact) → y.force.past < k → is_among p.to y.members ≡ true
+    → Stepped (MayGive (input.Packet p) p.to.node) 0 (given p.to.node (input.Packet p)) r y new before after → Stepped (IsSoundFor k p) 0 (world.hand_over k p) r y new before after
 over_given y p k r new before after above m g =
-    step_as (MayGive (input.Packet p) p.to.node) (IsSoundFor p) 0 0 (given p.to.node (input.Packet p)) (world.hand_over k p) r y new before after (omega arith) (λ w s. (may_packet y w p s m, over_is y w k p above s m)) g
+    step_as (MayGive (input.Packet p) p.to.node) (IsSoundFor k p) 0 0 (given p.to.node (input.Packet p)) (world.hand_over k p) r y new before after (omega arith) (λ w s. (may_packet k y w p s above m, over_is y w k p above s m)) g
 
 -- Orders.
 
 -- the order is this one
-pub play_as : {E : Type 0} (n : ℕ) (o p : Order) (r : Result (Unit {0}) E) (old new : Yard) (before after : List Fact) → o ≡ p → n ≤ 1 → Stepped IsSound n (world.play p) r old new before after → Stepped IsSound 1 (world.play o) r old new before after
-play_as n o p r old new before after e less s = step_as IsSound IsSound n 1 (world.play p) (world.play o) r old new before after less (λ w f. (f, ap (λ x. world.play x w) (sym e))) s
+pub play_as : {E : Type 0} (n : ℕ) (o p : Order) (r : Result (Unit {0}) E) (old new : Yard) (before after : List Fact) → o ≡ p → n ≤ 20 → Stepped IsSound n (world.play p) r old new before after → Plays 20 (world.play o) r old new before after
+play_as n o p r old new before after e less s = subst (λ x. Plays 20 (world.play x) r old new before after) (sym e) (plays_of n 20 (world.play p) r old new before after less s)
 
-pub ping_stepped : {E : Type 0} (o : Order) (p : ℕ) (r : Result (Unit {0}) E) (y : Yard) (before after : List Fact) → o ≡ order.Ping p → OnOk r (after ≡ before ++ fact.Nothing ∷ []) → OnErr r (after ≡ before) → Stepped IsSound 1 (world.play o) r y y before after
+pub plays_as : {E : Type 0} (n : ℕ) (o p : Order) (r : Result (Unit {0}) E) (old new : Yard) (before after : List Fact) → o ≡ p → n ≤ 20 → Plays n (world.play p) r old new before after → Plays 20 (world.play o) r old new before after
+plays_as n o p r old new before after e less s = subst (λ x. Plays 20 (world.play x) r old new before after) (sym e) (plays_more n 20 (world.play p) r old new before after less s)
+
+pub ping_stepped : {E : Type 0} (o : Order) (p : ℕ) (r : Result (Unit {0}) E) (y : Yard) (before after : List Fact) → o ≡ order.Ping p → OnOk r (after ≡ before ++ fact.Nothing ∷ []) → OnErr r (after ≡ before) → Plays 20 (world.play o) r y y before after
 ping_stepped o p r y before after e ok err = play_as 0 o (order.Ping p) r y y before after e (omega arith) (nothing_stepped (world.play (order.Ping p)) 0 r y before after ok err (λ w s. refl))
 
 abbrev begun : Line → Step
@@ -191,7 +217,7 @@ pub noted_script : (o : Order) (y : Yard) → (noted o y).script ≡ y.script
 noted_script (order.Send p e c) y = refl
 noted_script o y = refl
 
-noted_counts : (o : Order) (y z : Yard) → Counts 1 (noted o y) z → Counts 1 y z
+noted_counts : (o : Order) (y z : Yard) → Counts 20 (noted o y) z → Counts 20 y z
 noted_counts (order.Send p e c) y z k = record { version_is = k.version_is; ups_are = k.ups_are }
 noted_counts o y z k = k
 
@@ -199,6 +225,8 @@ noted_seen : (o : Order) (y : Yard) (w : World) → IsSeen y w → IsSeen (noted
 noted_seen (order.Send p e c) y w s = record {
   set_is = s.set_is;
   kind_is = s.kind_is;
+  behaviour_is = s.behaviour_is;
+  past_is = s.past_is;
   limit_is = s.limit_is;
   members_are = s.members_are;
   version_is = s.version_is;
@@ -220,19 +248,26 @@ noted_full : (o : Order) (w : World) → (with_order (Some o) w).full ≡ w.full
 noted_full (order.Send p e c) w = refl
 noted_full o w = refl
 
-pub noted_version : (o : Order) (y z : Yard) → z ≡ noted o y → y.version < 4000000000 → z.version < 4000000000
-noted_version o y z e h = subst (λ (v : Yard). v.version < 4000000000) (sym e) (by o)
+pub noted_version : (o : Order) (y z : Yard) → z ≡ noted o y → y.version < 3000000000 → z.version < 3000000000
+noted_version o y z e h = subst (λ (v : Yard). v.version < 3000000000) (sym e) (by o)
   where
-    by : (o : Order) → (noted o y).version < 4000000000
+    by : (o : Order) → (noted o y).version < 3000000000
     by (order.Send p e c) = h
     by o = h
 
-pub noted_ups : (o : Order) (y z : Yard) → z ≡ noted o y → ((k : ℕ) → slice_index_or y.ups k 0 < 4000000000) → (k : ℕ) → slice_index_or z.ups k 0 < 4000000000
-noted_ups o y z e h = subst (λ (v : Yard). (k : ℕ) → slice_index_or v.ups k 0 < 4000000000) (sym e) (by o)
+pub noted_ups : (o : Order) (y z : Yard) → z ≡ noted o y → ((k : ℕ) → slice_index_or y.ups k 0 < 3000000000) → (k : ℕ) → slice_index_or z.ups k 0 < 3000000000
+noted_ups o y z e h = subst (λ (v : Yard). (k : ℕ) → slice_index_or v.ups k 0 < 3000000000) (sym e) (by o)
   where
-    by : (o : Order) → (k : ℕ) → slice_index_or (noted o y).ups k 0 < 4000000000
+    by : (o : Order) → (k : ℕ) → slice_index_or (noted o y).ups k 0 < 3000000000
     by (order.Send p e c) = h
     by o = h
+
+pub noted_ordered : (o : Order) (y z : Yard) → z ≡ noted o y → ((k : ℕ) → slice_index_or y.ordered k 0 < 200000) → (k : ℕ) → slice_index_or z.ordered k 0 ≤ 200000
+noted_ordered o y z e h = subst (λ (v : Yard). (k : ℕ) → slice_index_or v.ordered k 0 ≤ 200000) (sym e) (by o)
+  where
+    by : (o : Order) → (k : ℕ) → slice_index_or (noted o y).ordered k 0 ≤ 200000
+    by (order.Send p e c) k = let a : slice_index_or y.ordered k 0 < 200000 = h k in let b : slice_index_or (noted (order.Send p e c) y).ordered k 0 ≤ slice_index_or y.ordered k 0 + 1 = one_more y.ordered (p - 1) k in omega (arith, a, b)
+    by o k = let a : slice_index_or y.ordered k 0 < 200000 = h k in let same : slice_index_or (noted o y).ordered k 0 ≡ slice_index_or y.ordered k 0 = refl in omega (arith, a, same)
 
 -- the producer of an order has its place
 pub count_there : (y : Yard) (w : World) (p : ℕ) (e : List ℕ) (c : Command) → IsSound y w → is_order y.script.config (order.Send p e c) ≡ true → p ≤ length y.ordered
@@ -250,10 +285,10 @@ noted_sound o y w s = record {
   going_is = noted_full o w ∙ s.going_is;
 }
 
-pub line_stepped : {E : Type 0} (y : Yard) (l : Line) (r : Result (Unit {0}) E) (new : Yard) (before between after : List Fact) → between ≡ before ++ fact.At l.number ∷ [] → Stepped IsSound 1 (world.play l.order) r (noted l.order y) new between after
-    → Stepped IsSound 1 (world.play_line l) r y new before after
+pub line_stepped : {E : Type 0} (y : Yard) (l : Line) (r : Result (Unit {0}) E) (new : Yard) (before between after : List Fact) → between ≡ before ++ fact.At l.number ∷ [] → Plays 20 (world.play l.order) r (noted l.order y) new between after
+    → Plays 20 (world.play_line l) r y new before after
 line_stepped y l (Ok u) new before between after told s = record {
-  script_is = s.script_is ∙ noted_script l.order y;
+  script_is = s.script_is ∙ ap (with_shards new.script.config.shards) (noted_script l.order y);
   counts = noted_counts l.order y new s.counts;
   goes = λ w f.
       let v : World = with_order (Some l.order) w in

@@ -89,7 +89,7 @@ down_told y z n who book mid mail (Ok u) before between after same some limit h 
       script_is = refl;
       counts = record { version_is = omega arith; ups_are = λ k. omega arith };
       goes = λ w s. ended_goes y v w n a.node mid before after s some a.is_up a.ends
-          (record { script_is = refl; nodes_are = refl; members_are = ap (λ x. without x y.members) a.who_is; version_is = refl; ups_are = refl; kind_is = refl; ordered_are = refl }) limit
+          (record { script_is = refl; nodes_are = refl; members_are = ap (λ x. without x y.members) a.who_is; version_is = refl; ups_are = refl; force_is = refl; ordered_are = refl }) limit
           (subst (λ b. IsAllTold mid mail b after) (told ∙ ap (λ x. before ++ fact.Gone x ∷ []) a.who_is) t);
     })
 down_told y z n who book mid mail (Err e) before between after same some limit h told none t =

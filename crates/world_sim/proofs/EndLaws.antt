@@ -137,6 +137,8 @@ gone_seen y w n node s some up =
     record {
       set_is = u.set_is;
       kind_is = u.kind_is;
+      behaviour_is = u.behaviour_is;
+      past_is = u.past_is;
       limit_is = u.limit_is;
       members_are = ap (without node.state.who) u.members_are;
       version_is = ap (λ v. v + 1) u.version_is;
@@ -162,7 +164,7 @@ pub record IsEnded (y z : Yard) (n : ℕ) (node : Standing) : Type 0 where
   pub members_are : z.members ≡ without node.state.who y.members
   pub version_is : z.version ≡ y.version + 1
   pub ups_are : z.ups ≡ y.ups
-  pub kind_is : z.kind ≡ y.kind
+  pub force_is : z.force ≡ y.force
   pub ordered_are : z.ordered ≡ y.ordered
 
 -- the items that wait, where none did
@@ -191,7 +193,7 @@ ended_goes y z w n node mid before after_ s some up d e limit t =
     let tells : Tells (meaning_of z.book) y.script (fold (lists_step (setting y.script)) w.lists fs) = subst (λ c. Tells (meaning_of z.book) c (fold (lists_step (setting c)) w.lists fs)) script
     (for_world n node y w y.mail.items (λ lists. Tells (meaning_of z.book) node.script (fold (lists_step (setting node.script)) lists fs)) s up d.ended.tells) in
     let led : IsSeen z (led_to w1 is (map state_in z.nodes)) = seen_told y1 z w1 is (map state_in z.nodes) s1 own
-    (record { script_is = e.script_is; members_are = e.members_are; version_is = e.version_is; ups_are = e.ups_are; kind_is = e.kind_is; ordered_are = e.ordered_are })
+    (record { script_is = e.script_is; members_are = e.members_are; version_is = e.version_is; ups_are = e.ups_are; force_is = e.force_is; ordered_are = e.ordered_are })
     (mailed_from y.mail mid z.mail is d.beside.packets_are d.beside.fresh_are d.beside.full_is items t.mail_is)
     (record {
       nodes_are = refl;
@@ -234,7 +236,7 @@ pub record IsTurned (y z : Yard) : Type 0 where
   pub members_are : z.members ≡ y.members
   pub version_is : z.version ≡ y.version
   pub ups_are : z.ups ≡ y.ups
-  pub kind_is : z.kind ≡ y.kind
+  pub force_is : z.force ≡ y.force
   pub ordered_are : z.ordered ≡ y.ordered
 
 -- the acts that it told are the definition's
@@ -277,7 +279,7 @@ turned_goes y z w i n node mid before after_ s some up h e t =
     ∙ (ap (λ x. slice_set v.nodes (n - 1) (Some x)) later_is ∙ ap (λ j. slice_set v.nodes (j - 1) (Some to)) (sym place)))) in
     record {
       seen_is = seen_told y z w is (slice_set v.nodes (to.who.node - 1) (Some to)) u own
-          (record { script_is = e.script_is; members_are = e.members_are; version_is = e.version_is; ups_are = e.ups_are; kind_is = e.kind_is; ordered_are = e.ordered_are })
+          (record { script_is = e.script_is; members_are = e.members_are; version_is = e.version_is; ups_are = e.ups_are; force_is = e.force_is; ordered_are = e.ordered_are })
           (mailed_from y.mail mid z.mail is h.handled.beside.packets_are h.handled.beside.fresh_are h.handled.beside.full_is items t.mail_is)
           (record {
             nodes_are = nodes;

@@ -83,7 +83,7 @@ next_after marks from r e =
     let same : filter (nat_lt from) (fresh_of marks) ≡ fresh_from (from + 1) (drop from marks) = above from 1 from marks (omega arith) in
     subst (λ (l : List ℕ). MatchOption r (l ≡ []) (λ k. Heads k l)) (sym same) (heads (from + 1) (drop from marks) r s)
 
-some_heads : (r : Option ℕ) (l : List ℕ) → MatchOption r (l ≡ []) (λ k. Heads k l) → is_some r ≡ not (is_empty l)
+pub some_heads : (r : Option ℕ) (l : List ℕ) → MatchOption r (l ≡ []) (λ k. Heads k l) → is_some r ≡ not (is_empty l)
 some_heads None l h = rw h refl
 some_heads (Some k) l h = rw h.is refl
 

@@ -103,7 +103,7 @@ given_told y n i nodes book mid mail (Ok u) before after h t none = record {
       let a : IsAtPlace i n y book mid nodes = at_place i n y book mid nodes h in
       subst (Goes before after (with_turn y nodes book mail)) (given_is y w n i a.node s.seen_is a.is_up)
       (turned_goes y (with_turn y nodes book mail) w i n a.node mid before after (firm_of y w s) g.stands_at.some a.is_up a.handled
-      (record { script_is = refl; members_are = refl; version_is = refl; ups_are = refl; kind_is = refl; ordered_are = refl }) t);
+      (record { script_is = refl; members_are = refl; version_is = refl; ups_are = refl; force_is = refl; ordered_are = refl }) t);
 }
 given_told y n i nodes book mid mail (Err e) before after h none t = record {
   script_is = refl;

@@ -1,16 +1,15 @@
 -- A world before its first order.
-use Rattle.std.proofs.Common.{◌≡◌, ℕ, zero, suc, false, [], ◌∷◌, length, refl, ap, sym, ◌∙◌, subst, arith}
+use Rattle.std.proofs.Common.{◌≡◌, ℕ, zero, suc, ◌*◌, false, [], ◌∷◌, length, refl, ap, sym, ◌∙◌, subst, arith}
 use Rattle.std.specs.Prelude.{map, replicate, slice_index_or, None, IfSome, IsTrue}
 use Rattle.std.proofs.lemmas.List.{length-replicate}
-use Rattle.yard_model.specs.Script.{Script, IsScript, setting}
+use Rattle.yard_model.specs.Script.{Script, IsScript, setting, with_shards}
 use Rattle.yard_model.specs.Trace.{no_lists}
 use Rattle.yard_model.specs.Words.{at}
 use Rattle.yard_model.specs.World.{new_world, wire_limit}
 use Rattle.shard_lease.specs.Book.{meaning_of}
 use Rattle.node_core.specs.Leased.{Tells}
 use Rattle.node_core.specs.Standing.{Standing}
-use Rattle.world_sim.specs.Built.{are_built}
-use Rattle.world_sim.specs.Stands.{Stands}
+use Rattle.world_sim.specs.Keeps.{Keeps}
 use Rattle.plain_laws.proofs.Booleans.{get_replicate}
 use Rattle.world_sim.specs.World.{IsWorld}
 use Rattle.world_sim.specs.Yard.{Yard, IsSeen, state_in}
@@ -20,7 +19,9 @@ pub record IsNew (y : Yard) (c : Script) : Type 0 where
   pub script_is : y.script ≡ c
   pub members_none : y.members ≡ []
   pub version_none : y.version ≡ 0
-  pub kind_is : y.kind ≡ c.config.kind
+  pub kind_is : y.force.kind ≡ c.config.kind
+  pub behaviour_is : y.force.version ≡ 1
+  pub past_none : y.force.past ≡ 0
   pub ups_none : y.ups ≡ replicate c.config.nodes 0
   pub ordered_none : y.ordered ≡ replicate c.config.producers 0
   pub packets_none : y.mail.packets ≡ []
@@ -39,6 +40,8 @@ pub seen_new : (y : Yard) (c : Script) → IsNew y c → IsSeen y (new_world c w
 seen_new y c k = record {
   set_is = ap setting (sym k.script_is);
   kind_is = k.kind_is ∙ ap (λ (x : Script). x.config.kind) (sym k.script_is);
+  behaviour_is = k.behaviour_is;
+  past_is = k.past_none;
   limit_is = refl;
   members_are = k.members_none;
   version_is = k.version_none;
@@ -55,17 +58,18 @@ seen_new y c k = record {
   tells_is = subst (λ s. Tells (meaning_of y.book) s (no_lists (setting c))) (sym k.script_is) k.tells_is;
 }
 
-pub world_new : (y : Yard) (c : Script) → IsScript c → IsTrue (are_built c) → y.script ≡ c → y.version ≡ 0 → y.ups ≡ replicate c.config.nodes 0 → y.ordered ≡ replicate c.config.producers 0 → IsSeen y (new_world c wire_limit) → Stands c (new_world c wire_limit) → IsWorld y 0 None
-world_new y c script built e version ups ordered seen stands = record {
-  script_is = subst IsScript (sym e) script;
-  built = ap are_built e ∙ built;
-  few = omega arith;
-  kept = (
-    record { seen_is = subst (λ s. IsSeen y (new_world s wire_limit)) (sym e) seen; stands_is = subst (λ s. Stands s (new_world s wire_limit)) (sym e) stands; full_is = refl },
+pub world_new : Keeps → (y : Yard) (c : Script) → IsScript c → y.script ≡ c → y.version ≡ 0 → y.ups ≡ replicate c.config.nodes 0 → y.ordered ≡ replicate c.config.producers 0 → IsSeen y (new_world c wire_limit) → IsWorld c y 0 None
+world_new keeps y c script e version ups ordered seen =
+    let era : y.script ≡ with_shards y.script.config.shards c = e ∙ ap (λ (x : Script). with_shards x.config.shards c) (sym e) in
     record {
-      version_is = omega (arith, version);
-      ups_are = λ k. let none : slice_index_or y.ups k 0 ≡ 0 = ap (λ us. slice_index_or us k 0) ups ∙ get_replicate c.config.nodes k 0 in omega (arith, none);
-      ordered_are = λ k. let none : slice_index_or y.ordered k 0 ≡ 0 = ap (λ os. slice_index_or os k 0) ordered ∙ get_replicate c.config.producers k 0 in omega (arith, none);
-    },
-  );
-}
+      script_is = script;
+      few = omega arith;
+      kept = (
+        record { era_is = era; seen_is = seen; stands_is = keeps.plays c y.script 0 script era seen.set_is; full_is = refl },
+        record {
+          version_is = omega (arith, version);
+          ups_are = λ k. let none : slice_index_or y.ups k 0 ≡ 0 = ap (λ us. slice_index_or us k 0) ups ∙ get_replicate c.config.nodes k 0 in omega (arith, none);
+          ordered_are = λ k. let none : slice_index_or y.ordered k 0 ≡ 0 = ap (λ os. slice_index_or os k 0) ordered ∙ get_replicate c.config.producers k 0 in omega (arith, none);
+        },
+      );
+    }

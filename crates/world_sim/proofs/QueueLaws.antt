@@ -168,14 +168,21 @@ total_of p st list h = by (at st.producers (p - 1)) h
     by None e = absurd (none_is_not_some list e)
     by (Some k) e = ap (λ l. Some (queued_in_all l)) (some_is k.entries list e)
 
--- where it stands at none of the places below this many, it isn't held
-pub not_held : (c : Script) (st : Node) (p n : ℕ) → IsScript c → is_producer c p ≡ true → 162 ≤ n → ((k : ℕ) → k < n → slice_get (held_slots c st) k ≡ Some (slot.Queue p) → ⊥) → total_at p st ≡ None
-not_held c st p n script producer all none = by (at st.producers (p - 1)) refl
+pub no_total : (p : ℕ) (st : Node) → held_list (slot.Queue p) st ≡ None → total_at p st ≡ None
+no_total p st h = by (at st.producers (p - 1)) h
   where
-    by : (o : Option Producer) → at st.producers (p - 1) ≡ o → option_map (λ (k : Producer). queued_in_all k.entries) o ≡ None
+    by : (o : Option Producer) → option_map (λ k. k.entries) o ≡ None → option_map (λ (k : Producer). queued_in_all k.entries) o ≡ None
     by None e = refl
-    by (Some k) e =
-        let a : Among (slot.Queue p) (held_slots c st) = held_among c st p producer (ap (λ o. is_some (option_map (λ (k : Producer). k.entries) o)) e) in
+    by (Some k) e = absurd (none_is_not_some k.entries (sym e))
+
+-- where it stands at none of the places below this many, it isn't held
+pub not_held : (c : Script) (st : Node) (p n : ℕ) → IsScript c → is_producer c p ≡ true → 162 ≤ n → ((k : ℕ) → k < n → slice_get (held_slots c st) k ≡ Some (slot.Queue p) → ⊥) → held_list (slot.Queue p) st ≡ None
+not_held c st p n script producer all none = by (held_list (slot.Queue p) st) refl
+  where
+    by : (o : Option (List Fact)) → held_list (slot.Queue p) st ≡ o → o ≡ None
+    by None e = refl
+    by (Some list) e =
+        let a : Among (slot.Queue p) (held_slots c st) = held_among c st p producer (ap is_some e) in
         let less : a.place < length (held_slots c st) = a.less in
         let few : length (held_slots c st) ≤ 161 = held_few c st (few_slots c script).0 (few_slots c script).1 in
         absurd (none a.place (omega (arith, less, few, all)) a.is)
@@ -202,10 +209,18 @@ one_more_place c st p n before here k less e = by_place ⊥ k n (λ same. here (
     lower : (k : ℕ) → k < n + 1 → (k ≡ n → ⊥) → k < n
     lower k less other = grind arith
 
--- a queue that isn't held has no total
-pub none_held : (p : ℕ) (st : Node) → is_some (at st.producers (p - 1)) ≡ false → None ≡ total_at p st
+-- a queue that isn't held
+pub none_held : (p : ℕ) (st : Node) → is_some (at st.producers (p - 1)) ≡ false → held_list (slot.Queue p) st ≡ None
 none_held p st h = by (at st.producers (p - 1)) h
   where
-    by : (o : Option Producer) → is_some o ≡ false → None ≡ option_map (λ (k : Producer). queued_in_all k.entries) o
+    by : (o : Option Producer) → is_some o ≡ false → option_map (λ (k : Producer). k.entries) o ≡ None
     by None e = refl
     by (Some k) e = absurd (true_is_not_false e)
+
+-- a queue that is held
+pub is_held : (p : ℕ) (st : Node) → is_some (at st.producers (p - 1)) ≡ true → held_list (slot.Queue p) st ≡ None → ⊥
+is_held p st h = by (at st.producers (p - 1)) h
+  where
+    by : (o : Option Producer) → is_some o ≡ true → option_map (λ (k : Producer). k.entries) o ≡ None → ⊥
+    by None e f = true_is_not_false (sym e)
+    by (Some k) e f = none_is_not_some k.entries (sym f)

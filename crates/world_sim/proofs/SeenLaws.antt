@@ -18,7 +18,7 @@ use Rattle.node_core.specs.Leased.{Tells}
 use Rattle.node_core.specs.Standing.{Standing}
 use Rattle.world_sim.specs.Mail.{Mails, ToldSome, facts_of, posts_of, is_past}
 use Rattle.world_sim.specs.Told.{AreTold, is_own_item}
-use Rattle.world_sim.specs.Yard.{Yard, IsSeen, Goes, state_in}
+use Rattle.world_sim.specs.Yard.{Yard, Force, IsSeen, Goes, state_in}
 use Rattle.world_sim.proofs.TellLaws.{words_after, input_within, input_lists, input_members, input_version, input_ups, input_nodes}
 use Rattle.world_sim.proofs.ToldLaws.{told, facts_are}
 
@@ -93,7 +93,7 @@ pub record IsKept (y z : Yard) : Type 0 where
   pub members_are : z.members ≡ y.members
   pub version_is : z.version ≡ y.version
   pub ups_are : z.ups ≡ y.ups
-  pub kind_is : z.kind ≡ y.kind
+  pub force_is : z.force ≡ y.force
   pub ordered_are : z.ordered ≡ y.ordered
 
 -- the nodes and leases after it
@@ -124,7 +124,9 @@ seen_told y z w is nodes s own k m l =
     sym (input_lists (setting z.script) w is w.lists) ∙ (ap (λ set. fold (lists_step set) w.lists fs) (ap setting k.script_is ∙ sym s.set_is) ∙ sym (ap (λ (v : World). v.lists) e)) in
     record {
       set_is = ap (λ (v : World). v.set) e ∙ (s.set_is ∙ ap setting (sym k.script_is));
-      kind_is = k.kind_is ∙ (s.kind_is ∙ ap (λ (c : Script). c.config.kind) (sym k.script_is));
+      kind_is = ap (λ (f : Force). f.kind) k.force_is ∙ (s.kind_is ∙ ap (λ (c : Script). c.config.kind) (sym k.script_is));
+      behaviour_is = ap (λ (f : Force). f.version) k.force_is ∙ (s.behaviour_is ∙ sym (ap (λ (v : World). v.behaviour) e));
+      past_is = ap (λ (f : Force). f.past) k.force_is ∙ (s.past_is ∙ sym (ap (λ (v : World). v.past) e));
       limit_is = ap (λ (v : World). v.limit) e ∙ s.limit_is;
       members_are = k.members_are ∙ (s.members_are ∙ (sym (input_members w is w.members own) ∙ sym (ap (λ (v : World). v.members) e)));
       version_is = k.version_is ∙ (s.version_is ∙ (sym (input_version w is w.version own) ∙ sym (ap (λ (v : World). v.version) e)));
@@ -163,7 +165,7 @@ views_seen y mid new w before after s e f g h t =
     let fs : List Fact = input_facts w is in
     let nodes : (fold world_after w fs).nodes ≡ w.nodes = ap (λ (v : World). v.nodes) (words_after w fs (input_within w is own)) ∙ input_nodes w.set w.behaviour w is w.nodes own in
     record {
-      seen_is = seen_told y (record y { mail = new }) w is (fold world_after w fs).nodes s own (record { script_is = refl; members_are = refl; version_is = refl; ups_are = refl; kind_is = refl; ordered_are = refl })
+      seen_is = seen_told y (record y { mail = new }) w is (fold world_after w fs).nodes s own (record { script_is = refl; members_are = refl; version_is = refl; ups_are = refl; force_is = refl; ordered_are = refl })
           (mailed_from y.mail mid new is e f g items t.mail_is)
           (record {
             nodes_are = s.nodes_are ∙ sym nodes;

@@ -4,11 +4,12 @@ use Rattle.std.specs.Prelude.{Bool, true, false, Result, Ok, Err, OnOk, OnErr, s
 use Rattle.std.specs.Result.{IsErr}
 use Rattle.std.proofs.lemmas.List.{append-nil}
 use Rattle.yard_model.specs.declared.fact.Fact.{Fact}
+use Rattle.yard_model.specs.Script.{Script, with_shards}
 use Rattle.yard_model.specs.World.{World, Made, Step, tell, then_step}
 use Rattle.plain_laws.proofs.Booleans.{true_is_not_false}
 use Rattle.world_sim.specs.Mail.{ToldSome}
-use Rattle.world_sim.specs.Stepped.{Counts, IsWhole, IsCut, Stepped}
-use Rattle.world_sim.specs.Yard.{Yard, IsSeen, Goes}
+use Rattle.world_sim.specs.Stepped.{Counts, IsWhole, IsCut, IsPlayed, Plays, Stepped}
+use Rattle.world_sim.specs.Yard.{Yard, IsSeen, IsSound, Goes}
 
 -- Beginnings of facts.
 
@@ -178,3 +179,20 @@ if_true false m n e = absurd (true_is_not_false (sym e))
 pub if_false : (b : Bool) (m n : Made) → b ≡ false → n ≡ (if b then m else n)
 if_false false m n e = refl
 if_false true m n e = absurd (true_is_not_false e)
+
+-- An order that leaves the number of shards.
+
+same_script : (c d : Script) → d ≡ c → d ≡ with_shards d.config.shards c
+same_script c d e = e ∙ ap (λ (x : Script). with_shards x.config.shards c) (sym e)
+
+pub plays_of : {E : Type 0} (n m : ℕ) (q : Step) (r : Result (Unit {0}) E) (old new : Yard) (before after : List Fact) → n ≤ m → Stepped IsSound n q r old new before after → Plays m q r old new before after
+plays_of n m q (Ok u) old new before after l s = record { script_is = same_script old.script new.script s.script_is; counts = counts_more n m old new l s.counts; goes = s.goes }
+plays_of n m q (Err e) old new before after l s = s
+
+pub plays_err : {E : Type 0} (n : ℕ) (q : Step) (r : Result (Unit {0}) E) (old new : Yard) (before after : List Fact) → IsErr r → IsCut IsSound q old new before after → Plays n q r old new before after
+plays_err n q (Ok u) old new before after h s = absurd (true_is_not_false (sym h))
+plays_err n q (Err e) old new before after h s = s
+
+pub plays_more : {E : Type 0} (n m : ℕ) (q : Step) (r : Result (Unit {0}) E) (old new : Yard) (before after : List Fact) → n ≤ m → Plays n q r old new before after → Plays m q r old new before after
+plays_more n m q (Ok u) old new before after l s = record { script_is = s.script_is; counts = counts_more n m old new l s.counts; goes = s.goes }
+plays_more n m q (Err e) old new before after l s = s

@@ -1,6 +1,6 @@
 -- The end of a world: every node stops, and the stores are at home.
 use Rattle.std.proofs.Common.{◌≡◌, ◌≢◌, ℕ, zero, suc, ◌+◌, ◌-◌, ◌<◌, ◌≤◌, true, List, [], ◌∷◌, ◌++◌, length, fold, refl, ap, sym, ◌∙◌, subst, arith}
-use Rattle.std.specs.Prelude.{nat_lt, nat_le, map, Option, Some, None, is_some, slice_index_or, slice_set}
+use Rattle.std.specs.Prelude.{Bool, false, ◌*◌, Result, Ok, Err, IfOk, nat_lt, nat_le, map, Option, Some, None, is_some, slice_index_or, slice_set}
 use Rattle.std.specs.List.{list_all, flat_map}
 use Rattle.std.proofs.lemmas.Bool.Decides.{nat_tests}
 use Rattle.std.proofs.lemmas.List.Folds.{list_all-append}
@@ -13,7 +13,7 @@ use Rattle.yard_model.specs.declared.incarnation.Slot.TheVariants as slot
 use Rattle.yard_model.specs.Behaviour.{is_in}
 use Rattle.yard_model.specs.Genuine.{is_slot_of}
 use Rattle.yard_model.specs.Node.{Node, crash, freed_stopped}
-use Rattle.yard_model.specs.Script.{Script, Setting, setting}
+use Rattle.yard_model.specs.Script.{Script, Setting, setting, with_shards}
 use Rattle.yard_model.specs.Setting.{shards, producers}
 use Rattle.yard_model.specs.SlotLists.{SlotLists}
 use Rattle.yard_model.specs.SlotReads.{holder}
@@ -35,7 +35,7 @@ use Rattle.world_sim.specs.declared.fault.StepFault.{StepFault}
 use Rattle.world_sim.specs.declared.fault.StepFault.TheVariants as fault
 use Rattle.world_sim.specs.Played.{FreesSome, AreFreed, is_freed, made_of}
 use Rattle.world_sim.specs.Stopped.{IsStopped}
-use Rattle.world_sim.specs.World.{IsKept, IsWorld}
+use Rattle.world_sim.specs.World.{IsAt, IsCounted, IsKept, IsWorld}
 use Rattle.world_sim.specs.Yard.{Yard, IsSeen, IsFirm}
 use Rattle.world_sim.proofs.RestsLaws.{member, there_of, own_of, held_by, told_of}
 use Rattle.world_sim.proofs.TellLaws.{words_after, facts_within}
@@ -162,6 +162,10 @@ stopped_next keeps y z lists v i node s e g = record {
     lower : (k : ℕ) → k < i + 1 → (k ≡ i → ⊥) → k < i
     lower k less other = omega (arith, less, other)
 
+-- where all are down already
+pub stopped_all : (y : Yard) (w : World) → IsFirm y w → ((k : ℕ) → k < y.script.config.nodes → at w.nodes k ≡ None) → IsStopped y.script.config.nodes w.lists y w
+stopped_all y w f down = record { firm_is = f; down = down; freed_are = none_freed y.script w.lists }
+
 -- what holds after so many nodes
 pub record Stopping (old y : Yard) (i : ℕ) : Type 0 where
   pub goes_on : (w : World) → IsFirm old w → (v : World) × IsStopped i w.lists y v
@@ -188,7 +192,7 @@ stopping_next keeps old y z start after i n one node s g =
 
 -- Where no node is up, nobody holds a slot.
 
-none_holds : (c : Script) (w : World) (s : Slot) → Stands c w → ((k : ℕ) → k < c.config.nodes → at w.nodes k ≡ None) → is_slot_of c s ≡ true → holder (list_at w.lists s) ≡ None
+pub none_holds : (c : Script) (w : World) (s : Slot) → Stands c w → ((k : ℕ) → k < c.config.nodes → at w.nodes k ≡ None) → is_slot_of c s ≡ true → holder (list_at w.lists s) ≡ None
 none_holds c w s stands down i = by (holder (list_at w.lists s)) refl
   where
     by : (o : Option Incarnation) → holder (list_at w.lists s) ≡ o → o ≡ None
@@ -252,22 +256,29 @@ lists_home b y lists w same s = lists_same (lists_at y.script.config b.places) w
 
 -- The world's parts, where it found memory.
 
-pub firm_kept : (y : Yard) (n : ℕ) (f : Option StepFault) → IsWorld y n f → f ≢ Some fault.OutOfMemory → IsFirm y (made_of y.script n).world
-firm_kept y n f w h = by f h w.kept
+at_end : (c : Script) (y : Yard) (n : ℕ) (f : Option StepFault) → IsWorld c y n f → f ≢ Some fault.OutOfMemory → (b : Bool) × IsAt c y n b × IsCounted y n
+at_end c y n f w h = by f h w.kept
   where
-    by : (f : Option StepFault) → f ≢ Some fault.OutOfMemory → IsKept y n f → IsFirm y (made_of y.script n).world
-    by None h k = record { seen_is = k.0.seen_is; stands_is = k.0.stands_is }
-    by (Some fault.WireFull) h k = record { seen_is = k.0.seen_is; stands_is = k.0.stands_is }
+    by : (f : Option StepFault) → f ≢ Some fault.OutOfMemory → IsKept c y n f → (b : Bool) × IsAt c y n b × IsCounted y n
+    by None h k = (false, k.0, k.1)
+    by (Some fault.WireFull) h k = (true, k.0, k.1)
     by (Some fault.OutOfMemory) h k = absurd (h refl)
 
-pub version_kept : (y : Yard) (n : ℕ) (f : Option StepFault) → IsWorld y n f → f ≢ Some fault.OutOfMemory → y.version ≤ 200000
-version_kept y n f w h =
-    let counted : y.version ≤ n = by f h w.kept in
-    let few : n ≤ length y.script.orders = w.few in
-    let fits : length y.script.orders ≤ 200000 = w.script_is.fits in
+pub firm_kept : (c : Script) (y : Yard) (n : ℕ) (f : Option StepFault) → IsWorld c y n f → f ≢ Some fault.OutOfMemory → IsFirm y (made_of c n).world
+firm_kept c y n f w h = let k : (b : Bool) × IsAt c y n b × IsCounted y n = at_end c y n f w h in record { seen_is = k.1.seen_is; stands_is = k.1.stands_is }
+
+-- with the number of shards in force
+pub era_kept : (c : Script) (y : Yard) (n : ℕ) (f : Option StepFault) → IsWorld c y n f → f ≢ Some fault.OutOfMemory → y.script ≡ with_shards y.script.config.shards c
+era_kept c y n f w h = (at_end c y n f w h).1.era_is
+
+pub version_kept : (c : Script) (y : Yard) (n : ℕ) (f : Option StepFault) → IsWorld c y n f → f ≢ Some fault.OutOfMemory → y.version ≤ 4000000
+version_kept c y n f w h =
+    let counted : y.version ≤ 20 * n = (at_end c y n f w h).2.version_is in
+    let few : n ≤ length c.orders = w.few in
+    let fits : length c.orders ≤ 200000 = w.script_is.fits in
     omega (arith, counted, few, fits)
-  where
-    by : (f : Option StepFault) → f ≢ Some fault.OutOfMemory → IsKept y n f → y.version ≤ n
-    by None h k = k.1.version_is
-    by (Some fault.WireFull) h k = k.1.version_is
-    by (Some fault.OutOfMemory) h k = absurd (h refl)
+
+-- two things of what came, where it came
+pub both_ok : {T E : Type 0} (r : Result T E) (P Q R : T → Type 0) → ((x : T) → P x → Q x → R x) → IfOk r P → IfOk r Q → IfOk r R
+both_ok (Ok x) P Q R h p q = h x p q
+both_ok (Err e) P Q R h p q = tt

@@ -49,8 +49,8 @@ node_within n nodes e = let p : (nat_le 1 n ≡ true) × (nat_le n nodes ≡ tru
 -- Coming up.
 
 -- the script admits the version in force
-pub admitted_one : (y : Yard) (w : World) → IsSound y w → is_version y.script 1 ≡ true
-admitted_one y w s = ap (is_version y.script) (sym s.stands_is.built.behaviour_is) ∙ s.stands_is.sound.admitted
+pub admitted : (y : Yard) (w : World) → IsSound y w → is_version y.script y.force.version ≡ true
+admitted y w s = ap (is_version y.script) s.seen_is.behaviour_is ∙ s.stands_is.sound.admitted
 
 -- no member is of a node that isn't up
 pub none_of_down : (y : Yard) (w : World) (n : ℕ) → IsSound y w → at y.nodes (n - 1) ≡ None → has_node n y.members ≡ false
@@ -94,7 +94,7 @@ with_node y n node = record y {
   ups = slice_set y.ups (n - 1) (slice_index_or y.ups (n - 1) 0 + 1);
 }
 
-pub entered_goes : (y : Yard) (w : World) (n : ℕ) (node : Standing) (before after : List Fact) → IsSound y w → is_in 1 y.script.config.nodes n ≡ true → node.script ≡ y.script → node.state ≡ new_node (setting y.script) 1 (came y.ups n)
+pub entered_goes : (y : Yard) (w : World) (n : ℕ) (node : Standing) (before after : List Fact) → IsSound y w → is_in 1 y.script.config.nodes n ≡ true → node.script ≡ y.script → node.state ≡ new_node (setting y.script) y.force.version (came y.ups n)
     → after ≡ before ++ fact.Up (came y.ups n) ∷ [] → Goes before after (with_node y n node) (entered n w)
 entered_goes y w n node before after s within script state told =
     let u : IsSeen y w = s.seen_is in
@@ -105,6 +105,8 @@ entered_goes y w n node before after s within script state told =
       seen_is = record {
         set_is = u.set_is;
         kind_is = u.kind_is;
+        behaviour_is = u.behaviour_is;
+        past_is = u.past_is;
         limit_is = u.limit_is;
         members_are = ap (λ ms. ms ++ came y.ups n ∷ []) u.members_are ∙ ap (λ x. w.members ++ x ∷ []) came_is;
         version_is = ap (λ v. v + 1) u.version_is;
@@ -117,7 +119,7 @@ entered_goes y w n node before after s within script state told =
         told_all = u.told_all;
         nodes_are = map-set state_in y.nodes (n - 1) (Some node)
             ∙ (ap (λ ns. slice_set ns (n - 1) (Some node.state)) u.nodes_are
-            ∙ ap (λ st. slice_set w.nodes (n - 1) (Some st)) (state ∙ (ap (new_node (setting y.script) 1) came_is ∙ (ap (λ set. new_node set 1 (came w.ups n)) (sym u.set_is) ∙ ap (λ v. new_node w.set v (came w.ups n)) (sym s.stands_is.built.behaviour_is)))));
+            ∙ ap (λ st. slice_set w.nodes (n - 1) (Some st)) (state ∙ (ap (new_node (setting y.script) y.force.version) came_is ∙ (ap (λ set. new_node set y.force.version (came w.ups n)) (sym u.set_is) ∙ ap (λ v. new_node w.set v (came w.ups n)) u.behaviour_is))));
         scripts_are = λ k. by_place (IfSome (at (slice_set y.nodes (n - 1) (Some node)) k) (λ (v : Standing). v.script ≡ y.script)) k (n - 1)
             (λ e. subst (λ j. IfSome (at (slice_set y.nodes (n - 1) (Some node)) j) (λ (v : Standing). v.script ≡ y.script)) (sym e)
             (subst (λ o. IfSome o (λ (v : Standing). v.script ≡ y.script)) (sym (placed_at y.nodes (n - 1) (Some node) there)) script))
@@ -148,7 +150,7 @@ counts_came y n node = record { version_is = omega arith; ups_are = one_more y.u
 
 -- What is kept once a node came up.
 
-pub entered_whole : (y z : Yard) (n : ℕ) (node : Standing) (before after : List Fact) → z ≡ with_node y n node → is_in 1 y.script.config.nodes n ≡ true → node.script ≡ y.script → node.state ≡ new_node (setting y.script) 1 (came y.ups n)
+pub entered_whole : (y z : Yard) (n : ℕ) (node : Standing) (before after : List Fact) → z ≡ with_node y n node → is_in 1 y.script.config.nodes n ≡ true → node.script ≡ y.script → node.state ≡ new_node (setting y.script) y.force.version (came y.ups n)
     → after ≡ before ++ fact.Up (came y.ups n) ∷ [] → IsWhole IsSound 1 (entered n) y z before after
 entered_whole y z n node before after same within script state told = record {
   script_is = ap (λ (v : Yard). v.script) same;
@@ -156,8 +158,8 @@ entered_whole y z n node before after same within script state told = record {
   goes = λ w s. subst (λ v. Goes before after v (entered n w)) (sym same) (entered_goes y w n node before after s within script state told);
 }
 
-pub yard_is : (a b : Yard) → a.script ≡ b.script → a.kind ≡ b.kind → a.book ≡ b.book → a.nodes ≡ b.nodes → a.members ≡ b.members → a.version ≡ b.version → a.ups ≡ b.ups → a.ordered ≡ b.ordered → a.mail ≡ b.mail → a ≡ b
-yard_is a b e d f g h k l o m i = record { script = e i; kind = d i; book = f i; nodes = g i; members = h i; version = k i; ups = l i; ordered = o i; mail = m i }
+pub yard_is : (a b : Yard) → a.script ≡ b.script → a.force ≡ b.force → a.book ≡ b.book → a.nodes ≡ b.nodes → a.members ≡ b.members → a.version ≡ b.version → a.ups ≡ b.ups → a.ordered ≡ b.ordered → a.mail ≡ b.mail → a ≡ b
+yard_is a b e d f g h k l o m i = record { script = e i; force = d i; book = f i; nodes = g i; members = h i; version = k i; ups = l i; ordered = o i; mail = m i }
 
 -- of an incarnation whose number was counted
 pub came_is : (ups : List ℕ) (n k : ℕ) → k ≡ slice_index_or ups (n - 1) 0 + 1 → record { node = n; number = k } ≡ came ups n

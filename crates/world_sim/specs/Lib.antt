@@ -1,4 +1,3 @@
-pub mod Built
 pub mod Found
 pub mod Keeps
 pub mod Lending

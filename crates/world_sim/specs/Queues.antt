@@ -1,10 +1,12 @@
 -- A producer's queue at a node, and the sends that wait for it.
-use Rattle.std.specs.Prelude.{ℕ, ◌-◌, Bool, false, ◌==◌, not, is_some, Option, Some, None}
+use Rattle.std.specs.Prelude.{ℕ, ◌-◌, Bool, false, ◌==◌, ◌||◌, nat_lt, List, not, is_some, Option, Some, None}
+use Rattle.std.specs.List.{list_any}
 use Rattle.std.specs.Option.{option_map}
+use Rattle.yard_model.specs.declared.fact.Fact.{Fact}
 use Rattle.yard_model.specs.declared.incarnation.Slot.{Slot}
 use Rattle.yard_model.specs.declared.incarnation.Slot.TheVariants as slot
 use Rattle.yard_model.specs.Node.{Node}
-use Rattle.yard_model.specs.SlotReads.{queued_in_all}
+use Rattle.yard_model.specs.SlotReads.{confirmed, queued, queued_in_all}
 use Rattle.yard_model.specs.Words.{at}
 use Rattle.node_core.specs.Standing.{Standing}
 
@@ -30,3 +32,7 @@ is_queue_of p s = false
 abbrev pub is_without : ℕ → Option Standing → Bool
 is_without p None = false
 is_without p (Some v) = not (is_some (at v.state.producers (p - 1)))
+
+-- some of so many ordered sends isn't queued, or isn't confirmed
+abbrev pub is_left_in : ℕ → List (List ℕ) → List Fact → Bool
+is_left_in ordered names list = nat_lt (queued_in_all list) ordered || list_any (λ e. nat_lt (confirmed e list) (queued e list)) names

@@ -1,5 +1,5 @@
 -- What the code keeps of a world, and the world of the definition that it stands for.
-use Rattle.std.specs.Prelude.{◌≡◌, ℕ, ◌+◌, ◌-◌, ◌≤◌, true, false, List, [], ◌++◌, length, map, Option, Some, IfSome, is_none, slice_index_or, slice_set}
+use Rattle.std.specs.Prelude.{◌≡◌, ℕ, ◌+◌, ◌-◌, ◌<◌, ◌≤◌, true, false, List, [], ◌++◌, length, map, Option, Some, IfSome, is_none, slice_index_or, slice_set}
 use Rattle.std.specs.Option.{option_map}
 use Rattle.yard_model.specs.declared.charter.Order.{Order}
 use Rattle.yard_model.specs.declared.charter.Order.TheVariants as order
@@ -20,9 +20,15 @@ use Rattle.play_laws.specs.Sound.{IsWell}
 use Rattle.world_sim.specs.Mail.{Mails}
 use Rattle.world_sim.specs.Stands.{Stands}
 
+-- what is in force
+pub record Force : Type 0 where
+  pub kind : Kind  -- of the behaviour
+  pub version : ℕ  -- of the behaviour
+  pub past : ℕ  -- how many were posted before the number of shards last changed
+
 pub record Yard : Type 0 where
-  pub script : Script
-  pub kind : Kind  -- of its behaviour
+  pub script : Script  -- with the number of shards in force
+  pub force : Force
   pub book : Book
   pub nodes : List (Option Standing)  -- per node, where it is up
   pub members : List Incarnation
@@ -37,7 +43,9 @@ state_in o = option_map (λ (v : Standing). v.state) o
 -- each word stands for the world's; the lists are those that the leases tell, and that the nodes have in hand
 pub record IsSeen (y : Yard) (w : World) : Type 0 where
   pub set_is : w.set ≡ setting y.script
-  pub kind_is : y.kind ≡ y.script.config.kind
+  pub kind_is : y.force.kind ≡ y.script.config.kind
+  pub behaviour_is : y.force.version ≡ w.behaviour
+  pub past_is : y.force.past ≡ w.past
   pub limit_is : w.limit ≡ wire_limit
   pub members_are : y.members ≡ w.members
   pub version_is : y.version ≡ w.version
@@ -64,10 +72,10 @@ pub record IsSound (y : Yard) (w : World) : Type 0 where
   pub stands_is : Stands y.script w
   pub going_is : w.full ≡ false
 
--- and this packet may be on its wire
-pub record IsSoundFor (p : Packet) (y : Yard) (w : World) : Type 0 where
+-- and this packet may be on its wire, by this number
+pub record IsSoundFor (k : ℕ) (p : Packet) (y : Yard) (w : World) : Type 0 where
   pub sound : IsSound y w
-  pub well : IsWell y.script w.lists p
+  pub well : w.past < k → IsWell y.script w.lists p
 
 -- an input for this node, which keeps what it promises; all is vouched for
 pub record IsOffered (c : Script) (i : Input) (st : Node) : Type 0 where

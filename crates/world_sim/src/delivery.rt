@@ -1,5 +1,5 @@
 //! Packets that are delivered.
-ghost use Rattle.std.specs.Prelude.{◌≡◌, ℕ, ◌<◌, ◌≤◌, length, Some};
+ghost use Rattle.std.specs.Prelude.{◌≡◌, ◌<◌, ◌≤◌, length, Some};
 ghost use Rattle.yard_model.specs.World.{World, hand_over, deliver, deliver_by, drain, pump};
 ghost use Rattle.wire_packet.specs.Wire.{packet_at};
 ghost use Rattle.world_sim.specs.Stepped.{Stepped};
@@ -39,7 +39,7 @@ impl<B: Behaviour + Copy + Drop> Yard<B> {
     {
         standing_is_kept();
         self.mark(number, facts)?;
-        self.hand_over(packet, facts)
+        self.hand_over(number, packet, facts)
     }
 
     /// A packet that was posted is delivered now.
@@ -54,12 +54,20 @@ impl<B: Behaviour + Copy + Drop> Yard<B> {
         Ok(())
     }
 
-    /// A packet at the node that it is addressed to, where that incarnation is up. Its number isn't
-    /// asked: the number of shards has never changed.
-    fn hand_over(&mut self, packet: &Packet, facts: &mut Facts) -> Result<(), AllocError>
-        requires { (w : World) × IsSoundFor packet.now self.old w }
-        ensures { (k : ℕ) → 0 < k → Stepped (IsSoundFor packet.now) 0 (hand_over k packet.now) result self.old self.new facts.old facts.new }
+    /// The packet of this number at the node that it is addressed to, where that incarnation is up. One
+    /// that was posted before the number of shards last changed goes to nobody.
+    fn hand_over(
+        &mut self,
+        number: u32,
+        packet: &Packet,
+        facts: &mut Facts,
+    ) -> Result<(), AllocError>
+        requires { (w : World) × IsSoundFor number packet.now self.old w }
+        ensures { Stepped (IsSoundFor number packet.now) 0 (hand_over number packet.now) result self.old self.new facts.old facts.new }
     {
+        if number <= self.past {
+            return Ok(());
+        }
         if !has(&self.members, &packet.to) {
             return Ok(());
         }
@@ -68,7 +76,7 @@ impl<B: Behaviour + Copy + Drop> Yard<B> {
 
     /// At most `n` packets above `from` that were never delivered are delivered, the lowest number
     /// first, also those that are posted meanwhile.
-    fn drain(&mut self, from: u32, n: u32, facts: &mut Facts) -> Result<(), AllocError>
+    pub(crate) fn drain(&mut self, from: u32, n: u32, facts: &mut Facts) -> Result<(), AllocError>
         requires world { (w : World) × IsSound self.old w }
         requires from { from < 4000000000 }
         ensures { Stepped IsSound 0 (drain from n) result self.old self.new facts.old facts.new }

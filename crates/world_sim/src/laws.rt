@@ -49,7 +49,7 @@ pub fn made_is_safe()
     played_is_sound();
 }
 
-/// A world begins sound, and each step of an order that is built keeps it so.
+/// The world after any orders is sound, and each step keeps it so.
 pub fn standing_is_kept()
     ensures { Keeps }
 {

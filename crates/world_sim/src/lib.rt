@@ -3,9 +3,11 @@
 
 mod asks;
 mod delivery;
+mod era;
 mod fault;
 mod gives;
 pub mod laws;
+mod left;
 mod mail;
 mod members;
 mod orders;
@@ -13,6 +15,7 @@ mod places;
 mod produces;
 mod queues;
 mod seek;
+mod settle;
 mod stops;
 mod stores;
 mod turns;

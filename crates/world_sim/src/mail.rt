@@ -136,6 +136,15 @@ impl Mail {
         self.wire.next_fresh(from + 1)
     }
 
+    /// Whether some packet above `from` was never delivered.
+    #[tactic(auto, using(crate::proofs::FreshLaws::some_heads))]
+    pub fn has_after(&self, from: u32) -> bool
+        requires { from < 4000000000 }
+        ensures { result ≡ not (is_empty (filter (nat_lt from) self.now.fresh)) }
+    {
+        self.next_after(from).is_some()
+    }
+
     /// Whether some packet was never delivered.
     #[tactic(auto, using(crate::proofs::FreshLaws::any_fresh))]
     pub fn has_fresh(&self) -> bool

@@ -1,10 +1,9 @@
 //! The orders of a script.
-ghost use Rattle.std.specs.Prelude.{ℕ, ◌≡◌, ◌<◌, IsTrue, slice_index_or};
+ghost use Rattle.std.specs.Prelude.{ℕ, ◌≡◌, ◌<◌, ◌≤◌, IsTrue, slice_index_or};
 ghost use Rattle.yard_model.specs.Script.{is_order};
 ghost use Rattle.yard_model.specs.World.{World, play, play_line};
 ghost use Rattle.play_laws.specs.Played.{is_named};
-ghost use Rattle.world_sim.specs.Built.{is_built_order};
-ghost use Rattle.world_sim.specs.Stepped.{Stepped};
+ghost use Rattle.world_sim.specs.Stepped.{Plays};
 ghost use Rattle.world_sim.specs.Yard.{IsSound, noted};
 
 use crate::places::count_one;
@@ -19,11 +18,10 @@ impl<B: Behaviour + Copy + Drop> Yard<B> {
         requires world { (w : World) × IsSound self.old w }
         requires order { IsTrue (is_order self.old.script.config line.now.order) }
         requires named { IsTrue (is_named self.old.script line.now.order) }
-        requires built { IsTrue (is_built_order line.now.order) }
-        requires version { self.old.version < 4000000000 }
-        requires ups { (k : ℕ) → slice_index_or self.old.ups k 0 < 4000000000 }
-        requires ordered { (k : ℕ) → slice_index_or self.old.ordered k 0 < 4000000000 }
-        ensures { Stepped IsSound 1 (play_line line.now) result self.old self.new facts.old facts.new }
+        requires version { self.old.version < 3000000000 }
+        requires ups { (k : ℕ) → slice_index_or self.old.ups k 0 < 3000000000 }
+        requires ordered { (k : ℕ) → slice_index_or self.old.ordered k 0 < 200000 }
+        ensures { Plays 20 (play_line line.now) result self.old self.new facts.old facts.new }
     {
         facts.push(Fact::At(line.number))?;
         self.note(&line.order);
@@ -47,10 +45,10 @@ impl<B: Behaviour + Copy + Drop> Yard<B> {
         requires world { (w : World) × IsSound self.old w }
         requires order { IsTrue (is_order self.old.script.config order.now) }
         requires named { IsTrue (is_named self.old.script order.now) }
-        requires built { IsTrue (is_built_order order.now) }
-        requires version { self.old.version < 4000000000 }
-        requires ups { (k : ℕ) → slice_index_or self.old.ups k 0 < 4000000000 }
-        ensures { Stepped IsSound 1 (play order.now) result self.old self.new facts.old facts.new }
+        requires version { self.old.version < 3000000000 }
+        requires ups { (k : ℕ) → slice_index_or self.old.ups k 0 < 3000000000 }
+        requires ordered { (k : ℕ) → slice_index_or self.old.ordered k 0 ≤ 200000 }
+        ensures { Plays 20 (play order.now) result self.old self.new facts.old facts.new }
     {
         match order {
             Order::Up(n) => self.up(*n, facts),
@@ -65,8 +63,10 @@ impl<B: Behaviour + Copy + Drop> Yard<B> {
             Order::Deliver(number) => self.deliver(*number, facts),
             Order::Pump(n) => self.pump(*n as u32, facts),
             Order::Rebalance(most) => self.rebalance(*most, facts),
+            Order::Settle => self.settle(facts),
+            Order::Reshard(n) => self.reshard(*n, facts),
+            Order::Upgrade => self.upgrade(facts),
             Order::Ping(_) => facts.push(Fact::Nothing),
-            _ => unreachable!(),
         }
     }
 }

@@ -1,5 +1,6 @@
 //! Nodes by their numbers.
-ghost use Rattle.std.specs.Prelude.{◌≡◌, ◌+◌, ◌-◌, ◌<◌, ◌≤◌, length, is_none, slice_set, slice_index_or, replicate, IfOk, Some, None, if◌then◌else◌};
+ghost use Rattle.std.specs.Prelude.{◌≡◌, ◌+◌, ◌-◌, ◌<◌, ◌≤◌, length, is_none, is_some, slice_set, slice_index_or, replicate, IfOk, Some, None, if◌then◌else◌};
+ghost use Rattle.std.specs.List.{list_any};
 ghost use Rattle.yard_model.specs.Words.{at};
 
 use behaviour_core::Behaviour;
@@ -14,6 +15,13 @@ pub(crate) fn is_down<B: Behaviour>(nodes: &Vec<Option<Node<B>>>, n: NodeNo) -> 
 {
     let place = n.get() as usize - 1;
     nodes[place].is_none()
+}
+
+/// Whether a node is up.
+pub(crate) fn is_any_up<B: Behaviour>(nodes: &Vec<Option<Node<B>>>) -> bool
+    ensures { result ≡ list_any is_some nodes.now.items }
+{
+    nodes.as_slice().iter().any(|node| node.is_some())
 }
 
 /// Puts a node at the place of this number.

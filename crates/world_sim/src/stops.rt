@@ -11,26 +11,27 @@ use crate::yard::Yard;
 use behaviour_core::Behaviour;
 use shard_store::Stores;
 use std::alloc::AllocError;
-use yard_model::{Facts, NodeNo};
+use yard_model::{Charter, Facts, NodeNo};
 
 impl<B: Behaviour + Copy + Drop> Yard<B> {
-    /// The stores of all slots, once every node that is up has stopped. The only error is want of
-    /// memory.
-    pub(crate) fn into_stores(self) -> Result<Stores, AllocError>
+    /// The charter with the number of shards in force, and the stores of all slots, once every node that
+    /// is up has stopped. The only error is want of memory.
+    pub(crate) fn into_stores(self) -> Result<(Charter, Stores), AllocError>
         requires world { (w : World) × IsFirm self w }
-        requires version { self.version ≤ 200000 }
-        ensures script { IfOk result (λ s. s.script ≡ self.script) }
-        ensures lists { (w : World) → IsFirm self w → IfOk result (λ s. AreFreed self.script w.lists (lists_at self.script.config s.places)) }
+        requires version { self.version ≤ 4000000 }
+        ensures charter { IfOk result (λ r. r.0 ≡ self.script) }
+        ensures script { IfOk result (λ r. r.1.script ≡ self.script) }
+        ensures lists { (w : World) → IsFirm self w → IfOk result (λ r. AreFreed self.script w.lists (lists_at self.script.config r.1.places)) }
     {
         let mut yard = self;
         yard.stop()?;
-        Ok(yard.book.into_stores())
+        Ok((yard.charter, yard.book.into_stores()))
     }
 
     /// Every node that is up goes down.
     fn stop(&mut self) -> Result<(), AllocError>
         requires world { (w : World) × IsFirm self.old w }
-        requires version { self.old.version ≤ 200000 }
+        requires version { self.old.version ≤ 4000000 }
         ensures stopped { OnOk result ((w : World) → IsFirm self.old w → (v : World) × IsStopped self.old.script.config.nodes w.lists self.new v) }
         ensures script { self.new.script ≡ self.old.script }
     {

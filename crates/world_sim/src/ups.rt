@@ -16,9 +16,6 @@ use node_core::Node;
 use std::alloc::AllocError;
 use yard_model::{Fact, Facts, Incarnation, NodeNo};
 
-/// The version of behaviours that is in force.
-const IN_FORCE: u8 = 1;
-
 impl<B: Behaviour + Copy + Drop> Yard<B> {
     /// A view of all members is posted to each, oldest first.
     fn views(&mut self, facts: &mut Facts) -> Result<(), AllocError>
@@ -31,7 +28,7 @@ impl<B: Behaviour + Copy + Drop> Yard<B> {
     }
 
     /// A node that isn't up comes up, under the number after its last one; then the views.
-    fn come_up(&mut self, n: NodeNo, facts: &mut Facts) -> Result<(), AllocError>
+    pub(crate) fn come_up(&mut self, n: NodeNo, facts: &mut Facts) -> Result<(), AllocError>
         requires world { (w : World) × IsSound self.old w }
         requires node { is_in 1 self.old.script.config.nodes n ≡ true }
         requires down { at self.old.nodes (n - 1) ≡ None }
@@ -55,8 +52,7 @@ impl<B: Behaviour + Copy + Drop> Yard<B> {
         let number = next_number(&self.ups, n);
         let version = self.version + 1;
         let who = &Incarnation { node: n, number };
-        let behaviour = self.behaviour.at_version(IN_FORCE);
-        let node = Node::new(self.alloc, *who, &self.charter, behaviour)?;
+        let node = Node::new(self.alloc, *who, &self.charter, self.behaviour)?;
         facts.push(Fact::Up(*who))?;
         self.members = with(&self.members, *who);
         self.version = version;

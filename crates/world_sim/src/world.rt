@@ -5,7 +5,6 @@ ghost use Rattle.yard_model.specs.Script.{IsScript};
 ghost use Rattle.yard_model.specs.World.{new_world, wire_limit};
 ghost use Rattle.shard_store.specs.Stores.{lists_at};
 ghost use Rattle.world_sim.specs.declared.fault.StepFault.TheVariants as fault;
-ghost use Rattle.world_sim.specs.Built.{are_built};
 ghost use Rattle.world_sim.specs.Played.{Answers, Steps, AreFreed, made_of};
 ghost use Rattle.world_sim.specs.Yard.{IsSeen};
 
@@ -19,12 +18,14 @@ use shard_lease::LeaseBook;
 use shard_store::Stores;
 use std::alloc::{AllocError, Global};
 use std::marker::{Model, PhantomData};
+use std::snapshot::Snapshot;
 use yard_model::{Charter, Facts, Line, Members};
 
 /// All nodes of a script, one step after the other: the members, the packets between them, and the
 /// leases. Seen as the script, how many of its orders were played, and what ended it.
 #[derive(Drop)]
 pub struct World<B: Behaviour> {
+    pub(crate) script: Snapshot<Charter>,
     pub(crate) yard: Yard<B>,
     pub(crate) count: u32,
     pub(crate) fault: Option<StepFault>,
@@ -36,21 +37,22 @@ impl<B: Behaviour> Model for World<B> {
 
     ghost Value = { Played };
 
-    ghost view = { λ w. record { script = w.yard.script; count = w.count; fault = w.fault } };
+    ghost view = { λ w. record { script = w.script.value; count = w.count; fault = w.fault } };
 
-    ghost invariant = { λ w. IsWorld w.yard w.count w.fault };
+    ghost invariant = { λ w. IsWorld w.script.value w.yard w.count w.fault };
 }
 
 impl<B: Behaviour + Copy + Drop> World<B> {
-    /// The world of a script before its first order. The only error is want of memory.
+    /// The world of a script before its first order, whose behaviour begins in version 1. The only
+    /// error is want of memory.
     pub fn new(alloc: Global, charter: &Charter, behaviour: B) -> Result<World<B>, AllocError>
-        requires built { IsTrue (are_built charter.now) }
-        requires kind { B.kind_of behaviour ≡ charter.now.config.kind }
+        requires { B.kind_of behaviour ≡ charter.now.config.kind }
         ensures { IfOk result (λ w. w ≡ record { script = charter.now; count = 0; fault = None }) }
     {
         standing_is_kept();
         let yard = new_yard(alloc, charter, behaviour)?;
         Ok(World {
+            script: Snapshot::of(charter),
             yard,
             count: 0,
             fault: None,
@@ -96,6 +98,9 @@ impl<B: Behaviour + Copy + Drop> World<B> {
     }
 }
 
+/// The version of behaviours that is in force at first.
+const FIRST: u8 = 1;
+
 /// The parts of a world in which no node is up and nothing is posted. The only error is want of
 /// memory.
 fn new_yard<B: Behaviour + Copy + Drop>(
@@ -112,6 +117,7 @@ fn new_yard<B: Behaviour + Copy + Drop>(
     ensures known { IfOk result (λ y. IsScript y.script) }
 {
     let charter = charter.copy(alloc)?;
+    let behaviour = behaviour.at_version(FIRST);
     let count = charter.config().nodes;
     let producers = charter.config().producers;
     let stores = Stores::new(alloc, &charter)?;
@@ -131,6 +137,7 @@ fn new_yard<B: Behaviour + Copy + Drop>(
         ups,
         ordered,
         mail: Mail::new(alloc),
+        past: 0,
         holds: PhantomData,
     })
 }

@@ -10,7 +10,8 @@ use std::marker::{Model, PhantomData};
 use yard_model::{Body, Charter, Fact, Item, Members, Packet, Slot, State};
 
 /// What a world keeps: the nodes that are up, who is a member, the leases, the packets, and how many of
-/// each producer's sends were ordered.
+/// each producer's sends were ordered; the script with the number of shards in force, the behaviour in
+/// force, and how many packets were posted before that number last changed.
 #[derive(Drop)]
 pub(crate) struct Yard<B: Behaviour> {
     pub(crate) alloc: Global,
@@ -23,6 +24,7 @@ pub(crate) struct Yard<B: Behaviour> {
     pub(crate) ups: Vec<u32>,
     pub(crate) ordered: Vec<u32>,
     pub(crate) mail: Mail,
+    pub(crate) past: u32,
     pub(crate) holds: PhantomData<(Item, Fact, Packet, Body, State, Slot)>,
 }
 
@@ -33,7 +35,7 @@ impl<B: Behaviour> Model for Yard<B> {
 
     ghost view = { λ y. record {
       script = y.charter;
-      kind = B.kind_of y.behaviour;
+      force = record { kind = B.kind_of y.behaviour; version = B.version_of y.behaviour; past = y.past };
       book = y.book;
       nodes = y.nodes.items;
       members = y.members;

@@ -114,14 +114,14 @@ freed_same c old new freed = record {
 pub freed_report : (c : Script) (old new : SlotLists) → AreFreed c old new → report (setting c) new ≡ report (setting c) old
 freed_report c old new freed = report_same (setting c) old new (freed_same c old new freed)
 
--- a world that is through has the number of shards of its script
-pub set_of : (c : Script) (world : Played) → IsDone c world → (made_of world.script world.count).world.set ≡ setting world.script → (played c wire_limit).world.set ≡ setting c
-set_of c world done is = subst (λ (m : Made). m.world.set ≡ setting c) done.made_is (subst (λ (s : Script). (made_of s world.count).world.set ≡ setting s) done.script_is is)
+-- the charter's setting is that of the world that is through
+pub set_of : (c d : Script) (world : Played) → IsDone c world → setting d ≡ (made_of world.script world.count).world.set → setting d ≡ (played c wire_limit).world.set
+set_of c d world done is = is ∙ (ap (λ (s : Script). (made_of s world.count).world.set) done.script_is ∙ ap (λ (m : Made). m.world.set) done.made_is)
 
--- the lists of the stores of a world that is through with its script
-pub freed_of : (c : Script) (world : Played) (stores : Shelves) → IsDone c world → stores.script ≡ world.script
-    → AreFreed world.script (made_of world.script world.count).world.lists (lists_at world.script.config stores.places) → AreFreed c (played c wire_limit).world.lists (lists_at stores.script.config stores.places)
-freed_of c world stores done is freed =
-    let here : AreFreed c (made_of c world.count).world.lists (lists_at c.config stores.places) = subst (λ (s : Script). AreFreed s (made_of s world.count).world.lists (lists_at s.config stores.places)) done.script_is freed in
-    let whole : AreFreed c (played c wire_limit).world.lists (lists_at c.config stores.places) = subst (λ (m : Made). AreFreed c m.world.lists (lists_at c.config stores.places)) done.made_is here in
-    subst (λ (s : Script). AreFreed c (played c wire_limit).world.lists (lists_at s.config stores.places)) (sym (is ∙ done.script_is)) whole
+-- the lists of the stores of a world that is through with its script, for the number of shards in force
+pub freed_of : (c d : Script) (world : Played) (stores : Shelves) → IsDone c world → stores.script ≡ d
+    → AreFreed d (made_of world.script world.count).world.lists (lists_at d.config stores.places) → AreFreed d (played c wire_limit).world.lists (lists_at stores.script.config stores.places)
+freed_of c d world stores done is freed =
+    let here : AreFreed d (made_of c world.count).world.lists (lists_at d.config stores.places) = subst (λ (s : Script). AreFreed d (made_of s world.count).world.lists (lists_at d.config stores.places)) done.script_is freed in
+    let whole : AreFreed d (played c wire_limit).world.lists (lists_at d.config stores.places) = subst (λ (m : Made). AreFreed d m.world.lists (lists_at d.config stores.places)) done.made_is here in
+    subst (λ (s : Script). AreFreed d (played c wire_limit).world.lists (lists_at s.config stores.places)) (sym is) whole

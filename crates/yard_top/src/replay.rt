@@ -8,7 +8,6 @@ ghost use Rattle.yard_model.specs.Text.{fact_line, report};
 ghost use Rattle.yard_model.specs.World.{played, trace_of, wire_limit};
 ghost use Rattle.shard_store.specs.Stores.{lists_at};
 ghost use Rattle.trace_text.specs.Foldable.{is_foldable_in_all};
-ghost use Rattle.world_sim.specs.Built.{are_built};
 ghost use Rattle.yard_top.specs.Replays.{IsOn, IsDone, IsThrough, IsNext};
 ghost use Rattle.yard_top.specs.Stops.{stop_in};
 
@@ -29,7 +28,6 @@ use yard_model::{Charter, Fact, Facts, Kind, Line};
 /// The text that `replay` writes for this script, and the line with which its trace stops, where it
 /// does. The only error is want of memory.
 pub fn replay_report(alloc: Global, charter: &Charter) -> Result<Text, AllocError>
-    requires { IsTrue (are_built charter.now) }
     ensures bytes { IfOk result (λ t. t.bytes.items ≡ replay_text charter.now) }
     ensures stop { IfOk result (λ t. t.stop ≡ stop_in (trace_of charter.now)) }
     ensures safe { IsTrue (safe charter.now (trace_of charter.now)) }
@@ -56,19 +54,17 @@ fn replayed<B: Behaviour + Copy + Drop>(
     charter: &Charter,
     behaviour: B,
 ) -> Result<Text, AllocError>
-    requires built { IsTrue (are_built charter.now) }
-    requires kind { B.kind_of behaviour ≡ charter.now.config.kind }
-    requires version { B.version_of behaviour ≡ 1 }
+    requires { B.kind_of behaviour ≡ charter.now.config.kind }
     ensures bytes { IfOk result (λ t. t.bytes.items ≡ replay_text charter.now) }
     ensures stop { IfOk result (λ t. t.stop ≡ stop_in (trace_of charter.now)) }
 {
     let mut facts = Facts::new(alloc);
     let mut world = World::new(alloc, charter, behaviour)?;
     play(&mut world, charter, &mut facts)?;
-    let stores = stores_of(world, charter)?;
+    let (last, stores) = stores_of(world, charter)?;
     let mut bytes = Vec::new(alloc);
     push_facts(&mut bytes, facts.as_slice())?;
-    push_report(&mut bytes, charter, &stores)?;
+    push_report(&mut bytes, &last, &stores)?;
     let stop = stop_in(facts.as_slice());
     Ok(Text { bytes, stop })
 }
@@ -111,20 +107,23 @@ fn play_next<B: Behaviour + Copy + Drop>(
     }
 }
 
-/// The stores of a world that is through with its script. The only error is want of memory.
+/// The charter with the number of shards in force, and the stores, of a world that is through with its
+/// script. The only error is want of memory.
 fn stores_of<B: Behaviour + Copy + Drop>(
     world: World<B>,
     charter: &Charter,
-) -> Result<Stores, AllocError>
+) -> Result<(Charter, Stores), AllocError>
     requires { IsDone charter.now world }
-    ensures report { IfOk result (λ s. report (setting charter.now) (lists_at s.script.config s.places) ≡ report (played charter.now wire_limit).world.set (played charter.now wire_limit).world.lists) }
-    ensures foldable { IfOk result (λ s. IsTrue (is_foldable_in_all (setting charter.now) (lists_at s.script.config s.places))) }
+    ensures report { IfOk result (λ r. report (setting r.0) (lists_at r.1.script.config r.1.places) ≡ report (played charter.now wire_limit).world.set (played charter.now wire_limit).world.lists) }
+    ensures foldable { IfOk result (λ r. IsTrue (is_foldable_in_all (setting r.0) (lists_at r.1.script.config r.1.places))) }
 {
-    charter.config();
+    let _ = charter;
     command_law();
     decision_law();
     decided_law();
-    world.into_stores()
+    let (last, stores) = world.into_stores()?;
+    last.config();
+    Ok((last, stores))
 }
 
 /// Appends the lines of these facts. The only error is want of memory; what the text then is stays

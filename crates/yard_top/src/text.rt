@@ -1,6 +1,6 @@
 //! What a form writes of a script.
 ghost use Rattle.std.specs.Prelude.{◌≡◌, IfOk};
-ghost use Rattle.yard_top.specs.Ends.{IsBuilt, Holds, text_of, stops_at};
+ghost use Rattle.yard_top.specs.Ends.{Holds, text_of, stops_at};
 
 use crate::forms::Form;
 use crate::replay::replay_report;
@@ -19,7 +19,6 @@ pub struct Text {
 
 /// What a form writes of this script. The only error is want of memory.
 pub fn text_of(alloc: Global, form: Form, charter: &Charter) -> Result<Text, AllocError>
-    requires { IsBuilt form charter.now }
     ensures bytes { IfOk result (λ t. t.bytes.items ≡ text_of form charter.now) }
     ensures stop { IfOk result (λ t. t.stop ≡ stops_at form charter.now) }
     ensures holds { Holds form charter.now }

@@ -1,6 +1,6 @@
 //! The top call.
 ghost use Rattle.std.specs.Prelude.{◌≡◌, ◌<◌, ◌≤◌, ◌↔◌, Some, None, IfOk, IfErr, IfSome};
-ghost use Rattle.yard_top.specs.Ends.{IfWhole, IfUsage, IfRefused, IfReadFault, IfWriteFault, IfNoMemory, IfWireFull, Asked, Came, Taken, Wrote, Began, CameRefused, CameScript, IsEarly, IsComplete, IsBuilt, mode_of, end_of};
+ghost use Rattle.yard_top.specs.Ends.{IfWhole, IfUsage, IfRefused, IfReadFault, IfWriteFault, IfNoMemory, IfWireFull, Asked, Came, Taken, Wrote, Began, CameRefused, CameScript, IsEarly, IsComplete, mode_of, end_of};
 ghost use Rattle.yard_top.specs.Forms.{form_in};
 
 use crate::forms::{Form, form_of};
@@ -123,7 +123,6 @@ fn mode_of(form: Form) -> Mode
 /// Reads the whole input as a script of this form.
 fn read_charter<S: Source>(alloc: Global, form: Form, source: &mut S) -> Result<Charter, Status>
     ensures script { IfOk result (λ c. CameScript form (S.left source.old) (S.left source.new) c) }
-    ensures built { IfOk result (λ c. IsBuilt form c) }
     ensures refused { IfErr result (λ s. IfRefused s (λ line why. CameRefused form (S.left source.old) (S.left source.new) line why)) }
     ensures read_fault { IfErr result (λ s. IfReadFault s (S.faults source.old < S.faults source.new)) }
     ensures others { IfErr result (λ s. IsEarly s) }

@@ -13,7 +13,7 @@ hand_over-requires g c =
     ((marked c.args.number r.0).world, marked_sound c.standing_is_kept.ensures c.args.self.now c.mark.new.self r.0 c.args.number c.args.packet.now c.args.facts.now c.mark.new.facts r.1 c.requires.above c.requires.posted m.script_is (m.goes r.0 r.1))
 
 pub returns : goal.returns
-returns g c = over_stepped c.standing_is_kept.ensures c.args.self.now c.mark.new.self c.args.number c.args.packet.now c.hand_over.result c.hand_over.new.self c.args.facts.now c.mark.new.facts c.hand_over.new.facts c.requires.above c.requires.posted c.in_ok-mark.ensures (c.hand_over.ensures c.args.number c.requires.above)
+returns g c = over_stepped c.standing_is_kept.ensures c.args.self.now c.mark.new.self c.args.number c.args.packet.now c.hand_over.result c.hand_over.new.self c.args.facts.now c.mark.new.facts c.hand_over.new.facts c.requires.above c.requires.posted c.in_ok-mark.ensures c.hand_over.ensures
 
 pub returns-in_err-mark : goal.returns-in_err-mark
 returns-in_err-mark g c = step_err IsSound 0 (deliver_by c.args.number (Some c.args.packet.now)) c.from_residual.result _ _ _ _ c.from_residual.ensures.0 (step_cut IsSound (marked c.args.number) (hand_over c.args.number c.args.packet.now) c.args.self.now c.mark.new.self c.args.facts.now c.mark.new.facts c.in_err-mark.ensures)

@@ -3,23 +3,23 @@ use Rattle.std.specs.Prelude.{None, slice_set}
 use Rattle.yard_model.specs.declared.fact.Fact.TheVariants as fact
 use Rattle.yard_model.specs.Behaviour.{is_in}
 use Rattle.yard_model.specs.Node.{new_node}
-use Rattle.yard_model.specs.Script.{setting, is_version}
+use Rattle.yard_model.specs.Script.{setting}
 use Rattle.yard_model.specs.Words.{at}
 use Rattle.world_sim.specs.Steps.{entered}
 use Rattle.world_sim.specs.Yard.{IsSound}
-use Rattle.world_sim.proofs.UpLaws.{none_of_down, room_for, entered_whole, yard_is, came_is, node_within, firm_of, nodes_count, ups_count, admitted_one}
+use Rattle.world_sim.proofs.UpLaws.{none_of_down, room_for, entered_whole, yard_is, came_is, node_within, firm_of, nodes_count, ups_count, admitted}
 use Rattle.world_sim.proofs.StepLaws.{cut_none, step_err, whole_as}
 use Rattle.world_sim.proofs.yard.Yard.enter.Goals as goal
 
 pub new-requires-clause-version : goal.new-requires-clause-version
 new-requires-clause-version g c =
     let r = c.requires.world in
-    ap (is_version c.self.inside.charter) c.at_version-behaviour.ensures.version ∙ admitted_one _ r.0 (subst (λ v. IsSound v r.0) (sym c.self.view_is) r.1)
+    admitted _ r.0 (subst (λ v. IsSound v r.0) (sym c.self.view_is) r.1)
 
 pub new-requires-clause-kind : goal.new-requires-clause-kind
 new-requires-clause-kind g c =
     let r = c.requires.world in
-    c.at_version-behaviour.ensures.kind ∙ (subst (λ v. IsSound v r.0) (sym c.self.view_is) r.1).seen_is.kind_is
+    (subst (λ v. IsSound v r.0) (sym c.self.view_is) r.1).seen_is.kind_is
 
 pub with-self-inside-requires-clause-other : goal.with-self-inside-requires-clause-other
 with-self-inside-requires-clause-other g c =
@@ -58,7 +58,7 @@ returns g c =
     (c.set_number.ensures ∙ ap (λ k. slice_set c.self.inside.ups.items (c.args.n - 1) k) c.next_number-number.ensures) refl refl)
     (ap (λ v. is_in 1 v.script.config.nodes c.args.n) c.self.view_is ∙ c.requires.node)
     c.in_ok-node.ensures.script
-    (c.in_ok-node.ensures.state ∙ (ap (λ v. new_node (setting c.self.inside.charter) v (record { node = c.args.n; number = c.next_number-number.result })) c.at_version-behaviour.ensures.version ∙ ap (λ x. new_node (setting c.self.inside.charter) 1 x) who))
+    (c.in_ok-node.ensures.state ∙ ap (λ x. new_node (setting c.self.inside.charter) (g.B.Behaviour.version_of c.self.inside.behaviour) x) who)
     (c.in_ok-push.ensures.ok ∙ ap (λ x. c.args.facts.now ++ fact.Up x ∷ []) who))
 
 pub returns-in_err-node : goal.returns-in_err-node

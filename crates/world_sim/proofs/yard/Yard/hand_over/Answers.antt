@@ -1,15 +1,23 @@
-use Rattle.std.proofs.Common.{sym, ap, ◌∙◌}
+use Rattle.std.proofs.Common.{◌<◌, ◌≤◌, sym, ap, ◌∙◌, subst, arith}
 use Rattle.yard_model.specs.Words.{is_among}
 use Rattle.world_sim.specs.Yard.{Yard}
-use Rattle.world_sim.proofs.DeliveryLaws.{may_packet, over_apart, over_given}
+use Rattle.world_sim.proofs.DeliveryLaws.{may_packet, over_apart, over_given, over_past}
 use Rattle.world_sim.proofs.yard.Yard.hand_over.Goals as goal
 
 pub give-requires : goal.give-requires
-give-requires g c = (c.requires.0, may_packet c.args.self.now c.requires.0 c.args.packet.now c.requires.1 (ap (λ (v : Yard). is_among c.args.packet.now.to v.members) (sym c.self.view_is) ∙ (sym c.has.ensures ∙ c.if-not-has.false)))
+give-requires g c = (
+  c.requires.0,
+  may_packet c.args.number c.args.self.now c.requires.0 c.args.packet.now c.requires.1 (subst (λ (v : Yard). v.force.past < c.args.number) c.self.view_is (omega (arith, c.if-number-self.false)))
+      (ap (λ (v : Yard). is_among c.args.packet.now.to v.members) (sym c.self.view_is) ∙ (sym c.has.ensures ∙ c.if-not-has.false)),
+)
+
+pub returns-then-number-self : goal.returns-then-number-self
+returns-then-number-self g c = over_past c.args.self.now c.args.number c.args.packet.now c.args.facts.now (subst (λ (v : Yard). c.args.number ≤ v.force.past) c.self.view_is c.if-number-self.true)
 
 pub returns-then-not-has : goal.returns-then-not-has
-returns-then-not-has g c k above = over_apart c.args.self.now k c.args.packet.now c.args.facts.now (ap (λ (v : Yard). is_among c.args.packet.now.to v.members) (sym c.self.view_is) ∙ (sym c.has.ensures ∙ c.if-not-has.true))
+returns-then-not-has g c = over_apart c.args.self.now c.args.number c.args.packet.now c.args.facts.now (ap (λ (v : Yard). is_among c.args.packet.now.to v.members) (sym c.self.view_is) ∙ (sym c.has.ensures ∙ c.if-not-has.true))
 
 pub returns : goal.returns
-returns g c k above =
-    over_given c.args.self.now c.args.packet.now k c.give.result c.give.new.self c.args.facts.now c.give.new.facts above (ap (λ (v : Yard). is_among c.args.packet.now.to v.members) (sym c.self.view_is) ∙ (sym c.has.ensures ∙ c.if-not-has.false)) c.give.ensures.stepped
+returns g c =
+    over_given c.args.self.now c.args.packet.now c.args.number c.give.result c.give.new.self c.args.facts.now c.give.new.facts (subst (λ (v : Yard). v.force.past < c.args.number) c.self.view_is (omega (arith, c.if-number-self.false)))
+    (ap (λ (v : Yard). is_among c.args.packet.now.to v.members) (sym c.self.view_is) ∙ (sym c.has.ensures ∙ c.if-not-has.false)) c.give.ensures.stepped

@@ -27,3 +27,6 @@ pub returns-clause-script : goal.returns-clause-script
 returns-clause-script g c =
     let r = c.in_ok-stop.ensures.stopped c.requires.world.0 c.requires.world.1 in
     c.into_stores.ensures.script ∙ (ap (λ (v : Yard). v.book.script) c.yard.view_is ∙ (r.1.firm_is.seen_is.book_is ∙ c.stop.ensures.script))
+
+pub returns-clause-charter : goal.returns-clause-charter
+returns-clause-charter g c = ap (λ (v : Yard). v.script) c.yard.view_is ∙ c.stop.ensures.script

@@ -1,6 +1,6 @@
-use Rattle.std.proofs.Common.{arith}
+use Rattle.std.proofs.Common.{◌-◌, arith}
 use Rattle.yard_model.specs.declared.charter.Order.TheVariants as order
-use Rattle.world_sim.proofs.DeliveryLaws.{play_as, ping_stepped}
+use Rattle.world_sim.proofs.DeliveryLaws.{play_as, plays_as, ping_stepped}
 use Rattle.world_sim.proofs.yard.Yard.play.Goals as goal
 
 pub returns-in-Up : goal.returns-in-Up
@@ -41,3 +41,21 @@ returns-in-Rebalance g c = play_as 0 c.args.order.now (order.Rebalance c.in-Reba
 
 pub returns-in-Ping : goal.returns-in-Ping
 returns-in-Ping g c = ping_stepped c.args.order.now c.in-Ping.field-0 c.push.result c.args.self.now c.args.facts.now c.push.new.self c.in-Ping.is c.push.ensures.ok c.push.ensures.err
+
+pub returns-in-Settle : goal.returns-in-Settle
+returns-in-Settle g c = play_as 18 c.args.order.now order.Settle c.settle.result c.args.self.now c.settle.new.self c.args.facts.now c.settle.new.facts c.in-Settle.is (omega arith) c.settle.ensures
+
+pub returns-in-Upgrade : goal.returns-in-Upgrade
+returns-in-Upgrade g c = play_as 0 c.args.order.now order.Upgrade c.upgrade.result c.args.self.now c.upgrade.new.self c.args.facts.now c.upgrade.new.facts c.in-Upgrade.is (omega arith) c.upgrade.ensures
+
+pub returns-in-Reshard : goal.returns-in-Reshard
+returns-in-Reshard g c = plays_as 0 c.args.order.now (order.Reshard c.in-Reshard.n) c.reshard.result c.args.self.now c.reshard.new.self c.args.facts.now c.reshard.new.facts c.in-Reshard.is (omega arith) c.reshard.ensures
+
+pub up-requires-clause-ups : goal.up-requires-clause-ups
+up-requires-clause-ups g c = let h = c.requires.ups (c.in-Up.n - 1) in omega (arith, h)
+
+pub up-requires-clause-version : goal.up-requires-clause-version
+up-requires-clause-version g c = let h = c.requires.version in omega (arith, h)
+
+pub crash-requires-clause-version : goal.crash-requires-clause-version
+crash-requires-clause-version g c = let h = c.requires.version in omega (arith, h)

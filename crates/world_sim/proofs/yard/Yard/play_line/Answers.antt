@@ -1,12 +1,12 @@
-use Rattle.std.proofs.Common.{refl, ap, sym, ◌∙◌, subst}
+use Rattle.std.proofs.Common.{arith, refl, ap, sym, ◌∙◌, subst}
 use Rattle.yard_model.specs.Script.{is_order}
 use Rattle.yard_model.specs.World.{play_line, play, with_order}
 use Rattle.std.specs.Prelude.{Some}
 use Rattle.play_laws.specs.Played.{is_named}
-use Rattle.world_sim.specs.Stepped.{Stepped}
+use Rattle.world_sim.specs.Stepped.{Plays}
 use Rattle.world_sim.specs.Yard.{Yard, IsSound}
-use Rattle.world_sim.proofs.DeliveryLaws.{line_stepped, noted_sound, noted_script, noted_version, noted_ups}
-use Rattle.world_sim.proofs.StepLaws.{cut_none, step_err}
+use Rattle.world_sim.proofs.DeliveryLaws.{line_stepped, noted_sound, noted_script, noted_version, noted_ups, noted_ordered}
+use Rattle.world_sim.proofs.StepLaws.{cut_none, plays_err}
 use Rattle.world_sim.proofs.yard.Yard.play_line.Goals as goal
 
 pub play-requires-clause-world : goal.play-requires-clause-world
@@ -29,7 +29,13 @@ play-requires-clause-ups g c = noted_ups c.args.line.now.order c.args.self.now c
 pub returns : goal.returns
 returns g c =
     line_stepped c.args.self.now c.args.line.now c.play.result c.play.new.self c.args.facts.now c.push.new.self c.play.new.facts c.in_ok-push.ensures.ok
-    (subst (λ v. Stepped IsSound 1 (play c.args.line.now.order) c.play.result v c.play.new.self c.push.new.self c.play.new.facts) c.note.ensures c.play.ensures)
+    (subst (λ v. Plays 20 (play c.args.line.now.order) c.play.result v c.play.new.self c.push.new.self c.play.new.facts) c.note.ensures c.play.ensures)
 
 pub returns-in_err-push : goal.returns-in_err-push
-returns-in_err-push g c = step_err IsSound 1 (play_line c.args.line.now) c.from_residual.result _ _ _ _ c.from_residual.ensures.0 (cut_none IsSound (play_line c.args.line.now) _ _ _ _ refl c.in_err-push.ensures.err)
+returns-in_err-push g c = plays_err 20 (play_line c.args.line.now) c.from_residual.result _ _ _ _ c.from_residual.ensures.0 (cut_none IsSound (play_line c.args.line.now) _ _ _ _ refl c.in_err-push.ensures.err)
+
+pub note-requires-clause-ordered : goal.note-requires-clause-ordered
+note-requires-clause-ordered g c = λ k. let h = c.requires.ordered k in omega (arith, h)
+
+pub play-requires-clause-ordered : goal.play-requires-clause-ordered
+play-requires-clause-ordered g c = noted_ordered c.args.line.now.order c.args.self.now c.note.new.self c.note.ensures c.requires.ordered

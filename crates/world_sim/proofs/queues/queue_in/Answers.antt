@@ -2,18 +2,17 @@ use Rattle.std.proofs.Common.{sym, ap, ◌∙◌}
 use Rattle.std.specs.Prelude.{Some}
 use Rattle.yard_model.specs.declared.incarnation.Slot.TheVariants as slot
 use Rattle.actor_laws.specs.Hands.{held_list}
-use Rattle.shard_store.specs.Stores.{entries_of_ref}
 use Rattle.node_core.specs.Slots.{held_slots}
-use Rattle.world_sim.proofs.QueueLaws.{queue_slot, other_slot, total_of, none_past}
-use Rattle.world_sim.proofs.queues.total_in.Goals as goal
+use Rattle.world_sim.proofs.QueueLaws.{queue_slot, other_slot, none_past}
+use Rattle.world_sim.proofs.queues.queue_in.Goals as goal
 
-pub total_of-requires : goal.total_of-requires
-total_of-requires g c = c.in-Some.ensures.kind.0 ∙ queue_slot c.args.p c.in-Some.slot (sym c.is_queue_of.ensures ∙ c.if-is_queue_of.true)
+pub queue_ref-requires : goal.queue_ref-requires
+queue_ref-requires g c = c.in-Some.ensures.kind.0 ∙ queue_slot c.args.p c.in-Some.slot (sym c.is_queue_of.ensures ∙ c.if-is_queue_of.true)
 
 pub returns-then-is_queue_of-clause-found : goal.returns-then-is_queue_of-clause-found
 returns-then-is_queue_of-clause-found g c =
     let same = queue_slot c.args.p c.in-Some.slot (sym c.is_queue_of.ensures ∙ c.if-is_queue_of.true) in
-    total_of c.args.p c.args.node.now.state (entries_of_ref c.in-Some.store) (ap (λ s. held_list s c.args.node.now.state) (sym same) ∙ c.in-Some.ensures.store) ∙ ap (λ n. Some n) (sym c.total_of.ensures)
+    ap (λ s. held_list s c.args.node.now.state) (sym same) ∙ (c.in-Some.ensures.store ∙ ap (λ l. Some l) (sym c.queue_ref.ensures))
 
 pub returns-else-is_queue_of-clause-other : goal.returns-else-is_queue_of-clause-other
 returns-else-is_queue_of-clause-other g c = other_slot c.args.node.now.script c.args.node.now.state c.args.at c.args.p c.in-Some.slot c.in-Some.ensures.slot (sym c.is_queue_of.ensures ∙ c.if-is_queue_of.false)

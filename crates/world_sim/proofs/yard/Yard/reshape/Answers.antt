@@ -1,0 +1,66 @@
+use Rattle.std.proofs.Common.{◌≡◌, ◌==◌, false, true, ap, sym, ◌∙◌, refl, subst, length}
+use Rattle.std.specs.Prelude.{None, is_some}
+use Rattle.std.specs.List.{list_any}
+use Rattle.yard_model.specs.declared.incarnation.Slot.{Slot}
+use Rattle.yard_model.specs.Genuine.{is_slot_of}
+use Rattle.yard_model.specs.Lawful.{is_held}
+use Rattle.yard_model.specs.Words.{at}
+use Rattle.shard_lease.specs.Book.{Book}
+use Rattle.shard_store.specs.Stores.{place_of}
+use Rattle.world_sim.specs.Steps.{resharded}
+use Rattle.world_sim.specs.Yard.{Yard, IsSound}
+use Rattle.world_sim.proofs.ReshardLaws.{nobody_holds, relisted, played_as, reshaped_played}
+use Rattle.world_sim.proofs.StepLaws.{cut_none, plays_err}
+use Rattle.world_sim.proofs.UpLaws.{node_within}
+use Rattle.world_sim.proofs.yard.Yard.reshape.Goals as goal
+
+pub with_shards-requires-clause-low : goal.with_shards-requires-clause-low
+with_shards-requires-clause-low g c = (node_within c.args.shards 128 c.requires.shards).0
+
+pub with_shards-requires-clause-high : goal.with_shards-requires-clause-high
+with_shards-requires-clause-high g c = (node_within c.args.shards 128 c.requires.shards).1
+
+pub new-requires-2 : goal.new-requires-2
+new-requires-2 g c = λ k h. ap is_held (c.in_ok-stores.ensures.empty k)
+
+pub reshape-requires-clause-free : goal.reshape-requires-clause-free
+reshape-requires-clause-free g c =
+    subst (λ (b : Book). (t : Slot) → is_slot_of b.script t ≡ true → at b.holders (place_of b.script.config t) ≡ None) (sym c.replace-book.ensures.value)
+    (subst (λ (v : Yard). (t : Slot) → is_slot_of v.book.script t ≡ true → at v.book.holders (place_of v.book.script.config t) ≡ None) (sym c.self.view_is) (nobody_holds c.args.self.now c.requires.world.0 c.requires.world.1 c.requires.quiet))
+
+pub returns-in_err-charter : goal.returns-in_err-charter
+returns-in_err-charter g c = plays_err 0 (resharded c.args.shards) c.from_residual.result _ _ _ _ c.from_residual.ensures.0 (cut_none IsSound (resharded c.args.shards) _ _ _ _ refl refl)
+
+pub returns-in_err-stores : goal.returns-in_err-stores
+returns-in_err-stores g c = plays_err 0 (resharded c.args.shards) c.from_residual-in_err-stores.result _ _ _ _ c.from_residual-in_err-stores.ensures.0 (cut_none IsSound (resharded c.args.shards) _ _ _ _ refl refl)
+
+pub returns-in_err-empty : goal.returns-in_err-empty
+returns-in_err-empty g c = plays_err 0 (resharded c.args.shards) c.from_residual-in_err-empty.result _ _ _ _ c.from_residual-in_err-empty.ensures.0 (cut_none IsSound (resharded c.args.shards) _ _ _ _ refl refl)
+
+pub returns-in_err-self-inside : goal.returns-in_err-self-inside
+returns-in_err-self-inside g c = plays_err 0 (resharded c.args.shards) c.from_residual-in_err-self-inside.result _ _ _ _ c.from_residual-in_err-self-inside.ensures.0 (cut_none IsSound (resharded c.args.shards) _ _ _ _ (ap (λ (v : Yard). v.script) c.self.view_is) refl)
+
+pub returns-in_err-push : goal.returns-in_err-push
+returns-in_err-push g c = plays_err 0 (resharded c.args.shards) c.from_residual-in_err-push.result _ _ _ _ c.from_residual-in_err-push.ensures.0 (cut_none IsSound (resharded c.args.shards) _ _ _ _ (ap (λ (v : Yard). v.script) c.self.view_is) c.in_err-push.ensures.err)
+
+pub returns : goal.returns
+returns g c =
+    played_as 0 (resharded c.args.shards) _ c.args.self.now _ c.args.facts.now c.push.new.self c.self.view_is
+    (reshaped_played c.standing_is_kept.ensures c.args.shards c.greatest_epoch-epoch.result _ _ c.args.facts.now c.push.new.self (subst (λ (v : Yard). list_any is_some v.nodes ≡ false) (sym c.self.view_is) c.requires.quiet) c.requires.shards
+    (subst (λ (v : Yard). (c.args.shards == v.script.config.shards) ≡ false) (sym c.self.view_is) c.requires.other) c.greatest_epoch-epoch.ensures
+    (record {
+      script_is = c.in_ok-charter.ensures;
+      kind_is = refl;
+      version_kept = refl;
+      past_is = c.len-self-inside.ensures.len;
+      nodes_are = refl;
+      members_are = refl;
+      version_is = refl;
+      ups_are = refl;
+      ordered_are = refl;
+      mail_is = refl;
+      book_is = c.in_ok-self-inside.ensures.script;
+      holders_none = c.in_ok-self-inside.ensures.holders;
+      lists_are = relisted c.self.inside.book c.replace-book.result c.self.inside.charter c.in_ok-charter.charter c.args.shards _ c.replace-book.ensures.value c.in_ok-charter.ensures c.in_ok-self-inside.ensures.lists;
+    })
+    c.in_ok-push.ensures.ok)

@@ -1,0 +1,139 @@
+//! What is left to do of what was ordered.
+ghost use Rattle.std.specs.Prelude.{◌≡◌, ℕ, ◌*◌, ◌-◌, ◌<◌, ◌≤◌, true, nat_lt, map, slice_index_or, sum};
+ghost use Rattle.std.specs.List.{list_any};
+ghost use Rattle.yard_model.specs.Genuine.{is_producer};
+ghost use Rattle.yard_model.specs.Setting.{producers};
+ghost use Rattle.yard_model.specs.SlotLists.{queue_list};
+ghost use Rattle.yard_model.specs.SlotReads as reads;
+ghost use Rattle.yard_model.specs.World.{World, is_left, is_unsettled, outstanding, settle_bound};
+ghost use Rattle.world_sim.specs.Queues.{is_left_in};
+ghost use Rattle.world_sim.specs.Yard.{IsSound};
+
+use crate::places::count_at;
+use crate::queues::{queue_at, queue_in_book};
+use crate::seek::{Sought, seek};
+use crate::yard::Yard;
+use behaviour_core::Behaviour;
+use durable_queue::QueueStore;
+use yard_model::{EntityName, ProducerNo};
+
+/// How many of so many ordered sends aren't confirmed.
+fn outstanding_in(store: &QueueStore, ordered: u32, names: &[EntityName]) -> u32
+    ensures result { result ≡ ordered - sum (map (λ e. reads.confirmed e store.now.entries) names.now) }
+    ensures few { result ≤ ordered }
+{
+    let mut outstanding = ordered;
+    for name in names {
+        outstanding = outstanding.saturating_sub(store.confirmed(name));
+    }
+    outstanding
+}
+
+/// Whether some command that is queued to one of these names isn't confirmed.
+fn is_unconfirmed(store: &QueueStore, names: &[EntityName]) -> bool
+    ensures { result ≡ list_any (λ e. nat_lt (reads.confirmed e store.now.entries) (reads.queued e store.now.entries)) names.now }
+{
+    names
+        .iter()
+        .any(|name| store.confirmed(name) < store.queued(name))
+}
+
+/// Whether some of so many ordered sends isn't queued, or isn't confirmed.
+fn is_left_in(store: &QueueStore, ordered: u32, names: &[EntityName]) -> bool
+    ensures { result ≡ is_left_in ordered names.now store.now.entries }
+{
+    store.total() < ordered || is_unconfirmed(store, names)
+}
+
+impl<B: Behaviour + Copy + Drop> Yard<B> {
+    /// The queue of a producer, at the node that holds it or at home.
+    fn queue(&self, p: ProducerNo) -> &QueueStore
+        requires world { (w : World) × IsSound self.now w }
+        requires producer { is_producer self.now.script p ≡ true }
+        ensures { (w : World) → IsSound self.now w → result.now.entries ≡ queue_list w.lists p }
+    {
+        match seek(&self.nodes, &Sought::Queue(p)) {
+            Some(n) => queue_at(&self.nodes, n, p),
+            None => queue_in_book(&self.book, p),
+        }
+    }
+
+    /// Whether some send of a producer that was ordered isn't queued, or isn't confirmed.
+    fn is_left(&self, p: ProducerNo) -> bool
+        requires world { (w : World) × IsSound self.now w }
+        requires producer { is_producer self.now.script p ≡ true }
+        ensures { (w : World) → IsSound self.now w → result ≡ is_left w p }
+    {
+        let ordered = count_at(&self.ordered, p);
+        let store = self.queue(p);
+        is_left_in(store, ordered, self.charter.names())
+    }
+
+    /// Whether something is left of some producer.
+    pub(crate) fn is_any_left(&self) -> bool
+        requires { (w : World) × IsSound self.now w }
+        ensures { (w : World) → IsSound self.now w → result ≡ list_any (is_left w) (producers w.set) }
+    {
+        let count = self.charter.config().producers;
+        for i in 0..count {
+            let Some(p) = ProducerNo::new(i + 1) else {
+                unreachable!()
+            };
+            if self.is_left(p) {
+                return true;
+            }
+        }
+        false
+    }
+
+    /// Whether something is left, or a packet above `from` was never delivered.
+    pub(crate) fn is_unsettled(&self, from: u32) -> bool
+        requires world { (w : World) × IsSound self.now w }
+        requires from { from < 4000000000 }
+        ensures { (w : World) → IsSound self.now w → result ≡ is_unsettled from w }
+    {
+        self.is_any_left() || self.mail.has_after(from)
+    }
+
+    /// How many of the ordered sends of a producer aren't confirmed.
+    fn outstanding(&self, p: ProducerNo) -> u32
+        requires world { (w : World) × IsSound self.now w }
+        requires producer { is_producer self.now.script p ≡ true }
+        ensures sent { (w : World) → IsSound self.now w → result ≡ outstanding w p }
+        ensures few { result ≤ slice_index_or self.now.ordered (p - 1) 0 }
+    {
+        let ordered = count_at(&self.ordered, p);
+        let store = self.queue(p);
+        outstanding_in(store, ordered, self.charter.names())
+    }
+
+    /// How many of all ordered sends aren't confirmed.
+    fn outstanding_in_all(&self) -> u32
+        requires world { (w : World) × IsSound self.now w }
+        requires ordered { (k : ℕ) → slice_index_or self.now.ordered k 0 ≤ 200000 }
+        ensures sent { (w : World) → IsSound self.now w → result ≡ sum (map (outstanding w) (producers w.set)) }
+        ensures few { result ≤ 200000 * 32 }
+    {
+        let count = self.charter.config().producers;
+        let mut total = 0;
+        for i in 0..count {
+            let Some(p) = ProducerNo::new(i + 1) else {
+                unreachable!()
+            };
+            total += self.outstanding(p);
+        }
+        total
+    }
+
+    /// The budget of a settle: no drain of it makes so many deliveries, and it not so many ticks.
+    pub(crate) fn settle_bound(&self) -> u32
+        requires world { (w : World) × IsSound self.now w }
+        requires ordered { (k : ℕ) → slice_index_or self.now.ordered k 0 ≤ 200000 }
+        ensures { (w : World) → IsSound self.now w → result ≡ settle_bound w }
+    {
+        let outstanding = self.outstanding_in_all();
+        let config = self.charter.config();
+        let names = self.charter.names().len() as u32;
+        40 * (outstanding + config.shards as u32 + config.producers as u32 + names + 1)
+    }
+}

@@ -8,3 +8,5 @@ mod OutputLaws
 mod PlayLaws
 mod ResultLaws
 mod SoloLaws
+mod TraceLaws
+mod WritingLaws

@@ -44,3 +44,10 @@ front_more a b e s t one = record {
 -- no memory, and nothing was taken
 pub none_taken : (a : Bytes) (s : Sunk) → TookFront a error.OutOfMemory s s
 none_taken a s = record { front = (0, omega arith, sym (followed_nil s.taken)); flushed_is = refl; faults_are = omega arith; cause = tt }
+
+pub front_same : (a b : Bytes) (e : WriteError) (s t : Sunk) → a ≡ b → TookFront a e s t → TookFront b e s t
+front_same a b e s t same front = subst (λ x. TookFront x e s t) same front
+
+-- what was put behind nothing
+pub after_nothing : (now before text : Bytes) → now ≡ before ++ text → before ≡ [] → now ≡ text
+after_nothing now before text is none = is ∙ ap (λ x. x ++ text) none

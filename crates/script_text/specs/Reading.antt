@@ -44,11 +44,8 @@ takes mode.Live o = true
 -- whether the command does this order yet
 abbrev pub is_built : Mode → Order → Bool
 is_built mode.Solo o = true
-is_built mode.Replay (order.Up n) = true
-is_built mode.Replay (order.Crash n) = true
-is_built mode.Replay (order.Deliver k) = true
-is_built mode.Replay (order.Pump n) = true
-is_built m o = false
+is_built mode.Replay o = true
+is_built mode.Live o = false
 
 -- whether the command does this kind yet
 abbrev pub is_kind_built : Mode → Kind → Bool

@@ -1,4 +1,3 @@
-mod BuiltLaws
 mod CameLaws
 mod FactsLaws
 mod FoldableLaws

@@ -11,7 +11,6 @@ use Rattle.yard_model.specs.Safe.{safe}
 use Rattle.yard_model.specs.Solo.{solo_text}
 use Rattle.yard_model.specs.Text.{Bytes}
 use Rattle.yard_model.specs.World.{trace_of}
-use Rattle.world_sim.specs.Built.{are_built}
 use Rattle.yard_top.specs.Sound.{IsSound, solo_journal}
 use Rattle.yard_top.specs.Stops.{stop_in}
 use Rattle.yard_top.specs.declared.forms.Form.{Form}
@@ -50,11 +49,6 @@ Holds form.Replay c = IsTrue (safe c (trace_of c))
 abbrev pub stops_at : Form → Script → Option ℕ
 stops_at form.Solo c = None
 stops_at form.Replay c = stop_in (trace_of c)
-
--- it does these orders
-abbrev pub IsBuilt : Form → Script → Type 0
-IsBuilt form.Solo c = Unit {0}
-IsBuilt form.Replay c = IsTrue (are_built c)
 
 -- the words are a form, and this holds of it
 abbrev pub Asked : Option Form → (Form → Type 0) → Type 0

@@ -8,7 +8,6 @@ ghost use Rattle.yard_model.specs.Text.{fact_line, report};
 ghost use Rattle.yard_model.specs.World.{played, trace_of, wire_limit};
 ghost use Rattle.shard_store.specs.Stores.{lists_at};
 ghost use Rattle.trace_text.specs.Foldable.{is_foldable_in_all};
-ghost use Rattle.world_sim.specs.Built.{are_built};
 ghost use Rattle.world_sim.specs.Played.{next_of};
 ghost use Rattle.yard_top.specs.Replays.{IsOn, IsDone, IsNext, trace_text};
 ghost use Rattle.yard_top.specs.Stops.{start, course, course_step, stop_in};
@@ -36,7 +35,6 @@ pub fn write_replay<K: Sink>(
     charter: &Charter,
     sink: &mut K,
 ) -> Result<Option<u32>, WriteError>
-    requires { IsTrue (are_built charter.now) }
     ensures wrote { Writes (replay_text charter.now) result
         (record { taken = K.taken sink.old; flushed = K.flushed sink.old; faults = K.faults sink.old })
         (record { taken = K.taken sink.new; flushed = K.flushed sink.new; faults = K.faults sink.new }) }
@@ -75,7 +73,6 @@ fn replayed<B: Behaviour + Copy + Drop, K: Sink>(
     behaviour: B,
     sink: &mut K,
 ) -> Result<Option<u32>, WriteError>
-    requires built { IsTrue (are_built charter.now) }
     requires kind { B.kind_of behaviour ≡ charter.now.config.kind }
     requires version { B.version_of behaviour ≡ 1 }
     ensures wrote { Writes (replay_text charter.now) result

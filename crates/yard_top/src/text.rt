@@ -1,6 +1,6 @@
 //! What a form writes of a script.
 ghost use Rattle.std.specs.Prelude.{◌≡◌, IfOk};
-ghost use Rattle.yard_top.specs.Ends.{IsBuilt, Holds, text_of, stops_at};
+ghost use Rattle.yard_top.specs.Ends.{Holds, text_of, stops_at};
 ghost use Rattle.yard_top.specs.Writing.{Writes};
 
 use crate::forms::Form;
@@ -19,7 +19,6 @@ pub fn write_form<K: Sink>(
     charter: &Charter,
     sink: &mut K,
 ) -> Result<Option<u32>, WriteError>
-    requires { IsBuilt form charter.now }
     ensures wrote { Writes (text_of form charter.now) result
         (record { taken = K.taken sink.old; flushed = K.flushed sink.old; faults = K.faults sink.old })
         (record { taken = K.taken sink.new; flushed = K.flushed sink.new; faults = K.faults sink.new }) }

@@ -1,6 +1,6 @@
 //! The top call.
 ghost use Rattle.std.specs.Prelude.{◌≡◌, ◌<◌, ◌≤◌, ◌↔◌, Some, None, IfOk, IfErr, IfSome};
-ghost use Rattle.yard_top.specs.Ends.{IfWhole, IfUsage, IfRefused, IfReadFault, IfWriteFault, IfNoMemory, IfWireFull, Asked, Came, Taken, Wrote, Began, WroteFront, CameRefused, CameScript, IsEarly, IsComplete, IsBuilt, mode_of, end_of};
+ghost use Rattle.yard_top.specs.Ends.{IfWhole, IfUsage, IfRefused, IfReadFault, IfWriteFault, IfNoMemory, IfWireFull, Asked, Came, Taken, Wrote, Began, WroteFront, CameRefused, CameScript, IsEarly, IsComplete, mode_of, end_of};
 ghost use Rattle.yard_top.specs.Forms.{form_in};
 
 use crate::forms::{Form, form_of};
@@ -19,8 +19,7 @@ const MOST_READ: usize = 4_194_305;
 ///
 /// `solo` reads a script of settings, sends and deliveries, and writes the report of what is
 /// recorded where each delivered command is taken exactly when it is the next of its producer.
-/// `replay` reads a script of all orders that are built, plays it on all nodes, one step after the
-/// other, and writes the trace as it arises, and the report of what the slots' lists come to.
+/// `replay` reads a script of all orders, plays it on all nodes, one step after the other, and writes the trace as it arises, and the report of what the slots' lists come to.
 pub fn sharder<S: Source, K: Sink>(
     alloc: Global,
     words: &[String],
@@ -129,7 +128,6 @@ fn mode_of(form: Form) -> Mode
 /// Reads the whole input as a script of this form.
 fn read_charter<S: Source>(alloc: Global, form: Form, source: &mut S) -> Result<Charter, Status>
     ensures script { IfOk result (λ c. CameScript form (S.left source.old) (S.left source.new) c) }
-    ensures built { IfOk result (λ c. IsBuilt form c) }
     ensures refused { IfErr result (λ s. IfRefused s (λ line why. CameRefused form (S.left source.old) (S.left source.new) line why)) }
     ensures read_fault { IfErr result (λ s. IfReadFault s (S.faults source.old < S.faults source.new)) }
     ensures others { IfErr result (λ s. IsEarly s) }

@@ -3,7 +3,6 @@ use Rattle.script_text.specs.Reading.{reading, TellsFault}
 use Rattle.script_text.specs.declared.fault.Mode.{Mode}
 use Rattle.script_text.specs.declared.fault.ScriptFault.{ScriptFault}
 use Rattle.yard_top.specs.Ends.{mode_of}
-use Rattle.yard_top.proofs.BuiltLaws.{built_of}
 use Rattle.yard_top.proofs.CameLaws.{came_end, all_came}
 use Rattle.yard_top.proofs.top.read_charter.Goals as goal
 
@@ -16,11 +15,6 @@ returns-in-Ok-read_script-clause-script g c =
       all = all_came (g.S.Source.left c.args.source.now) (mode_of c.args.form) c.in-Ok.bytes.items c.in-Ok-read_script.charter spelled c.in-Ok.ensures.bytes;
       spelled = spelled;
     }
-
-pub returns-in-Ok-read_script-clause-built : goal.returns-in-Ok-read_script-clause-built
-returns-in-Ok-read_script-clause-built g c =
-    built_of c.args.form c.in-Ok.bytes.items c.in-Ok-read_script.charter
-    (ap (λ (m : Mode). reading m c.in-Ok.bytes.items) (sym c.mode_of.ensures) ∙ (ap (reading c.mode_of.result) (sym c.as_slice.ensures.value) ∙ c.in-Ok-read_script.ensures.ok))
 
 pub returns-in-Err-At-clause-refused : goal.returns-in-Err-At-clause-refused
 returns-in-Err-At-clause-refused g c = record {

@@ -19,7 +19,8 @@ const MOST_READ: usize = 4_194_305;
 ///
 /// `solo` reads a script of settings, sends and deliveries, and writes the report of what is
 /// recorded where each delivered command is taken exactly when it is the next of its producer.
-/// `replay` reads a script of all orders, plays it on all nodes, one step after the other, and writes the trace as it arises, and the report of what the slots' lists come to.
+/// `replay` reads a script of all orders, plays it on all nodes, one step after the other, and writes
+/// the trace as it arises, and then the report of what the slots' lists come to.
 pub fn sharder<S: Source, K: Sink>(
     alloc: Global,
     words: &[String],

@@ -7,3 +7,5 @@ mod OutputLaws
 mod PlayLaws
 mod ResultLaws
 mod SoloLaws
+mod TraceLaws
+mod WritingLaws

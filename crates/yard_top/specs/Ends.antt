@@ -122,6 +122,10 @@ pub record Began (f : Form) (had has : Option (List ℕ)) (before after : Taken)
   pub came : CameScript f had has script
   pub begun : TakesFront before.bytes after.bytes (text_of f script)
 
+-- nothing was written, or a front of the text of a script that came
+abbrev pub WroteFront : Form → Option (List ℕ) → Option (List ℕ) → Taken → Taken → Type 0
+WroteFront f had has before after = (after.bytes ≡ before.bytes) ⊎ Began f had has before after
+
 -- what came is no script, for this reason
 pub record CameRefused (f : Form) (had has : Option (List ℕ)) (line : ℕ) (why : Why) : Type 0 where
   pub input : List ℕ

@@ -6,3 +6,4 @@ pub mod Posts
 pub mod Replays
 pub mod Sound
 pub mod Stops
+pub mod Writing

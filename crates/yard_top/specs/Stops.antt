@@ -9,9 +9,12 @@ course_step old (fact.At n) = record { line = n; stop = old.stop }
 course_step old fact.WireFull = record { line = old.line; stop = Some old.line }
 course_step old f = old
 
+abbrev pub start : Course
+start = record { line = 0; stop = None }
+
 -- what these facts tell
 abbrev pub course : List Fact → Course
-course facts = fold course_step (record { line = 0; stop = None }) facts
+course facts = fold course_step start facts
 
 -- the line of the last `at` before `wirefull`, where the trace has it
 abbrev pub stop_in : List Fact → Option ℕ

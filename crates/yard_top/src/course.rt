@@ -1,6 +1,6 @@
 //! Where a trace stops.
-ghost use Rattle.std.specs.Prelude.{◌≡◌};
-ghost use Rattle.yard_top.specs.Stops.{course_step, stop_in};
+ghost use Rattle.std.specs.Prelude.{◌≡◌, fold};
+ghost use Rattle.yard_top.specs.Stops.{start, course_step};
 
 use yard_model::Fact;
 
@@ -13,18 +13,27 @@ pub struct Course {
     pub stop: Option<u32>,
 }
 
-/// The line with which the trace of these facts stops, where it does.
-pub fn stop_in(facts: &[Fact]) -> Option<u32>
-    ensures { result ≡ stop_in facts.now }
+impl Course {
+    /// Before the first fact.
+    pub fn start() -> Course
+        ensures { result ≡ start }
+    {
+        Course {
+            line: 0,
+            stop: None,
+        }
+    }
+}
+
+/// How far a trace has come with these facts more.
+pub fn course_after(course: Course, facts: &[Fact]) -> Course
+    ensures { result ≡ fold course_step course facts.now }
 {
-    let mut course = Course {
-        line: 0,
-        stop: None,
-    };
+    let mut course = course;
     for fact in facts {
         course = after(course, fact);
     }
-    course.stop
+    course
 }
 
 /// The course with one fact more.

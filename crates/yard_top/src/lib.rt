@@ -15,6 +15,7 @@ mod sound;
 mod status;
 mod text;
 mod top;
+mod writing;
 
 pub use forms::{Form, form_of};
 pub use status::Status;

@@ -1,6 +1,6 @@
 //! Writing a text line by line.
 ghost use Rattle.std.specs.Prelude.{◌≡◌, ◌<◌, ◌≤◌, OnOk, OnErr, length};
-ghost use Rattle.yard_io.specs.Told.{followed_by, TakesFront, count_of};
+ghost use Rattle.yard_io.specs.Told.{followed_by, TakesFront};
 
 use yard_io::{Failed, Sink, write_all, writes_add_up};
 
@@ -38,18 +38,4 @@ pub fn write_lines<K: Sink>(sink: &mut K, text: &[u8]) -> Result<(), Failed>
         done += count;
     }
     Ok(())
-}
-
-/// Writes the text, a line at a time, and flushes.
-///
-/// After `Failed` a front of the text has been taken, which may be all or none of it.
-pub fn write_text<K: Sink>(sink: &mut K, text: &[u8]) -> Result<(), Failed>
-    ensures ok { OnOk result (K.taken sink.new ≡ followed_by (K.taken sink.old) text.now) }
-    ensures flushed { OnOk result (K.flushed sink.new ≡ count_of (K.taken sink.new)) }
-    ensures err { OnErr result (TakesFront (K.taken sink.old) (K.taken sink.new) text.now) }
-    ensures cause { OnErr result (K.faults sink.old < K.faults sink.new) }
-    ensures never_falls { K.faults sink.old ≤ K.faults sink.new }
-{
-    write_lines(sink, text)?;
-    sink.flush()
 }

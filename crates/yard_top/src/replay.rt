@@ -1,5 +1,5 @@
-//! `replay`: from a script to its trace and report.
-ghost use Rattle.std.specs.Prelude.{◌≡◌, ◌+◌, ◌++◌, [], None, Some, IfOk, OnOk, IsTrue, slice_get};
+//! `replay`: from a script to its trace, which is written as it arises, and its report.
+ghost use Rattle.std.specs.Prelude.{◌≡◌, ◌+◌, ◌++◌, [], None, Some, IfOk, OnOk, IsTrue, fold, slice_get};
 ghost use Rattle.std.specs.List.{flat_map};
 ghost use Rattle.yard_model.specs.Replay.{replay_text};
 ghost use Rattle.yard_model.specs.Safe.{safe};
@@ -8,11 +8,13 @@ ghost use Rattle.yard_model.specs.Text.{fact_line, report};
 ghost use Rattle.yard_model.specs.World.{played, trace_of, wire_limit};
 ghost use Rattle.shard_store.specs.Stores.{lists_at};
 ghost use Rattle.trace_text.specs.Foldable.{is_foldable_in_all};
-ghost use Rattle.yard_top.specs.Replays.{IsOn, IsDone, IsThrough, IsNext};
-ghost use Rattle.yard_top.specs.Stops.{stop_in};
+ghost use Rattle.world_sim.specs.Played.{next_of};
+ghost use Rattle.yard_top.specs.Replays.{IsOn, IsDone, IsNext, trace_text};
+ghost use Rattle.yard_top.specs.Stops.{start, course, course_step, stop_in};
+ghost use Rattle.yard_top.specs.Writing.{Writes};
 
-use crate::course::stop_in;
-use crate::text::Text;
+use crate::course::{Course, course_after};
+use crate::writing::{WriteError, write_part};
 use behaviour_core::Behaviour;
 use behaviour_core::laws::decided_law;
 use behaviour_kinds::{Account, Cart, Counter};
@@ -22,21 +24,28 @@ use std::alloc::{AllocError, Global};
 use trace_text::{push_fact, push_report};
 use world_sim::laws::made_law;
 use world_sim::{StepFault, World};
+use yard_io::Sink;
 use yard_model::laws::{command_law, decision_law};
 use yard_model::{Charter, Fact, Facts, Kind, Line};
 
-/// The text that `replay` writes for this script, and the line with which its trace stops, where it
-/// does. The only error is want of memory.
-pub fn replay_report(alloc: Global, charter: &Charter) -> Result<Text, AllocError>
-    ensures bytes { IfOk result (λ t. t.bytes.items ≡ replay_text charter.now) }
-    ensures stop { IfOk result (λ t. t.stop ≡ stop_in (trace_of charter.now)) }
+/// Plays a script, and writes its trace and its report: the lines of each order before the next is
+/// played. The line with which the trace stops, where it does. Nothing is flushed.
+pub fn write_replay<K: Sink>(
+    alloc: Global,
+    charter: &Charter,
+    sink: &mut K,
+) -> Result<Option<u32>, WriteError>
+    ensures wrote { Writes (replay_text charter.now) result
+        (record { taken = K.taken sink.old; flushed = K.flushed sink.old; faults = K.faults sink.old })
+        (record { taken = K.taken sink.new; flushed = K.flushed sink.new; faults = K.faults sink.new }) }
+    ensures stop { IfOk result (λ stop. stop ≡ stop_in (trace_of charter.now)) }
     ensures safe { IsTrue (safe charter.now (trace_of charter.now)) }
 {
     is_safe(charter);
     match charter.config().kind {
-        Kind::Counter => replayed(alloc, charter, Counter::new()),
-        Kind::Account => replayed(alloc, charter, Account::new()),
-        Kind::Cart => replayed(alloc, charter, Cart::new()),
+        Kind::Counter => replayed(alloc, charter, Counter::new(), sink),
+        Kind::Account => replayed(alloc, charter, Account::new(), sink),
+        Kind::Cart => replayed(alloc, charter, Cart::new(), sink),
     }
 }
 
@@ -48,44 +57,85 @@ fn is_safe(charter: &Charter)
     trace_is_safe();
 }
 
-/// The text of a script's trace, played in a world whose entities behave so.
-fn replayed<B: Behaviour + Copy + Drop>(
+/// What is at hand while a trace is written: the facts of one order, their lines, and how far the
+/// trace has come.
+#[derive(Drop)]
+struct Desk {
+    facts: Facts,
+    lines: Vec<u8>,
+    course: Course,
+}
+
+/// Plays a script in a world whose entities behave so.
+fn replayed<B: Behaviour + Copy + Drop, K: Sink>(
     alloc: Global,
     charter: &Charter,
     behaviour: B,
-) -> Result<Text, AllocError>
+    sink: &mut K,
+) -> Result<Option<u32>, WriteError>
     requires { B.kind_of behaviour ≡ charter.now.config.kind }
-    ensures bytes { IfOk result (λ t. t.bytes.items ≡ replay_text charter.now) }
-    ensures stop { IfOk result (λ t. t.stop ≡ stop_in (trace_of charter.now)) }
+    ensures wrote { Writes (replay_text charter.now) result
+        (record { taken = K.taken sink.old; flushed = K.flushed sink.old; faults = K.faults sink.old })
+        (record { taken = K.taken sink.new; flushed = K.flushed sink.new; faults = K.faults sink.new }) }
+    ensures stop { IfOk result (λ stop. stop ≡ stop_in (trace_of charter.now)) }
 {
-    let mut facts = Facts::new(alloc);
     let mut world = World::new(alloc, charter, behaviour)?;
-    play(&mut world, charter, &mut facts)?;
-    let (last, stores) = stores_of(world, charter)?;
-    let mut bytes = Vec::new(alloc);
-    push_facts(&mut bytes, facts.as_slice())?;
-    push_report(&mut bytes, &last, &stores)?;
-    let stop = stop_in(facts.as_slice());
-    Ok(Text { bytes, stop })
+    let mut desk = Desk {
+        facts: Facts::new(alloc),
+        lines: Vec::new(alloc),
+        course: Course::start(),
+    };
+    play(&mut world, charter, &mut desk, sink)?;
+    desk.lines.clear();
+    push_end(world, charter, &mut desk.lines)?;
+    write_part(sink, desk.lines.as_slice())?;
+    Ok(desk.course.stop)
 }
 
-/// Plays all orders of the script, or up to the one with which its trace stops.
-fn play<B: Behaviour + Copy + Drop>(
+/// Plays all orders of the script, or up to the one with which its trace stops, and writes their
+/// lines.
+fn play<B: Behaviour + Copy + Drop, K: Sink>(
     world: &mut World<B>,
     charter: &Charter,
-    facts: &mut Facts,
-) -> Result<(), AllocError>
+    desk: &mut Desk,
+    sink: &mut K,
+) -> Result<(), WriteError>
     requires world { world.old ≡ record { script = charter.now; count = 0; fault = None } }
-    requires facts { facts.old ≡ [] }
-    ensures { OnOk result (IsThrough charter.now world.new facts.new) }
+    requires course { desk.old.course ≡ start }
+    ensures wrote { Writes (trace_text charter.now) result
+        (record { taken = K.taken sink.old; flushed = K.flushed sink.old; faults = K.faults sink.old })
+        (record { taken = K.taken sink.new; flushed = K.flushed sink.new; faults = K.faults sink.new }) }
+    ensures done { OnOk result (IsDone charter.now world.new) }
+    ensures course { OnOk result (desk.new.course ≡ course (trace_of charter.now)) }
 {
     made_law();
     for line in charter.orders() {
-        if !play_next(world, line, facts)? {
+        if !write_next(world, line, desk, sink)? {
             return Ok(());
         }
     }
     Ok(())
+}
+
+/// Plays the next order and writes its lines; whether the trace goes on.
+fn write_next<B: Behaviour + Copy + Drop, K: Sink>(
+    world: &mut World<B>,
+    line: &Line,
+    desk: &mut Desk,
+    sink: &mut K,
+) -> Result<bool, WriteError>
+    requires on { IsOn world.old.script world.old.count world.old }
+    requires next { slice_get world.old.script.orders world.old.count ≡ Some line.now }
+    ensures wrote { Writes (flat_map fact_line (next_of world.old.script world.old.count line.now).facts) result
+        (record { taken = K.taken sink.old; flushed = K.flushed sink.old; faults = K.faults sink.old })
+        (record { taken = K.taken sink.new; flushed = K.flushed sink.new; faults = K.faults sink.new }) }
+    ensures next { IfOk result (λ goes_on. IsNext world.old.script (world.old.count + 1) goes_on world.new) }
+    ensures course { OnOk result (desk.new.course ≡ fold course_step desk.old.course (next_of world.old.script world.old.count line.now).facts) }
+{
+    desk.facts.clear();
+    let goes_on = play_next(world, line, &mut desk.facts)?;
+    write_facts(desk, sink)?;
+    Ok(goes_on)
 }
 
 /// Plays the next order, and tells its facts; whether the trace goes on. The only error is want of
@@ -95,9 +145,11 @@ fn play_next<B: Behaviour + Copy + Drop>(
     line: &Line,
     facts: &mut Facts,
 ) -> Result<bool, AllocError>
-    requires on { IsOn world.old.script world.old.count world.old facts.old }
+    requires on { IsOn world.old.script world.old.count world.old }
     requires next { slice_get world.old.script.orders world.old.count ≡ Some line.now }
-    ensures { IfOk result (λ goes_on. IsNext world.old.script (world.old.count + 1) goes_on world.new facts.new) }
+    requires empty { facts.old ≡ [] }
+    ensures next { IfOk result (λ goes_on. IsNext world.old.script (world.old.count + 1) goes_on world.new) }
+    ensures facts { OnOk result (facts.new ≡ (next_of world.old.script world.old.count line.now).facts) }
 {
     made_law();
     match world.step(line, facts) {
@@ -105,6 +157,44 @@ fn play_next<B: Behaviour + Copy + Drop>(
         Err(StepFault::WireFull) => Ok(false),
         Err(StepFault::OutOfMemory) => Err(AllocError),
     }
+}
+
+/// Writes the lines of the facts at hand, and notes how far the trace has come with them.
+fn write_facts<K: Sink>(desk: &mut Desk, sink: &mut K) -> Result<(), WriteError>
+    ensures wrote { Writes (flat_map fact_line desk.old.facts) result
+        (record { taken = K.taken sink.old; flushed = K.flushed sink.old; faults = K.faults sink.old })
+        (record { taken = K.taken sink.new; flushed = K.flushed sink.new; faults = K.faults sink.new }) }
+    ensures course { desk.new.course ≡ fold course_step desk.old.course desk.old.facts }
+{
+    desk.course = course_after(desk.course, desk.facts.as_slice());
+    desk.lines.clear();
+    push_facts(&mut desk.lines, desk.facts.as_slice())?;
+    write_part(sink, desk.lines.as_slice())
+}
+
+/// Appends the lines of these facts. The only error is want of memory; what the text then is stays
+/// open.
+fn push_facts(text: &mut Vec<u8>, facts: &[Fact]) -> Result<(), AllocError>
+    ensures { OnOk result (text.new.items ≡ text.old.items ++ flat_map fact_line facts.now) }
+{
+    for fact in facts {
+        push_fact(text, fact)?;
+    }
+    Ok(())
+}
+
+/// Appends the report of a world that is through with its script. The only error is want of memory;
+/// what the text then is stays open.
+fn push_end<B: Behaviour + Copy + Drop>(
+    world: World<B>,
+    charter: &Charter,
+    text: &mut Vec<u8>,
+) -> Result<(), AllocError>
+    requires { IsDone charter.now world }
+    ensures { OnOk result (text.new.items ≡ text.old.items ++ report (played charter.now wire_limit).world.set (played charter.now wire_limit).world.lists) }
+{
+    let (last, stores) = stores_of(world, charter)?;
+    push_report(text, &last, &stores)
 }
 
 /// The charter with the number of shards in force, and the stores, of a world that is through with its
@@ -124,15 +214,4 @@ fn stores_of<B: Behaviour + Copy + Drop>(
     let (last, stores) = world.into_stores()?;
     last.config();
     Ok((last, stores))
-}
-
-/// Appends the lines of these facts. The only error is want of memory; what the text then is stays
-/// open.
-fn push_facts(text: &mut Vec<u8>, facts: &[Fact]) -> Result<(), AllocError>
-    ensures { OnOk result (text.new.items ≡ text.old.items ++ flat_map fact_line facts.now) }
-{
-    for fact in facts {
-        push_fact(text, fact)?;
-    }
-    Ok(())
 }

@@ -23,7 +23,7 @@ pub enum Status {
     ReadFault,
     /// The sink failed; what was written is a front of the text.
     WriteFault,
-    /// There was no memory; nothing was written.
+    /// There was no memory; what was written is a front of the text.
     OutOfMemory,
     /// A packet past the 1,000,000 that can be posted came up: the trace stops with the order on
     /// this line. The whole text of the trace up to there, with its report, was written and flushed.

@@ -1,40 +1,49 @@
 //! What a form writes of a script.
 ghost use Rattle.std.specs.Prelude.{◌≡◌, IfOk};
 ghost use Rattle.yard_top.specs.Ends.{Holds, text_of, stops_at};
+ghost use Rattle.yard_top.specs.Writing.{Writes};
 
 use crate::forms::Form;
-use crate::replay::replay_report;
+use crate::replay::write_replay;
 use crate::solo::solo_report;
-use std::alloc::{AllocError, Global};
+use crate::writing::{WriteError, write_part};
+use std::alloc::Global;
+use yard_io::Sink;
 use yard_model::Charter;
 
-/// A text to be written.
-#[derive(Drop)]
-pub struct Text {
-    /// Its bytes.
-    pub bytes: Vec<u8>,
-    /// The line with which its trace stops, where it does.
-    pub stop: Option<u32>,
-}
-
-/// What a form writes of this script. The only error is want of memory.
-pub fn text_of(alloc: Global, form: Form, charter: &Charter) -> Result<Text, AllocError>
-    ensures bytes { IfOk result (λ t. t.bytes.items ≡ text_of form charter.now) }
-    ensures stop { IfOk result (λ t. t.stop ≡ stops_at form charter.now) }
+/// Writes what a form writes of this script. The line with which its trace stops, where it does.
+/// Nothing is flushed.
+pub fn write_form<K: Sink>(
+    alloc: Global,
+    form: Form,
+    charter: &Charter,
+    sink: &mut K,
+) -> Result<Option<u32>, WriteError>
+    ensures wrote { Writes (text_of form charter.now) result
+        (record { taken = K.taken sink.old; flushed = K.flushed sink.old; faults = K.faults sink.old })
+        (record { taken = K.taken sink.new; flushed = K.flushed sink.new; faults = K.faults sink.new }) }
+    ensures stop { IfOk result (λ stop. stop ≡ stops_at form charter.now) }
     ensures holds { Holds form charter.now }
 {
     match form {
-        Form::Solo => solo_text(alloc, charter),
-        Form::Replay => replay_report(alloc, charter),
+        Form::Solo => write_solo(alloc, charter, sink),
+        Form::Replay => write_replay(alloc, charter, sink),
     }
 }
 
-/// What `solo` writes of this script: its trace never stops.
-fn solo_text(alloc: Global, charter: &Charter) -> Result<Text, AllocError>
-    ensures bytes { IfOk result (λ t. t.bytes.items ≡ text_of Form.Solo charter.now) }
-    ensures stop { IfOk result (λ t. t.stop ≡ stops_at Form.Solo charter.now) }
+/// Writes the report of `solo`: its trace never stops.
+fn write_solo<K: Sink>(
+    alloc: Global,
+    charter: &Charter,
+    sink: &mut K,
+) -> Result<Option<u32>, WriteError>
+    ensures wrote { Writes (text_of Form.Solo charter.now) result
+        (record { taken = K.taken sink.old; flushed = K.flushed sink.old; faults = K.faults sink.old })
+        (record { taken = K.taken sink.new; flushed = K.flushed sink.new; faults = K.faults sink.new }) }
+    ensures stop { IfOk result (λ stop. stop ≡ stops_at Form.Solo charter.now) }
     ensures holds { Holds Form.Solo charter.now }
 {
-    let bytes = solo_report(alloc, charter)?;
-    Ok(Text { bytes, stop: None })
+    let text = solo_report(alloc, charter)?;
+    write_part(sink, text.as_slice())?;
+    Ok(None)
 }

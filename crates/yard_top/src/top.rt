@@ -1,12 +1,12 @@
 //! The top call.
 ghost use Rattle.std.specs.Prelude.{◌≡◌, ◌<◌, ◌≤◌, ◌↔◌, Some, None, IfOk, IfErr, IfSome};
-ghost use Rattle.yard_top.specs.Ends.{IfWhole, IfUsage, IfRefused, IfReadFault, IfWriteFault, IfNoMemory, IfWireFull, Asked, Came, Taken, Wrote, Began, CameRefused, CameScript, IsEarly, IsComplete, mode_of, end_of};
+ghost use Rattle.yard_top.specs.Ends.{IfWhole, IfUsage, IfRefused, IfReadFault, IfWriteFault, IfNoMemory, IfWireFull, Asked, Came, Taken, Wrote, Began, WroteFront, CameRefused, CameScript, IsEarly, IsComplete, mode_of, end_of};
 ghost use Rattle.yard_top.specs.Forms.{form_in};
 
 use crate::forms::{Form, form_of};
-use crate::output::write_text;
 use crate::status::Status;
-use crate::text::text_of;
+use crate::text::write_form;
+use crate::writing::WriteError;
 use script_text::{Mode, ScriptFault, read_script};
 use std::alloc::Global;
 use yard_io::{ReadError, Sink, Source, read_up_to};
@@ -19,8 +19,8 @@ const MOST_READ: usize = 4_194_305;
 ///
 /// `solo` reads a script of settings, sends and deliveries, and writes the report of what is
 /// recorded where each delivered command is taken exactly when it is the next of its producer.
-/// `replay` reads a script of all orders that are built, plays it on all nodes, one step after the
-/// other, and writes the trace and the report of what the slots' lists come to.
+/// `replay` reads a script of all orders, plays it on all nodes, one step after the other, and writes
+/// the trace as it arises, and then the report of what the slots' lists come to.
 pub fn sharder<S: Source, K: Sink>(
     alloc: Global,
     words: &[String],
@@ -50,8 +50,11 @@ pub fn sharder<S: Source, K: Sink>(
     ensures write_fault_front { IfWriteFault result (Asked (form_in words.now) (λ f. Began f (S.left source.old) (S.left source.new)
         (record { bytes = K.taken sink.old; flushed = K.flushed sink.old })
         (record { bytes = K.taken sink.new; flushed = K.flushed sink.new }))) }
-    // There was no memory; nothing was written.
-    ensures no_memory { IfNoMemory result ((K.taken sink.new ≡ K.taken sink.old) × (K.flushed sink.new ≡ K.flushed sink.old)) }
+    // There was no memory; nothing was written but a front of the script's text, and nothing was flushed.
+    ensures no_memory { IfNoMemory result (Asked (form_in words.now) (λ f. WroteFront f (S.left source.old) (S.left source.new)
+        (record { bytes = K.taken sink.old; flushed = K.flushed sink.old })
+        (record { bytes = K.taken sink.new; flushed = K.flushed sink.new }))) }
+    ensures no_memory_flushes_nothing { IfNoMemory result (K.flushed sink.new ≡ K.flushed sink.old) }
     // Where no fault rose, a form of the program is carried out, or there is no memory.
     ensures complete { S.faults source.new ≡ S.faults source.old → K.faults sink.new ≡ K.faults sink.old →
         IfSome (form_in words.now) (λ f. IsComplete f (S.left source.old) result) }
@@ -81,7 +84,10 @@ fn run<S: Source, K: Sink>(alloc: Global, form: Form, source: &mut S, sink: &mut
     ensures write_fault_front { IfWriteFault result (Began form (S.left source.old) (S.left source.new)
         (record { bytes = K.taken sink.old; flushed = K.flushed sink.old })
         (record { bytes = K.taken sink.new; flushed = K.flushed sink.new })) }
-    ensures no_memory { IfNoMemory result ((K.taken sink.new ≡ K.taken sink.old) × (K.flushed sink.new ≡ K.flushed sink.old)) }
+    ensures no_memory { IfNoMemory result (WroteFront form (S.left source.old) (S.left source.new)
+        (record { bytes = K.taken sink.old; flushed = K.flushed sink.old })
+        (record { bytes = K.taken sink.new; flushed = K.flushed sink.new })) }
+    ensures no_memory_flushes_nothing { IfNoMemory result (K.flushed sink.new ≡ K.flushed sink.old) }
     ensures complete { S.faults source.new ≡ S.faults source.old → K.faults sink.new ≡ K.faults sink.old → IsComplete form (S.left source.old) result }
     ensures source_faults { S.faults source.old ≤ S.faults source.new }
     ensures sink_faults { K.faults sink.old ≤ K.faults sink.new }
@@ -90,13 +96,13 @@ fn run<S: Source, K: Sink>(alloc: Global, form: Form, source: &mut S, sink: &mut
         Ok(charter) => charter,
         Err(status) => return status,
     };
-    let text = match text_of(alloc, form, &charter) {
-        Ok(text) => text,
-        Err(_) => return Status::OutOfMemory,
-    };
-    match write_text(sink, text.bytes.as_slice()) {
-        Ok(()) => end_of(text.stop),
-        Err(_) => Status::WriteFault,
+    match write_form(alloc, form, &charter, sink) {
+        Ok(stop) => match sink.flush() {
+            Ok(()) => end_of(stop),
+            Err(_) => Status::WriteFault,
+        },
+        Err(WriteError::Failed) => Status::WriteFault,
+        Err(WriteError::OutOfMemory) => Status::OutOfMemory,
     }
 }
 

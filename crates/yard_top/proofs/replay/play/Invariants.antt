@@ -1,8 +1,18 @@
+use Rattle.std.proofs.Common.{◌≡◌}
+use Rattle.std.specs.List.{flat_map}
+use Rattle.yard_model.specs.Text.{fact_line}
+use Rattle.world_sim.specs.Played.{made_of}
 use Rattle.yard_top.specs.Replays.{IsOn}
+use Rattle.yard_top.specs.Stops.{course}
+use Rattle.yard_top.specs.Writing.{Took}
 use Rattle.yard_top.proofs.replay.play.Given as goal
 
--- the trace goes on after the orders so far
+-- the lines of the orders so far were taken, and the trace goes on
 abbrev pub invariant-loop-line : goal.invariant-loop-line
 invariant-loop-line g l = record {
-  on : IsOn l.charter l.line-index l.world l.facts;
+  on : IsOn l.charter l.line-index l.world;
+  course_is : l.desk.course ≡ course (made_of l.charter l.line-index).facts;
+  took : Took (flat_map fact_line (made_of l.charter l.line-index).facts)
+      (record { taken = g.K.Sink.taken l.initial.sink; flushed = g.K.Sink.flushed l.initial.sink; faults = g.K.Sink.faults l.initial.sink })
+      (record { taken = g.K.Sink.taken l.sink; flushed = g.K.Sink.flushed l.sink; faults = g.K.Sink.faults l.sink });
 }

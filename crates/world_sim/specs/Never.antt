@@ -1,0 +1,5 @@
+-- Never.
+use Rattle.std.specs.Prelude.{ℕ}
+
+unfoldable pub Never : Type 0
+Never = ⊥

@@ -1,0 +1,45 @@
+//! Writing a text in parts.
+ghost use Rattle.yard_top.specs.Writing.{Writes};
+ghost use Rattle.yard_top.specs.declared.writing.WriteError.TheVariants as write_error;
+ghost use Rattle.std.specs.Prelude.{◌≡◌};
+
+use crate::output::write_lines;
+use std::alloc::AllocError;
+use yard_io::{Failed, Sink};
+
+/// Why a text was not written whole.
+#[derive(Clone, Copy, Debug, PartialEq, Eq)]
+pub enum WriteError {
+    /// A write failed.
+    Failed,
+    /// There was no memory for what was to be written.
+    OutOfMemory,
+}
+
+impl From<Failed> for WriteError {
+    ghost from_gives = { λ _ e. e ≡ write_error.Failed };
+
+    fn from(_e: Failed) -> WriteError {
+        WriteError::Failed
+    }
+}
+
+impl From<AllocError> for WriteError {
+    ghost from_gives = { λ _ e. e ≡ write_error.OutOfMemory };
+
+    fn from(_e: AllocError) -> WriteError {
+        WriteError::OutOfMemory
+    }
+}
+
+/// Writes a part of a text, a line at a time. Nothing is flushed.
+pub fn write_part<K: Sink>(sink: &mut K, part: &[u8]) -> Result<(), WriteError>
+    ensures { Writes part.now result
+        (record { taken = K.taken sink.old; flushed = K.flushed sink.old; faults = K.faults sink.old })
+        (record { taken = K.taken sink.new; flushed = K.flushed sink.new; faults = K.faults sink.new }) }
+{
+    match write_lines(sink, part) {
+        Ok(()) => Ok(()),
+        Err(Failed) => Err(WriteError::Failed),
+    }
+}

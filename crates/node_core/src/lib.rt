@@ -1,10 +1,12 @@
-//! One incarnation of a node: its region, its entities, the producers whose queue it holds and, while it
-//! holds the coordinator's slot, the shard coordinator (Akka 2.6, Cluster Sharding concepts). Each input is handled whole before the next.
+//! One incarnation of a node: its region, its entities, the producers whose queue it holds and, while
+//! it holds the coordinator's slot, the shard coordinator (Akka 2.6, Cluster Sharding concepts). Each
+//! input is handled whole before the next.
 //!
 //! `node` is the type that others see. `actors` has the parts side by side; `region_part`,
 //! `coordinator_part` and `entities_part` are the steps of one actor each, which ask for no lease;
 //! `lead` asks for one; so does `starting`, and `releasing` routes what was kept, which `homes` puts
-//! together; `packets` and `inputs` put steps together; `end` is the crash.
+//! together; `producing` has the steps of the producers; `packets` and `inputs` put steps together;
+//! `end` is the crash.
 #![tactic(auto)]
 
 mod actors;

@@ -410,8 +410,7 @@ ended v w x y m n k l a b d e set f g h = record {
     second (slot.Shard s) i = absurd (true_is_not_false (sym i ∙ none_in slot.Queue (slot.Shard s) (λ j. refl) (numbers 1 v.script.config.producers)))
     second slot.Coordinator i = absurd (true_is_not_false (sym i ∙ none_in slot.Queue slot.Coordinator (λ j. refl) (numbers 1 v.script.config.producers)))
     second (slot.Queue p) i =
-        let parts : (1 ≤ p) × (p < 1 + v.script.config.producers) = is_within slot.Queue (λ i j. refl) 1 v.script.config.producers p i in
-        (
+        let parts : (1 ≤ p) × (p < 1 + v.script.config.producers) = is_within slot.Queue (λ i j. refl) 1 v.script.config.producers p i in (
           both (nat_le 1 p) (nat_le p v.script.config.producers) (within 1 p parts.0) (within p v.script.config.producers (let high = parts.1 in omega (arith, high))),
           list_any-append (asks (slot.Queue p)) ss (slot.Coordinator ∷ []) ∙ ap (λ b. b || false) (none_in slot.Shard (slot.Queue p) (λ j. refl) (numbers 0 v.script.config.shards)),
         )

@@ -34,7 +34,8 @@ use producer_ctl::rules_are_calls;
 use shard_lease::{Acquire, Leases};
 use shard_store::Store;
 use yard_model::{
-    Body, Cause, Charter, EntityName, Fact, Incarnation, Item, Message, NodeNo, Out, Packet, ProducerNo, Slot,
+    Body, Cause, Charter, EntityName, Fact, Incarnation, Item, Message, NodeNo, Out, Packet,
+    ProducerNo, Slot,
 };
 
 impl<B: Behaviour + Drop> Actors<B> {

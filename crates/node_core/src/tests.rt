@@ -6,7 +6,7 @@ ghost use Rattle.yard_model.specs.declared.event.Kind.TheVariants as kind;
 ghost use Rattle.yard_model.specs.Genuine.{is_node, is_genuine_body};
 ghost use Rattle.yard_model.specs.Node.{new_node};
 ghost use Rattle.yard_model.specs.Script.{setting};
-ghost use Rattle.node_laws.specs.Members.{is_different_body};
+ghost use Rattle.node_laws.specs.NodeTurns.{Promised};
 ghost use Rattle.shard_lease.specs.Book.{meaning_of};
 ghost use Rattle.node_core.specs.Leased.{Rests};
 
@@ -47,7 +47,7 @@ fn hand(
     requires who { node.old.state.who ≡ record { node = 1; number = 1 } }
     requires nodes { node.old.script.config.nodes ≡ 2 }
     requires genuine { IsTrue (is_genuine_body node.old.script body.now) }
-    requires different { IsTrue (is_different_body body.now) }
+    requires promised { Promised (meaning_of book.old).vouches node.old.state body.now }
     requires rests { Rests (meaning_of book.old) node.old.script node.old.state }
     ensures script { node.new.script ≡ node.old.script }
     ensures who { node.new.state.who ≡ node.old.state.who }
@@ -60,6 +60,24 @@ fn hand(
         body: *body,
     };
     node.turn(charter, Input::Packet(packet), book, out);
+    Ok(())
+}
+
+/// A tick of the node.
+fn tick(
+    node: &mut Node<Counter>,
+    charter: &Charter,
+    book: &mut LeaseBook,
+    out: &mut Out,
+) -> Result<(), AllocError>
+    requires charter { charter.now ≡ node.old.script }
+    requires rests { Rests (meaning_of book.old) node.old.script node.old.state }
+    ensures script { node.new.script ≡ node.old.script }
+    ensures who { node.new.state.who ≡ node.old.state.who }
+    ensures rests { Rests (meaning_of book.new) node.new.script node.new.state }
+{
+    node.reserve(out)?;
+    node.turn(charter, Input::Tick, book, out);
     Ok(())
 }
 
@@ -131,12 +149,14 @@ fn a_node_leads(rt: HostRuntime) -> Result<(), Fail> {
     let mut out = Out::new(alloc);
     let mut node = new_leader(alloc, &charter, &mut book, &mut out)?;
     assert!(rt; node.is_coordinator());
+    tick(&mut node, &charter, &mut book, &mut out)?;
     hand(&mut node, &charter, &Body::Register, &mut book, &mut out)?;
     hand(&mut node, &charter, &Body::RegisterAck, &mut book, &mut out)?;
     node.reserve(&mut out)?;
     node.crash(&mut book, &mut out);
     assert!(rt; matches!(out.take(), Some(Item::Fact(Fact::View(_, 1)))));
     assert!(rt; matches!(out.take(), Some(Item::Fact(Fact::Granted(..)))));
+    assert!(rt; matches!(out.take(), Some(Item::Post(_))));
     assert!(rt; matches!(out.take(), Some(Item::Post(_))));
     assert!(rt; matches!(out.take(), Some(Item::Fact(Fact::Registered(_)))));
     assert!(rt; matches!(out.take(), Some(Item::Post(_))));

@@ -86,8 +86,7 @@ returns-in-Send-clause-gave g c =
     let old : Meaning = g.L.Leases.meaning c.args.leases.now in
     let script : Script = c.args.self.now.script in
     let st : Node = c.args.self.now.state in
-    subst (λ (i : Input). (asked : (Slot → Bool)) × Gave script asked (λ lists. rules.turn (all_sends script) lists i st) (moment old st c.args.out.now.items) (moment old c.send.new.self.state c.send.new.out.items)) (sym c.in-Send.is)
-    (
+    subst (λ (i : Input). (asked : (Slot → Bool)) × Gave script asked (λ lists. rules.turn (all_sends script) lists i st) (moment old st c.args.out.now.items) (moment old c.send.new.self.state c.send.new.out.items)) (sym c.in-Send.is) (
       none,
       sent_gave c.producer_keeps.ensures c.producer_routes.ensures (record { region = c.region_keeps.ensures; entities = c.entities_stand.ensures; message = c.genuine_is_message.ensures }) c.shards_are_there.ensures old c.args.self.now c.send.new.self
           c.knows.ensures.script c.requires.sound c.requires.rests c.in-Send.p c.args.out.now c.send.new.out c.rules_are_calls.ensures.sends

@@ -1,9 +1,8 @@
 -- Numbers that are all marked.
-use Rattle.std.proofs.Common.{◌≡◌, ◌≢◌, ℕ, zero, suc, ◌+◌, ◌-◌, ◌<◌, ◌≤◌, Bool, true, false, List, [], ◌∷◌, ◌++◌, length, drop, refl, ap, sym, ◌∙◌, subst, arith, nat_lt, filter, max, slice_set, Option, Some, None, MatchOption}
+use Rattle.std.proofs.Common.{◌≡◌, ℕ, zero, suc, ◌+◌, ◌-◌, ◌<◌, ◌≤◌, Bool, true, false, List, [], ◌∷◌, length, drop, refl, ap, sym, ◌∙◌, subst, arith, nat_lt, filter, max, Option, Some, None, MatchOption}
 use Rattle.std.specs.Prelude.{slice_index_or, if◌then◌else◌}
-use Rattle.std.proofs.lemmas.List.{get_or-drop, get_or-set_same, get_or-set_other}
+use Rattle.std.proofs.lemmas.List.{get_or-drop}
 use Rattle.plain_laws.proofs.Booleans.{true_is_not_false, below, not_below}
-use Rattle.plain_laws.proofs.Lists.{by_place}
 use Rattle.wire_packet.specs.Wire.{next_fresh}
 use Rattle.yard_model.specs.Words.{is_empty}
 use Rattle.world_sim.specs.Mail.{AreMarked, Heads, fresh_from, fresh_of, run_end}

@@ -1,6 +1,6 @@
 use Rattle.std.proofs.Common.{◌≡◌, ◌<◌, ◌≤◌, sym, subst, arith}
 use Rattle.std.specs.Prelude.{ℕ, slice_index_or}
-use Rattle.yard_model.specs.World.{World, settle, settle_bound}
+use Rattle.yard_model.specs.World.{World, settle_bound}
 use Rattle.world_sim.specs.Stepped.{Stepped}
 use Rattle.world_sim.specs.Steps.{settled_by}
 use Rattle.world_sim.specs.Yard.{Yard, IsSound}

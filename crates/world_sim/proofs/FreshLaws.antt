@@ -47,7 +47,7 @@ all_above t n [] h = refl
 all_above t n (true ∷ ms) h = all_above t (n + 1) ms (omega arith)
 all_above t n (false ∷ ms) h = let e : nat_lt t n ≡ true = lt_true t n h in rw e (ap (λ (l : List ℕ). n ∷ l) (all_above t (n + 1) ms (omega arith)))
 
-above : (t n d : ℕ) (marks : List Bool) → n + d ≡ t + 1 → filter (nat_lt t) (fresh_from n marks) ≡ fresh_from (t + 1) (drop d marks)
+pub above : (t n d : ℕ) (marks : List Bool) → n + d ≡ t + 1 → filter (nat_lt t) (fresh_from n marks) ≡ fresh_from (t + 1) (drop d marks)
 above t n zero marks h = let e : n ≡ t + 1 = omega arith in all_above t n marks (omega arith) ∙ ap (λ (k : ℕ). fresh_from k marks) e
 above t n (suc d) [] h = refl
 above t n (suc d) (true ∷ ms) h = above t (n + 1) d ms (omega arith)

@@ -1,6 +1,6 @@
 -- Steps of the world keep what stands.
 use Rattle.std.proofs.Common.{◌≡◌, ℕ, [], ◌∷◌, ◌++◌, refl, ap, sym, ◌∙◌, subst}
-use Rattle.std.specs.Prelude.{Bool, true, false, ◌==◌, ◌&&◌, ◌||◌, Some, List, fold, map}
+use Rattle.std.specs.Prelude.{true, false, ◌==◌, ◌&&◌, ◌||◌, Some, List, fold, map}
 use Rattle.yard_model.specs.declared.fact.Fact.{Fact}
 use Rattle.yard_model.specs.declared.fact.Fact.TheVariants as fact
 use Rattle.yard_model.specs.declared.charter.Line.{Line}

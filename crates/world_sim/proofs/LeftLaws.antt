@@ -1,22 +1,22 @@
 -- What is left to do, as the queues tell it: each at the node that holds it, or in the book.
-use Rattle.std.proofs.Common.{◌≡◌, ℕ, zero, suc, ◌+◌, ◌-◌, ◌*◌, ◌<◌, ◌≤◌, true, false, List, [], ◌∷◌, length, refl, ap, sym, ◌∙◌, subst, arith}
-use Rattle.std.specs.Prelude.{Bool, ◌||◌, nat_le, nat_lt, map, sum, take, Option, Some, None, is_none, IfSome, IsSomeAnd, slice_index_or}
+use Rattle.std.proofs.Common.{◌≡◌, ℕ, zero, suc, ◌+◌, ◌-◌, ◌*◌, ◌<◌, ◌≤◌, true, false, List, [], ◌∷◌, length, refl, ap, sym, ◌∙◌, arith}
+use Rattle.std.specs.Prelude.{◌||◌, nat_le, map, sum, take, Option, Some, None, IsSomeAnd, slice_index_or}
 use Rattle.std.specs.List.{list_any}
 use Rattle.std.proofs.lemmas.List.Sums.{sum-map, sum_by-cons}
 use Rattle.yard_model.specs.declared.fact.Fact.{Fact}
 use Rattle.yard_model.specs.declared.incarnation.Incarnation.{Incarnation}
 use Rattle.yard_model.specs.declared.incarnation.Slot.TheVariants as slot
 use Rattle.yard_model.specs.Genuine.{is_producer}
-use Rattle.yard_model.specs.Script.{Script, Setting, setting}
+use Rattle.yard_model.specs.Script.{Setting, setting}
 use Rattle.yard_model.specs.Setting.{producers}
 use Rattle.yard_model.specs.SlotLists.{queue_list}
 use Rattle.yard_model.specs.SlotReads.{holder, confirmed}
 use Rattle.yard_model.specs.Words.{numbers, at}
 use Rattle.yard_model.specs.World.{World, is_left, ordered_of, outstanding, settle_bound}
-use Rattle.shard_lease.specs.Book.{Book, known_at, meaning_of}
+use Rattle.shard_lease.specs.Book.{known_at}
 use Rattle.shard_store.specs.Stores.{entries_at, place_of}
 use Rattle.actor_laws.specs.Hands.{held_list}
-use Rattle.node_core.specs.Leased.{IsTold, Tells}
+use Rattle.node_core.specs.Leased.{IsTold}
 use Rattle.node_core.specs.Standing.{Standing}
 use Rattle.node_laws.specs.Cluster.{IsHeldBy}
 use Rattle.plain_laws.proofs.Booleans.{true_is_not_false, and_both, at_most}

@@ -5,6 +5,7 @@ pub mod EndLaws
 pub mod FreshLaws
 pub mod GiveLaws
 pub mod KeepLaws
+pub mod LeftLaws
 pub mod LoopLaws
 pub mod MembersLaws
 pub mod NewLaws
@@ -16,12 +17,12 @@ pub mod ProduceLaws
 pub mod QueueLaws
 pub mod ReshardLaws
 pub mod RestsLaws
+pub mod RunLaws
 pub mod SeekLaws
 pub mod SeenLaws
 pub mod SettleLaws
 pub mod StepLaws
 pub mod StoresLaws
-pub mod LeftLaws
 pub mod TellLaws
 pub mod ToldLaws
 pub mod TurnsLaws

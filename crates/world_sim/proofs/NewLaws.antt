@@ -1,6 +1,6 @@
 -- A world before its first order.
-use Rattle.std.proofs.Common.{◌≡◌, ℕ, zero, suc, ◌*◌, false, [], ◌∷◌, length, refl, ap, sym, ◌∙◌, subst, arith}
-use Rattle.std.specs.Prelude.{map, replicate, slice_index_or, None, IfSome, IsTrue}
+use Rattle.std.proofs.Common.{◌≡◌, ℕ, zero, suc, false, [], ◌∷◌, length, refl, ap, sym, ◌∙◌, subst, arith}
+use Rattle.std.specs.Prelude.{map, replicate, slice_index_or, None, IfSome}
 use Rattle.std.proofs.lemmas.List.{length-replicate}
 use Rattle.yard_model.specs.Script.{Script, IsScript, setting, with_shards}
 use Rattle.yard_model.specs.Trace.{no_lists}

@@ -1,6 +1,6 @@
 -- Another version of the behaviours, and another number of shards, while no node is up.
 use Rattle.std.proofs.Common.{◌≡◌, ℕ, zero, suc, ◌+◌, ◌-◌, ◌<◌, ◌≤◌, ◌==◌, true, false, List, [], ◌∷◌, ◌++◌, length, refl, ap, sym, ◌∙◌, subst, arith}
-use Rattle.std.specs.Prelude.{Bool, ◌||◌, nat_le, nat_lt, map, replicate, Option, Some, None, is_some, IfSome, IsSomeAnd, Result, Ok, Err, OnOk, OnErr, slice_index_or, if◌then◌else◌}
+use Rattle.std.specs.Prelude.{Bool, ◌||◌, nat_le, map, replicate, Option, Some, None, is_some, IfSome, IsSomeAnd, Result, Ok, Err, OnOk, OnErr, slice_index_or, if◌then◌else◌}
 use Rattle.std.specs.List.{list_any}
 use Rattle.yard_model.specs.declared.fact.Fact.{Fact}
 use Rattle.yard_model.specs.declared.fact.Fact.TheVariants as fact
@@ -11,7 +11,6 @@ use Rattle.yard_model.specs.declared.charter.Order.TheVariants as order
 use Rattle.yard_model.specs.Behaviour.{is_in}
 use Rattle.yard_model.specs.Genuine.{is_slot_of}
 use Rattle.yard_model.specs.Era.{reshaped}
-use Rattle.yard_model.specs.Node.{Node}
 use Rattle.yard_model.specs.Script.{Script, Setting, setting, with_shards}
 use Rattle.yard_model.specs.SlotLists.{SlotLists}
 use Rattle.yard_model.specs.SlotReads.{holder}
@@ -20,17 +19,17 @@ use Rattle.yard_model.specs.Words.{numbers, at}
 use Rattle.yard_model.specs.World as world
 use Rattle.yard_model.specs.World.{World, Made, Step, tell, is_any_up, greatest_epoch}
 use Rattle.shard_lease.specs.Book.{Book, known_at, meaning_of}
-use Rattle.shard_store.specs.Stores.{entries_in, entries_at, lists_at, place_of}
+use Rattle.shard_store.specs.Stores.{entries_at, lists_at, place_of}
 use Rattle.node_core.specs.Leased.{IsTold, Tells}
 use Rattle.node_core.specs.Standing.{Standing}
 use Rattle.plain_laws.proofs.Booleans.{true_is_not_false, and_both, at_most, below, get_replicate}
 use Rattle.world_sim.specs.Keeps.{Keeps}
 use Rattle.world_sim.specs.Mail.{Mails, ToldSome}
 use Rattle.world_sim.specs.Stands.{Stands}
-use Rattle.world_sim.specs.Stepped.{Counts, IsWhole, IsPlayed, Plays, Stepped}
+use Rattle.world_sim.specs.Stepped.{IsWhole, IsPlayed, Plays, Stepped}
 use Rattle.world_sim.specs.Steps.{resharded, upgraded}
 use Rattle.world_sim.specs.Stopped.{IsStopped}
-use Rattle.world_sim.specs.Yard.{Yard, Force, IsSeen, IsSound, Goes, state_in}
+use Rattle.world_sim.specs.Yard.{Yard, IsSeen, IsSound, Goes, state_in}
 use Rattle.world_sim.proofs.StepLaws.{counts_same, plays_of, step_as, step_told, if_true, if_false}
 use Rattle.world_sim.proofs.StoresLaws.{lists_home, none_holds, none_leased, stopped_all}
 use Rattle.world_sim.proofs.UpLaws.{firm_of, node_kept}

@@ -1,36 +1,31 @@
 -- The settling: its steps, one after the other.
-use Rattle.std.proofs.Common.{◌≡◌, ℕ, zero, suc, ◌+◌, ◌-◌, ◌<◌, ◌≤◌, true, false, List, [], ◌∷◌, ◌++◌, length, refl, ap, sym, ◌∙◌, subst, arith}
-use Rattle.std.specs.Prelude.{Bool, map, Option, Some, None, is_none, Result, Ok, Err, OnOk, OnErr, if◌then◌else◌}
+use Rattle.std.proofs.Common.{◌≡◌, ℕ, zero, suc, ◌+◌, ◌-◌, ◌≤◌, true, false, List, [], ◌∷◌, ◌++◌, length, refl, ap, sym, ◌∙◌, subst, arith}
+use Rattle.std.specs.Prelude.{Bool, map, Option, Some, None, is_none, Result, OnOk, OnErr}
 use Rattle.std.specs.List.{list_any}
 use Rattle.yard_model.specs.declared.fact.Fact.{Fact}
 use Rattle.yard_model.specs.declared.fact.Fact.TheVariants as fact
 use Rattle.yard_model.specs.declared.input.Input.TheVariants as input
 use Rattle.yard_model.specs.Behaviour.{is_in}
-use Rattle.yard_model.specs.Genuine.{is_producer}
 use Rattle.yard_model.specs.Node.{Node}
-use Rattle.yard_model.specs.Script.{Script, IsScript, Setting, setting}
+use Rattle.yard_model.specs.Script.{Script, IsScript, Setting}
 use Rattle.yard_model.specs.Setting.{producers}
 use Rattle.yard_model.specs.Words.{numbers, at}
 use Rattle.yard_model.specs.World as world
 use Rattle.yard_model.specs.World.{World, Made, Step, tell, then_step, in_order, go_down, produce, node_at, is_left}
-use Rattle.actor_laws.proofs.Room.{few_nodes}
 use Rattle.node_laws.specs.Cluster.{IsMember}
 use Rattle.plain_laws.proofs.Booleans.{true_is_not_false}
 use Rattle.plain_laws.proofs.Lists.{none_of}
 use Rattle.play_laws.proofs.Orders.{downs_empty, first_node}
 use Rattle.world_sim.specs.Keeps.{Keeps}
-use Rattle.world_sim.specs.Mail.{ToldSome}
-use Rattle.world_sim.specs.Stands.{Stands}
-use Rattle.world_sim.specs.Stepped.{Counts, IsWhole, IsCut, Stepped}
-use Rattle.world_sim.specs.Steps.{given, ticked, all_down, all_taken, from_up, settled_by, ended}
+use Rattle.world_sim.specs.Stepped.{IsWhole, Stepped}
+use Rattle.world_sim.specs.Steps.{given, ticked, all_down, settled_by, ended}
 use Rattle.world_sim.specs.Yard.{Yard, IsSeen, IsSound, MayGive, Goes, state_in}
 use Rattle.node_core.specs.Standing.{Standing}
 use Rattle.world_sim.proofs.EndLaws.{go_down_full, none_kept}
-use Rattle.world_sim.proofs.LoopLaws.{KeepsOf, IsNextOf, IsOnWay, OnWay, order_one, sound_after, way_now, way_on}
+use Rattle.world_sim.proofs.LoopLaws.{KeepsOf, IsNextOf, order_one, sound_after}
 use Rattle.world_sim.proofs.RestsLaws.{member}
-use Rattle.world_sim.proofs.StepLaws.{goes_still, counts_same, counts_more, step_as, step_then, step_told, whole_from, if_true, if_false}
-use Rattle.world_sim.proofs.StoresLaws.{node_in}
-use Rattle.world_sim.proofs.UpLaws.{firm_of, node_kept, node_within}
+use Rattle.world_sim.proofs.StepLaws.{goes_still, counts_same, step_as, step_then, step_told, if_true, if_false}
+use Rattle.world_sim.proofs.UpLaws.{node_kept, node_within}
 
 -- Every node goes down.
 

@@ -8,7 +8,7 @@ use Rattle.yard_model.specs.Script.{Script, with_shards}
 use Rattle.yard_model.specs.World.{World, Made, Step, tell, then_step}
 use Rattle.plain_laws.proofs.Booleans.{true_is_not_false}
 use Rattle.world_sim.specs.Mail.{ToldSome}
-use Rattle.world_sim.specs.Stepped.{Counts, IsWhole, IsCut, IsPlayed, Plays, Stepped}
+use Rattle.world_sim.specs.Stepped.{Counts, IsWhole, IsCut, Plays, Stepped}
 use Rattle.world_sim.specs.Yard.{Yard, IsSeen, IsSound, Goes}
 
 -- Beginnings of facts.

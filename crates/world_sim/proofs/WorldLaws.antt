@@ -11,7 +11,6 @@ use Rattle.yard_model.specs.World.{World, Made, play_line, with_order}
 use Rattle.play_laws.specs.Played.{is_named}
 use Rattle.play_laws.proofs.Orders.{names_are}
 use Rattle.world_sim.specs.Keeps.{Keeps}
-use Rattle.world_sim.specs.Stands.{Stands}
 use Rattle.plain_laws.proofs.Lists.{none_is_not_some}
 use Rattle.world_sim.specs.declared.fault.StepFault.{StepFault}
 use Rattle.world_sim.specs.declared.fault.StepFault.TheVariants as fault

@@ -1,5 +1,5 @@
 -- Mail: the packets of a world, and what a turn made and isn't told yet.
-use Rattle.std.specs.Prelude.{◌≡◌, ℕ, ◌+◌, Bool, true, false, nat_lt, List, [], ◌∷◌, ◌++◌, length, fold, if◌then◌else◌}
+use Rattle.std.specs.Prelude.{◌≡◌, ℕ, ◌+◌, ◌≤◌, ◌<◌, Bool, true, false, nat_lt, max, slice_index_or, List, [], ◌∷◌, ◌++◌, length, fold, if◌then◌else◌}
 use Rattle.yard_model.specs.declared.fact.Fact.{Fact}
 use Rattle.yard_model.specs.declared.fact.Fact.TheVariants as fact
 use Rattle.yard_model.specs.declared.out.Item.{Item}
@@ -26,10 +26,20 @@ fresh_from n (false ∷ marks) = n ∷ fresh_from (n + 1) marks
 abbrev pub fresh_of : List Bool → List ℕ
 fresh_of marks = fresh_from 1 marks
 
--- how a mail is kept: beside the wire, how many were posted
-pub record IsMail (wire : Posted) (count : ℕ) : Type 0 where
+-- each number above this one, up to that one, is marked
+abbrev pub AreMarked : List Bool → ℕ → ℕ → Type 0
+AreMarked marks base reached = (i : ℕ) → base ≤ i → i < reached → slice_index_or marks i false ≡ true
+
+-- where a search for a number above `from` may begin
+abbrev pub run_end : ℕ → ℕ → ℕ → ℕ
+run_end base reached from = if nat_lt from base then from else max from reached
+
+-- how a mail is kept: beside the wire, how many were posted, and a run of numbers that were all delivered
+pub record IsMail (wire : Posted) (count base reached : ℕ) : Type 0 where
   pub wire_is : IsWire wire
   pub count_is : count ≡ length wire.packets
+  pub within : reached ≤ count
+  pub marked_are : AreMarked wire.marked base reached
 
 -- this list of numbers begins with k
 pub record Heads (k : ℕ) (ks : List ℕ) : Type 0 where

@@ -14,6 +14,7 @@ mod orders;
 mod places;
 mod produces;
 mod queues;
+mod runs;
 mod seek;
 mod settle;
 mod stops;

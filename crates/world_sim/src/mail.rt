@@ -10,6 +10,7 @@ ghost use Rattle.world_sim.specs.Mail.{Heads, ToldSome, facts_of, is_past, posts
 ghost use Rattle.world_sim.specs.Lending.{LendsOut};
 ghost use Rattle.world_sim.specs.Told.{all_told};
 
+use crate::runs::{after_run, reach};
 use std::alloc::{AllocError, Global};
 use std::marker::Model;
 use wire_packet::{Wire, WireFault};
@@ -23,6 +24,8 @@ pub struct Mail {
     count: u32,
     out: Out,
     full: bool,
+    base: u32,
+    reached: u32,
 }
 
 impl Model for Mail {
@@ -32,7 +35,7 @@ impl Model for Mail {
 
     ghost view = { λ m. record { packets = m.wire.packets; fresh = fresh_of m.wire.marked; items = m.out.items; spare = m.out.spare; full = m.full } };
 
-    ghost invariant = { λ m. IsMail m.wire m.count };
+    ghost invariant = { λ m. IsMail m.wire m.count m.base m.reached };
 }
 
 impl Mail {
@@ -49,6 +52,8 @@ impl Mail {
             count: 0,
             out: Out::new(alloc),
             full: false,
+            base: 0,
+            reached: 0,
         }
     }
 
@@ -124,16 +129,27 @@ impl Mail {
         ensures full { self.new.full ≡ self.old.full }
     {
         self.wire.mark(number);
+        self.reached = reach(&self.wire, self.count, self.reached, number);
+    }
+
+    /// From here on a search for a number above this one, or a later one, passes over the numbers above it
+    /// that were delivered, however many there are.
+    pub fn begin_after(&mut self, from: u32)
+        requires { from ≤ length self.old.packets }
+        ensures { self.new ≡ self.old }
+    {
+        self.base = from;
+        self.reached = from;
     }
 
     /// The lowest number above `from` whose packet was never delivered; None where there is none.
     /// The search passes over the numbers at the front that were delivered.
-    #[tactic(auto, using(crate::proofs::FreshLaws::next_after))]
     pub fn next_after(&self, from: u32) -> Option<u32>
         requires { from < 4000000000 }
         ensures { MatchOption result (filter (nat_lt from) self.now.fresh ≡ []) (λ k. Heads k (filter (nat_lt from) self.now.fresh)) }
     {
-        self.wire.next_fresh(from + 1)
+        let start = after_run(self.base, self.reached, from);
+        self.wire.next_fresh(start + 1)
     }
 
     /// Whether some packet above `from` was never delivered.

@@ -1,9 +1,9 @@
 //! The settling: the cluster starts anew on one node, and runs until all is recorded and confirmed.
-ghost use Rattle.std.specs.Prelude.{◌≡◌, ℕ, ◌<◌, ◌≤◌, None, slice_index_or};
+ghost use Rattle.std.specs.Prelude.{◌≡◌, ℕ, ◌<◌, ◌≤◌, None, length, slice_index_or};
 ghost use Rattle.yard_model.specs.declared.charter.Order.TheVariants as order;
 ghost use Rattle.yard_model.specs.declared.input.Input.TheVariants as input;
 ghost use Rattle.yard_model.specs.Words.{at};
-ghost use Rattle.yard_model.specs.World.{World, play, tick_while_left, settle_end};
+ghost use Rattle.yard_model.specs.World.{World, play, tick_while_left, settle_end, wire_limit};
 ghost use Rattle.world_sim.specs.Stepped.{Stepped};
 ghost use Rattle.world_sim.specs.Steps.{given, ticked, from_ticks, from_second, from_taking, from_first, from_up, settled_by, all_taken, all_down, ended};
 ghost use Rattle.world_sim.specs.Yard.{IsSound};
@@ -32,9 +32,20 @@ impl<B: Behaviour + Copy + Drop> Yard<B> {
         requires ordered { (k : ℕ) → slice_index_or self.old.ordered k 0 ≤ 200000 }
         ensures { Stepped IsSound 18 (play order.Settle) result self.old self.new facts.old facts.new }
     {
-        let from = self.mail.len();
+        let from = self.begin();
         let bound = self.settle_bound();
         self.settle_by(from, bound, facts)
+    }
+
+    /// How many packets were posted so far. A search for a later one passes over what is delivered of those.
+    fn begin(&mut self) -> u32
+        ensures from { result ≡ length self.old.mail.packets }
+        ensures fits { result ≤ wire_limit }
+        ensures same { self.new ≡ self.old }
+    {
+        let from = self.mail.len();
+        self.mail.begin_after(from);
+        from
     }
 
     /// The same, of packets above `from`, with a budget for each drain and for the ticks.

@@ -1,4 +1,4 @@
-use Rattle.std.proofs.Common.{◌≡◌, ◌+◌, ◌-◌, ◌≤◌, map, take, ap, ◌∙◌, arith}
+use Rattle.std.proofs.Common.{◌-◌, ◌≤◌, ap, ◌∙◌, arith}
 use Rattle.yard_model.specs.SlotReads.{confirmed}
 use Rattle.world_sim.proofs.LeftLaws.{less_by}
 use Rattle.world_sim.proofs.left.outstanding_in.Goals as goal

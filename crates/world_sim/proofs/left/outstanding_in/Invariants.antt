@@ -1,4 +1,4 @@
-use Rattle.std.proofs.Common.{◌≡◌, ◌-◌, ◌≤◌, map, take, length}
+use Rattle.std.proofs.Common.{◌≡◌, ◌-◌, ◌≤◌, map, take}
 use Rattle.std.specs.Prelude.{sum}
 use Rattle.yard_model.specs.SlotReads.{confirmed}
 use Rattle.world_sim.proofs.left.outstanding_in.Given as goal

@@ -1,6 +1,5 @@
-use Rattle.std.proofs.Common.{◌≡◌, ◌+◌, ◌-◌, ◌<◌, ◌≤◌, suc, ap, sym, ◌∙◌, refl, arith}
+use Rattle.std.proofs.Common.{◌≡◌, ◌+◌, ◌-◌, ◌<◌, ◌≤◌, suc, ap, sym, ◌∙◌, arith}
 use Rattle.yard_model.specs.declared.charter.Config.{Config}
-use Rattle.yard_model.specs.Behaviour.{is_in}
 use Rattle.yard_model.specs.Script.{Script}
 use Rattle.yard_model.specs.Words.{numbers}
 use Rattle.yard_model.specs.World.{go_down}

@@ -1,4 +1,4 @@
-use Rattle.std.proofs.Common.{◌≡◌, ◌+◌, ◌-◌, ◌<◌, ap, sym, ◌∙◌, refl, arith}
+use Rattle.std.proofs.Common.{◌≡◌, ap, sym, ◌∙◌, arith}
 use Rattle.yard_model.specs.declared.charter.Config.{Config}
 use Rattle.world_sim.specs.Yard.{Yard}
 use Rattle.world_sim.proofs.LeftLaws.{left_first, left_next, left_here, left_none}

@@ -3,8 +3,8 @@ use Rattle.yard_model.specs.World.{drain}
 use Rattle.world_sim.specs.Stepped.{Stepped}
 use Rattle.world_sim.specs.Steps.{from_taking, from_first}
 use Rattle.world_sim.specs.Yard.{IsSound}
-use Rattle.world_sim.proofs.LoopLaws.{next_sound, order_one, step_on, step_stops}
-use Rattle.world_sim.proofs.StepLaws.{step_as, step_cut, step_err}
+use Rattle.world_sim.proofs.LoopLaws.{next_sound, step_on, step_stops}
+use Rattle.world_sim.proofs.StepLaws.{step_cut, step_err}
 use Rattle.world_sim.proofs.yard.Yard.settle_first.Goals as goal
 
 pub settle_taking-requires-clause-world : goal.settle_taking-requires-clause-world

@@ -1,10 +1,9 @@
-use Rattle.std.proofs.Common.{◌+◌, ◌<◌, ◌≤◌, sym, ◌∙◌, subst, arith}
+use Rattle.std.proofs.Common.{◌+◌, ◌<◌, ◌≤◌, sym, ◌∙◌, arith}
 use Rattle.yard_model.specs.World.{drain}
-use Rattle.world_sim.specs.Stepped.{Stepped}
 use Rattle.world_sim.specs.Steps.{from_ticks, from_second}
 use Rattle.world_sim.specs.Yard.{IsSound}
-use Rattle.world_sim.proofs.LoopLaws.{next_sound, order_one, step_on, step_stops}
-use Rattle.world_sim.proofs.StepLaws.{step_as, step_cut, step_err}
+use Rattle.world_sim.proofs.LoopLaws.{next_sound, step_on, step_stops}
+use Rattle.world_sim.proofs.StepLaws.{step_cut, step_err}
 use Rattle.world_sim.proofs.yard.Yard.settle_second.Goals as goal
 
 pub settle_ticks-requires-clause-world : goal.settle_ticks-requires-clause-world

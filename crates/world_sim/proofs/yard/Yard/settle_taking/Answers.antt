@@ -1,9 +1,8 @@
-use Rattle.std.proofs.Common.{◌+◌, ◌<◌, ◌≤◌, sym, ◌∙◌, subst, arith}
-use Rattle.world_sim.specs.Stepped.{Stepped}
+use Rattle.std.proofs.Common.{◌+◌, ◌<◌, ◌≤◌, sym, ◌∙◌, arith}
 use Rattle.world_sim.specs.Steps.{all_taken, from_second, from_taking}
 use Rattle.world_sim.specs.Yard.{IsSound}
-use Rattle.world_sim.proofs.LoopLaws.{next_sound, order_one, step_on, step_stops}
-use Rattle.world_sim.proofs.StepLaws.{step_as, step_cut, step_err}
+use Rattle.world_sim.proofs.LoopLaws.{next_sound, step_on, step_stops}
+use Rattle.world_sim.proofs.StepLaws.{step_cut, step_err}
 use Rattle.world_sim.proofs.yard.Yard.settle_taking.Goals as goal
 
 pub settle_second-requires-clause-world : goal.settle_second-requires-clause-world

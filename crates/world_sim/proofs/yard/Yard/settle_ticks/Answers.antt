@@ -1,6 +1,5 @@
-use Rattle.std.proofs.Common.{◌+◌, ◌<◌, ◌≤◌, [], ◌∷◌, sym, ◌∙◌, subst, arith}
+use Rattle.std.proofs.Common.{◌+◌, ◌<◌, ◌≤◌, [], ◌∷◌, sym, ◌∙◌, arith}
 use Rattle.yard_model.specs.World.{tick_while_left, settle_end, in_order}
-use Rattle.world_sim.specs.Stepped.{Stepped}
 use Rattle.world_sim.specs.Steps.{from_ticks}
 use Rattle.world_sim.specs.Yard.{IsSound}
 use Rattle.world_sim.proofs.LoopLaws.{next_sound, order_one, step_on, step_stops}

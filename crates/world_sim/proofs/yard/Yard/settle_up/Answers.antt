@@ -1,13 +1,13 @@
-use Rattle.std.proofs.Common.{◌≡◌, ◌+◌, ◌-◌, ◌<◌, ◌≤◌, ap, sym, ◌∙◌, subst, arith}
-use Rattle.std.specs.Prelude.{None, slice_index_or}
+use Rattle.std.proofs.Common.{◌+◌, ◌-◌, ◌<◌, ◌≤◌, ap, sym, ◌∙◌, subst, arith}
+use Rattle.std.specs.Prelude.{slice_index_or}
 use Rattle.yard_model.specs.Behaviour.{is_in}
 use Rattle.yard_model.specs.Words.{at}
 use Rattle.yard_model.specs.World.{come_up}
 use Rattle.world_sim.specs.Stepped.{IsCut, IsWhole, Stepped}
 use Rattle.world_sim.specs.Steps.{from_first, from_up}
 use Rattle.world_sim.specs.Yard.{IsSound}
-use Rattle.world_sim.proofs.LoopLaws.{next_sound, order_one, step_on, step_stops}
-use Rattle.world_sim.proofs.StepLaws.{step_as, step_cut, step_err}
+use Rattle.world_sim.proofs.LoopLaws.{next_sound, step_on, step_stops}
+use Rattle.world_sim.proofs.StepLaws.{step_cut, step_err}
 use Rattle.world_sim.proofs.SettleLaws.{come_keeps, first_in}
 use Rattle.world_sim.proofs.yard.Yard.settle_up.Goals as goal
 

@@ -1,4 +1,4 @@
-use Rattle.std.proofs.Common.{◌≡◌, ◌+◌, ◌-◌, suc, refl, sym, ◌∙◌, arith}
+use Rattle.std.proofs.Common.{◌≡◌, ◌+◌, ◌-◌, suc, sym, ◌∙◌, arith}
 use Rattle.yard_model.specs.World.{tick_while_left}
 use Rattle.world_sim.specs.Steps.{ticked}
 use Rattle.world_sim.specs.Yard.{IsSound}

@@ -51,3 +51,6 @@ front_same a b e s t same front = subst (λ x. TookFront x e s t) same front
 -- what was put behind nothing
 pub after_nothing : (now before text : Bytes) → now ≡ before ++ text → before ≡ [] → now ≡ text
 after_nothing now before text is none = is ∙ ap (λ x. x ++ text) none
+
+pub took_same : (a b : Bytes) (s t : Sunk) → a ≡ b → Took a s t → Took b s t
+took_same a b s t same took = subst (λ x. Took x s t) same took

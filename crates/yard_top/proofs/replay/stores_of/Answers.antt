@@ -10,15 +10,15 @@ use Rattle.yard_top.proofs.replay.stores_of.Goals as goal
 pub returns-clause-report : goal.returns-clause-report
 returns-clause-report g c =
     let s : Script = c.args.charter.now in
-    let d : Script = c.in_ok.last in
-    let x = c.in_ok.stores in
-    let e = c.in_ok.ensures in
+    let d : Script = c.in_ok-last.last in
+    let x = c.in_ok-last.stores in
+    let e = c.in_ok-last.ensures in
     freed_report d (played s wire_limit).world.lists (lists_at x.script.config x.places) (freed_of s d c.args.world x c.requires e.script e.lists) ∙ ap (λ set. report set (played s wire_limit).world.lists) (set_of s d c.args.world c.requires e.set)
 
 pub returns-clause-foldable : goal.returns-clause-foldable
 returns-clause-foldable g c =
     let s : Script = c.args.charter.now in
-    let d : Script = c.in_ok.last in
-    let x = c.in_ok.stores in
-    let e = c.in_ok.ensures in
+    let d : Script = c.in_ok-last.last in
+    let x = c.in_ok-last.stores in
+    let e = c.in_ok-last.ensures in
     lists_fold d (lists_at x.script.config x.places) (record { commands = c.command_law.ensures; decisions = c.decision_law.ensures; applies = c.decided_law.ensures }) c.config.ensures.script (freed_of s d c.args.world x c.requires e.script e.lists).own_are

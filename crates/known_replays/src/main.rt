@@ -4,9 +4,8 @@
 #![tactic(auto)]
 
 use std::alloc::{AllocError, Global};
-use std::fs;
-use std::io;
 use std::rt::Files;
+use std::{fs, io};
 use yard_io::{MemSink, WholeSource};
 use yard_top::{Status, sharder};
 
@@ -45,7 +44,7 @@ fn first_difference(one: &[u8], other: &[u8]) -> Option<usize> {
 }
 
 /// Runs a script, and compares what came of it.
-fn verdict(
+fn judged(
     alloc: Global,
     words: &[String],
     script: &[u8],
@@ -79,7 +78,7 @@ fn play(rt: &(impl Files + AllocGlobal + Print), line: &str) -> io::Result<()> {
     let code: u8 = code.as_str().parse().unwrap_or(255);
     let script = bytes_of(rt, name.as_str(), "in")?;
     let text = bytes_of(rt, name.as_str(), "out")?;
-    match verdict(rt.alloc(), words, script.as_slice(), code, text.as_slice())? {
+    match judged(rt.alloc(), words, script.as_slice(), code, text.as_slice())? {
         Verdict::Same => println!(rt; "{name}: same"),
         Verdict::OtherStatus(status) => println!(rt; "{name}: status {status}"),
         Verdict::OtherText(at) => println!(rt; "{name}: differs from byte {at}"),

@@ -149,6 +149,26 @@ report
 end
 ";
 
+const SETTLED: &[u8] = b"at 2
+up 1.1
+sent 1 1.1 1.1 view 1 1.1
+got 1
+view 1.1 1
+granted coordinator 1 1.1
+sent 2 1.1 1.1 register
+got 2
+registered 1.1
+sent 3 1.1 1.1 registerack
+got 3
+granted queue:1 1 1.1
+gone 1.1
+freed coordinator 1 stopped
+freed queue:1 1 stopped
+settled
+report
+end
+";
+
 /// One word.
 fn word(alloc: Global, form: &str) -> Result<Vec<String>, AllocError> {
     let mut words = Vec::new(alloc);
@@ -253,11 +273,12 @@ fn replays(rt: HostRuntime) -> Result<(), Fail> {
     expect_replay(&rt, CRASH_AND_RETURN, Status::Ok, RETURNED)?;
     expect_replay(&rt, TWO_NODES, Status::Ok, TAKEN_OVER)?;
     expect_replay(&rt, ONE_ACCOUNT_NODE, Status::Ok, ONE_VIEW)?;
-    let not_built = Status::Refused {
-        line: 2,
-        why: Why::NotBuilt,
-    };
-    expect_replay(&rt, b"config\nsettle\n", not_built, b"")
+    expect_replay(
+        &rt,
+        b"config shards=1 producers=1\nsettle\n",
+        Status::Ok,
+        SETTLED,
+    )
 }
 
 #[test]

@@ -25,6 +25,3 @@ mod starting;
 mod ticking;
 
 pub use node::Node;
-
-#[cfg(test)]
-mod tests;

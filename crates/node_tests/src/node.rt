@@ -10,8 +10,8 @@ ghost use Rattle.node_laws.specs.NodeTurns.{Promised};
 ghost use Rattle.shard_lease.specs.Book.{meaning_of};
 ghost use Rattle.node_core.specs.Leased.{Rests};
 
-use crate::Node;
 use behaviour_kinds::Counter;
+use node_core::Node;
 use shard_lease::LeaseBook;
 use shard_store::Stores;
 use std::alloc::{AllocError, Global};

@@ -31,16 +31,19 @@ glyph d h = one (nat_lt d 10)
     one true = omega arith
     one false = omega arith
 
+-- a digit before what is ASCII
+digit : (n : ℕ) (acc : List ℕ) → IsAscii acc → IsAscii (digit_glyph false (n % 10) ∷ acc)
+digit n acc h = IsAscii-cons (digit_glyph false (n % 10)) acc (glyph (n % 10) (omega arith)) h
+
+either : (b : Bool) (xs ys : List ℕ) → IsAscii xs → IsAscii ys → IsAscii (cond b xs ys)
+either true xs ys h k = h
+either false xs ys h k = k
+
 onto : (k n : ℕ) (acc : List ℕ) → IsAscii acc → IsAscii (digits_onto k 10 false n acc)
 onto zero n acc h = h
-onto (suc k) n acc h = one (n / 10 == 0)
-  where
-    more : IsAscii (digit_glyph false (n % 10) ∷ acc)
-    more = IsAscii-cons (digit_glyph false (n % 10)) acc (glyph (n % 10) (omega arith)) h
-
-    one : (b : Bool) → IsAscii (cond b (digit_glyph false (n % 10) ∷ acc) (digits_onto k 10 false (n / 10) (digit_glyph false (n % 10) ∷ acc)))
-    one true = more
-    one false = onto k (n / 10) (digit_glyph false (n % 10) ∷ acc) more
+onto (suc k) n acc h =
+    let more = digit n acc h in
+    either (n / 10 == 0) (digit_glyph false (n % 10) ∷ acc) (digits_onto k 10 false (n / 10) (digit_glyph false (n % 10) ∷ acc)) more (onto k (n / 10) (digit_glyph false (n % 10) ∷ acc) more)
 
 number : (n : ℕ) → IsAscii (decimal n)
 unfolding digits

@@ -2,7 +2,7 @@
 use Rattle.std.proofs.Common.{◌≡◌, ℕ, zero, suc, ◌<◌, ◌+◌, ◌-◌, List, [], ◌∷◌, ◌++◌, length, drop, sym, ap, ◌∙◌, refl, subst, arith}
 use Rattle.std.specs.Prelude.{Bool, true, false, ◌==◌, ◌&&◌, cond, IsTrue, map, filter, slice_index_or}
 use Rattle.std.specs.List.{flat_map, list_all}
-use Rattle.std.proofs.lemmas.List.{drop_more, append_assoc, get_or-map, length-map, map_push}
+use Rattle.std.proofs.lemmas.List.{drop_more, append_assoc, get_or-map, length-map}
 use Rattle.std.proofs.lemmas.Bool.Decides.{nat_tests}
 use Rattle.yard_model.specs.declared.packet.Record.{Record}
 use Rattle.yard_model.specs.declared.fact.Fact.{Fact}
@@ -166,13 +166,3 @@ no_row show none set s e = one (shard_of set e == s)
     one : (b : Bool) → cond b (show set e []) [] ≡ []
     one true = none set e
     one false = refl
-
--- one value more of what is seen of each
-pub seen_step : {A V B : Type 0} (look : V → B) (show : A → B) (xs : List A) (i : ℕ) (x : A) (old new : List V) (v : V) (whole : List B) → i < length xs → x ≡ slice_index_or xs i x
-    → new ≡ old ++ v ∷ [] → look v ≡ show x → map look old ++ map show (drop i xs) ≡ whole → map look new ++ map show (drop (i + 1) xs) ≡ whole
-seen_step look show xs i x old new v whole h is more seen before =
-    ap (λ (l : List _). map look l ++ map show (drop (i + 1) xs)) more
-    ∙ (ap (λ (l : List _). l ++ map show (drop (i + 1) xs)) (map_push look old v)
-    ∙ (append_assoc (map look old) (look v ∷ []) (map show (drop (i + 1) xs))
-    ∙ (ap (λ b. map look old ++ b ∷ map show (drop (i + 1) xs)) (seen ∙ ap show is)
-    ∙ (sym (ap (λ (l : List _). map look old ++ map show l) (drop_more xs i x h)) ∙ before))))

@@ -65,8 +65,10 @@ entities_json set lists = flat_map (λ s. flat_map (λ e. entity_json set e (jou
 abbrev pub queues_json : Setting → SlotLists → List Data
 queues_json set lists = flat_map (λ p. flat_map (λ e. pair_json p e (queued e (queue_list lists p)) (confirmed e (queue_list lists p))) set.names) (producers set)
 
+-- the whole, of the values of entities and of pairs
+abbrev pub whole_json : List Data → List Data → Data
+whole_json entities queues = object (member (codes "entities") (list_json entities) (member (codes "queues") (list_json queues) no_members))
+
 -- JsonReport: what the lists come to
 abbrev pub json_report : Setting → SlotLists → Data
-json_report set lists = object (
-    member (codes "entities") (list_json (entities_json set lists)) (
-    member (codes "queues") (list_json (queues_json set lists)) no_members))
+json_report set lists = whole_json (entities_json set lists) (queues_json set lists)

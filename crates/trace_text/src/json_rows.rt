@@ -6,7 +6,7 @@ ghost use Rattle.serde_json.specs.View.{view};
 ghost use Rattle.yard_model.specs.Behaviour.{empty_state};
 ghost use Rattle.yard_model.specs.Text.{command_text, event_text, reply_text, state_text};
 ghost use Rattle.trace_text.specs.Foldable.{are_foldable};
-ghost use Rattle.trace_text.specs.Json.{list_json, events_json, record_json, entity_value, pair_value};
+ghost use Rattle.trace_text.specs.Json.{list_json, events_json, record_json, entity_value, pair_value, whole_json};
 
 use crate::entities::state_after;
 use crate::queues::Tally;
@@ -37,7 +37,6 @@ fn name_value(alloc: Global, name: &EntityName) -> Result<Value, AllocError>
     Ok(text_value(text))
 }
 
-#[tactic(auto, using(crate::proofs::AsciiLaws::command_utf8))]
 fn command_value(alloc: Global, command: &Command) -> Result<Value, AllocError>
     ensures { IfOk result (λ v. view v ≡ string (command_text command.now)) }
 {
@@ -46,7 +45,6 @@ fn command_value(alloc: Global, command: &Command) -> Result<Value, AllocError>
     Ok(text_value(text))
 }
 
-#[tactic(auto, using(crate::proofs::AsciiLaws::event_utf8))]
 fn event_value(alloc: Global, event: &Event) -> Result<Value, AllocError>
     ensures { IfOk result (λ v. view v ≡ string (event_text event.now)) }
 {
@@ -55,7 +53,6 @@ fn event_value(alloc: Global, event: &Event) -> Result<Value, AllocError>
     Ok(text_value(text))
 }
 
-#[tactic(auto, using(crate::proofs::AsciiLaws::reply_utf8))]
 fn reply_value(alloc: Global, reply: &Reply) -> Result<Value, AllocError>
     ensures { IfOk result (λ v. view v ≡ string (reply_text reply.now)) }
 {
@@ -64,7 +61,6 @@ fn reply_value(alloc: Global, reply: &Reply) -> Result<Value, AllocError>
     Ok(text_value(text))
 }
 
-#[tactic(auto, using(crate::proofs::AsciiLaws::state_utf8))]
 fn state_value(alloc: Global, state: &State) -> Result<Value, AllocError>
     ensures { IfOk result (λ v. view v ≡ string (state_text state.now)) }
 {
@@ -145,6 +141,17 @@ fn pair_value(
         "producer": p.get(),
         "queued": tally.queued
     })
+}
+
+/// The report of these entities and pairs.
+pub(crate) fn whole_value(
+    alloc: Global,
+    entities: Vec<Value>,
+    queues: Vec<Value>,
+) -> Result<Value, AllocError>
+    ensures { IfOk result (λ v. view v ≡ whole_json (map view entities.items) (map view queues.items)) }
+{
+    json!(in alloc; {"entities": entities, "queues": queues})
 }
 
 impl ReportRows for Vec<Value> {

@@ -13,9 +13,10 @@ ghost use Rattle.trace_text.specs.Rows.{rows, row_of, is_foldable_row, shard_row
 
 use crate::basics::push;
 use crate::journals::journals_of_list;
+use crate::json_rows::whole_value;
 use crate::queues::push_queues;
 use crate::report_rows::ReportRows;
-use serde_json::{Value, json};
+use serde_json::Value;
 use shard_extract::shard_of;
 use std::alloc::{AllocError, Global};
 use yard_model::{Charter, EntityName, Lists, Record, ShardEntry, ShardNo};
@@ -52,7 +53,7 @@ pub fn report_value<T: Lists>(
     push_entities(&mut entities, alloc, charter, stores)?;
     let mut queues: Vec<Value> = Vec::new(alloc);
     push_queues(&mut queues, alloc, charter, stores)?;
-    json!(in alloc; {"entities": entities, "queues": queues})
+    whole_value(alloc, entities, queues)
 }
 
 /// The entities of all shards.

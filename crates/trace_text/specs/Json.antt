@@ -5,7 +5,6 @@ use Rattle.serde_json.specs.Data.{Data, number, unsigned, string, array, object,
 use Rattle.serde_json.specs.View.{items_of}
 use Rattle.yard_model.specs.declared.event.Event.{Event}
 use Rattle.yard_model.specs.declared.event.Kind.{Kind}
-use Rattle.yard_model.specs.declared.fact.Fact.{Fact}
 use Rattle.yard_model.specs.declared.packet.Record.{Record}
 use Rattle.yard_model.specs.Behaviour.{folded}
 use Rattle.yard_model.specs.Script.{Setting}

@@ -4,3 +4,4 @@ pub mod PlaceLaws
 pub mod JournalLaws
 pub mod RowLaws
 pub mod TallyLaws
+pub mod AsciiLaws

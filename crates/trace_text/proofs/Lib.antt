@@ -5,3 +5,4 @@ pub mod JournalLaws
 pub mod RowLaws
 pub mod TallyLaws
 pub mod AsciiLaws
+pub mod PlainLaws

@@ -1,8 +1,9 @@
 -- The report as JSON: what its lines say, as objects whose members stand in the order of their keys.
-use Rattle.std.specs.Prelude.{ℕ, ◌==◌, List, [], ◌∷◌, map, codes, if◌then◌else◌}
+use Rattle.std.specs.Prelude.{ℕ, ◌==◌, List, [], ◌∷◌, ◌++◌, map, codes, if◌then◌else◌}
 use Rattle.std.specs.List.{flat_map}
 use Rattle.serde_json.specs.Data.{Data, number, unsigned, string, array, object, no_members, member}
 use Rattle.serde_json.specs.View.{items_of}
+use Rattle.serde_json.specs.Written.{compact_text}
 use Rattle.yard_model.specs.declared.event.Event.{Event}
 use Rattle.yard_model.specs.declared.event.Kind.{Kind}
 use Rattle.yard_model.specs.declared.packet.Record.{Record}
@@ -11,7 +12,7 @@ use Rattle.yard_model.specs.Script.{Setting}
 use Rattle.yard_model.specs.Setting.{shards, producers, shard_of, names_of}
 use Rattle.yard_model.specs.SlotLists.{SlotLists, shard_list, queue_list}
 use Rattle.yard_model.specs.SlotReads.{journal, queued, confirmed}
-use Rattle.yard_model.specs.Text.{command_text, event_text, reply_text, state_text}
+use Rattle.yard_model.specs.Text.{Bytes, command_text, event_text, reply_text, state_text}
 
 abbrev pub number_json : ℕ → Data
 number_json n = number (unsigned n)
@@ -71,3 +72,7 @@ whole_json entities queues = object (member (codes "entities") (list_json entiti
 -- JsonReport: what the lists come to
 abbrev pub json_report : Setting → SlotLists → Data
 json_report set lists = whole_json (entities_json set lists) (queues_json set lists)
+
+-- its compact text, and LF
+abbrev pub json_text : Setting → SlotLists → Bytes
+json_text set lists = compact_text (json_report set lists) ++ 10 ∷ []

@@ -16,4 +16,4 @@ mod text_rows;
 mod values;
 
 pub use facts::push_fact;
-pub use report::{push_report, report_value};
+pub use report::{push_json, push_report, report_value};

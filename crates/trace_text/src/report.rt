@@ -1,14 +1,15 @@
 //! The report: what the lists of all slots come to, as a text and as JSON.
-ghost use Rattle.std.specs.Prelude.{◌≡◌, ℕ, ◌++◌, ◌<◌, [], IfOk, OnOk, IsTrue, length, map, slice_index_or};
+ghost use Rattle.std.specs.Prelude.{◌≡◌, ℕ, ◌++◌, ◌<◌, [], IfOk, OnOk, IsTrue, length, map, slice_index_or, string_bytes};
 ghost use Rattle.std.specs.List.{flat_map, list_all};
 ghost use Rattle.serde_json.specs.View.{view};
+ghost use Rattle.serde_json.specs.Written.{compact_text};
 ghost use Rattle.yard_model.specs.Entry.{shard_fact};
 ghost use Rattle.yard_model.specs.Script.{setting};
 ghost use Rattle.yard_model.specs.Setting.{shards, names_of};
 ghost use Rattle.yard_model.specs.SlotLists.{shard_list};
 ghost use Rattle.yard_model.specs.Text.{report};
 ghost use Rattle.trace_text.specs.Foldable.{is_foldable, is_foldable_shard, is_foldable_in_all};
-ghost use Rattle.trace_text.specs.Json.{json_report};
+ghost use Rattle.trace_text.specs.Json.{json_report, json_text};
 ghost use Rattle.trace_text.specs.Rows.{rows, row_of, is_foldable_row, shard_rows};
 
 use crate::basics::push;
@@ -54,6 +55,31 @@ pub fn report_value<T: Lists>(
     let mut queues: Vec<Value> = Vec::new(alloc);
     push_queues(&mut queues, alloc, charter, stores)?;
     whole_value(alloc, entities, queues)
+}
+
+/// Appends the report as JSON: its compact text, and LF. The only error is want of memory; what the
+/// text then is stays open.
+pub fn push_json<T: Lists>(
+    text: &mut Vec<u8>,
+    charter: &Charter,
+    stores: &T,
+) -> Result<(), AllocError>
+    requires { IsTrue (is_foldable_in_all (setting charter.now) (T.lists stores.now)) }
+    ensures { OnOk result (text.new.items ≡ text.old.items ++ json_text (setting charter.now) (T.lists stores.now)) }
+{
+    let alloc = *text.allocator();
+    let json = json_of(alloc, charter, stores)?;
+    push(text, json.as_bytes())?;
+    push(text, b"\n")
+}
+
+/// The report as JSON, as its compact text. The only error is want of memory.
+fn json_of<T: Lists>(alloc: Global, charter: &Charter, stores: &T) -> Result<String, AllocError>
+    requires { IsTrue (is_foldable_in_all (setting charter.now) (T.lists stores.now)) }
+    ensures { IfOk result (λ s. string_bytes s ≡ compact_text (json_report (setting charter.now) (T.lists stores.now))) }
+{
+    let value = report_value(alloc, charter, stores)?;
+    value.to_string(alloc)
 }
 
 /// The entities of all shards.

@@ -1,5 +1,0 @@
--- Never.
-use Rattle.std.specs.Prelude.{ℕ}
-
-unfoldable pub Never : Type 0
-Never = ⊥

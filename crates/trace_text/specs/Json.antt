@@ -73,6 +73,10 @@ whole_json entities queues = object (member (codes "entities") (list_json entiti
 abbrev pub json_report : Setting → SlotLists → Data
 json_report set lists = whole_json (entities_json set lists) (queues_json set lists)
 
--- its compact text, and LF
+-- the compact text of the whole, and LF
+abbrev pub whole_text : List Data → List Data → Bytes
+whole_text entities queues = compact_text (whole_json entities queues) ++ 10 ∷ []
+
+-- of what the lists come to
 abbrev pub json_text : Setting → SlotLists → Bytes
-json_text set lists = compact_text (json_report set lists) ++ 10 ∷ []
+json_text set lists = whole_text (entities_json set lists) (queues_json set lists)

@@ -11,6 +11,7 @@ use Rattle.yard_model.specs.Safe.{safe}
 use Rattle.yard_model.specs.Solo.{solo_text}
 use Rattle.yard_model.specs.Text.{Bytes}
 use Rattle.yard_model.specs.World.{trace_of}
+use Rattle.yard_top.specs.Replays.{replay_json}
 use Rattle.yard_top.specs.Sound.{IsSound, solo_journal}
 use Rattle.yard_top.specs.Stops.{stop_in}
 use Rattle.yard_top.specs.declared.forms.Form.{Form}
@@ -34,21 +35,25 @@ code_of (status.WireFull line) = 7
 abbrev pub mode_of : Form → Mode
 mode_of form.Solo = mode.Solo
 mode_of form.Replay = mode.Replay
+mode_of form.ReplayJson = mode.Replay
 
 -- the text that it writes of a script
 abbrev pub text_of : Form → Script → Bytes
 text_of form.Solo c = solo_text c
 text_of form.Replay c = replay_text c
+text_of form.ReplayJson c = replay_json c
 
 -- what is so of what it writes: each journal is sound; the trace is safe
 abbrev pub Holds : Form → Script → Type 0
 Holds form.Solo c = (e : List ℕ) → IsSound c e (solo_journal c e)
 Holds form.Replay c = IsTrue (safe c (trace_of c))
+Holds form.ReplayJson c = IsTrue (safe c (trace_of c))
 
 -- the line with which it stops, where a packet too many would be posted
 abbrev pub stops_at : Form → Script → Option ℕ
 stops_at form.Solo c = None
 stops_at form.Replay c = stop_in (trace_of c)
+stops_at form.ReplayJson c = stop_in (trace_of c)
 
 -- the words are a form, and this holds of it
 abbrev pub Asked : Option Form → (Form → Type 0) → Type 0

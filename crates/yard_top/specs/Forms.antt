@@ -1,5 +1,5 @@
 -- The forms of the command line: the words after the program's name.
-use Rattle.std.specs.Prelude.{ℕ, nat_eq, List, [], ◌∷◌, String, string_bytes, Option, Some, None, codes, if◌then◌else◌}
+use Rattle.std.specs.Prelude.{ℕ, nat_eq, ◌&&◌, List, [], ◌∷◌, String, string_bytes, Option, Some, None, codes, if◌then◌else◌}
 use Rattle.std.specs.Cmp.Lexicographic.{pointwise}
 use Rattle.std.specs.declared.alloc.Global.{Global}
 use Rattle.yard_top.specs.declared.forms.Form.{Form}
@@ -11,8 +11,12 @@ form_of_word w =
     else if pointwise nat_eq w (codes "replay") then Some form.Replay
     else None
 
--- the form of these words: `solo` or `replay` alone
+abbrev pub form_of_words : List ℕ → List ℕ → Option Form
+form_of_words w v = if pointwise nat_eq w (codes "replay") && pointwise nat_eq v (codes "json") then Some form.ReplayJson else None
+
+-- the form of these words: `solo` or `replay` alone, or `replay json`
 abbrev pub form_in : List (String Global) → Option Form
 form_in [] = None
 form_in (w ∷ []) = form_of_word (string_bytes w)
-form_in (w ∷ v ∷ ws) = None
+form_in (w ∷ v ∷ []) = form_of_words (string_bytes w) (string_bytes v)
+form_in (w ∷ v ∷ u ∷ ws) = None

@@ -8,8 +8,9 @@ ghost use Rattle.yard_model.specs.Text.{fact_line, report};
 ghost use Rattle.yard_model.specs.World.{played, trace_of, wire_limit};
 ghost use Rattle.shard_store.specs.Stores.{lists_at};
 ghost use Rattle.trace_text.specs.Foldable.{is_foldable_in_all};
+ghost use Rattle.trace_text.specs.Json.{json_text};
 ghost use Rattle.world_sim.specs.Played.{next_of};
-ghost use Rattle.yard_top.specs.Replays.{IsOn, IsDone, IsNext, trace_text};
+ghost use Rattle.yard_top.specs.Replays.{IsOn, IsDone, IsNext, replay_json, trace_text};
 ghost use Rattle.yard_top.specs.Stops.{start, course, course_step, stop_in};
 ghost use Rattle.yard_top.specs.Writing.{Writes};
 
@@ -21,7 +22,7 @@ use behaviour_kinds::{Account, Cart, Counter};
 use play_laws::play::trace_is_safe;
 use shard_store::Stores;
 use std::alloc::{AllocError, Global};
-use trace_text::{push_fact, push_report};
+use trace_text::{push_fact, push_json, push_report};
 use world_sim::laws::made_law;
 use world_sim::{StepFault, World};
 use yard_io::Sink;
@@ -47,6 +48,73 @@ pub fn write_replay<K: Sink>(
         Kind::Account => replayed(alloc, charter, Account::new(), sink),
         Kind::Cart => replayed(alloc, charter, Cart::new(), sink),
     }
+}
+
+/// Plays a script, and writes its report as JSON, once the trace is through. The line with which the
+/// trace stops, where it does. Nothing is flushed.
+pub fn write_replay_json<K: Sink>(
+    alloc: Global,
+    charter: &Charter,
+    sink: &mut K,
+) -> Result<Option<u32>, WriteError>
+    ensures wrote { Writes (replay_json charter.now) result
+        (record { taken = K.taken sink.old; flushed = K.flushed sink.old; faults = K.faults sink.old })
+        (record { taken = K.taken sink.new; flushed = K.flushed sink.new; faults = K.faults sink.new }) }
+    ensures stop { IfOk result (λ stop. stop ≡ stop_in (trace_of charter.now)) }
+    ensures safe { IsTrue (safe charter.now (trace_of charter.now)) }
+{
+    is_safe(charter);
+    let (text, stop) = match charter.config().kind {
+        Kind::Counter => json_of(alloc, charter, Counter::new())?,
+        Kind::Account => json_of(alloc, charter, Account::new())?,
+        Kind::Cart => json_of(alloc, charter, Cart::new())?,
+    };
+    write_part(sink, text.as_slice())?;
+    Ok(stop)
+}
+
+/// The report as JSON of a script, played in a world whose entities behave so, and the line with which
+/// its trace stops, where it does. The only error is want of memory.
+fn json_of<B: Behaviour + Copy + Drop>(
+    alloc: Global,
+    charter: &Charter,
+    behaviour: B,
+) -> Result<(Vec<u8>, Option<u32>), AllocError>
+    requires { B.kind_of behaviour ≡ charter.now.config.kind }
+    ensures text { IfOk result (λ r. r.0.items ≡ replay_json charter.now) }
+    ensures stop { IfOk result (λ r. r.1 ≡ stop_in (trace_of charter.now)) }
+{
+    let mut world = World::new(alloc, charter, behaviour)?;
+    let mut facts = Facts::new(alloc);
+    let course = follow(&mut world, charter, &mut facts)?;
+    let (last, stores) = stores_of(world, charter)?;
+    let mut text = Vec::new(alloc);
+    push_json(&mut text, &last, &stores)?;
+    Ok((text, course.stop))
+}
+
+/// Plays all orders of the script, or up to the one with which its trace stops; how far the trace has
+/// come then. The only error is want of memory.
+fn follow<B: Behaviour + Copy + Drop>(
+    world: &mut World<B>,
+    charter: &Charter,
+    facts: &mut Facts,
+) -> Result<Course, AllocError>
+    requires world { world.old ≡ record { script = charter.now; count = 0; fault = None } }
+    ensures done { OnOk result (IsDone charter.now world.new) }
+    ensures course { IfOk result (λ k. k ≡ course (trace_of charter.now)) }
+{
+    made_law();
+    let mut course = Course::start();
+    for line in charter.orders() {
+        facts.clear();
+        let goes_on = play_next(world, line, facts)?;
+        course = course_after(course, facts.as_slice());
+        if !goes_on {
+            return Ok(course);
+        }
+    }
+    Ok(course)
 }
 
 /// The trace of a script is safe.
@@ -205,6 +273,7 @@ fn stores_of<B: Behaviour + Copy + Drop>(
 ) -> Result<(Charter, Stores), AllocError>
     requires { IsDone charter.now world }
     ensures report { IfOk result (λ r. report (setting r.0) (lists_at r.1.script.config r.1.places) ≡ report (played charter.now wire_limit).world.set (played charter.now wire_limit).world.lists) }
+    ensures json { IfOk result (λ r. json_text (setting r.0) (lists_at r.1.script.config r.1.places) ≡ replay_json charter.now) }
     ensures foldable { IfOk result (λ r. IsTrue (is_foldable_in_all (setting r.0) (lists_at r.1.script.config r.1.places))) }
 {
     let _ = charter;

@@ -4,7 +4,7 @@ ghost use Rattle.yard_top.specs.Ends.{Holds, text_of, stops_at};
 ghost use Rattle.yard_top.specs.Writing.{Writes};
 
 use crate::forms::Form;
-use crate::replay::write_replay;
+use crate::replay::{write_replay, write_replay_json};
 use crate::solo::solo_report;
 use crate::writing::{WriteError, write_part};
 use std::alloc::Global;
@@ -28,6 +28,7 @@ pub fn write_form<K: Sink>(
     match form {
         Form::Solo => write_solo(alloc, charter, sink),
         Form::Replay => write_replay(alloc, charter, sink),
+        Form::ReplayJson => write_replay_json(alloc, charter, sink),
     }
 }
 

@@ -20,7 +20,8 @@ const MOST_READ: usize = 4_194_305;
 /// `solo` reads a script of settings, sends and deliveries, and writes the report of what is
 /// recorded where each delivered command is taken exactly when it is the next of its producer.
 /// `replay` reads a script of all orders, plays it on all nodes, one step after the other, and writes
-/// the trace as it arises, and then the report of what the slots' lists come to.
+/// the trace as it arises, and then the report of what the slots' lists come to; `replay json` writes
+/// that report alone, as JSON.
 pub fn sharder<S: Source, K: Sink>(
     alloc: Global,
     words: &[String],
@@ -122,7 +123,7 @@ fn mode_of(form: Form) -> Mode
 {
     match form {
         Form::Solo => Mode::Solo,
-        Form::Replay => Mode::Replay,
+        Form::Replay | Form::ReplayJson => Mode::Replay,
     }
 }
 

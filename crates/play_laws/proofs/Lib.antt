@@ -5,5 +5,6 @@ pub mod Queued
 pub mod Same
 pub mod Steps
 pub mod Tells
+pub mod Texts
 pub mod Turned
 pub mod Within

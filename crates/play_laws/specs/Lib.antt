@@ -1,3 +1,4 @@
 pub mod Played
+pub mod SafeText
 pub mod Sound
 pub mod TurnItems

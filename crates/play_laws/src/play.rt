@@ -1,5 +1,6 @@
 //! What the orders of a script lead to.
 ghost use Rattle.play_laws.specs.Played.{LineLeadsOn, GivenIsSound, PlayedIsSound, PlayedIsSafe, TraceIsSafe, PlayedLists};
+ghost use Rattle.play_laws.specs.SafeText.{ReplayIsSafe};
 
 use actor_laws::region::shards_are_there;
 use era_laws::opening::{era_opens, opening_gives_lists, opening_is_quiet};
@@ -104,4 +105,13 @@ pub fn played_lists()
     ensures { PlayedLists }
 {
     played_is_sound();
+}
+
+/// So what a replay prints, with any limit of packets, is the lines of a safe trace, and the report of that
+/// trace's lists, which are lawful.
+pub fn replay_is_safe()
+    ensures { ReplayIsSafe }
+{
+    played_is_safe();
+    played_lists();
 }

@@ -1,4 +1,5 @@
 pub mod Joined
+pub mod Decimal
 pub mod FoldLaws
 pub mod PlaceLaws
 pub mod JournalLaws

@@ -1,4 +1,5 @@
 pub mod Behind
 pub mod Foldable
 pub mod Places
+pub mod Room
 pub mod Rows

@@ -4,3 +4,5 @@ pub mod PlaceLaws
 pub mod JournalLaws
 pub mod RowLaws
 pub mod TallyLaws
+pub mod AsciiLaws
+pub mod PlainLaws

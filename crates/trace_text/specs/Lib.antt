@@ -1,4 +1,6 @@
 pub mod Behind
 pub mod Foldable
+pub mod Json
 pub mod Places
 pub mod Rows
+pub mod Slots

@@ -1,15 +1,22 @@
-//! What is printed: facts and the report, appended to a text byte by byte as `yard_model` defines it.
+//! What is printed: facts and the report, appended to a text byte by byte as `yard_model` defines it;
+//! the lists of slots; and the report as JSON.
 #![tactic(auto)]
 
 mod basics;
 mod bodies;
 mod entities;
+mod entries;
 mod facts;
 mod journals;
+mod json_rows;
 mod queues;
 mod records;
 mod report;
+mod report_rows;
+mod slots;
+mod text_rows;
 mod values;
 
 pub use facts::push_fact;
-pub use report::push_report;
+pub use report::{push_json, push_report, report_value};
+pub use slots::push_lists;

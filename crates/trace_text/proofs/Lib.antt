@@ -6,3 +6,4 @@ pub mod RowLaws
 pub mod TallyLaws
 pub mod AsciiLaws
 pub mod PlainLaws
+pub mod SlotLaws

@@ -12,3 +12,4 @@ mod words;
 
 pub use fault::{Mode, ScriptFault, Why};
 pub use read::read_script;
+pub use words::number_of;

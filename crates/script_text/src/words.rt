@@ -21,7 +21,8 @@ pub fn name(word: &[u8]) -> Result<EntityName, Why>
     }
 }
 
-/// A number in this range.
+/// A number in this range: 1 to 18 digits, of which the first may be 0. The first reason where the word
+/// is none: no such digits, or out of range.
 #[tactic(auto, unfolding(crate::specs::Orders::number))]
 pub fn number_of(word: &[u8], low: u32, high: u32) -> Result<u32, Why>
     ensures value { result ≡ number low high word.now }

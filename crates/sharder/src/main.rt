@@ -11,12 +11,15 @@ const USAGE: &str = "usage: sharder solo or replay [json] or live TURNS SEED or 
 
 const HELP: &str = "sharder: a cluster of sharded, event-sourced entities with reliable delivery
 
-  sharder solo      reads a script of settings, sends and deliveries, and writes
-                    the report of what is recorded
-  sharder replay    reads a script of settings and orders, plays it on all nodes,
-                    one step after the other, and writes the trace and the report
-  sharder --help    prints this
-  sharder --version prints the name and the version
+  sharder solo         reads a script of settings, sends and deliveries, and writes
+                       the report of what is recorded
+  sharder replay       reads a script of settings and orders, plays it on all nodes,
+                       one step after the other, and writes the trace and the report
+  sharder replay json  does the same, and writes the report alone, as JSON
+  sharder bulk NUMBER  plays the script of a number, 1 to 1000, in the same way, and
+                       writes counts of what happened; it reads nothing
+  sharder --help       prints this
+  sharder --version    prints the name and the version
 
 Status: 0 the whole text was written, 2 usage, 3 the input is no script,
 4 a read failed, 5 a write failed, 6 there was no memory, 7 the trace stopped

@@ -4,7 +4,7 @@ ghost use Rattle.text_tests.specs.Sample.{sample_list, sample_script};
 
 use std::alloc::Global;
 use std::test::Fail;
-use trace_text::push_report;
+use trace_text::{push_report, report_value};
 use yard_model::{
     Charter, Command, Config, CoordEntry, EntityName, Event, Events, Kind, Line, Lists, Order,
     ProducerNo, QueueEntry, Record, Reply, ShardEntry, ShardNo,
@@ -21,6 +21,9 @@ const SETTINGS: Config = Config {
     remember: false,
     kind: Kind::Counter,
 };
+
+const JSON: &str =
+    "{\"entities\":[{\"name\":\"c1\",\"records\":[{\"by\":[1,1],\"command\":\"add 5\",\"epoch\":1,\"events\":[\"added 5\"],\"number\":1,\"reply\":\"ok 5\"}],\"shard\":0,\"state\":\"5\"}],\"queues\":[{\"confirmed\":1,\"entity\":\"c1\",\"producer\":1,\"queued\":1}]}";
 
 /// The list of shard 0 and that of producer 1's queue.
 #[derive(Drop)]
@@ -121,5 +124,7 @@ queue 1 c1 queued 1 confirmed 1
 end
 ";
     assert_eq!(rt; text.as_slice(), wanted.as_slice());
+    let json = report_value(alloc, &charter, &lists)?.to_string(alloc)?;
+    assert_eq!(rt; json.as_str(), JSON);
     Ok(())
 }

@@ -5,3 +5,6 @@ pub mod PlaceLaws
 pub mod JournalLaws
 pub mod RowLaws
 pub mod TallyLaws
+pub mod AsciiLaws
+pub mod PlainLaws
+pub mod SlotLaws

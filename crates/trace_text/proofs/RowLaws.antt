@@ -12,14 +12,14 @@ use Rattle.yard_model.specs.Script.{Setting}
 use Rattle.yard_model.specs.Setting.{shards, shard_of, names_of}
 use Rattle.yard_model.specs.SlotLists.{SlotLists, shard_list}
 use Rattle.yard_model.specs.SlotReads.{journal}
-use Rattle.yard_model.specs.Text.{Bytes, entity_lines, entities_text, queue_line}
+use Rattle.yard_model.specs.Text.{Bytes}
 use Rattle.trace_text.specs.Foldable.{are_foldable, is_foldable}
 use Rattle.trace_text.specs.declared.queues.Tally.{Tally}
 use Rattle.trace_text.specs.Places.{journals_of, tally_of, tallies_of}
-use Rattle.trace_text.specs.Rows.{rows, row_text, is_foldable_row, shard_text, tally_text}
+use Rattle.trace_text.specs.Rows.{rows, row_of, is_foldable_row, shard_rows, queue_rows}
 
 -- the first row of what is left
-pub rows_step : {A B : Type 0} (show : A → B → Bytes) (xs : List A) (ys : List B) (i : ℕ) (d : A) (e : B) (done after whole : Bytes) → i < length xs → i < length ys
+pub rows_step : {A B C : Type 0} (show : A → B → List C) (xs : List A) (ys : List B) (i : ℕ) (d : A) (e : B) (done after whole : List C) → i < length xs → i < length ys
     → after ≡ done ++ show (slice_index_or xs i d) (slice_index_or ys i e) → done ++ rows show (drop i xs) (drop i ys) ≡ whole
     → after ++ rows show (drop (i + 1) xs) (drop (i + 1) ys) ≡ whole
 rows_step show xs ys i d e done after whole hx hy is old =
@@ -28,12 +28,12 @@ rows_step show xs ys i d e done after whole hx hy is old =
     ∙ (sym (ap (λ (l : List _). done ++ rows show l (drop i ys)) (drop_more xs i d hx) ∙ ap (λ (l : List _). done ++ rows show (slice_index_or xs i d ∷ drop (i + 1) xs) l) (drop_more ys i e hy)) ∙ old))
 
 -- rows of what is kept of each
-pub rows_map : {A B : Type 0} (show : A → B → Bytes) (f : A → B) (xs : List A) → rows show xs (map f xs) ≡ flat_map (λ x. show x (f x)) xs
+pub rows_map : {A B C : Type 0} (show : A → B → List C) (f : A → B) (xs : List A) → rows show xs (map f xs) ≡ flat_map (λ x. show x (f x)) xs
 rows_map show f [] = refl
 rows_map show f (x ∷ xs) = ap (λ l. show x (f x) ++ l) (rows_map show f xs)
 
 -- the next row, of a list whose items are kept behind a view
-pub row_of_next : {A B V : Type 0} (show : A → B → Bytes) (items : V → B) (xs : List A) (vs : List V) (i : ℕ) (x : A) (v : V) (b e : B) (done after whole : Bytes) → i < length xs → i < length vs
+pub row_of_next : {A B V C : Type 0} (show : A → B → List C) (items : V → B) (xs : List A) (vs : List V) (i : ℕ) (x : A) (v : V) (b e : B) (done after whole : List C) → i < length xs → i < length vs
     → x ≡ slice_index_or xs i x → v ≡ slice_index_or vs i v → b ≡ items v → after ≡ done ++ show x b → done ++ rows show (drop i xs) (drop i (map items vs)) ≡ whole
     → after ++ rows show (drop (i + 1) xs) (drop (i + 1) (map items vs)) ≡ whole
 row_of_next show items xs vs i x v b e done after whole hx hy isx isv isb is old =
@@ -50,18 +50,18 @@ pub numbers_first : (k i n : ℕ) → i < n → numbers k (n - i) ≡ k ∷ numb
 numbers_first k i n h = let less : n - i ≡ suc (n - (i + 1)) = omega arith in rw less refl
 
 -- the text of one number more
-pub numbers_step : (show : ℕ → Bytes) (k i n : ℕ) (done after whole : Bytes) → i < n → after ≡ done ++ show k
+pub numbers_step : {C : Type 0} (show : ℕ → List C) (k i n : ℕ) (done after whole : List C) → i < n → after ≡ done ++ show k
     → done ++ flat_map show (numbers k (n - i)) ≡ whole → after ++ flat_map show (numbers (k + 1) (n - (i + 1))) ≡ whole
 numbers_step show k i n done after whole h is old =
     ap (λ l. l ++ flat_map show (numbers (k + 1) (n - (i + 1)))) is
     ∙ (append_assoc done (show k) (flat_map show (numbers (k + 1) (n - (i + 1))))
     ∙ (sym (ap (λ l. done ++ flat_map show l) (numbers_first k i n h)) ∙ old))
 
-first_of : (a b : Bool) → IsTrue (a && b) → IsTrue a
+pub first_of : (a b : Bool) → IsTrue (a && b) → IsTrue a
 first_of true b h = refl
 first_of false b h = h
 
-second_of : (a b : Bool) → IsTrue (a && b) → IsTrue b
+pub second_of : (a b : Bool) → IsTrue (a && b) → IsTrue b
 second_of true b h = h
 second_of false b h = cc
 
@@ -78,15 +78,15 @@ pub all_below : (test : ℕ → Bool) (n i : ℕ) → IsTrue (list_all test (num
 all_below test n i all h = let same : 0 + i ≡ i = omega arith in subst (λ k. IsTrue (test k)) same (numbers_all test 0 n i all h)
 
 -- the journals of a shard's names
-pub shard_rows : (set : Setting) (s : ℕ) (list : List Fact) (names : List (List ℕ))
-    → flat_map (λ e. row_text set s e (journal e list)) names ≡ flat_map (λ e. entity_lines set e (journal e list)) (filter (λ e. shard_of set e == s) names)
-shard_rows set s list [] = refl
-shard_rows set s list (e ∷ es) = one (shard_of set e == s) (shard_rows set s list es)
+pub shard_rows_are : {C : Type 0} (show : Setting → List ℕ → List Record → List C) (set : Setting) (s : ℕ) (list : List Fact) (names : List (List ℕ))
+    → flat_map (λ e. row_of show set s e (journal e list)) names ≡ flat_map (λ e. show set e (journal e list)) (filter (λ e. shard_of set e == s) names)
+shard_rows_are show set s list [] = refl
+shard_rows_are show set s list (e ∷ es) = one (shard_of set e == s) (shard_rows_are show set s list es)
   where
-    one : (b : Bool) → flat_map (λ n. row_text set s n (journal n list)) es ≡ flat_map (λ n. entity_lines set n (journal n list)) (filter (λ n. shard_of set n == s) es)
-        → cond b (entity_lines set e (journal e list)) [] ++ flat_map (λ n. row_text set s n (journal n list)) es
-        ≡ flat_map (λ n. entity_lines set n (journal n list)) (cond b (e ∷ filter (λ n. shard_of set n == s) es) (filter (λ n. shard_of set n == s) es))
-    one true same = ap (λ l. entity_lines set e (journal e list) ++ l) same
+    one : (b : Bool) → flat_map (λ n. row_of show set s n (journal n list)) es ≡ flat_map (λ n. show set n (journal n list)) (filter (λ n. shard_of set n == s) es)
+        → cond b (show set e (journal e list)) [] ++ flat_map (λ n. row_of show set s n (journal n list)) es
+        ≡ flat_map (λ n. show set n (journal n list)) (cond b (e ∷ filter (λ n. shard_of set n == s) es) (filter (λ n. shard_of set n == s) es))
+    one true same = ap (λ l. show set e (journal e list) ++ l) same
     one false same = same
 
 -- each of them leads to a state
@@ -108,32 +108,33 @@ foldable_rows set s list (e ∷ es) (suc k) d all h = foldable_rows set s list e
     rest false each = each
 
 -- a shard's names have their journals in its list
-pub shard_is : (set : Setting) (lists : SlotLists) (s : ℕ) (names : List (List ℕ))
-    → flat_map (λ e. entity_lines set e (journal e (shard_list lists (shard_of set e)))) (filter (λ e. shard_of set e == s) names)
-    ≡ flat_map (λ e. entity_lines set e (journal e (shard_list lists s))) (filter (λ e. shard_of set e == s) names)
-shard_is set lists s [] = refl
-shard_is set lists s (e ∷ es) = one (shard_of set e == s) refl (shard_is set lists s es)
+pub shard_is : {C : Type 0} (show : Setting → List ℕ → List Record → List C) (set : Setting) (lists : SlotLists) (s : ℕ) (names : List (List ℕ))
+    → flat_map (λ e. show set e (journal e (shard_list lists (shard_of set e)))) (filter (λ e. shard_of set e == s) names)
+    ≡ flat_map (λ e. show set e (journal e (shard_list lists s))) (filter (λ e. shard_of set e == s) names)
+shard_is show set lists s [] = refl
+shard_is show set lists s (e ∷ es) = one (shard_of set e == s) refl (shard_is show set lists s es)
   where
     same : shard_of set e == s ≡ true → shard_of set e ≡ s
     same t = grind (arith, nat_tests)
 
     one : (b : Bool) → shard_of set e == s ≡ b
-        → flat_map (λ n. entity_lines set n (journal n (shard_list lists (shard_of set n)))) (filter (λ n. shard_of set n == s) es)
-        ≡ flat_map (λ n. entity_lines set n (journal n (shard_list lists s))) (filter (λ n. shard_of set n == s) es)
-        → flat_map (λ n. entity_lines set n (journal n (shard_list lists (shard_of set n)))) (cond b (e ∷ filter (λ n. shard_of set n == s) es) (filter (λ n. shard_of set n == s) es))
-        ≡ flat_map (λ n. entity_lines set n (journal n (shard_list lists s))) (cond b (e ∷ filter (λ n. shard_of set n == s) es) (filter (λ n. shard_of set n == s) es))
-    one true t rest = ap (λ t. entity_lines set e (journal e (shard_list lists t)) ++ flat_map (λ n. entity_lines set n (journal n (shard_list lists (shard_of set n)))) (filter (λ n. shard_of set n == s) es)) (same t)
-        ∙ ap (λ l. entity_lines set e (journal e (shard_list lists s)) ++ l) rest
+        → flat_map (λ n. show set n (journal n (shard_list lists (shard_of set n)))) (filter (λ n. shard_of set n == s) es)
+        ≡ flat_map (λ n. show set n (journal n (shard_list lists s))) (filter (λ n. shard_of set n == s) es)
+        → flat_map (λ n. show set n (journal n (shard_list lists (shard_of set n)))) (cond b (e ∷ filter (λ n. shard_of set n == s) es) (filter (λ n. shard_of set n == s) es))
+        ≡ flat_map (λ n. show set n (journal n (shard_list lists s))) (cond b (e ∷ filter (λ n. shard_of set n == s) es) (filter (λ n. shard_of set n == s) es))
+    one true t rest = ap (λ t. show set e (journal e (shard_list lists t)) ++ flat_map (λ n. show set n (journal n (shard_list lists (shard_of set n)))) (filter (λ n. shard_of set n == s) es)) (same t)
+        ∙ ap (λ l. show set e (journal e (shard_list lists s)) ++ l) rest
     one false t rest = rest
 
 -- the entities are those of each shard's list
-pub entities_are : (set : Setting) (lists : SlotLists) → entities_text set (λ e. journal e (shard_list lists (shard_of set e))) ≡ flat_map (λ s. shard_text set s (shard_list lists s)) (shards set)
-entities_are set lists = each (shards set)
+pub entities_are : {C : Type 0} (show : Setting → List ℕ → List Record → List C) (set : Setting) (lists : SlotLists)
+    → flat_map (λ s. flat_map (λ e. show set e (journal e (shard_list lists (shard_of set e)))) (names_of set s)) (shards set) ≡ flat_map (λ s. shard_rows show set s (shard_list lists s)) (shards set)
+entities_are show set lists = each (shards set)
   where
-    each : (ss : List ℕ) → flat_map (λ s. flat_map (λ e. entity_lines set e (journal e (shard_list lists (shard_of set e)))) (names_of set s)) ss ≡ flat_map (λ s. shard_text set s (shard_list lists s)) ss
+    each : (ss : List ℕ) → flat_map (λ s. flat_map (λ e. show set e (journal e (shard_list lists (shard_of set e)))) (names_of set s)) ss ≡ flat_map (λ s. shard_rows show set s (shard_list lists s)) ss
     each [] = refl
-    each (s ∷ ss) = ap (λ l. l ++ flat_map (λ s. flat_map (λ e. entity_lines set e (journal e (shard_list lists (shard_of set e)))) (names_of set s)) ss) (shard_is set lists s set.names)
-        ∙ ap (λ l. shard_text set s (shard_list lists s) ++ l) (each ss)
+    each (s ∷ ss) = ap (λ l. l ++ flat_map (λ s. flat_map (λ e. show set e (journal e (shard_list lists (shard_of set e)))) (names_of set s)) ss) (shard_is show set lists s set.names)
+        ∙ ap (λ l. shard_rows show set s (shard_list lists s) ++ l) (each ss)
 
 -- the row of the journal at a place leads to a state
 pub foldable_row : (set : Setting) (s : ℕ) (list : List Fact) (names : List (List ℕ)) (kept : List (List Record)) (k : ℕ) → names ≡ set.names → kept ≡ journals_of names list
@@ -143,23 +144,25 @@ foldable_row set s list names kept k same is all h =
     (foldable_rows set s list names k [] (subst (λ (ns : List (List ℕ)). IsTrue (list_all (is_foldable set.config.kind list) (filter (λ e. shard_of set e == s) ns))) (sym same) all) h)
 
 -- the rows of a shard's journals are its entities
-pub rows_are : (set : Setting) (s : ℕ) (list : List Fact) (names : List (List ℕ)) (kept : List (List Record)) → names ≡ set.names → kept ≡ journals_of names list → rows (row_text set s) names kept ≡ shard_text set s list
-rows_are set s list names kept same is =
-    ap (rows (row_text set s) names) is ∙ (rows_map (row_text set s) (λ e. journal e list) names
-    ∙ (ap (λ (ns : List (List ℕ)). flat_map (λ e. row_text set s e (journal e list)) ns) same ∙ shard_rows set s list set.names))
+pub rows_are : {C : Type 0} (show : Setting → List ℕ → List Record → List C) (set : Setting) (s : ℕ) (list : List Fact) (names : List (List ℕ)) (kept : List (List Record)) → names ≡ set.names → kept ≡ journals_of names list
+    → rows (row_of show set s) names kept ≡ shard_rows show set s list
+rows_are show set s list names kept same is =
+    ap (rows (row_of show set s) names) is ∙ (rows_map (row_of show set s) (λ e. journal e list) names
+    ∙ (ap (λ (ns : List (List ℕ)). flat_map (λ e. row_of show set s e (journal e list)) ns) same ∙ shard_rows_are show set s list set.names))
 
 -- the rows of a queue's counts are its pairs
-pub tallies_are : (p : ℕ) (list : List Fact) (all names : List (List ℕ)) (kept : List Tally) → names ≡ all → kept ≡ tallies_of names list → rows (tally_text p) names kept ≡ flat_map (queue_line p list) all
-tallies_are p list all names kept same is = ap (rows (tally_text p) names) is ∙ (rows_map (tally_text p) (tally_of list) names ∙ ap (flat_map (queue_line p list)) same)
+pub tallies_are : {C : Type 0} (show : ℕ → List ℕ → Tally → List C) (p : ℕ) (list : List Fact) (all names : List (List ℕ)) (kept : List Tally) → names ≡ all → kept ≡ tallies_of names list
+    → rows (show p) names kept ≡ queue_rows show p list all
+tallies_are show p list all names kept same is = ap (rows (show p) names) is ∙ (rows_map (show p) (tally_of list) names ∙ ap (queue_rows show p list) same)
 
 -- four parts, one behind the other
 pub four_parts : (start r f q e one two three : Bytes) → one ≡ start ++ r → two ≡ one ++ f → three ≡ two ++ q → three ++ e ≡ start ++ (r ++ f ++ q ++ e)
 four_parts start r f q e one two three first second third = rw (third, second, first) (simp append_assoc)
 
--- a name without a record has no lines
-pub no_row : (set : Setting) (s : ℕ) (e : List ℕ) → row_text set s e [] ≡ []
-no_row set s e = one (shard_of set e == s)
+-- a name without a record shows nothing
+pub no_row : {C : Type 0} (show : Setting → List ℕ → List Record → List C) → ((set : Setting) (e : List ℕ) → show set e [] ≡ []) → (set : Setting) (s : ℕ) (e : List ℕ) → row_of show set s e [] ≡ []
+no_row show none set s e = one (shard_of set e == s)
   where
-    one : (b : Bool) → cond b (entity_lines set e []) [] ≡ []
-    one true = refl
+    one : (b : Bool) → cond b (show set e []) [] ≡ []
+    one true = none set e
     one false = refl

@@ -76,7 +76,7 @@ fn push_record_line(text: &mut Vec<u8>, written: &Record) -> Result<(), AllocErr
 
 /// The state that a journal leads to.
 #[tactic(auto, using(crate::proofs::FoldLaws::foldable_first, crate::proofs::FoldLaws::foldable_next))]
-fn state_after(kind: Kind, records: &[Record]) -> State
+pub(crate) fn state_after(kind: Kind, records: &[Record]) -> State
     requires { IsTrue (are_foldable (empty_state kind) records.now) }
     ensures { result ≡ folded kind records.now }
 {

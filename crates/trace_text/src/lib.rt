@@ -1,4 +1,5 @@
-//! What is printed: facts and the report, appended to a text byte by byte as `yard_model` defines it.
+//! What is printed: facts and the report, appended to a text byte by byte as `yard_model` defines it;
+//! the lists of slots; and the report as JSON.
 //!
 //! A line of a fact is spelled into room that is made for it once: functions named `put` ask for
 //! room and can't fail, those named `push` make it.
@@ -7,14 +8,20 @@
 mod basics;
 mod bodies;
 mod entities;
+mod entries;
 mod facts;
 mod journals;
+mod json_rows;
 mod number;
 mod queues;
 mod records;
 mod report;
+mod report_rows;
 mod room;
+mod slots;
+mod text_rows;
 mod values;
 
 pub use facts::push_fact;
-pub use report::push_report;
+pub use report::{push_json, push_report, report_value};
+pub use slots::push_lists;

@@ -1,4 +1,4 @@
-//! The queues' lines in the report.
+//! The queues in the report.
 ghost use Rattle.std.specs.Prelude.{◌≡◌, ℕ, ◌+◌, ◌<◌, ◌^◌, ◌++◌, ◌∷◌, [], List, OnOk, IfOk, codes, decimal, length, map, slice_index_or};
 ghost use Rattle.std.specs.List.{flat_map};
 ghost use Rattle.std.specs.List.Sorted.{IsStrictlySortedBy};
@@ -8,11 +8,13 @@ ghost use Rattle.yard_model.specs.declared.fact.Fact.{Fact};
 ghost use Rattle.yard_model.specs.Entry.{queue_fact};
 ghost use Rattle.yard_model.specs.Script.{setting};
 ghost use Rattle.yard_model.specs.SlotLists.{queue_list};
-ghost use Rattle.yard_model.specs.Text.{words, queue_line, queues_text};
+ghost use Rattle.yard_model.specs.Setting.{producers};
+ghost use Rattle.yard_model.specs.Text.{words};
 ghost use Rattle.trace_text.specs.Places.{tallies_of};
-ghost use Rattle.trace_text.specs.Rows.{rows, tally_text};
+ghost use Rattle.trace_text.specs.Rows.{rows, queue_rows, tally_text};
 
 use crate::basics::{push, push_number, push_with_number};
+use crate::report_rows::ReportRows;
 use std::alloc::{AllocError, Global};
 use yard_model::{Charter, EntityName, Lists, ProducerNo, QueueEntry};
 
@@ -32,67 +34,71 @@ impl Tally {
     };
 }
 
-/// The lines of all queues, by producer and name.
-pub(crate) fn push_queues<T: Lists>(
-    text: &mut Vec<u8>,
+/// The pairs of all queues, by producer and name.
+pub(crate) fn push_queues<R: ReportRows, T: Lists>(
+    out: &mut R,
+    alloc: Global,
     charter: &Charter,
     stores: &T,
 ) -> Result<(), AllocError>
-    ensures { OnOk result (text.new.items ≡ text.old.items ++ queues_text (setting charter.now) (T.lists stores.now)) }
+    ensures { OnOk result (R.parts out.new ≡ R.parts out.old ++ flat_map (λ p. queue_rows R.pair_parts p (queue_list (T.lists stores.now) p) (setting charter.now).names) (producers (setting charter.now))) }
 {
     for i in 0..charter.config().producers {
-        push_queue(text, charter, stores, i + 1)?;
+        push_queue(out, alloc, charter, stores, i + 1)?;
     }
     Ok(())
 }
 
-/// The lines of the queue of this number.
-fn push_queue<T: Lists>(
-    text: &mut Vec<u8>,
+/// The pairs of the queue of this number.
+fn push_queue<R: ReportRows, T: Lists>(
+    out: &mut R,
+    alloc: Global,
     charter: &Charter,
     stores: &T,
     i: u8,
 ) -> Result<(), AllocError>
     requires low { 0 < i }
     requires high { i < 33 }
-    ensures { OnOk result (text.new.items ≡ text.old.items ++ flat_map (queue_line i (queue_list (T.lists stores.now) i)) (setting charter.now).names) }
+    ensures { OnOk result (R.parts out.new ≡ R.parts out.old ++ queue_rows R.pair_parts i (queue_list (T.lists stores.now) i) (setting charter.now).names) }
 {
     match ProducerNo::new(i) {
-        Some(p) => push_queue_list(text, charter, p, stores.queue(p)),
+        Some(p) => push_queue_list(out, alloc, charter, p, stores.queue(p)),
         None => unreachable!(),
     }
 }
 
-fn push_queue_list(
-    text: &mut Vec<u8>,
+fn push_queue_list<R: ReportRows>(
+    out: &mut R,
+    alloc: Global,
     charter: &Charter,
     p: ProducerNo,
     list: &[QueueEntry],
 ) -> Result<(), AllocError>
-    ensures { OnOk result (text.new.items ≡ text.old.items ++ flat_map (queue_line p (map (queue_fact p) list.now)) (setting charter.now).names) }
+    ensures { OnOk result (R.parts out.new ≡ R.parts out.old ++ queue_rows R.pair_parts p (map (queue_fact p) list.now) (setting charter.now).names) }
 {
     let names = charter.names();
-    let tallies = tallies_of_list(*text.allocator(), names, list)?;
-    push_tallies(text, p, names, tallies.as_slice())
+    let tallies = tallies_of_list(alloc, names, list)?;
+    push_tallies(out, p, names, tallies.as_slice())
 }
 
-/// A line for each name with a command, where the counts stand at the places of the names.
-fn push_tallies(
-    text: &mut Vec<u8>,
+/// Each name with its counts, which stand at the places of the names.
+fn push_tallies<R: ReportRows>(
+    out: &mut R,
     p: ProducerNo,
     names: &[EntityName],
     tallies: &[Tally],
 ) -> Result<(), AllocError>
     requires { length tallies.now ≡ length names.now }
-    ensures { OnOk result (text.new.items ≡ text.old.items ++ rows (tally_text p) names.now tallies.now) }
+    ensures { OnOk result (R.parts out.new ≡ R.parts out.old ++ rows (R.pair_parts p) names.now tallies.now) }
 {
     for i in 0..names.len() {
-        push_tally(text, p, &names[i], &tallies[i])?;
+        out.push_pair(p, &names[i], &tallies[i])?;
     }
     Ok(())
 }
 
-fn push_tally(
+/// The line of a pair, where a command is queued.
+pub(crate) fn push_tally(
     text: &mut Vec<u8>,
     p: ProducerNo,
     name: &EntityName,

@@ -17,6 +17,7 @@ use Rattle.yard_model.specs.Text.{Bytes, line, entity_lines, entities_text, queu
 use Rattle.yard_model.specs.Trace.{with_entry, lists_step}
 use Rattle.yard_model.specs.World.{Made, played, wire_limit}
 use Rattle.shard_store.specs.Stores.{Shelves, lists_at}
+use Rattle.trace_text.specs.Json.{entity_json, pair_json, entities_json, queues_json, whole_text, json_text}
 use Rattle.world_sim.specs.Played.{AreFreed, Played, is_freed, made_of}
 use Rattle.yard_top.specs.Replays.{IsDone}
 use Rattle.yard_top.proofs.KnownLaws.{true_is_not_false}
@@ -70,7 +71,7 @@ confirmed_passes e l s n why = fold-append (confirmed_step e) 0 l (fact.Freed s 
 
 -- The report.
 
-flat_same : {X : Type 0} (f g : X → Bytes) → ((x : X) → f x ≡ g x) → (xs : List X) → flat_map f xs ≡ flat_map g xs
+flat_same : {X Y : Type 0} (f g : X → List Y) → ((x : X) → f x ≡ g x) → (xs : List X) → flat_map f xs ≡ flat_map g xs
 flat_same f g h [] = refl
 flat_same f g h (x ∷ xs) = ap (λ l. l ++ flat_map f xs) (h x) ∙ ap (λ l. g x ++ l) (flat_same f g h xs)
 
@@ -82,6 +83,10 @@ pair_line p e q n =
 
 pair_same : (p : ℕ) (old new : List Fact) (e : List ℕ) → queued e new ≡ queued e old → confirmed e new ≡ confirmed e old → queue_line p new e ≡ queue_line p old e
 pair_same p old new e q n = ap (λ k. pair_line p e k (confirmed e new)) q ∙ ap (pair_line p e (queued e old)) n
+
+pair_json_same : (p : ℕ) (e : List ℕ) (old new : List Fact) → queued e new ≡ queued e old → confirmed e new ≡ confirmed e old
+    → pair_json p e (queued e new) (confirmed e new) ≡ pair_json p e (queued e old) (confirmed e old)
+pair_json_same p e old new q n = ap (λ k. pair_json p e k (confirmed e new)) q ∙ ap (pair_json p e (queued e old)) n
 
 -- journals and counts are what a report reads
 record ReadSame (old new : SlotLists) : Type 0 where
@@ -101,6 +106,12 @@ report_same set old new same =
     ap (λ a. line (codes "report" ∷ []) ++ a ++ queues_text set new ++ line (codes "end" ∷ [])) (entities_same set old new same)
     ∙ ap (λ a. line (codes "report" ∷ []) ++ entities_text set (λ e. journal e (shard_list old (shard_of set e))) ++ a ++ line (codes "end" ∷ [])) (queues_same set old new same)
 
+json_same : (set : Setting) (old new : SlotLists) → ReadSame old new → json_text set new ≡ json_text set old
+json_same set old new same =
+    let entities : entities_json set new ≡ entities_json set old = flat_same _ _ (λ s. flat_same _ _ (λ e. ap (entity_json set e) (same.journals e (shard_of set e))) (names_of set s)) (shards set) in
+    let queues : queues_json set new ≡ queues_json set old = flat_same _ _ (λ p. flat_same _ _ (λ e. pair_json_same p e (queue_list old p) (queue_list new p) (same.queues e p) (same.counts e p)) set.names) (producers set) in
+    ap (λ es. whole_text es (queues_json set new)) entities ∙ ap (whole_text (entities_json set old)) queues
+
 -- Lists where every slot that was held is freed.
 
 freed_same : (c : Script) (old new : SlotLists) → AreFreed c old new → ReadSame old new
@@ -113,6 +124,10 @@ freed_same c old new freed = record {
 -- they have the same report
 pub freed_report : (c : Script) (old new : SlotLists) → AreFreed c old new → report (setting c) new ≡ report (setting c) old
 freed_report c old new freed = report_same (setting c) old new (freed_same c old new freed)
+
+-- and as JSON
+pub freed_json : (c : Script) (old new : SlotLists) → AreFreed c old new → json_text (setting c) new ≡ json_text (setting c) old
+freed_json c old new freed = json_same (setting c) old new (freed_same c old new freed)
 
 -- the charter's setting is that of the world that is through
 pub set_of : (c d : Script) (world : Played) → IsDone c world → setting d ≡ (made_of world.script world.count).world.set → setting d ≡ (played c wire_limit).world.set

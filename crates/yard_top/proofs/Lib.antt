@@ -1,4 +1,5 @@
 mod CameLaws
+mod EndLaws
 mod FactsLaws
 mod FoldableLaws
 mod FreedLaws

@@ -2,7 +2,7 @@
 use Rattle.std.proofs.Common.{◌≡◌, refl, sym, ap, ◌∙◌, subst, ℕ, ◌+◌, ◌<◌, length, get_or, Bool, true, false, List, [], ◌∷◌, ◌++◌, take, drop, append_assoc, take-append-drop}
 use Rattle.std.specs.Prelude.{map, fold, slice_get, Some}
 use Rattle.std.specs.List.{flat_map}
-use Rattle.std.proofs.lemmas.List.{append-nil, map-append}
+use Rattle.std.proofs.lemmas.List.{append-nil, map-append, take_more}
 use Rattle.std.proofs.lemmas.Option.{slice_get_read}
 use Rattle.std.proofs.lemmas.List.Concat.{flat_map-append}
 use Rattle.std.proofs.lemmas.List.Sums.{fold-append}
@@ -98,3 +98,19 @@ front_next law c n world l e s t u on it one two =
     let more : Begins (made_of c (n + 1)).facts (trace_of c) = made_begins c (n + 1) in
     subst (λ fs. TookFront (flat_map fact_line fs) e s u) (sym more.1)
     (subst (λ b. TookFront b e s u) (sym (flat_map-append fact_line (made_of c (n + 1)).facts more.0)) (front_more _ (flat_map fact_line more.0) e s u here))
+
+-- What is noted of the facts so far is noted of those of one order more.
+pub told_here : MadeNext → (c : Script) (n : ℕ) (world : Played) (l : Line) (P Q : List Fact → Type 0) (facts : List Fact) → IsOn c n world → slice_get c.orders n ≡ Some l
+    → facts ≡ (next_of world.script world.count l).facts → ((before : List Fact) → P before → Q (before ++ facts)) → P (made_of c n).facts → Q (made_of c (n + 1)).facts
+told_here law c n world l P Q facts on it is more told =
+    subst Q (ap (λ fs. (made_of c n).facts ++ fs) is ∙ sym (facts_next law c n world l on it)) (more (made_of c n).facts told)
+
+-- and it was the last
+pub told_all : MadeNext → (c : Script) (n : ℕ) (world late : Played) (l : Line) (P Q : List Fact → Type 0) (facts : List Fact) → IsOn c n world → slice_get c.orders n ≡ Some l → IsThrough c (n + 1) late
+    → facts ≡ (next_of world.script world.count l).facts → ((before : List Fact) → P before → Q (before ++ facts)) → P (made_of c n).facts → Q (trace_of c)
+told_all law c n world late l P Q facts on it through is more told =
+    subst (λ (m : Made). Q m.facts) through.made_is (told_here law c n world l P Q facts on it is more told)
+
+-- One fact more of a list that is told.
+pub told_more : (told xs : List Fact) (i : ℕ) (x : Fact) → i < length xs → x ≡ get_or xs i x → (told ++ take i xs) ++ x ∷ [] ≡ told ++ take (i + 1) xs
+told_more told xs i x h is = append_assoc told (take i xs) (x ∷ []) ∙ ap (λ ys. told ++ ys) (ap (λ y. take i xs ++ y ∷ []) is ∙ sym (take_more xs i x h))

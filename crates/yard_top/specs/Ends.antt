@@ -1,20 +1,26 @@
 -- How a run of the program may end, and what each end says.
-use Rattle.std.specs.Prelude.{◌≡◌, ◌⊎◌, ℕ, List, length, take, Option, Some, None, IfSome, IsTrue}
+use Rattle.std.specs.Prelude.{◌≡◌, ◌⊎◌, ℕ, Bool, true, List, length, take, Option, Some, None, IfSome, IsTrue}
 use Rattle.yard_io.specs.Told.{followed_by, without_first, count_of, TakesFront}
 use Rattle.script_text.specs.Reading.{Reading, Spelled, Refused, reading}
 use Rattle.script_text.specs.declared.fault.Mode.{Mode}
 use Rattle.script_text.specs.declared.fault.Mode.TheVariants as mode
 use Rattle.script_text.specs.declared.fault.Why.{Why}
+use Rattle.yard_model.specs.Behaviour.{is_in}
 use Rattle.yard_model.specs.Script.{Script}
 use Rattle.yard_model.specs.Replay.{replay_text}
 use Rattle.yard_model.specs.Safe.{safe}
 use Rattle.yard_model.specs.Solo.{solo_text}
 use Rattle.yard_model.specs.Text.{Bytes}
 use Rattle.yard_model.specs.World.{trace_of}
+use Rattle.bulk_gen.specs.Bulk.{bulk_script}
+use Rattle.bulk_gen.specs.SummaryText.{summary}
+use Rattle.yard_top.specs.Replays.{replay_json}
 use Rattle.yard_top.specs.Sound.{IsSound, solo_journal}
 use Rattle.yard_top.specs.Stops.{stop_in}
 use Rattle.yard_top.specs.declared.forms.Form.{Form}
 use Rattle.yard_top.specs.declared.forms.Form.TheVariants as form
+use Rattle.yard_top.specs.declared.forms.ScriptFrom.{ScriptFrom}
+use Rattle.yard_top.specs.declared.forms.ScriptFrom.TheVariants as script_from
 use Rattle.yard_top.specs.declared.status.Status.{Status}
 use Rattle.yard_top.specs.declared.status.Status.TheVariants as status
 
@@ -30,25 +36,38 @@ code_of (status.WireFull line) = 7
 
 -- What a form is to do.
 
--- the command for which its script is read
-abbrev pub mode_of : Form → Mode
-mode_of form.Solo = mode.Solo
-mode_of form.Replay = mode.Replay
+-- where its script is from: the input, read as a script of a command, or a number
+abbrev pub from_of : Form → ScriptFrom
+from_of form.Solo = script_from.Input mode.Solo
+from_of form.Replay = script_from.Input mode.Replay
+from_of form.ReplayJson = script_from.Input mode.Replay
+from_of (form.Bulk n) = script_from.Number n
+
+-- the numbers that have a script are 1 to 1,000
+abbrev pub is_there : ScriptFrom → Bool
+is_there (script_from.Input m) = true
+is_there (script_from.Number n) = is_in 1 1000 n
 
 -- the text that it writes of a script
 abbrev pub text_of : Form → Script → Bytes
 text_of form.Solo c = solo_text c
 text_of form.Replay c = replay_text c
+text_of form.ReplayJson c = replay_json c
+text_of (form.Bulk n) c = summary n (trace_of c)
 
 -- what is so of what it writes: each journal is sound; the trace is safe
 abbrev pub Holds : Form → Script → Type 0
 Holds form.Solo c = (e : List ℕ) → IsSound c e (solo_journal c e)
 Holds form.Replay c = IsTrue (safe c (trace_of c))
+Holds form.ReplayJson c = IsTrue (safe c (trace_of c))
+Holds (form.Bulk n) c = IsTrue (safe c (trace_of c))
 
 -- the line with which it stops, where a packet too many would be posted
 abbrev pub stops_at : Form → Script → Option ℕ
 stops_at form.Solo c = None
 stops_at form.Replay c = stop_in (trace_of c)
+stops_at form.ReplayJson c = stop_in (trace_of c)
+stops_at (form.Bulk n) c = stop_in (trace_of c)
 
 -- the words are a form, and this holds of it
 abbrev pub Asked : Option Form → (Form → Type 0) → Type 0
@@ -100,37 +119,57 @@ pub record Taken : Type 0 where
   pub bytes : Option (List ℕ)
   pub flushed : Option ℕ
 
--- a script came
-pub record CameScript (f : Form) (had has : Option (List ℕ)) (script : Script) : Type 0 where
+-- a script came, of this command
+pub record CameScript (m : Mode) (had has : Option (List ℕ)) (script : Script) : Type 0 where
   pub input : List ℕ
   pub came : Came had has input
   pub all : IfSome had (λ xs. input ≡ xs)
-  pub spelled : reading (mode_of f) input ≡ Spelled script
+  pub spelled : reading m input ≡ Spelled script
 
--- a script came, which stops at this line or at none, and its whole text was written and flushed
+-- what came is no script of this command, for this reason
+pub record CameRefused (m : Mode) (had has : Option (List ℕ)) (line : ℕ) (why : Why) : Type 0 where
+  pub input : List ℕ
+  pub came : Came had has input
+  pub refused : reading m input ≡ Refused line why
+
+-- a script is that of the number that it is from, if it is from one
+abbrev pub IsOf : ScriptFrom → Script → Type 0
+IsOf (script_from.Input m) script = Unit {0}
+IsOf (script_from.Number n) script = script ≡ bulk_script n
+
+-- a fact for a script from a number alone
+abbrev pub IfNumber : ScriptFrom → Type 0 → Type 0
+IfNumber (script_from.Input m) P = Unit {0}
+IfNumber (script_from.Number n) P = P
+
+-- there is a script: one that came, or that of a number
+abbrev pub HasScript : ScriptFrom → Option (List ℕ) → Option (List ℕ) → Script → Type 0
+HasScript (script_from.Input m) had has script = CameScript m had has script
+HasScript (script_from.Number n) had has script = script ≡ bulk_script n
+
+-- there is none, for this reason; a number always has one
+abbrev pub HasNone : ScriptFrom → Option (List ℕ) → Option (List ℕ) → ℕ → Why → Type 0
+HasNone (script_from.Input m) had has line why = CameRefused m had has line why
+HasNone (script_from.Number n) had has line why = ⊥
+
+-- there is a script, whose trace stops at this line or at none, and its whole text was written and flushed
 pub record Wrote (f : Form) (stop : Option ℕ) (had has : Option (List ℕ)) (before after : Taken) : Type 0 where
   pub script : Script
-  pub came : CameScript f had has script
+  pub came : HasScript (from_of f) had has script
   pub stops : stops_at f script ≡ stop
   pub written : after.bytes ≡ followed_by before.bytes (text_of f script)
   pub flushed : after.flushed ≡ count_of after.bytes
   pub holds : Holds f script
 
--- a script came, and a front of its text was written
+-- there is a script, and a front of its text was written
 pub record Began (f : Form) (had has : Option (List ℕ)) (before after : Taken) : Type 0 where
   pub script : Script
-  pub came : CameScript f had has script
+  pub came : HasScript (from_of f) had has script
   pub begun : TakesFront before.bytes after.bytes (text_of f script)
 
--- nothing was written, or a front of the text of a script that came
+-- nothing was written, or a front of the text of a script
 abbrev pub WroteFront : Form → Option (List ℕ) → Option (List ℕ) → Taken → Taken → Type 0
 WroteFront f had has before after = (after.bytes ≡ before.bytes) ⊎ Began f had has before after
-
--- what came is no script, for this reason
-pub record CameRefused (f : Form) (had has : Option (List ℕ)) (line : ℕ) (why : Why) : Type 0 where
-  pub input : List ℕ
-  pub came : Came had has input
-  pub refused : reading (mode_of f) input ≡ Refused line why
 
 -- a run that ends before anything is written
 abbrev pub IsEarly : Status → Type 0
@@ -145,11 +184,19 @@ abbrev pub end_of : Option ℕ → Status
 end_of None = status.Ok
 end_of (Some line) = status.WireFull line
 
--- what there is to be done with what came
+-- a script is answered by its whole text, or there is no memory
+abbrev pub Ends : Form → Script → Status → Type 0
+Ends f script s = (s ≡ end_of (stops_at f script)) ⊎ (s ≡ status.OutOfMemory)
+
+-- what is no script is answered by its first fault, or there is no memory
 abbrev pub Answers : Form → Reading → Status → Type 0
-Answers f (Spelled script) s = (s ≡ end_of (stops_at f script)) ⊎ (s ≡ status.OutOfMemory)
+Answers f (Spelled script) s = Ends f script s
 Answers f (Refused line why) s = (s ≡ status.Refused line why) ⊎ (s ≡ status.OutOfMemory)
 
--- where a source tells its bytes: a script is answered by its whole text, what is no script by its first fault, or there is no memory
+-- what is to be done: of what is read, where its source tells its bytes; of a number always
+abbrev pub IsAnswered : Form → ScriptFrom → Option (List ℕ) → Status → Type 0
+IsAnswered f (script_from.Input m) told s = IfSome told (λ xs. Answers f (reading m (take most_read xs)) s)
+IsAnswered f (script_from.Number n) told s = Ends f (bulk_script n) s
+
 abbrev pub IsComplete : Form → Option (List ℕ) → Status → Type 0
-IsComplete f told s = IfSome told (λ xs. Answers f (reading (mode_of f) (take most_read xs)) s)
+IsComplete f told s = IsAnswered f (from_of f) told s

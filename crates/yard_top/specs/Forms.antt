@@ -1,7 +1,9 @@
 -- The forms of the command line: the words after the program's name.
-use Rattle.std.specs.Prelude.{ℕ, nat_eq, List, [], ◌∷◌, String, string_bytes, Option, Some, None, codes, if◌then◌else◌}
+use Rattle.std.specs.Prelude.{ℕ, nat_eq, ◌&&◌, List, [], ◌∷◌, String, string_bytes, Option, Some, None, codes, if◌then◌else◌}
 use Rattle.std.specs.Cmp.Lexicographic.{pointwise}
 use Rattle.std.specs.declared.alloc.Global.{Global}
+use Rattle.yard_model.specs.Behaviour.{is_in}
+use Rattle.script_text.specs.Words.{is_number, value_of}
 use Rattle.yard_top.specs.declared.forms.Form.{Form}
 use Rattle.yard_top.specs.declared.forms.Form.TheVariants as form
 
@@ -11,8 +13,19 @@ form_of_word w =
     else if pointwise nat_eq w (codes "replay") then Some form.Replay
     else None
 
--- the form of these words: `solo` or `replay` alone
+-- `bulk` and a number from 1 to 1,000
+abbrev pub bulk_form : List ℕ → Option Form
+bulk_form w = if is_number w && is_in 1 1000 (value_of w) then Some (form.Bulk (value_of w)) else None
+
+abbrev pub form_of_words : List ℕ → List ℕ → Option Form
+form_of_words w v =
+    if pointwise nat_eq w (codes "replay") && pointwise nat_eq v (codes "json") then Some form.ReplayJson
+    else if pointwise nat_eq w (codes "bulk") then bulk_form v
+    else None
+
+-- the form of these words: `solo` or `replay` alone, `replay json`, or `bulk` and a number
 abbrev pub form_in : List (String Global) → Option Form
 form_in [] = None
 form_in (w ∷ []) = form_of_word (string_bytes w)
-form_in (w ∷ v ∷ ws) = None
+form_in (w ∷ v ∷ []) = form_of_words (string_bytes w) (string_bytes v)
+form_in (w ∷ v ∷ u ∷ ws) = None

@@ -3,7 +3,8 @@ use Rattle.std.specs.Prelude.{◌≡◌, ◌≢◌, ℕ, Bool, true, false, Some
 use Rattle.std.specs.List.{flat_map}
 use Rattle.yard_model.specs.Script.{Script}
 use Rattle.yard_model.specs.Text.{Bytes, fact_line}
-use Rattle.yard_model.specs.World.{played, trace_of, wire_limit}
+use Rattle.yard_model.specs.World.{Made, played, trace_of, wire_limit}
+use Rattle.trace_text.specs.Json.{json_text}
 use Rattle.world_sim.specs.declared.fault.StepFault.TheVariants as fault
 use Rattle.world_sim.specs.Played.{Played, made_of}
 
@@ -31,3 +32,7 @@ IsNext c n false world = IsThrough c n world
 -- the lines of the trace
 abbrev pub trace_text : Script → Bytes
 trace_text c = flat_map fact_line (trace_of c)
+
+-- the report as JSON, of the lists in which the trace ends
+abbrev pub replay_json : Script → Bytes
+replay_json c = let m : Made = played c wire_limit in json_text m.world.set m.world.lists

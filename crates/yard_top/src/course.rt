@@ -2,6 +2,8 @@
 ghost use Rattle.std.specs.Prelude.{◌≡◌, fold};
 ghost use Rattle.yard_top.specs.Stops.{start, course_step};
 
+use crate::following::Notes;
+use std::alloc::AllocError;
 use yard_model::Fact;
 
 /// How far a trace has come.
@@ -50,5 +52,18 @@ fn after(course: Course, fact: &Fact) -> Course
             stop: Some(course.line),
         },
         _ => course,
+    }
+}
+
+impl Notes for Course {
+    ghost use Rattle.yard_top.specs.Stops.{course};
+
+    ghost About = { Unit {0} };
+
+    ghost told = { λ notes u facts. notes ≡ course facts };
+
+    fn note(&mut self, facts: &[Fact]) -> Result<(), AllocError> {
+        *self = course_after(*self, facts);
+        Ok(())
     }
 }

@@ -1,6 +1,9 @@
 //! The forms of the command line.
-ghost use Rattle.std.specs.Prelude.{◌≡◌};
-ghost use Rattle.yard_top.specs.Forms.{form_in, form_of_word};
+ghost use Rattle.std.specs.Prelude.{◌≡◌, IfSome, IsTrue};
+ghost use Rattle.yard_top.specs.Ends.{from_of, is_there};
+ghost use Rattle.yard_top.specs.Forms.{form_in, form_of_word, form_of_words, bulk_form};
+
+use script_text::{Mode, number_of};
 
 /// What the words ask for.
 #[derive(Clone, Copy, Debug, PartialEq, Eq)]
@@ -9,20 +12,49 @@ pub enum Form {
     Solo,
     /// `replay`
     Replay,
+    /// `replay json`
+    ReplayJson,
+    /// `bulk` and a number, 1 to 1,000
+    Bulk(u32),
+}
+
+/// Where the script of a form is from.
+#[derive(Clone, Copy, Debug, PartialEq, Eq)]
+pub enum ScriptFrom {
+    /// The input, read as a script of this command.
+    Input(Mode),
+    /// The number that it is the script of, 1 to 1,000.
+    Number(u32),
+}
+
+impl Form {
+    /// Where its script is from.
+    pub fn script_from(self) -> ScriptFrom
+        ensures { result ≡ from_of self }
+    {
+        match self {
+            Form::Solo => ScriptFrom::Input(Mode::Solo),
+            Form::Replay | Form::ReplayJson => ScriptFrom::Input(Mode::Replay),
+            Form::Bulk(number) => ScriptFrom::Number(number),
+        }
+    }
 }
 
 /// The form of the words after the program's name, if they are one.
 pub fn form_of(words: &[String]) -> Option<Form>
-    ensures { result ≡ form_in words.now }
+    ensures form { result ≡ form_in words.now }
+    ensures number { IfSome result (λ f. IsTrue (is_there (from_of f))) }
 {
     match words {
         [word] => form_of_word(word.as_str()),
+        [first, second] => form_of_words(first.as_str(), second.as_str()),
         _ => None,
     }
 }
 
 fn form_of_word(word: &str) -> Option<Form>
-    ensures { result ≡ form_of_word word.now }
+    ensures form { result ≡ form_of_word word.now }
+    ensures number { IfSome result (λ f. IsTrue (is_there (from_of f))) }
 {
     if word == "solo" {
         Some(Form::Solo)
@@ -30,5 +62,30 @@ fn form_of_word(word: &str) -> Option<Form>
         Some(Form::Replay)
     } else {
         None
+    }
+}
+
+fn form_of_words(first: &str, second: &str) -> Option<Form>
+    ensures form { result ≡ form_of_words first.now second.now }
+    ensures number { IfSome result (λ f. IsTrue (is_there (from_of f))) }
+{
+    if first == "replay" && second == "json" {
+        Some(Form::ReplayJson)
+    } else if first == "bulk" {
+        bulk_form(second.as_bytes())
+    } else {
+        None
+    }
+}
+
+/// The form of `bulk` and this word.
+#[tactic(auto, unfolding(script_text::specs::Orders::number))]
+fn bulk_form(word: &[u8]) -> Option<Form>
+    ensures form { result ≡ bulk_form word.now }
+    ensures number { IfSome result (λ f. IsTrue (is_there (from_of f))) }
+{
+    match number_of(word, 1, 1_000) {
+        Ok(number) => Some(Form::Bulk(number)),
+        Err(_) => None,
     }
 }

@@ -2,10 +2,13 @@
 //! cause as a clause of the call.
 #![tactic(auto)]
 
+mod bulk;
 mod course;
 mod engine;
 mod entity;
+mod following;
 mod forms;
+mod json;
 mod output;
 mod played;
 mod posts;
@@ -17,7 +20,7 @@ mod text;
 mod top;
 mod writing;
 
-pub use forms::{Form, form_of};
+pub use forms::{Form, ScriptFrom, form_of};
 pub use status::Status;
 pub use top::sharder;
 

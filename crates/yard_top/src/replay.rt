@@ -8,12 +8,14 @@ ghost use Rattle.yard_model.specs.Text.{fact_line, report};
 ghost use Rattle.yard_model.specs.World.{played, trace_of, wire_limit};
 ghost use Rattle.shard_store.specs.Stores.{lists_at};
 ghost use Rattle.trace_text.specs.Foldable.{is_foldable_in_all};
+ghost use Rattle.trace_text.specs.Json.{json_text};
 ghost use Rattle.world_sim.specs.Played.{next_of};
-ghost use Rattle.yard_top.specs.Replays.{IsOn, IsDone, IsNext, trace_text};
+ghost use Rattle.yard_top.specs.Replays.{IsOn, IsDone, IsNext, replay_json, trace_text};
 ghost use Rattle.yard_top.specs.Stops.{start, course, course_step, stop_in};
 ghost use Rattle.yard_top.specs.Writing.{Writes};
 
 use crate::course::{Course, course_after};
+use crate::following::play_next;
 use crate::writing::{WriteError, write_part};
 use behaviour_core::Behaviour;
 use behaviour_core::laws::decided_law;
@@ -22,8 +24,8 @@ use play_laws::play::trace_is_safe;
 use shard_store::Stores;
 use std::alloc::{AllocError, Global};
 use trace_text::{push_fact, push_report};
+use world_sim::World;
 use world_sim::laws::made_law;
-use world_sim::{StepFault, World};
 use yard_io::Sink;
 use yard_model::laws::{command_law, decision_law};
 use yard_model::{Charter, Fact, Facts, Kind, Line};
@@ -50,7 +52,7 @@ pub fn write_replay<K: Sink>(
 }
 
 /// The trace of a script is safe.
-fn is_safe(charter: &Charter)
+pub(crate) fn is_safe(charter: &Charter)
     ensures { IsTrue (safe charter.now (trace_of charter.now)) }
 {
     charter.config();
@@ -138,27 +140,6 @@ fn write_next<B: Behaviour + Copy + Drop, K: Sink>(
     Ok(goes_on)
 }
 
-/// Plays the next order, and tells its facts; whether the trace goes on. The only error is want of
-/// memory.
-fn play_next<B: Behaviour + Copy + Drop>(
-    world: &mut World<B>,
-    line: &Line,
-    facts: &mut Facts,
-) -> Result<bool, AllocError>
-    requires on { IsOn world.old.script world.old.count world.old }
-    requires next { slice_get world.old.script.orders world.old.count ≡ Some line.now }
-    requires empty { facts.old ≡ [] }
-    ensures next { IfOk result (λ goes_on. IsNext world.old.script (world.old.count + 1) goes_on world.new) }
-    ensures facts { OnOk result (facts.new ≡ (next_of world.old.script world.old.count line.now).facts) }
-{
-    made_law();
-    match world.step(line, facts) {
-        Ok(()) => Ok(true),
-        Err(StepFault::WireFull) => Ok(false),
-        Err(StepFault::OutOfMemory) => Err(AllocError),
-    }
-}
-
 /// Writes the lines of the facts at hand, and notes how far the trace has come with them.
 fn write_facts<K: Sink>(desk: &mut Desk, sink: &mut K) -> Result<(), WriteError>
     ensures wrote { Writes (flat_map fact_line desk.old.facts) result
@@ -199,12 +180,13 @@ fn push_end<B: Behaviour + Copy + Drop>(
 
 /// The charter with the number of shards in force, and the stores, of a world that is through with its
 /// script. The only error is want of memory.
-fn stores_of<B: Behaviour + Copy + Drop>(
+pub(crate) fn stores_of<B: Behaviour + Copy + Drop>(
     world: World<B>,
     charter: &Charter,
 ) -> Result<(Charter, Stores), AllocError>
     requires { IsDone charter.now world }
     ensures report { IfOk result (λ r. report (setting r.0) (lists_at r.1.script.config r.1.places) ≡ report (played charter.now wire_limit).world.set (played charter.now wire_limit).world.lists) }
+    ensures json { IfOk result (λ r. json_text (setting r.0) (lists_at r.1.script.config r.1.places) ≡ replay_json charter.now) }
     ensures foldable { IfOk result (λ r. IsTrue (is_foldable_in_all (setting r.0) (lists_at r.1.script.config r.1.places))) }
 {
     let _ = charter;

@@ -169,10 +169,32 @@ report
 end
 ";
 
-/// One word.
-fn word(alloc: Global, form: &str) -> Result<Vec<String>, AllocError> {
+const FIRST_COMMAND: &[u8] = b"config shards=1 window=2
+up 1
+pump 9
+produce 1 1
+send 1 c1 add 5
+pump 9
+";
+
+const FIRST_RECORD: &[u8] = b"{\"entities\":[{\"name\":\"c1\",\"records\":[{\"by\":[1,1],\"command\":\"add 5\",\"epoch\":1,\"events\":[\"added 5\"],\"number\":1,\"reply\":\"ok 5\"}],\"shard\":0,\"state\":\"5\"}],\"queues\":[{\"confirmed\":1,\"entity\":\"c1\",\"producer\":1,\"queued\":1}]}
+";
+
+const BULK_3: &[u8] = b"bulk 3
+orders 45
+facts 421
+packets 102
+records 8
+confirmed 8
+rounds 0
+";
+
+/// These words.
+fn words_of(alloc: Global, form: &[&str]) -> Result<Vec<String>, AllocError> {
     let mut words = Vec::new(alloc);
-    words.push(String::from_str(alloc, form)?)?;
+    for word in form {
+        words.push(String::from_str(alloc, word)?)?;
+    }
     Ok(words)
 }
 
@@ -186,7 +208,7 @@ fn expect(
     text: &[u8],
 ) -> Result<(), Fail> {
     let alloc = rt.alloc();
-    let words = word(alloc, "solo")?;
+    let words = words_of(alloc, &["solo"])?;
     let mut source = MemSource::new(alloc, script, failing_reads)?;
     let mut sink = MemSink::new(alloc, failing_writes)?;
     let end = sharder(alloc, words.as_slice(), &mut source, &mut sink);
@@ -251,6 +273,24 @@ fn long_lines(rt: HostRuntime) -> Result<(), Fail> {
     expect(&rt, long.as_slice(), &[], &[], refused, b"")
 }
 
+/// Runs a form on an input, and compares what comes of it.
+fn expect_form(
+    rt: &(impl Abort + AllocGlobal),
+    form: &[&str],
+    input: &[u8],
+    status: Status,
+    text: &[u8],
+) -> Result<(), Fail> {
+    let alloc = rt.alloc();
+    let words = words_of(alloc, form)?;
+    let mut source = WholeSource::new(alloc, input)?;
+    let mut sink = MemSink::new(alloc, &[])?;
+    let end = sharder(alloc, words.as_slice(), &mut source, &mut sink);
+    assert_eq!(rt; end, status);
+    assert!(rt; sink.bytes() == text);
+    Ok(())
+}
+
 /// Runs `replay` on a script, and compares what comes of it.
 fn expect_replay(
     rt: &(impl Abort + AllocGlobal),
@@ -258,14 +298,7 @@ fn expect_replay(
     status: Status,
     text: &[u8],
 ) -> Result<(), Fail> {
-    let alloc = rt.alloc();
-    let words = word(alloc, "replay")?;
-    let mut source = WholeSource::new(alloc, script)?;
-    let mut sink = MemSink::new(alloc, &[])?;
-    let end = sharder(alloc, words.as_slice(), &mut source, &mut sink);
-    assert_eq!(rt; end, status);
-    assert!(rt; sink.bytes() == text);
-    Ok(())
+    expect_form(rt, &["replay"], script, status, text)
 }
 
 #[test]
@@ -279,6 +312,28 @@ fn replays(rt: HostRuntime) -> Result<(), Fail> {
         Status::Ok,
         SETTLED,
     )
+}
+
+#[test]
+fn json(rt: HostRuntime) -> Result<(), Fail> {
+    let form = ["replay", "json"];
+    expect_form(&rt, &form, FIRST_COMMAND, Status::Ok, FIRST_RECORD)?;
+    let refused = Status::Refused {
+        line: 2,
+        why: Why::UnknownWord,
+    };
+    expect_form(&rt, &form, b"config\nfly 1\n", refused, b"")
+}
+
+#[test]
+fn bulk(rt: HostRuntime) -> Result<(), Fail> {
+    for number in ["3", "3", "000000000000000003"] {
+        expect_form(&rt, &["bulk", number], b"", Status::Ok, BULK_3)?;
+    }
+    for number in ["0", "1001", "0000000000000000003", "+3", "3 ", ""] {
+        expect_form(&rt, &["bulk", number], b"", Status::Usage, b"")?;
+    }
+    Ok(())
 }
 
 #[test]
@@ -376,7 +431,7 @@ impl Sink for Drip {
 #[test]
 fn one_byte_a_call(rt: HostRuntime) -> Result<(), Fail> {
     let alloc = rt.alloc();
-    let words = word(alloc, "solo")?;
+    let words = words_of(alloc, &["solo"])?;
     let mut source = WholeSource::new(alloc, ONE_COMMAND)?;
     let mut sink = Drip(MemSink::new(alloc, &[])?);
     assert_eq!(rt;

@@ -1,9 +1,11 @@
 //! What a form writes of a script.
 ghost use Rattle.std.specs.Prelude.{◌≡◌, IfOk};
-ghost use Rattle.yard_top.specs.Ends.{Holds, text_of, stops_at};
+ghost use Rattle.yard_top.specs.Ends.{Holds, IsOf, from_of, text_of, stops_at};
 ghost use Rattle.yard_top.specs.Writing.{Writes};
 
+use crate::bulk::write_bulk;
 use crate::forms::Form;
+use crate::json::write_json;
 use crate::replay::write_replay;
 use crate::solo::solo_report;
 use crate::writing::{WriteError, write_part};
@@ -19,6 +21,7 @@ pub fn write_form<K: Sink>(
     charter: &Charter,
     sink: &mut K,
 ) -> Result<Option<u32>, WriteError>
+    requires { IsOf (from_of form) charter.now }
     ensures wrote { Writes (text_of form charter.now) result
         (record { taken = K.taken sink.old; flushed = K.flushed sink.old; faults = K.faults sink.old })
         (record { taken = K.taken sink.new; flushed = K.flushed sink.new; faults = K.faults sink.new }) }
@@ -28,6 +31,8 @@ pub fn write_form<K: Sink>(
     match form {
         Form::Solo => write_solo(alloc, charter, sink),
         Form::Replay => write_replay(alloc, charter, sink),
+        Form::ReplayJson => write_json(alloc, charter, sink),
+        Form::Bulk(number) => write_bulk(alloc, charter, number, sink),
     }
 }
 

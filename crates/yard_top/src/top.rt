@@ -1,12 +1,15 @@
 //! The top call.
-ghost use Rattle.std.specs.Prelude.{◌≡◌, ◌<◌, ◌≤◌, ◌↔◌, Some, None, IfOk, IfErr, IfSome};
-ghost use Rattle.yard_top.specs.Ends.{IfWhole, IfUsage, IfRefused, IfReadFault, IfWriteFault, IfNoMemory, IfWireFull, Asked, Came, Taken, Wrote, Began, WroteFront, CameRefused, CameScript, IsEarly, IsComplete, mode_of, end_of};
+ghost use Rattle.std.specs.Prelude.{◌≡◌, ◌<◌, ◌≤◌, ◌↔◌, Some, None, IfOk, IfErr, IfSome, IsTrue};
+ghost use Rattle.yard_model.specs.Behaviour.{is_in};
+ghost use Rattle.bulk_gen.specs.Bulk.{bulk_script};
+ghost use Rattle.yard_top.specs.Ends.{IfWhole, IfUsage, IfRefused, IfReadFault, IfWriteFault, IfNoMemory, IfWireFull, IfNumber, Asked, Taken, Wrote, Began, WroteFront, CameRefused, CameScript, HasNone, HasScript, IsOf, IsEarly, IsComplete, from_of, is_there, end_of};
 ghost use Rattle.yard_top.specs.Forms.{form_in};
 
-use crate::forms::{Form, form_of};
+use crate::forms::{Form, ScriptFrom, form_of};
 use crate::status::Status;
 use crate::text::write_form;
 use crate::writing::WriteError;
+use bulk_gen::script_of;
 use script_text::{Mode, ScriptFault, read_script};
 use std::alloc::Global;
 use yard_io::{ReadError, Sink, Source, read_up_to};
@@ -20,7 +23,9 @@ const MOST_READ: usize = 4_194_305;
 /// `solo` reads a script of settings, sends and deliveries, and writes the report of what is
 /// recorded where each delivered command is taken exactly when it is the next of its producer.
 /// `replay` reads a script of all orders, plays it on all nodes, one step after the other, and writes
-/// the trace as it arises, and then the report of what the slots' lists come to.
+/// the trace as it arises, and then the report of what the slots' lists come to; `replay json` writes
+/// that report alone, as JSON. `bulk` plays the script of a number in the same way, and writes counts
+/// of its trace.
 pub fn sharder<S: Source, K: Sink>(
     alloc: Global,
     words: &[String],
@@ -31,16 +36,18 @@ pub fn sharder<S: Source, K: Sink>(
     ensures usage { (result ≡ Status.Usage) ↔ (form_in words.now ≡ None) }
     ensures usage_reads_nothing { IfUsage result (S.left source.new ≡ S.left source.old) }
     ensures usage_writes_nothing { IfUsage result ((K.taken sink.new ≡ K.taken sink.old) × (K.flushed sink.new ≡ K.flushed sink.old)) }
-    // A script came, its trace goes to the end, and exactly its text was written and flushed.
+    // Of a number nothing is read.
+    ensures number_reads_nothing { IfSome (form_in words.now) (λ f. IfNumber (from_of f) ((S.left source.new ≡ S.left source.old) × (S.faults source.new ≡ S.faults source.old))) }
+    // There is a script, its trace goes to the end, and exactly its text was written and flushed.
     ensures whole { IfWhole result (Asked (form_in words.now) (λ f. Wrote f None (S.left source.old) (S.left source.new)
         (record { bytes = K.taken sink.old; flushed = K.flushed sink.old })
         (record { bytes = K.taken sink.new; flushed = K.flushed sink.new }))) }
-    // A script came, its trace stops at this line, and exactly its text was written and flushed.
+    // There is a script, its trace stops at this line, and exactly its text was written and flushed.
     ensures wire_full { IfWireFull result (λ line. Asked (form_in words.now) (λ f. Wrote f (Some line) (S.left source.old) (S.left source.new)
         (record { bytes = K.taken sink.old; flushed = K.flushed sink.old })
         (record { bytes = K.taken sink.new; flushed = K.flushed sink.new }))) }
     // What came is no script, or is more than 4 MiB; nothing was written.
-    ensures refused { IfRefused result (λ line why. Asked (form_in words.now) (λ f. CameRefused f (S.left source.old) (S.left source.new) line why)) }
+    ensures refused { IfRefused result (λ line why. Asked (form_in words.now) (λ f. HasNone (from_of f) (S.left source.old) (S.left source.new) line why)) }
     ensures refused_writes_nothing { IfRefused result (λ line why. (K.taken sink.new ≡ K.taken sink.old) × (K.flushed sink.new ≡ K.flushed sink.old)) }
     // The source's faults rose in this call; nothing was written.
     ensures read_fault { IfReadFault result (S.faults source.old < S.faults source.new) }
@@ -67,16 +74,18 @@ pub fn sharder<S: Source, K: Sink>(
     }
 }
 
-/// Carries a form out: reads a script, and writes its text.
+/// Carries a form out: gets its script, and writes its text.
 fn run<S: Source, K: Sink>(alloc: Global, form: Form, source: &mut S, sink: &mut K) -> Status
+    requires { IsTrue (is_there (from_of form)) }
     ensures usage { IfUsage result ⊥ }
+    ensures number_reads_nothing { IfNumber (from_of form) ((S.left source.new ≡ S.left source.old) × (S.faults source.new ≡ S.faults source.old)) }
     ensures whole { IfWhole result (Wrote form None (S.left source.old) (S.left source.new)
         (record { bytes = K.taken sink.old; flushed = K.flushed sink.old })
         (record { bytes = K.taken sink.new; flushed = K.flushed sink.new })) }
     ensures wire_full { IfWireFull result (λ line. Wrote form (Some line) (S.left source.old) (S.left source.new)
         (record { bytes = K.taken sink.old; flushed = K.flushed sink.old })
         (record { bytes = K.taken sink.new; flushed = K.flushed sink.new })) }
-    ensures refused { IfRefused result (λ line why. CameRefused form (S.left source.old) (S.left source.new) line why) }
+    ensures refused { IfRefused result (λ line why. HasNone (from_of form) (S.left source.old) (S.left source.new) line why) }
     ensures refused_writes_nothing { IfRefused result (λ line why. (K.taken sink.new ≡ K.taken sink.old) × (K.flushed sink.new ≡ K.flushed sink.old)) }
     ensures read_fault { IfReadFault result (S.faults source.old < S.faults source.new) }
     ensures read_fault_writes_nothing { IfReadFault result ((K.taken sink.new ≡ K.taken sink.old) × (K.flushed sink.new ≡ K.flushed sink.old)) }
@@ -92,7 +101,7 @@ fn run<S: Source, K: Sink>(alloc: Global, form: Form, source: &mut S, sink: &mut
     ensures source_faults { S.faults source.old ≤ S.faults source.new }
     ensures sink_faults { K.faults sink.old ≤ K.faults sink.new }
 {
-    let charter = match read_charter(alloc, form, source) {
+    let charter = match charter_of(alloc, form.script_from(), source) {
         Ok(charter) => charter,
         Err(status) => return status,
     };
@@ -116,20 +125,39 @@ fn end_of(stop: Option<u32>) -> Status
     }
 }
 
-/// The command for which a form's script is read.
-fn mode_of(form: Form) -> Mode
-    ensures { result ≡ mode_of form }
+/// The script that a form is to be carried out on.
+fn charter_of<S: Source>(alloc: Global, from: ScriptFrom, source: &mut S) -> Result<Charter, Status>
+    requires { IsTrue (is_there from) }
+    ensures script { IfOk result (λ c. HasScript from (S.left source.old) (S.left source.new) c) }
+    ensures of { IfOk result (λ c. IsOf from c) }
+    ensures number_reads_nothing { IfNumber from ((S.left source.new ≡ S.left source.old) × (S.faults source.new ≡ S.faults source.old)) }
+    ensures refused { IfErr result (λ s. IfRefused s (λ line why. HasNone from (S.left source.old) (S.left source.new) line why)) }
+    ensures read_fault { IfErr result (λ s. IfReadFault s (S.faults source.old < S.faults source.new)) }
+    ensures others { IfErr result (λ s. IsEarly s) }
+    ensures source_faults { S.faults source.old ≤ S.faults source.new }
 {
-    match form {
-        Form::Solo => Mode::Solo,
-        Form::Replay => Mode::Replay,
+    match from {
+        ScriptFrom::Input(mode) => read_charter(alloc, mode, source),
+        ScriptFrom::Number(number) => number_charter(alloc, number),
     }
 }
 
-/// Reads the whole input as a script of this form.
-fn read_charter<S: Source>(alloc: Global, form: Form, source: &mut S) -> Result<Charter, Status>
-    ensures script { IfOk result (λ c. CameScript form (S.left source.old) (S.left source.new) c) }
-    ensures refused { IfErr result (λ s. IfRefused s (λ line why. CameRefused form (S.left source.old) (S.left source.new) line why)) }
+/// The script of a number.
+fn number_charter(alloc: Global, number: u32) -> Result<Charter, Status>
+    requires { IsTrue (is_in 1 1000 number) }
+    ensures script { IfOk result (λ c. c ≡ bulk_script number) }
+    ensures memory { IfErr result (λ s. s ≡ Status.OutOfMemory) }
+{
+    match script_of(alloc, number) {
+        Ok(charter) => Ok(charter),
+        Err(_) => Err(Status::OutOfMemory),
+    }
+}
+
+/// Reads the whole input as a script of this command.
+fn read_charter<S: Source>(alloc: Global, mode: Mode, source: &mut S) -> Result<Charter, Status>
+    ensures script { IfOk result (λ c. CameScript mode (S.left source.old) (S.left source.new) c) }
+    ensures refused { IfErr result (λ s. IfRefused s (λ line why. CameRefused mode (S.left source.old) (S.left source.new) line why)) }
     ensures read_fault { IfErr result (λ s. IfReadFault s (S.faults source.old < S.faults source.new)) }
     ensures others { IfErr result (λ s. IsEarly s) }
     ensures source_faults { S.faults source.old ≤ S.faults source.new }
@@ -139,7 +167,7 @@ fn read_charter<S: Source>(alloc: Global, form: Form, source: &mut S) -> Result<
         Err(ReadError::Failed) => return Err(Status::ReadFault),
         Err(ReadError::OutOfMemory) => return Err(Status::OutOfMemory),
     };
-    match read_script(alloc, bytes.as_slice(), mode_of(form)) {
+    match read_script(alloc, bytes.as_slice(), mode) {
         Ok(charter) => Ok(charter),
         Err(ScriptFault::At { line, why }) => Err(Status::Refused { line, why }),
         Err(ScriptFault::OutOfMemory) => Err(Status::OutOfMemory),

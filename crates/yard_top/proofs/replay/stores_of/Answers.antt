@@ -3,8 +3,9 @@ use Rattle.yard_model.specs.Script.{Script}
 use Rattle.yard_model.specs.Text.{report}
 use Rattle.yard_model.specs.World.{played, wire_limit}
 use Rattle.shard_store.specs.Stores.{lists_at}
+use Rattle.trace_text.specs.Json.{json_text}
 use Rattle.yard_top.proofs.FoldableLaws.{lists_fold}
-use Rattle.yard_top.proofs.FreedLaws.{freed_report, freed_of, set_of}
+use Rattle.yard_top.proofs.FreedLaws.{freed_report, freed_json, freed_of, set_of}
 use Rattle.yard_top.proofs.replay.stores_of.Goals as goal
 
 pub returns-clause-report : goal.returns-clause-report
@@ -14,6 +15,14 @@ returns-clause-report g c =
     let x = c.in_ok-last.stores in
     let e = c.in_ok-last.ensures in
     freed_report d (played s wire_limit).world.lists (lists_at x.script.config x.places) (freed_of s d c.args.world x c.requires e.script e.lists) ∙ ap (λ set. report set (played s wire_limit).world.lists) (set_of s d c.args.world c.requires e.set)
+
+pub returns-clause-json : goal.returns-clause-json
+returns-clause-json g c =
+    let s : Script = c.args.charter.now in
+    let d : Script = c.in_ok-last.last in
+    let x = c.in_ok-last.stores in
+    let e = c.in_ok-last.ensures in
+    freed_json d (played s wire_limit).world.lists (lists_at x.script.config x.places) (freed_of s d c.args.world x c.requires e.script e.lists) ∙ ap (λ set. json_text set (played s wire_limit).world.lists) (set_of s d c.args.world c.requires e.set)
 
 pub returns-clause-foldable : goal.returns-clause-foldable
 returns-clause-foldable g c =

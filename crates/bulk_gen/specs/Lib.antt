@@ -1,0 +1,3 @@
+pub mod Bulk
+pub mod Counted
+pub mod SummaryText

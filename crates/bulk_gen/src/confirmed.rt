@@ -1,0 +1,71 @@
+//! What is confirmed of each pair of producer and entity, and in sum.
+ghost use Rattle.std.specs.Prelude.{◌≡◌, ◌+◌, ◌++◌, ◌∷◌, List, [], IfOk, OnOk};
+ghost use Rattle.bulk_gen.specs.Counted.{AreConfirmed};
+ghost use Rattle.bulk_gen.specs.SummaryText.{Confirmation, confirmed_in};
+
+use std::alloc::{AllocError, Global};
+use std::collections::BTreeMap;
+use yard_model::{EntityName, Fact, ProducerNo};
+
+/// The number that each pair is confirmed up to, and their sum.
+#[derive(Drop)]
+pub(crate) struct Confirmed {
+    numbers: BTreeMap<(ProducerNo, EntityName), u32>,
+    sum: u64,
+}
+
+impl Confirmed {
+    /// Nothing is confirmed.
+    pub(crate) fn new(alloc: Global) -> Confirmed
+        ensures { AreConfirmed result [] }
+    {
+        Confirmed {
+            numbers: BTreeMap::new(alloc),
+            sum: 0,
+        }
+    }
+
+    /// The sum.
+    pub(crate) fn sum(&self) -> u64
+        ensures { result ≡ self.now.sum }
+    {
+        self.sum
+    }
+
+    /// One fact more. The only error is want of memory, or of room for the sum.
+    pub(crate) fn note(&mut self, fact: &Fact) -> Result<(), AllocError>
+        ensures { OnOk result ((xs : List Confirmation) → AreConfirmed self.old xs → AreConfirmed self.new (xs ++ confirmed_in fact.now)) }
+    {
+        if let Fact::Confirmed(producer, entity, number) = fact {
+            return self.confirm(*producer, entity, *number);
+        }
+        Ok(())
+    }
+
+    /// The pair is confirmed up to this number.
+    fn confirm(
+        &mut self,
+        producer: ProducerNo,
+        entity: &EntityName,
+        number: u32,
+    ) -> Result<(), AllocError>
+        ensures { OnOk result ((xs : List Confirmation) → AreConfirmed self.old xs
+            → AreConfirmed self.new (xs ++ record { producer = producer; entity = entity.now; number = number } ∷ [])) }
+    {
+        let more = sum_with(self.sum, number)?;
+        let before = self.numbers.insert((producer, *entity), number)?;
+        // what it was before is part of the sum, so nothing is cut off
+        self.sum = more.saturating_sub(u64::from(before.unwrap_or(0)));
+        Ok(())
+    }
+}
+
+/// The sum of both, where 64 bits have room for it.
+fn sum_with(sum: u64, number: u32) -> Result<u64, AllocError>
+    ensures { IfOk result (λ n. n ≡ sum + number) }
+{
+    match sum.checked_add(u64::from(number)) {
+        Some(more) => Ok(more),
+        None => Err(AllocError),
+    }
+}

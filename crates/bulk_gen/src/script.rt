@@ -1,0 +1,111 @@
+//! The script of a number.
+ghost use Rattle.std.specs.Prelude.{◌≡◌, ◌≤◌, ◌∷◌, [], IfOk, length};
+ghost use Rattle.bulk_gen.specs.Bulk.{seeded, opening, bulk_orders, bulk_config, bulk_script, lines_from};
+
+use crate::draws::{node, producer};
+use crate::rounds::push_drawn;
+use rand_core::SeedableRng;
+use rand_pcg::Lcg64Xsh32;
+use std::alloc::{AllocError, Global};
+use yard_model::{Charter, Config, Kind, Line, Order};
+
+/// The script of a number, 1 to 1,000: four nodes, and six times as many drawings of what happens.
+/// The only error is want of memory.
+pub fn script_of(alloc: Global, number: u32) -> Result<Charter, AllocError>
+    requires low { 1 ≤ number }
+    requires high { number ≤ 1000 }
+    ensures { IfOk result (λ c. c ≡ bulk_script number) }
+{
+    let orders = orders_of(alloc, number)?;
+    let lines = on_lines(alloc, orders.as_slice())?;
+    Charter::new(alloc, config(), lines)
+}
+
+/// The settings, the same for every number.
+fn config() -> Config
+    ensures { result ≡ bulk_config }
+{
+    Config {
+        nodes: 4,
+        shards: 32,
+        producers: 4,
+        buffer: 64,
+        window: 16,
+        snapshot: 8,
+        keep: 2,
+        remember: true,
+        kind: Kind::Counter,
+    }
+}
+
+/// The orders of a number.
+fn orders_of(alloc: Global, number: u32) -> Result<Vec<Order>, AllocError>
+    requires { number ≤ 1000 }
+    ensures { IfOk result (λ v. v.items ≡ bulk_orders number) }
+{
+    let mut rng = seeded(number);
+    let mut orders = Vec::from_slice(alloc, &opening())?;
+    push_drawn(&mut orders, &mut rng, 6 * number)?;
+    orders.push(Order::Settle)?;
+    Ok(orders)
+}
+
+/// The generator of a number.
+fn seeded(number: u32) -> Lcg64Xsh32
+    ensures { result ≡ seeded number }
+{
+    Lcg64Xsh32::seed_from_u64(u64::from(number))
+}
+
+/// Four nodes come up, and each takes a queue.
+fn opening() -> [Order; 10]
+    ensures { result ≡ opening }
+{
+    [
+        up(1),
+        up(2),
+        up(3),
+        up(4),
+        Order::Pump(200),
+        produce(1),
+        produce(2),
+        produce(3),
+        produce(4),
+        Order::Pump(200),
+    ]
+}
+
+/// The node comes up.
+fn up(n: u8) -> Order
+    requires low { 1 ≤ n }
+    requires high { n ≤ 16 }
+    ensures { result ≡ Order.Up n }
+{
+    Order::Up(node(n))
+}
+
+/// The node takes the queue of the producer of its number.
+fn produce(n: u8) -> Order
+    requires low { 1 ≤ n }
+    requires high { n ≤ 16 }
+    ensures { result ≡ Order.Produce n n }
+{
+    Order::Produce(producer(n), node(n))
+}
+
+/// Each order on a line of its own, from line 2 on.
+fn on_lines(alloc: Global, orders: &[Order]) -> Result<Vec<Line>, AllocError>
+    requires { length orders.now ≤ 200000 }
+    ensures { IfOk result (λ v. v.items ≡ lines_from 2 orders.now) }
+{
+    let mut lines = Vec::new(alloc);
+    let mut number = 2;
+    for order in orders {
+        lines.push(Line {
+            number,
+            order: *order,
+        })?;
+        number += 1;
+    }
+    Ok(lines)
+}

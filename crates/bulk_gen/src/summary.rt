@@ -1,0 +1,104 @@
+//! What a run comes to, counted as its facts are told.
+ghost use Rattle.std.specs.Prelude.{◌≡◌, ℕ, ◌+◌, ◌++◌, ◌∷◌, List, [], IfOk, IsTrue, OnOk, if◌then◌else◌};
+ghost use Rattle.std.specs.List.{list_any};
+ghost use Rattle.yard_model.specs.Words.{is_stamp};
+ghost use Rattle.bulk_gen.specs.Counted.{IsSummary};
+ghost use Rattle.bulk_gen.specs.SummaryText.{is_sent, is_wrote, with_stamp};
+
+use crate::confirmed::Confirmed;
+use std::alloc::{AllocError, Global};
+use yard_model::{Fact, Stamp};
+
+/// Counts over the facts of a run.
+#[derive(Drop)]
+pub struct Summary {
+    pub(crate) number: u32,
+    pub(crate) facts: u64,
+    pub(crate) packets: u64,
+    pub(crate) records: u64,
+    pub(crate) confirmed: Confirmed,
+    pub(crate) stamps: Vec<Stamp>,
+}
+
+impl Summary {
+    /// No facts yet, of the run of this number.
+    pub fn new(alloc: Global, number: u32) -> Summary
+        ensures { IsSummary result number [] }
+    {
+        Summary {
+            number,
+            facts: 0,
+            packets: 0,
+            records: 0,
+            confirmed: Confirmed::new(alloc),
+            stamps: Vec::new(alloc),
+        }
+    }
+
+    /// One fact more. The only error is want of memory, or of room for a count.
+    pub fn note(&mut self, fact: &Fact) -> Result<(), AllocError>
+        ensures { OnOk result ((n : ℕ) (facts : List Fact) → IsSummary self.old n facts → IsSummary self.new n (facts ++ fact.now ∷ [])) }
+    {
+        self.facts = count_with(self.facts, true)?;
+        self.packets = count_with(self.packets, is_sent(fact))?;
+        self.records = count_with(self.records, is_wrote(fact))?;
+        self.confirmed.note(fact)?;
+        note_stamp(&mut self.stamps, fact)
+    }
+}
+
+/// One more where it counts, and 64 bits have room for it.
+fn count_with(count: u64, counts: bool) -> Result<u64, AllocError>
+    ensures { IfOk result (λ n. n ≡ count + (if counts then 1 else 0)) }
+{
+    if !counts {
+        return Ok(count);
+    }
+    match count.checked_add(1) {
+        Some(more) => Ok(more),
+        None => Err(AllocError),
+    }
+}
+
+/// Whether a packet is posted.
+fn is_sent(fact: &Fact) -> bool
+    ensures { result ≡ is_sent fact.now }
+{
+    matches!(fact, Fact::Sent(_, _))
+}
+
+/// Whether a record is written.
+fn is_wrote(fact: &Fact) -> bool
+    ensures { result ≡ is_wrote fact.now }
+{
+    matches!(fact, Fact::Wrote(_, _))
+}
+
+/// The stamp of a shard that moves, once.
+fn note_stamp(stamps: &mut Vec<Stamp>, fact: &Fact) -> Result<(), AllocError>
+    ensures { OnOk result (stamps.new.items ≡ with_stamp stamps.old.items fact.now) }
+{
+    if let Fact::Moving(_, stamp) = fact {
+        if !has_stamp(stamps.as_slice(), stamp) {
+            stamps.push(*stamp)?;
+        }
+    }
+    Ok(())
+}
+
+/// Whether the stamp is among these, the last of which is asked first.
+fn has_stamp(stamps: &[Stamp], stamp: &Stamp) -> bool
+    ensures { result ≡ list_any (is_stamp stamp.now) stamps.now }
+{
+    is_last(stamps, stamp) || stamps.iter().any(|s| stamp == s)
+}
+
+/// Whether the stamp is the last of these.
+fn is_last(stamps: &[Stamp], stamp: &Stamp) -> bool
+    ensures { IsTrue result → IsTrue (list_any (is_stamp stamp.now) stamps.now) }
+{
+    match stamps.last() {
+        Some(last) => stamp == last,
+        None => false,
+    }
+}

@@ -1,0 +1,15 @@
+use Rattle.std.proofs.Common.{◌≡◌, ap, arith}
+use Rattle.yard_model.specs.declared.charter.Config.{Config}
+use Rattle.yard_model.specs.declared.incarnation.Slot.TheVariants as slot
+use Rattle.yard_model.specs.SlotLists.{shard_list}
+use Rattle.yard_model.specs.Text.{slot_lines}
+use Rattle.trace_text.proofs.RowLaws.{numbers_step}
+use Rattle.trace_text.proofs.slots.push_shards.Goals as goal
+
+pub loop-i-preserved : goal.loop-i-preserved
+loop-i-preserved g c =
+    let same : c.config.result.now.shards ≡ c.args.charter.now.config.shards = ap (λ (k : Config). k.shards) c.config.ensures.value in
+    record {
+      text = numbers_step (λ s. slot_lines (slot.Shard s) (shard_list (g.T.Lists.lists c.args.stores.now) s)) c.loop-i.i c.loop-i.i c.args.charter.now.config.shards _ _ _ (omega arith) c.in_ok-push_shard.ensures c.loop-i.invariant.text;
+      within = omega arith;
+    }

@@ -1,0 +1,201 @@
+//! The report as JSON: each entity and each pair as a value.
+ghost use Rattle.std.specs.Prelude.{◌≡◌, IfOk, IsTrue, map};
+ghost use Rattle.std.specs.Str.{IsUtf8};
+ghost use Rattle.serde_json.specs.Data.{string};
+ghost use Rattle.serde_json.specs.View.{view};
+ghost use Rattle.yard_model.specs.Behaviour.{empty_state};
+ghost use Rattle.yard_model.specs.Text.{command_text, event_text, reply_text, state_text};
+ghost use Rattle.trace_text.specs.Foldable.{are_foldable};
+ghost use Rattle.trace_text.specs.Json.{list_json, events_json, record_json, entity_value, pair_value, whole_json};
+
+use crate::entities::state_after;
+use crate::queues::Tally;
+use crate::report_rows::ReportRows;
+use crate::values::{push_command, push_event, push_reply, push_state};
+use serde_json::{Value, json};
+use std::alloc::{AllocError, Global};
+use yard_model::{
+    Charter, Command, EntityName, Event, Kind, ProducerNo, Record, Reply, ShardNo, State,
+};
+
+/// A text as a JSON string.
+fn text_value(text: Vec<u8>) -> Value
+    requires { IsUtf8 text.items }
+    ensures { view result ≡ string text.items }
+{
+    match String::from_utf8(text) {
+        Ok(text) => Value::String(text),
+        Err(_) => unreachable!(),
+    }
+}
+
+#[tactic(auto, using(crate::proofs::AsciiLaws::name_utf8))]
+fn name_value(alloc: Global, name: &EntityName) -> Result<Value, AllocError>
+    ensures { IfOk result (λ v. view v ≡ string name.now) }
+{
+    let text = Vec::from_slice(alloc, name.bytes())?;
+    Ok(text_value(text))
+}
+
+fn command_value(alloc: Global, command: &Command) -> Result<Value, AllocError>
+    ensures { IfOk result (λ v. view v ≡ string (command_text command.now)) }
+{
+    let mut text = Vec::new(alloc);
+    push_command(&mut text, command)?;
+    Ok(text_value(text))
+}
+
+fn event_value(alloc: Global, event: &Event) -> Result<Value, AllocError>
+    ensures { IfOk result (λ v. view v ≡ string (event_text event.now)) }
+{
+    let mut text = Vec::new(alloc);
+    push_event(&mut text, event)?;
+    Ok(text_value(text))
+}
+
+fn reply_value(alloc: Global, reply: &Reply) -> Result<Value, AllocError>
+    ensures { IfOk result (λ v. view v ≡ string (reply_text reply.now)) }
+{
+    let mut text = Vec::new(alloc);
+    push_reply(&mut text, reply)?;
+    Ok(text_value(text))
+}
+
+fn state_value(alloc: Global, state: &State) -> Result<Value, AllocError>
+    ensures { IfOk result (λ v. view v ≡ string (state_text state.now)) }
+{
+    let mut text = Vec::new(alloc);
+    push_state(&mut text, state)?;
+    Ok(text_value(text))
+}
+
+/// The texts of events, in order.
+fn events_value(alloc: Global, events: &[Event]) -> Result<Value, AllocError>
+    ensures { IfOk result (λ v. view v ≡ events_json events.now) }
+{
+    let mut values: Vec<Value> = Vec::new(alloc);
+    for event in events {
+        values.push(event_value(alloc, event)?)?;
+    }
+    Ok(Value::Array(values))
+}
+
+/// What is written.
+fn record_value(alloc: Global, written: &Record) -> Result<Value, AllocError>
+    ensures { IfOk result (λ v. view v ≡ record_json written.now) }
+{
+    let command = command_value(alloc, &written.command)?;
+    let events = events_value(alloc, written.events.as_slice())?;
+    let reply = reply_value(alloc, &written.reply)?;
+    json!(in alloc; {
+        "by": [written.producer.get(), written.place],
+        "command": command,
+        "epoch": written.epoch,
+        "events": events,
+        "number": written.number,
+        "reply": reply
+    })
+}
+
+/// A journal.
+fn records_value(alloc: Global, records: &[Record]) -> Result<Value, AllocError>
+    ensures { IfOk result (λ v. view v ≡ list_json (map record_json records.now)) }
+{
+    let mut values: Vec<Value> = Vec::new(alloc);
+    for written in records {
+        values.push(record_value(alloc, written)?)?;
+    }
+    Ok(Value::Array(values))
+}
+
+/// An entity with its records.
+fn entity_value(
+    alloc: Global,
+    kind: Kind,
+    s: ShardNo,
+    name: &EntityName,
+    records: &[Record],
+) -> Result<Value, AllocError>
+    requires { IsTrue (are_foldable (empty_state kind) records.now) }
+    ensures { IfOk result (λ v. view v ≡ entity_value kind s name.now records.now) }
+{
+    let entity = name_value(alloc, name)?;
+    let journal = records_value(alloc, records)?;
+    let state = state_value(alloc, &state_after(kind, records))?;
+    json!(in alloc; {"name": entity, "records": journal, "shard": s.get(), "state": state})
+}
+
+/// A pair with its counts.
+fn pair_value(
+    alloc: Global,
+    p: ProducerNo,
+    name: &EntityName,
+    tally: &Tally,
+) -> Result<Value, AllocError>
+    ensures { IfOk result (λ v. view v ≡ pair_value p name.now tally.now.queued tally.now.confirmed) }
+{
+    let entity = name_value(alloc, name)?;
+    json!(in alloc; {
+        "confirmed": tally.confirmed,
+        "entity": entity,
+        "producer": p.get(),
+        "queued": tally.queued
+    })
+}
+
+/// The report of these entities and pairs.
+pub(crate) fn whole_value(
+    alloc: Global,
+    entities: Vec<Value>,
+    queues: Vec<Value>,
+) -> Result<Value, AllocError>
+    ensures { IfOk result (λ v. view v ≡ whole_json (map view entities.items) (map view queues.items)) }
+{
+    json!(in alloc; {"entities": entities, "queues": queues})
+}
+
+impl ReportRows for Vec<Value> {
+    ghost use Rattle.std.specs.Prelude.{map, refl};
+    ghost use Rattle.serde_json.specs.Data.{Data};
+    ghost use Rattle.serde_json.specs.View.{view};
+    ghost use Rattle.trace_text.specs.Json.{entity_json, pair_json};
+
+    ghost Part = { Data };
+
+    ghost parts = { λ values. map view values.items };
+
+    ghost entity_parts = { entity_json };
+
+    ghost pair_parts = { λ p e t. pair_json p e t.queued t.confirmed };
+
+    fn push_entity(
+        &mut self,
+        charter: &Charter,
+        s: ShardNo,
+        name: &EntityName,
+        records: &[Record],
+    ) -> Result<(), AllocError> {
+        if records.is_empty() {
+            return Ok(());
+        }
+        let alloc = *self.allocator();
+        let value = entity_value(alloc, charter.config().kind, s, name, records)?;
+        Ok(self.push(value)?)
+    }
+
+    fn push_pair(
+        &mut self,
+        p: ProducerNo,
+        name: &EntityName,
+        tally: &Tally,
+    ) -> Result<(), AllocError> {
+        if tally.queued == 0 {
+            return Ok(());
+        }
+        let alloc = *self.allocator();
+        let value = pair_value(alloc, p, name, tally)?;
+        Ok(self.push(value)?)
+    }
+
+    ghost no_records = { λ set e. refl };
+}

@@ -1,0 +1,165 @@
+//! The lists of all slots: of each that has an entry its name and length, and a line for each entry.
+ghost use Rattle.std.specs.Prelude.{◌≡◌, ◌<◌, ◌++◌, ◌∷◌, [], OnOk, codes, decimal, map};
+ghost use Rattle.std.specs.List.{flat_map};
+ghost use Rattle.yard_model.specs.Entry.{shard_fact, coord_fact, queue_fact};
+ghost use Rattle.yard_model.specs.Script.{setting};
+ghost use Rattle.yard_model.specs.SlotLists.{shard_list, queue_list};
+ghost use Rattle.yard_model.specs.Text.{fact_line, line, slot_lines, slot_text, words};
+ghost use Rattle.trace_text.specs.Slots.{shards_lists, queues_lists, slots_text};
+
+use crate::basics::{push, push_number};
+use crate::entries::{coord_fact, queue_fact, shard_fact};
+use crate::facts::push_fact;
+use crate::values::push_slot;
+use std::alloc::AllocError;
+use yard_model::{Charter, CoordEntry, Lists, ProducerNo, QueueEntry, ShardEntry, ShardNo, Slot};
+
+/// Appends the list of each slot that has an entry, shards rising, the coordinator, queues rising:
+/// the slot with its length, and a line for each entry. The only error is want of memory; what the
+/// text then is stays open.
+pub fn push_lists<T: Lists>(
+    text: &mut Vec<u8>,
+    charter: &Charter,
+    stores: &T,
+) -> Result<(), AllocError>
+    ensures { OnOk result (text.new.items ≡ text.old.items ++ slots_text (setting charter.now) (T.lists stores.now)) }
+{
+    push_shards(text, charter, stores)?;
+    push_coordinator(text, stores.coordinator())?;
+    push_queues(text, charter, stores)
+}
+
+/// The lists of all shards.
+fn push_shards<T: Lists>(
+    text: &mut Vec<u8>,
+    charter: &Charter,
+    stores: &T,
+) -> Result<(), AllocError>
+    ensures { OnOk result (text.new.items ≡ text.old.items ++ shards_lists (setting charter.now) (T.lists stores.now)) }
+{
+    for i in 0..charter.config().shards {
+        push_shard(text, charter, stores, i)?;
+    }
+    Ok(())
+}
+
+/// The list of the shard of this number.
+fn push_shard<T: Lists>(
+    text: &mut Vec<u8>,
+    charter: &Charter,
+    stores: &T,
+    i: u8,
+) -> Result<(), AllocError>
+    requires { i < charter.now.config.shards }
+    ensures { OnOk result (text.new.items ≡ text.old.items ++ slot_lines (Slot.Shard i) (shard_list (T.lists stores.now) i)) }
+{
+    match ShardNo::new(i, charter.config().shards) {
+        Some(s) => push_shard_list(text, s, stores.shard(s)),
+        None => unreachable!(),
+    }
+}
+
+fn push_shard_list(text: &mut Vec<u8>, s: ShardNo, list: &[ShardEntry]) -> Result<(), AllocError>
+    ensures { OnOk result (text.new.items ≡ text.old.items ++ slot_lines (Slot.Shard s) (map (shard_fact s) list.now)) }
+{
+    if list.is_empty() {
+        return Ok(());
+    }
+    push_slot_line(text, &Slot::Shard(s), list.len() as u64)?;
+    push_shard_entries(text, s, list)
+}
+
+fn push_shard_entries(text: &mut Vec<u8>, s: ShardNo, list: &[ShardEntry]) -> Result<(), AllocError>
+    ensures { OnOk result (text.new.items ≡ text.old.items ++ flat_map (λ e. fact_line (shard_fact s e)) list.now) }
+{
+    for entry in list {
+        push_fact(text, &shard_fact(s, entry))?;
+    }
+    Ok(())
+}
+
+/// The coordinator's list.
+fn push_coordinator(text: &mut Vec<u8>, list: &[CoordEntry]) -> Result<(), AllocError>
+    ensures { OnOk result (text.new.items ≡ text.old.items ++ slot_lines Slot.Coordinator (map coord_fact list.now)) }
+{
+    if list.is_empty() {
+        return Ok(());
+    }
+    push_slot_line(text, &Slot::Coordinator, list.len() as u64)?;
+    push_coordinator_entries(text, list)
+}
+
+fn push_coordinator_entries(text: &mut Vec<u8>, list: &[CoordEntry]) -> Result<(), AllocError>
+    ensures { OnOk result (text.new.items ≡ text.old.items ++ flat_map (λ e. fact_line (coord_fact e)) list.now) }
+{
+    for entry in list {
+        push_fact(text, &coord_fact(entry))?;
+    }
+    Ok(())
+}
+
+/// The lists of all queues.
+fn push_queues<T: Lists>(
+    text: &mut Vec<u8>,
+    charter: &Charter,
+    stores: &T,
+) -> Result<(), AllocError>
+    ensures { OnOk result (text.new.items ≡ text.old.items ++ queues_lists (setting charter.now) (T.lists stores.now)) }
+{
+    for i in 0..charter.config().producers {
+        push_queue(text, stores, i + 1)?;
+    }
+    Ok(())
+}
+
+/// The list of the queue of this number.
+fn push_queue<T: Lists>(text: &mut Vec<u8>, stores: &T, i: u8) -> Result<(), AllocError>
+    requires low { 0 < i }
+    requires high { i < 33 }
+    ensures { OnOk result (text.new.items ≡ text.old.items ++ slot_lines (Slot.Queue i) (queue_list (T.lists stores.now) i)) }
+{
+    match ProducerNo::new(i) {
+        Some(p) => push_queue_list(text, p, stores.queue(p)),
+        None => unreachable!(),
+    }
+}
+
+fn push_queue_list(text: &mut Vec<u8>, p: ProducerNo, list: &[QueueEntry]) -> Result<(), AllocError>
+    ensures { OnOk result (text.new.items ≡ text.old.items ++ slot_lines (Slot.Queue p) (map (queue_fact p) list.now)) }
+{
+    if list.is_empty() {
+        return Ok(());
+    }
+    push_slot_line(text, &Slot::Queue(p), list.len() as u64)?;
+    push_queue_entries(text, p, list)
+}
+
+fn push_queue_entries(
+    text: &mut Vec<u8>,
+    p: ProducerNo,
+    list: &[QueueEntry],
+) -> Result<(), AllocError>
+    ensures { OnOk result (text.new.items ≡ text.old.items ++ flat_map (λ e. fact_line (queue_fact p e)) list.now) }
+{
+    for entry in list {
+        push_fact(text, &queue_fact(p, entry))?;
+    }
+    Ok(())
+}
+
+/// A slot with the length of its list.
+fn push_slot_line(text: &mut Vec<u8>, slot: &Slot, length: u64) -> Result<(), AllocError>
+    ensures { OnOk result (text.new.items ≡ text.old.items ++ line (codes "slot" ∷ slot_text slot.now ∷ decimal length ∷ [])) }
+{
+    push_slot_length(text, slot, length)?;
+    push(text, b"\n")
+}
+
+fn push_slot_length(text: &mut Vec<u8>, slot: &Slot, length: u64) -> Result<(), AllocError>
+    ensures { OnOk result (text.new.items ≡ text.old.items ++ words (codes "slot" ∷ slot_text slot.now ∷ decimal length ∷ [])) }
+{
+    push(text, b"slot ")?;
+    push_slot(text, slot)?;
+    push(text, b" ")?;
+    push_number(text, length)
+}

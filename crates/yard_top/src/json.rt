@@ -1,0 +1,63 @@
+//! `replay json`: from a script to the report of its trace's lists, as JSON.
+ghost use Rattle.std.specs.Prelude.{◌≡◌, IfOk, IsTrue};
+ghost use Rattle.yard_model.specs.Safe.{safe};
+ghost use Rattle.yard_model.specs.World.{trace_of};
+ghost use Rattle.yard_top.specs.Replays.{replay_json};
+ghost use Rattle.yard_top.specs.Stops.{stop_in};
+ghost use Rattle.yard_top.specs.Writing.{Writes};
+
+use crate::course::Course;
+use crate::following::follow;
+use crate::replay::{is_safe, stores_of};
+use crate::writing::{WriteError, write_part};
+use behaviour_core::Behaviour;
+use behaviour_kinds::{Account, Cart, Counter};
+use std::alloc::{AllocError, Global};
+use trace_text::push_json;
+use world_sim::World;
+use yard_io::Sink;
+use yard_model::{Charter, Facts, Kind};
+
+/// Plays a script, and writes its report as JSON, once the trace is through. The line with which the
+/// trace stops, where it does. Nothing is flushed.
+pub fn write_json<K: Sink>(
+    alloc: Global,
+    charter: &Charter,
+    sink: &mut K,
+) -> Result<Option<u32>, WriteError>
+    ensures wrote { Writes (replay_json charter.now) result
+        (record { taken = K.taken sink.old; flushed = K.flushed sink.old; faults = K.faults sink.old })
+        (record { taken = K.taken sink.new; flushed = K.flushed sink.new; faults = K.faults sink.new }) }
+    ensures stop { IfOk result (λ stop. stop ≡ stop_in (trace_of charter.now)) }
+    ensures safe { IsTrue (safe charter.now (trace_of charter.now)) }
+{
+    is_safe(charter);
+    let (text, stop) = match charter.config().kind {
+        Kind::Counter => json_of(alloc, charter, Counter::new())?,
+        Kind::Account => json_of(alloc, charter, Account::new())?,
+        Kind::Cart => json_of(alloc, charter, Cart::new())?,
+    };
+    write_part(sink, text.as_slice())?;
+    Ok(stop)
+}
+
+/// The report as JSON of a script, played in a world whose entities behave so, and the line with which
+/// its trace stops, where it does. The only error is want of memory.
+fn json_of<B: Behaviour + Copy + Drop>(
+    alloc: Global,
+    charter: &Charter,
+    behaviour: B,
+) -> Result<(Vec<u8>, Option<u32>), AllocError>
+    requires { B.kind_of behaviour ≡ charter.now.config.kind }
+    ensures text { IfOk result (λ r. r.0.items ≡ replay_json charter.now) }
+    ensures stop { IfOk result (λ r. r.1 ≡ stop_in (trace_of charter.now)) }
+{
+    let mut world = World::new(alloc, charter, behaviour)?;
+    let mut facts = Facts::new(alloc);
+    let mut course = Course::start();
+    follow(&mut world, charter, &mut facts, &mut course)?;
+    let (last, stores) = stores_of(world, charter)?;
+    let mut text = Vec::new(alloc);
+    push_json(&mut text, &last, &stores)?;
+    Ok((text, course.stop))
+}

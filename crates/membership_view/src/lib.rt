@@ -2,7 +2,6 @@
 //! Which of two views stands, the one of the greater version, is this project's own rule.
 #![tactic(auto)]
 
-mod seats;
 mod view;
 
 pub use view::View;

@@ -1,33 +1,26 @@
 //! The view of one node.
-ghost use Rattle.std.specs.Prelude.{◌≡◌, ℕ, ◌<◌, ◌≤◌, ◌↔◌, [], ◌∷◌, false, true, slice_get, length, IfOk, IsTrue, IsFalse};
+ghost use Rattle.std.specs.Prelude.{◌≡◌, ◌<◌, ◌↔◌, [], true, false, slice_get, IfOk, IsTrue};
 ghost use Rattle.yard_model.specs.Words.{is_among};
 ghost use Rattle.membership_view.specs.Known.{Known};
 
-use crate::seats::{all_empty, clear, member_at, seat};
-use indexmap::IndexMap;
 use std::alloc::{AllocError, Global};
 use std::marker::Model;
 use yard_model::{Incarnation, Members};
 
 /// The newest members that this node has heard of, oldest first; seen as its version and their
-/// list. All memory is taken when it is made.
+/// list. It takes no memory.
 #[derive(Drop)]
 pub struct View {
-    seats: IndexMap<u8, Option<Incarnation>>,
+    members: Members,
     version: u32,
 }
 
 impl Model for View {
-    ghost use Rattle.std.specs.Prelude.{◌≡◌, ◌<◌, true, length};
-    ghost use Rattle.yard_model.specs.Members.{are_of_different_nodes};
     ghost use Rattle.membership_view.specs.Known.{Known};
-    ghost use Rattle.membership_view.specs.Seats.{seated, AreSeats};
 
     ghost Value = { Known };
 
-    ghost view = { λ v. record { version = v.version; members = seated v.seats.entries } };
-
-    ghost invariant = { λ v. AreSeats v.seats × (are_of_different_nodes (seated v.seats.entries) ≡ true) × (length (seated v.seats.entries) < 17) };
+    ghost view = { λ v. record { version = v.version; members = v.members } };
 }
 
 impl View {
@@ -36,8 +29,11 @@ impl View {
         ensures version { IfOk result (λ v. v.version ≡ 0) }
         ensures none { IfOk result (λ v. v.members ≡ []) }
     {
-        let seats = all_empty(alloc)?;
-        Ok(View { seats, version: 0 })
+        let _ = alloc;
+        Ok(View {
+            members: Members::empty(),
+            version: 0,
+        })
     }
 
     /// Takes these members in place of its own, where `version` is greater than its own. It
@@ -50,10 +46,7 @@ impl View {
         if version <= self.version {
             return false;
         }
-        clear(&mut self.seats);
-        for member in members.as_slice() {
-            seat(&mut self.seats, *member);
-        }
+        self.members = *members;
         self.version = version;
         true
     }
@@ -69,38 +62,27 @@ impl View {
     pub fn has(&self, who: Incarnation) -> bool
         ensures { result ≡ is_among who self.now.members }
     {
-        match self.seats.get(&who.node.get()) {
-            Some(seat) => match seat {
-                Some(member) => who == *member,
-                None => false,
-            },
-            None => false,
-        }
+        is_in(self.members.as_slice(), &who)
     }
 
     /// The members, oldest first.
     pub fn members(&self) -> Members
         ensures { result ≡ self.now.members }
     {
-        let mut members = Members::empty();
-        for place in 0..self.seats.len() {
-            match member_at(&self.seats, place) {
-                Some(member) => members = members.with(member),
-                None => {}
-            }
-        }
-        members
+        self.members
     }
 
     /// The oldest member; None exactly where there is none.
     pub fn oldest(&self) -> Option<Incarnation>
         ensures { result ≡ slice_get self.now.members 0 }
     {
-        for place in 0..self.seats.len() {
-            if let Some(member) = member_at(&self.seats, place) {
-                return Some(member);
-            }
-        }
-        None
+        self.members.as_slice().first().copied()
     }
+}
+
+/// Whether this incarnation is among them.
+fn is_in(members: &[Incarnation], who: &Incarnation) -> bool
+    ensures { result ≡ is_among who.now members.now }
+{
+    members.iter().any(|member| who == member)
 }

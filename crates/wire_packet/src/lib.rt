@@ -2,6 +2,9 @@
 //! handed on.
 #![tactic(auto)]
 
+mod books;
+mod cell;
+mod who;
 mod wire;
 
 pub use wire::{Wire, WireFault};

@@ -1,0 +1,62 @@
+-- Lists at a place, and functions changed at one number.
+use Rattle.std.proofs.Common.{◌≡◌, ◌≢◌, ℕ, zero, suc, ◌+◌, ◌<◌, ◌⊎◌, inl, inr, ⊎_elim, List, [], ◌∷◌, ◌++◌, length, map, replicate, refl, sym, ap, ◌∙◌, arith}
+use Rattle.std.specs.Prelude.{slice_set}
+use Rattle.std.proofs.lemmas.List.{map-set}
+use mathlib.Core.Option as maybe
+use lib.ListN.{get_elem?}
+use native.Mathlib.Decide.{ℕ_discrete}
+
+decided : {P : Type 0} → Dec P → P ⊎ (P → ⊥)
+decided (yes p) = inl p
+decided (no n) = inr n
+
+pub same_or_not : (a b : ℕ) → (a ≡ b) ⊎ (a ≢ b)
+same_or_not a b = decided (ℕ_discrete a b)
+
+module _ {A : Type 0} where
+  abbrev chosen : {P : Type 0} → (P ⊎ (P → ⊥)) → A → A → A
+  chosen (inl p) a b = a
+  chosen (inr n) a b = b
+
+  chosen_yes : {P : Type 0} (d : P ⊎ (P → ⊥)) (a b : A) → P → chosen d a b ≡ a
+  chosen_yes (inl p) a b h = refl
+  chosen_yes (inr n) a b h = absurd (n h)
+
+  chosen_no : {P : Type 0} (d : P ⊎ (P → ⊥)) (a b : A) → (P → ⊥) → chosen d a b ≡ b
+  chosen_no (inl p) a b h = absurd (h p)
+  chosen_no (inr n) a b h = refl
+
+  -- the function with another value at k
+  abbrev pub edit : (ℕ → A) → ℕ → A → ℕ → A
+  edit f k a j = chosen (same_or_not j k) a (f j)
+
+  pub edit_here : (f : ℕ → A) (k : ℕ) (a : A) → edit f k a k ≡ a
+  edit_here f k a = chosen_yes (same_or_not k k) a (f k) refl
+
+  pub edit_else : (f : ℕ → A) (k : ℕ) (a : A) (j : ℕ) → j ≢ k → edit f k a j ≡ f j
+  edit_else f k a j n = chosen_no (same_or_not j k) a (f j) n
+
+  pub at_snoc_place : (l : List A) (a b : A) (j : ℕ) → get_elem? (l ++ a ∷ []) j ≡ maybe.some b → (get_elem? l j ≡ maybe.some b) ⊎ ((j ≡ length l) × (a ≡ b))
+  at_snoc_place [] a b zero e = inr (refl, maybe.some-injective a b e)
+  at_snoc_place [] a b (suc j) e = absurd (maybe.some-ne-none b (sym e))
+  at_snoc_place (x ∷ xs) a b zero e = inl e
+  at_snoc_place (x ∷ xs) a b (suc j) e = ⊎_elim (λ h. inl h) (λ t. inr (ap suc t.0, t.1)) (at_snoc_place xs a b j e)
+
+  pub there_inside : (l : List A) (i : ℕ) (a : A) → get_elem? l i ≡ maybe.some a → i < length l
+  there_inside [] i a e = absurd (maybe.some-ne-none a (sym e))
+  there_inside (x ∷ xs) zero a e = omega arith
+  there_inside (x ∷ xs) (suc i) a e = let h = there_inside xs i a e in omega arith
+
+module _ {A B : Type 0} where
+  pub at_map : (f : A → B) (xs : List A) (k : ℕ) (x : A) → get_elem? xs k ≡ maybe.some x → get_elem? (map f xs) k ≡ maybe.some (f x)
+  at_map f [] k x e = absurd (maybe.some-ne-none x (sym e))
+  at_map f (y ∷ ys) zero x e = ap (λ z. maybe.some (f z)) (maybe.some-injective y x e)
+  at_map f (y ∷ ys) (suc k) x e = at_map f ys k x e
+
+  -- two functions that agree on a list agree at each place
+  pub same_at : (f g : A → B) (xs : List A) → map f xs ≡ map g xs → (k : ℕ) (x : A) → get_elem? xs k ≡ maybe.some x → f x ≡ g x
+  same_at f g xs e k x at = maybe.some-injective (f x) (g x) (sym (at_map f xs k x at) ∙ ap (λ (l : List B). get_elem? l k) e ∙ at_map g xs k x at)
+
+  -- and where one place is changed
+  pub same_set : (f g : A → B) (xs : List A) (k : ℕ) (y : A) → map f xs ≡ map g xs → f y ≡ g y → map f (slice_set xs k y) ≡ map g (slice_set xs k y)
+  same_set f g xs k y e h = map-set f xs k y ∙ ap (λ (l : List B). slice_set l k (f y)) e ∙ ap (λ (b : B). slice_set (map g xs) k b) h ∙ sym (map-set g xs k y)

@@ -1,5 +1,5 @@
 -- Lists at a place, and functions changed at one number.
-use Rattle.std.proofs.Common.{◌≡◌, ◌≢◌, ℕ, zero, suc, ◌+◌, ◌<◌, ◌⊎◌, inl, inr, ⊎_elim, List, [], ◌∷◌, ◌++◌, length, map, replicate, refl, sym, ap, ◌∙◌, arith}
+use Rattle.std.proofs.Common.{◌≡◌, ◌≢◌, ℕ, zero, suc, ◌+◌, ◌<◌, ◌⊎◌, inl, inr, ⊎_elim, List, [], ◌∷◌, ◌++◌, length, get_or, map, replicate, refl, sym, ap, ◌∙◌, arith}
 use Rattle.std.specs.Prelude.{slice_set}
 use Rattle.std.proofs.lemmas.List.{map-set}
 use mathlib.Core.Option as maybe
@@ -60,3 +60,32 @@ module _ {A B : Type 0} where
   -- and where one place is changed
   pub same_set : (f g : A → B) (xs : List A) (k : ℕ) (y : A) → map f xs ≡ map g xs → f y ≡ g y → map f (slice_set xs k y) ≡ map g (slice_set xs k y)
   same_set f g xs k y e h = map-set f xs k y ∙ ap (λ (l : List B). slice_set l k (f y)) e ∙ ap (λ (b : B). slice_set (map g xs) k b) h ∙ sym (map-set g xs k y)
+
+module _ {A : Type 0} where
+  pub got : (xs : List A) (k : ℕ) (x d : A) → get_elem? xs k ≡ maybe.some x → get_or xs k d ≡ x
+  got [] k x d e = absurd (maybe.some-ne-none x (sym e))
+  got (y ∷ ys) zero x d e = maybe.some-injective y x e
+  got (y ∷ ys) (suc k) x d e = got ys k x d e
+
+  pub replicate_at : (n k : ℕ) (a x : A) → get_elem? (replicate n a) k ≡ maybe.some x → a ≡ x
+  replicate_at zero k a x e = absurd (maybe.some-ne-none x (sym e))
+  replicate_at (suc n) zero a x e = maybe.some-injective a x e
+  replicate_at (suc n) (suc k) a x e = replicate_at n k a x e
+
+  -- k times a and then b
+  pub mixed_at : (k m : ℕ) (a b x : A) → get_elem? (replicate k a ++ replicate m b) k ≡ maybe.some x → b ≡ x
+  mixed_at zero m a b x e = replicate_at m 0 b x e
+  mixed_at (suc k) m a b x e = mixed_at k m a b x e
+
+  pub mixed_set : (k m : ℕ) (a b : A) → slice_set (replicate k a ++ replicate (suc m) b) k a ≡ replicate (suc k) a ++ replicate m b
+  mixed_set zero m a b = refl
+  mixed_set (suc k) m a b = ap (λ l. a ∷ l) (mixed_set k m a b)
+
+  pub map_replicate : {B : Type 0} (f : A → B) (n : ℕ) (a : A) → map f (replicate n a) ≡ replicate n (f a)
+  map_replicate f zero a = refl
+  map_replicate f (suc n) a = ap (λ l. f a ∷ l) (map_replicate f n a)
+
+module _ {A B C : Type 0} where
+  pub map_map : (g : B → C) (f : A → B) (xs : List A) → map g (map f xs) ≡ map (λ x. g (f x)) xs
+  map_map g f [] = refl
+  map_map g f (x ∷ xs) = ap (λ l. g (f x) ∷ l) (map_map g f xs)

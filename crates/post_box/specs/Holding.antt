@@ -104,3 +104,12 @@ module _ {P : Type 0} where
     pub posts : map state senders ≡ map (posting node) senders
     pub takes : state reader ≡ taking (length senders) reader
     pub own : get_elem? (map table_of senders) (node - 1) ≡ maybe.some (table_of reader)
+
+  -- the pass at a place made a step, and no other
+  pub record At (before now : List (QueuePass P)) (place : ℕ) (Step : QueuePass P → QueuePass P → Type 0) : Type 0 where
+    pub old : QueuePass P
+    pub new : QueuePass P
+    pub there : get_elem? before place ≡ maybe.some old
+    pub is : now ≡ slice_set before place new
+    pub table : table_of new ≡ table_of old
+    pub step : Step old new

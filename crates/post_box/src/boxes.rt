@@ -4,7 +4,8 @@ ghost use Rattle.post_box.specs.Holding.{posted_to, with_posted, with_taken, env
 ghost use Rattle.post_box.specs.Rule.{parcels_of};
 
 use crate::pass::BoxPass;
-use crate::queue::{Envelope, Queue, compare, pop, push};
+use crate::queue::{Envelope, Queue, compare, pop};
+use crate::seats::push_at;
 use std::marker::Model;
 use std::sync::Wait;
 use yard_model::NodeNo;
@@ -52,8 +53,7 @@ impl<P> PostBox<P> {
     {
         let place = to.get() as usize - 1;
         let queue = &self.boxes[place];
-        let sender = &mut pass.senders[place];
-        push(rt, queue, sender, pass.node, parcel)
+        push_at(rt, queue, &mut pass.senders, place, pass.node, parcel)
     }
 
     /// Takes the oldest parcel of the pass's own box. None only where it was empty at a step of this call.
@@ -63,6 +63,7 @@ impl<P> PostBox<P> {
         requires own { at ≡ pass.old.node }
         ensures taken { MatchOption result ((pass.new ≡ pass.old) × WasEmpty pass.old) (λ x. (from : ℕ) × (pass.new ≡ with_taken pass.old (envelope from x))) }
     {
+        let _own = pass.node();
         let queue = &self.boxes[at.get() as usize - 1];
         match pop(rt, queue, &mut pass.taker) {
             Some(Envelope { from: _, parcel }) => Some(parcel),

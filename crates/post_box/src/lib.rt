@@ -6,6 +6,7 @@ mod boxes;
 mod make;
 mod pass;
 mod queue;
+mod seats;
 
 pub use boxes::PostBox;
 pub use make::BoxPasses;

@@ -9,7 +9,8 @@ ghost use Rattle.post_box.specs.Tables.{queue_table, queue_room};
 
 use crate::boxes::PostBox;
 use crate::pass::BoxPass;
-use crate::queue::{Queue, QueuePass, next_sender, open};
+use crate::queue::{Queue, QueuePass, open};
+use crate::seats::next_at;
 use std::alloc::{AllocError, Global};
 use yard_model::NodeNo;
 
@@ -53,16 +54,17 @@ fn open_all<P: Drop>(
 fn next_row<P: Drop>(
     alloc: Global,
     queues: &[Queue<P>],
-    takers: &mut [QueuePass<P>],
+    takers: &mut Vec<QueuePass<P>>,
     node: u8,
 ) -> Result<Vec<QueuePass<P>>, AllocError>
-    requires takers { AreAll (map queue_table queues.now) (idle_taker node) takers.old }
-    ensures takers { OnOk result (AreAll (map queue_table queues.now) (idle_taker (node + 1)) takers.new) }
+    requires takers { AreAll (map queue_table queues.now) (idle_taker node) takers.old.items }
+    ensures takers { OnOk result (AreAll (map queue_table queues.now) (idle_taker (node + 1)) takers.new.items) }
     ensures row { IfOk result (λ r. AreAll (map queue_table queues.now) (idle_sender node) r.items) }
 {
+    let _ = node;
     let mut row = Vec::new(alloc);
     for place in 0..queues.len() {
-        row.push(next_sender(&queues[place], &mut takers[place]))?;
+        row.push(next_at(&queues[place], takers, place))?;
     }
     Ok(row)
 }
@@ -71,11 +73,11 @@ fn next_row<P: Drop>(
 fn all_rows<P: Drop>(
     alloc: Global,
     queues: &[Queue<P>],
-    takers: &mut [QueuePass<P>],
+    takers: &mut Vec<QueuePass<P>>,
 ) -> Result<Vec<Vec<QueuePass<P>>>, AllocError>
     requires few { length queues.now ≤ 16 }
-    requires takers { AreAll (map queue_table queues.now) (idle_taker 1) takers.old }
-    ensures takers { OnOk result (AreAll (map queue_table queues.now) (idle_taker (length queues.now + 1)) takers.new) }
+    requires takers { AreAll (map queue_table queues.now) (idle_taker 1) takers.old.items }
+    ensures takers { OnOk result (AreAll (map queue_table queues.now) (idle_taker (length queues.now + 1)) takers.new.items) }
     ensures rows { IfOk result (λ r. AreRows (map queue_table queues.now) (length queues.now) r.items) }
 {
     let mut rows = Vec::new(alloc);
@@ -145,7 +147,7 @@ impl<P: Drop> PostBox<P> {
         ensures passes { IfOk result (λ r. left_of r.1 ≡ dealt r.0.tables) }
     {
         let (queues, mut takers) = open_all(alloc, boxes, capacity)?;
-        let rows = all_rows(alloc, queues.as_slice(), takers.as_mut_slice())?;
+        let rows = all_rows(alloc, queues.as_slice(), &mut takers)?;
         let left = join_all(alloc, queues.as_slice(), rows, takers)?;
         let post_box = PostBox {
             boxes: queues,

@@ -1,6 +1,6 @@
 -- What a post and a take make of a node's pass.
 use Rattle.std.proofs.Common.{◌≡◌, ℕ, zero, suc, ◌+◌, ◌-◌, ◌<◌, ◌≤◌, List, [], ◌∷◌, ◌++◌, length, get_or, map, refl, sym, ap, ◌∙◌, subst, arith, length-set}
-use Rattle.std.specs.Prelude.{slice_set, slice_index_or, Result, Ok, Err, MatchResult}
+use Rattle.std.specs.Prelude.{slice_set, slice_index_or, Result, Ok, Err, MatchResult, Option, None, Some, MatchOption}
 use Rattle.std.proofs.lemmas.List.{length-map, map-set}
 use Rattle.std.proofs.Math.Seq.{map-set_same}
 use mathlib.Core.Option as maybe
@@ -10,8 +10,8 @@ use Rattle.crossbeam_queue.specs.Fifo.{Held}
 use Rattle.crossbeam_queue.specs.Passes.{view}
 use Rattle.post_box.specs.declared.queue.Envelope.{Envelope}
 use Rattle.post_box.specs.declared.queue.View.{View}
-use Rattle.post_box.specs.Holding.{QueuePass, QueueState, Holder, holder, with_posted, posted_to, WasHolding, IsHolder, At, state, posting, taking, table_of, posted_by, taken_by}
-use Rattle.post_box.specs.Rule.{taker, sender, Stands}
+use Rattle.post_box.specs.Holding.{QueuePass, QueueState, Holder, holder, with_posted, with_taken, posted_to, WasHolding, WasEmpty, IsHolder, At, state, posting, taking, table_of, posted_by, taken_by}
+use Rattle.post_box.specs.Rule.{taker, sender, envelope, parcels_of, Stands}
 use Rattle.post_box.proofs.Places.{got, at_map, same_at, same_set}
 
 module _ {P : Type 0} where
@@ -108,14 +108,51 @@ module _ {P : Type 0} where
         v ∙ ap (λ n. taker (n + 1) (taken_by reader)) (sym (length-map senders table_of)),
       )
 
-  pub taken_stands : (node : ℕ) (senders : List (QueuePass P)) (reader reader' : QueuePass P) → IsHolder node senders reader → table_of reader' ≡ table_of reader → reader'.me.1 ≡ reader.me.1 → view reader' ≡ taker (view reader).next (taken_by reader') → IsHolder node senders reader'
-  taken_stands node senders reader reader' h same out is = record {
+  -- what a take told of the pass
+  abbrev pub Popped : Option P → QueuePass P → QueuePass P → Type 0
+  Popped r s t = MatchOption r ((view t ≡ view s) × Held 0 (Stands (view s))) (λ x. (from : ℕ) × (view t ≡ taker (view s).next ((view s).taken ++ envelope from x ∷ [])))
+
+  taken_view : (r : Option P) (s t : QueuePass P) → view s ≡ taker (view s).next (taken_by s) → Popped r s t → view t ≡ taker (view s).next (taken_by t)
+  taken_view None s t is e = e.0 ∙ is ∙ ap (λ (v : View P). taker (view s).next v.taken) (sym e.0)
+  taken_view (Some x) s t is e = e.1 ∙ ap (λ (v : View P). taker (view s).next v.taken) (sym e.1)
+
+  -- what the pass that takes knows
+  reads : (node : ℕ) (senders : List (QueuePass P)) (reader : QueuePass P) → IsHolder node senders reader → view reader ≡ taker (view reader).next (taken_by reader)
+  reads node senders reader h = let v : view reader ≡ taker (length senders + 1) (taken_by reader) = ap (λ (q : QueueState P). q.0) h.takes in v ∙ ap (λ n. taker n (taken_by reader)) (sym (ap (λ (w : View P). w.next) v))
+
+  pub taken_stands : (node : ℕ) (senders : List (QueuePass P)) (reader reader' : QueuePass P) (r : Option P) → IsHolder node senders reader → table_of reader' ≡ table_of reader → reader'.me.1 ≡ reader.me.1 → Popped r reader reader' → IsHolder node senders reader'
+  taken_stands node senders reader reader' r h same out told = record {
     some = h.some;
     within = h.within;
     posts = h.posts;
-    takes = state_is reader' (taker (length senders + 1) (taken_by reader')) (is ∙ ap (λ n. taker n (taken_by reader')) (ap (λ (q : QueueState P). q.0.next) h.takes)) (out ∙ ap (λ (q : QueueState P). q.1) h.takes);
+    takes = state_is reader' (taker (length senders + 1) (taken_by reader')) (taken_view r reader reader' (reads node senders reader h) told ∙ ap (λ n. taker n (taken_by reader')) (ap (λ (q : QueueState P). q.0.next) h.takes)) (out ∙ ap (λ (q : QueueState P). q.1) h.takes);
     own = h.own ∙ ap (λ z. maybe.some z) (sym same);
   }
+
+  pub taken_told : (node : ℕ) (senders : List (QueuePass P)) (reader reader' : QueuePass P) (r : Option P) (h : Holder P) → IsHolder node senders reader → shown node senders reader ≡ h → Popped r reader reader'
+      → MatchOption r ((shown node senders reader' ≡ h) × WasEmpty h) (λ x. (from : ℕ) × (shown node senders reader' ≡ with_taken h (envelope from x)))
+  taken_told node senders reader reader' r h stands is told = subst (λ y. MatchOption r ((shown node senders reader' ≡ y) × WasEmpty y) (λ x. (from : ℕ) × (shown node senders reader' ≡ with_taken y (envelope from x)))) is (by_answer r told)
+    where
+      again : (v : View P) → view reader' ≡ v → shown node senders reader' ≡ holder (map table_of senders) node (map posted_by senders) v.taken
+      again v e = ap (λ (w : View P). holder (map table_of senders) node (map posted_by senders) w.taken) e
+
+      by_answer : (q : Option P) → Popped q reader reader'
+          → MatchOption q ((shown node senders reader' ≡ shown node senders reader) × WasEmpty (shown node senders reader)) (λ x. (from : ℕ) × (shown node senders reader' ≡ with_taken (shown node senders reader) (envelope from x)))
+      by_answer None e = (
+        again (view reader) e.0,
+        subst (λ v. Held 0 (Stands v)) (ap (λ (s : QueueState P). s.0) stands.takes ∙ ap (λ n. taker (n + 1) (taken_by reader)) (sym (length-map senders table_of))) e.1,
+      )
+      by_answer (Some x) e = (e.0, again (taker (view reader).next (taken_by reader ++ envelope e.0 x ∷ [])) e.1)
+
+  -- what a sender that is done with knows
+  pub sends : (node : ℕ) (s : QueuePass P) → state s ≡ posting node s → view s ≡ sender (view s).from (view s).posted
+  sends node s e = let v : view s ≡ sender node (posted_by s) = ap (λ (q : QueueState P). q.0) e in v ∙ ap (λ n. sender n (posted_by s)) (sym (ap (λ (w : View P). w.from) v))
+
+  pub ordered : (node node' : ℕ) (senders senders' : List (QueuePass P)) (reader reader' s : QueuePass P) (items : List (Envelope P)) (h h' : Holder P) → shown node senders reader ≡ h → shown node' senders' reader' ≡ h' → get_elem? senders' (node - 1) ≡ maybe.some s → state s ≡ posting node' s
+      → (view s).posted ≡ parcels_of (view s).from (view reader).taken ++ parcels_of (view s).from items → posted_to h' h.node ≡ parcels_of h'.node h.taken ++ parcels_of (view s).from items
+  ordered node node' senders senders' reader reader' s items h h' is is' here e told =
+      subst (λ (y : Holder P × Holder P). posted_to y.1 y.0.node ≡ parcels_of y.1.node y.0.taken ++ parcels_of (view s).from items) (λ i. (is i, is' i))
+        (got (map posted_by senders') (node - 1) (posted_by s) [] (at_map posted_by senders' (node - 1) s here) ∙ told ∙ ap (λ n. parcels_of n (taken_by reader) ++ parcels_of (view s).from items) (ap (λ (q : QueueState P). q.0.from) e))
 
   pub posted_told : {U : Type 0} (node n m to k : ℕ) (senders senders' : List (QueuePass P)) (reader : QueuePass P) (parcel : P) (r : Result U P) (h : Holder P) → IsHolder node senders reader → shown node senders reader ≡ h → k ≡ to - 1 → n ≡ m → At senders senders' k (Pushed n node parcel r)
       → MatchResult r (λ _. shown node senders' reader ≡ with_posted h to parcel) (λ x. (x ≡ parcel) × (shown node senders' reader ≡ h) × WasHolding m h to)

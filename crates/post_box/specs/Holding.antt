@@ -11,7 +11,7 @@ use Rattle.crossbeam_queue.specs.declared.array_queue.Doing.{Doing}
 use Rattle.crossbeam_queue.specs.declared.array_queue.Slotted.{Slotted}
 use Rattle.post_box.specs.declared.queue.Envelope.{Envelope}
 use Rattle.post_box.specs.declared.queue.View.{View}
-use Rattle.post_box.specs.Rule.{taker, sender, parcels_of, Stands}
+use Rattle.post_box.specs.Rule.{taker, sender, envelope, Stands}
 
 -- which boxes they are, and how many parcels each has room for
 pub record Boxes : Type 0 where
@@ -38,9 +38,6 @@ QueueState P = View P × List (ℕ × Option (Envelope P))
 module _ {P : Type 0} where
   abbrev pub holder : List TableId → ℕ → List (List P) → List (Envelope P) → Holder P
   holder tables node posted taken = record { tables = tables; node = node; posted = posted; taken = taken }
-
-  abbrev pub envelope : ℕ → P → Envelope P
-  envelope from parcel = record { from = from; parcel = parcel }
 
   abbrev pub envelope_code : Coded P → Coded (Envelope P)
   envelope_code c = code_by (ℕ × P) (coded× coded_ℕ c) (λ x. (x.from, x.parcel)) (λ x. envelope x.0 x.1) (λ _. refl)

@@ -6,6 +6,9 @@ use Rattle.post_box.specs.declared.queue.Envelope.{Envelope}
 use Rattle.post_box.specs.declared.queue.View.{View}
 
 module _ {P : Type 0} where
+  abbrev pub envelope : ℕ → P → Envelope P
+  envelope from parcel = record { from = from; parcel = parcel }
+
   -- it takes, and makes the senders
   abbrev pub taker : ℕ → List (Envelope P) → View P
   taker n taken = record { posts = false; from = 0; posted = []; takes = true; next = n; taken = taken }

@@ -1,10 +1,10 @@
 //! The boxes.
 ghost use Rattle.std.specs.Prelude.{◌≡◌, ℕ, ◌+◌, ◌<◌, ◌≤◌, ◌++◌, List, length, MatchResult, MatchOption};
-ghost use Rattle.post_box.specs.Holding.{posted_to, with_posted, with_taken, envelope, WasHolding, WasEmpty};
-ghost use Rattle.post_box.specs.Rule.{parcels_of};
+ghost use Rattle.post_box.specs.Holding.{posted_to, with_posted, with_taken, WasHolding, WasEmpty};
+ghost use Rattle.post_box.specs.Rule.{envelope, parcels_of};
 
 use crate::pass::BoxPass;
-use crate::queue::{Envelope, Queue, compare, pop};
+use crate::queue::{Queue, compare, pop};
 use crate::seats::push_at;
 use std::marker::Model;
 use std::sync::Wait;
@@ -65,10 +65,7 @@ impl<P> PostBox<P> {
     {
         let _own = pass.node();
         let queue = &self.boxes[at.get() as usize - 1];
-        match pop(rt, queue, &mut pass.taker) {
-            Some(Envelope { from: _, parcel }) => Some(parcel),
-            None => None,
-        }
+        pop(rt, queue, &mut pass.taker)
     }
 }
 

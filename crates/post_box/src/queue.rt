@@ -1,9 +1,9 @@
 //! The queue of one box: of each sender, what it posted is what was taken of it, and then what lies
 //! there of it.
-ghost use Rattle.std.specs.Prelude.{◌≡◌, ◌<◌, ◌+◌, ◌++◌, ◌∷◌, [], true, List, IfOk, MatchResult, MatchOption};
+ghost use Rattle.std.specs.Prelude.{◌≡◌, ◌<◌, ◌+◌, ◌++◌, ◌∷◌, [], true, ℕ, List, IfOk, MatchResult, MatchOption};
 ghost use Rattle.crossbeam_queue.specs.Fifo.{Held};
 ghost use Rattle.crossbeam_queue.specs.Passes.{view, IsPassOf, IsSamePass, ruled_capacity};
-ghost use Rattle.post_box.specs.Rule.{taker, sender, Stands, parcels_of};
+ghost use Rattle.post_box.specs.Rule.{taker, sender, envelope, Stands, parcels_of};
 
 use crossbeam_queue::protocol::{Join, Lesson, Outcome, Protocol, Split};
 use crossbeam_queue::{Pass, RuledArrayQueue};
@@ -146,17 +146,16 @@ pub(crate) fn push<P, R: Wait>(
 }
 
 /// None only where the queue was empty at a step of this call.
-pub(crate) fn pop<P, R: Wait>(
-    rt: &R,
-    queue: &Queue<P>,
-    pass: &mut QueuePass<P>,
-) -> Option<Envelope<P>>
+pub(crate) fn pop<P, R: Wait>(rt: &R, queue: &Queue<P>, pass: &mut QueuePass<P>) -> Option<P>
     requires queue { IsPassOf queue.now pass.old }
     requires takes { view pass.old ≡ taker (view pass.old).next (view pass.old).taken }
     ensures queue { IsSamePass pass.old pass.new }
-    ensures taken { MatchOption result ((view pass.new ≡ view pass.old) × Held 0 (Stands (view pass.old))) (λ x. view pass.new ≡ taker (view pass.old).next ((view pass.old).taken ++ x ∷ [])) }
+    ensures taken { MatchOption result ((view pass.new ≡ view pass.old) × Held 0 (Stands (view pass.old))) (λ x. (from : ℕ) × (view pass.new ≡ taker (view pass.old).next ((view pass.old).taken ++ envelope from x ∷ []))) }
 {
-    queue.pop_as::<Takes, R>(rt, pass)
+    match queue.pop_as::<Takes, R>(rt, pass) {
+        Some(Envelope { from: _, parcel }) => Some(parcel),
+        None => None,
+    }
 }
 
 /// What was taken of the sender is a beginning of what it posted.

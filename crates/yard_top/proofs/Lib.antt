@@ -1,5 +1,4 @@
 mod CameLaws
-mod EndLaws
 mod FactsLaws
 mod FoldableLaws
 mod FreedLaws

@@ -1,6 +1,6 @@
 -- The trace as it arises: the facts of the first orders, and their lines.
 use Rattle.std.proofs.Common.{◌≡◌, refl, sym, ap, ◌∙◌, subst, ℕ, ◌+◌, ◌<◌, length, get_or, Bool, true, false, List, [], ◌∷◌, ◌++◌, take, drop, append_assoc, take-append-drop}
-use Rattle.std.specs.Prelude.{map, fold, slice_get, Some}
+use Rattle.std.specs.Prelude.{map, fold, slice_get, Some, Result, Ok, Err, OnOk}
 use Rattle.std.specs.List.{flat_map}
 use Rattle.std.proofs.lemmas.List.{append-nil, map-append, take_more}
 use Rattle.std.proofs.lemmas.Option.{slice_get_read}
@@ -11,6 +11,8 @@ use Rattle.yard_model.specs.declared.fact.Fact.{Fact}
 use Rattle.yard_model.specs.Script.{Script}
 use Rattle.yard_model.specs.Text.{fact_line}
 use Rattle.yard_model.specs.World.{World, Made, Step, in_order, play_line, new_world, wire_limit, trace_of}
+use Rattle.bulk_gen.specs.declared.summary.Summary.{Summary}
+use Rattle.bulk_gen.specs.Counted.{IsSummary}
 use Rattle.world_sim.specs.Played.{Played, made_of, next_of, MadeNext}
 use Rattle.yard_top.specs.declared.course.Course.{Course}
 use Rattle.yard_top.specs.declared.writing.WriteError.{WriteError}
@@ -114,3 +116,11 @@ told_all law c n world late l P Q facts on it through is more told =
 -- One fact more of a list that is told.
 pub told_more : (told xs : List Fact) (i : ℕ) (x : Fact) → i < length xs → x ≡ get_or xs i x → (told ++ take i xs) ++ x ∷ [] ≡ told ++ take (i + 1) xs
 told_more told xs i x h is = append_assoc told (take i xs) (x ∷ []) ∙ ap (λ ys. told ++ ys) (ap (λ y. take i xs ++ y ∷ []) is ∙ sym (take_more xs i x h))
+
+-- How far a trace has come, and what is counted of it, with these facts more.
+pub counts_more : {E : Type 0} (r : Result (Unit {0}) E) (old new : Course) (s t : Summary) (facts : List Fact) → new ≡ fold course_step old facts
+    → OnOk r ((n : ℕ) (told : List Fact) → IsSummary s n told → IsSummary t n (told ++ facts))
+    → OnOk r ((n : ℕ) (told : List Fact) → (old ≡ course told) × IsSummary s n told → (new ≡ course (told ++ facts)) × IsSummary t n (told ++ facts))
+counts_more (Ok x) old new s t facts is more =
+    λ n told before. (is ∙ (ap (λ k. fold course_step k facts) before.0 ∙ sym (fold-append course_step start told facts)), more n told before.1)
+counts_more (Err e) old new s t facts is more = tt

@@ -177,7 +177,8 @@ send 1 c1 add 5
 pump 9
 ";
 
-const FIRST_RECORD: &[u8] = b"{\"entities\":[{\"name\":\"c1\",\"records\":[{\"by\":[1,1],\"command\":\"add 5\",\"epoch\":1,\"events\":[\"added 5\"],\"number\":1,\"reply\":\"ok 5\"}],\"shard\":0,\"state\":\"5\"}],\"queues\":[{\"confirmed\":1,\"entity\":\"c1\",\"producer\":1,\"queued\":1}]}
+const FIRST_RECORD: &[u8] =
+    b"{\"entities\":[{\"name\":\"c1\",\"records\":[{\"by\":[1,1],\"command\":\"add 5\",\"epoch\":1,\"events\":[\"added 5\"],\"number\":1,\"reply\":\"ok 5\"}],\"shard\":0,\"state\":\"5\"}],\"queues\":[{\"confirmed\":1,\"entity\":\"c1\",\"producer\":1,\"queued\":1}]}
 ";
 
 const BULK_3: &[u8] = b"bulk 3

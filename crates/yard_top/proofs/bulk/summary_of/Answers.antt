@@ -1,0 +1,12 @@
+use Rattle.std.proofs.Common.{ap}
+use Rattle.yard_model.specs.World.{trace_of}
+use Rattle.yard_top.specs.declared.course.Course.{Course}
+use Rattle.yard_top.proofs.WritingLaws.{after_nothing}
+use Rattle.yard_top.proofs.bulk.summary_of.Goals as goal
+
+pub returns-clause-text : goal.returns-clause-text
+returns-clause-text c =
+    after_nothing _ _ _ (c.in_ok-push_summary.ensures c.args.number (trace_of c.args.charter.now) c.requires (c.in_ok-follow.ensures.told c.args.number (c.start.ensures, c.new-3.ensures)).1) c.new-text.ensures.items
+
+pub returns-clause-stop : goal.returns-clause-stop
+returns-clause-stop c = ap (λ (k : Course). k.stop) (c.in_ok-follow.ensures.told c.args.number (c.start.ensures, c.new-3.ensures)).0

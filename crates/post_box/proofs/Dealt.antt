@@ -64,10 +64,10 @@ module _ {P : Type 0} where
     some = some;
     within = within;
     posts =
-      all.states
-      ∙ sym (map_replicate (λ (l : List P). (sender node l, [])) (length (map table_of senders)) [])
-      ∙ ap (map (λ (l : List P). (sender node l, []))) (sym (posted_none node senders all))
-      ∙ map_map (λ (l : List P). (sender node l, [])) posted_by senders;
+        all.states
+        ∙ sym (map_replicate (λ (l : List P). (sender node l, [])) (length (map table_of senders)) [])
+        ∙ ap (map (λ (l : List P). (sender node l, []))) (sym (posted_none node senders all))
+        ∙ map_map (λ (l : List P). (sender node l, [])) posted_by senders;
     takes = is ∙ ap (λ (s : QueueState P). (taker (length senders + 1) s.0.taken, [])) (sym is);
     own = home;
   }

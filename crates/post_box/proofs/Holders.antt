@@ -34,6 +34,10 @@ module _ {P : Type 0} where
   tables_same : (senders : List (QueuePass P)) (k : ℕ) (s t : QueuePass P) → get_elem? senders k ≡ maybe.some s → table_of t ≡ table_of s → map table_of (slice_set senders k t) ≡ map table_of senders
   tables_same senders k s t here same = map-set_same table_of senders k t s (same ∙ ap table_of (sym (got senders k s s here)))
 
+  -- whatever the step, the passes stay those of their queues
+  pub tables_kept : {Step : QueuePass P → QueuePass P → Type 0} (before now : List (QueuePass P)) (k : ℕ) → At before now k Step → map table_of now ≡ map table_of before
+  tables_kept before now k at = ap (map table_of) at.is ∙ tables_same before k at.old at.new at.there at.table
+
   pub stands_again : (node k : ℕ) (senders : List (QueuePass P)) (reader s t : QueuePass P) → IsHolder node senders reader → get_elem? senders k ≡ maybe.some s → table_of t ≡ table_of s → state t ≡ posting node t → IsHolder node (slice_set senders k t) reader
   stands_again node k senders reader s t h here same is = record {
     some = h.some;
@@ -92,7 +96,7 @@ module _ {P : Type 0} where
       by_answer (Err x) e = (
         e.0,
         again
-        ∙ ap (λ l. holder (map table_of senders) node l (taken_by reader))
+            ∙ ap (λ l. holder (map table_of senders) node l (taken_by reader))
             (sym (map-set posted_by senders k at.new) ∙ map-set_same posted_by senders k at.new at.old (ap (λ (q : QueueState P). q.0.posted) e.1 ∙ ap posted_by (sym (got senders k at.old at.old at.there)))),
         subst (λ v. Held n (Stands v)) known e.2,
       )
@@ -152,10 +156,10 @@ module _ {P : Type 0} where
       → (view s).posted ≡ parcels_of (view s).from (view reader).taken ++ parcels_of (view s).from items → posted_to h' h.node ≡ parcels_of h'.node h.taken ++ parcels_of (view s).from items
   ordered node node' senders senders' reader reader' s items h h' is is' here e told =
       subst (λ (y : Holder P × Holder P). posted_to y.1 y.0.node ≡ parcels_of y.1.node y.0.taken ++ parcels_of (view s).from items) (λ i. (is i, is' i))
-        (got (map posted_by senders') (node - 1) (posted_by s) [] (at_map posted_by senders' (node - 1) s here) ∙ told ∙ ap (λ n. parcels_of n (taken_by reader) ++ parcels_of (view s).from items) (ap (λ (q : QueueState P). q.0.from) e))
+      (got (map posted_by senders') (node - 1) (posted_by s) [] (at_map posted_by senders' (node - 1) s here) ∙ told ∙ ap (λ n. parcels_of n (taken_by reader) ++ parcels_of (view s).from items) (ap (λ (q : QueueState P). q.0.from) e))
 
   pub posted_told : {U : Type 0} (node n m to k : ℕ) (senders senders' : List (QueuePass P)) (reader : QueuePass P) (parcel : P) (r : Result U P) (h : Holder P) → IsHolder node senders reader → shown node senders reader ≡ h → k ≡ to - 1 → n ≡ m → At senders senders' k (Pushed n node parcel r)
       → MatchResult r (λ _. shown node senders' reader ≡ with_posted h to parcel) (λ x. (x ≡ parcel) × (shown node senders' reader ≡ h) × WasHolding m h to)
   posted_told node n m to k senders senders' reader parcel r h stands is place room at =
       subst (λ (y : Holder P × ℕ). MatchResult r (λ _. shown node senders' reader ≡ with_posted y.0 to parcel) (λ x. (x ≡ parcel) × (shown node senders' reader ≡ y.0) × WasHolding y.1 y.0 to)) (λ i. (is i, room i))
-        (posted_shows node n to senders senders' reader parcel r stands (subst (λ j. At senders senders' j (Pushed n node parcel r)) place at))
+      (posted_shows node n to senders senders' reader parcel r stands (subst (λ j. At senders senders' j (Pushed n node parcel r)) place at))

@@ -49,6 +49,7 @@ impl<P> PostBox<P> {
     ) -> Result<(), P>
         requires belongs { pass.old.tables ≡ self.now.tables }
         requires to { to ≤ length self.now.tables }
+        ensures kept { (pass.new.tables ≡ pass.old.tables) × (pass.new.node ≡ pass.old.node) }
         ensures posted { MatchResult result (λ _. pass.new ≡ with_posted pass.old to parcel) (λ x. (x ≡ parcel) × (pass.new ≡ pass.old) × WasHolding self.now.capacity pass.old to) }
     {
         let place = to.get() as usize - 1;
@@ -61,6 +62,7 @@ impl<P> PostBox<P> {
     pub fn take<R: Wait>(&self, rt: &R, pass: &mut BoxPass<P>, at: NodeNo) -> Option<P>
         requires belongs { pass.old.tables ≡ self.now.tables }
         requires own { at ≡ pass.old.node }
+        ensures kept { (pass.new.tables ≡ pass.old.tables) × (pass.new.node ≡ pass.old.node) }
         ensures taken { MatchOption result ((pass.new ≡ pass.old) × WasEmpty pass.old) (λ x. (from : ℕ) × (pass.new ≡ with_taken pass.old (envelope from x))) }
     {
         let _own = pass.node();

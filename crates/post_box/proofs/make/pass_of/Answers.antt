@@ -11,6 +11,6 @@ invariant_of-result g c =
 pub returns : goal.returns
 returns g c = record {
   pass =
-    ap (λ n. holder (map table_of c.args.senders.items) n (map posted_by c.args.senders.items) (taken_by c.args.taker)) c.in-Some.ensures.value
-    ∙ new_is c.args.node c.args.senders.items c.args.taker c.requires.senders c.requires.taker;
+      ap (λ n. holder (map table_of c.args.senders.items) n (map posted_by c.args.senders.items) (taken_by c.args.taker)) c.in-Some.ensures.value
+      ∙ new_is c.args.node c.args.senders.items c.args.taker c.requires.senders c.requires.taker;
 }

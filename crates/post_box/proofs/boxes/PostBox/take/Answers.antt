@@ -27,5 +27,8 @@ pop-requires-clause-queue g c =
 pub invariant_of-pass : goal.invariant_of-pass
 invariant_of-pass g c = taken_stands _ _ _ _ c.pop.result c.pass.invariant c.pop.ensures.queue.0 c.pop.ensures.queue.2 c.pop.ensures.taken
 
-pub returns : goal.returns
-returns g c = record { taken = taken_told c.pass.inside.node c.pass.inside.senders.items c.pass.inside.taker c.pop.new.pass c.pop.result c.args.pass.now c.pass.invariant c.pass.view_is c.pop.ensures.taken }
+pub returns-clause-kept : goal.returns-clause-kept
+returns-clause-kept g c = (ap (λ (h : Holder _). h.tables) c.pass.view_is, ap (λ (h : Holder _). h.node) c.pass.view_is)
+
+pub returns-clause-taken : goal.returns-clause-taken
+returns-clause-taken g c = taken_told c.pass.inside.node c.pass.inside.senders.items c.pass.inside.taker c.pop.new.pass c.pop.result c.args.pass.now c.pass.invariant c.pass.view_is c.pop.ensures.taken

@@ -6,6 +6,7 @@ mod KnownLaws
 mod OutputLaws
 mod PlayLaws
 mod ResultLaws
+mod SafelyLaws
 mod SoloLaws
 mod TraceLaws
 mod WritingLaws

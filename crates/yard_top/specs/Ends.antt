@@ -12,6 +12,7 @@ use Rattle.yard_model.specs.Safe.{safe}
 use Rattle.yard_model.specs.Solo.{solo_text}
 use Rattle.yard_model.specs.Text.{Bytes}
 use Rattle.yard_model.specs.World.{trace_of}
+use Rattle.play_laws.specs.SafeText.{SafeText}
 use Rattle.bulk_gen.specs.Bulk.{bulk_script}
 use Rattle.bulk_gen.specs.SummaryText.{summary}
 use Rattle.yard_top.specs.Replays.{replay_json}
@@ -55,10 +56,10 @@ text_of form.Replay c = replay_text c
 text_of form.ReplayJson c = replay_json c
 text_of (form.Bulk n) c = summary n (trace_of c)
 
--- what is so of what it writes: each journal is sound; the trace is safe
+-- what is so of what it writes: each journal is sound; the trace is safe, and what is printed is the text of a safe trace
 abbrev pub Holds : Form → Script → Type 0
 Holds form.Solo c = (e : List ℕ) → IsSound c e (solo_journal c e)
-Holds form.Replay c = IsTrue (safe c (trace_of c))
+Holds form.Replay c = SafeText c (replay_text c) × IsTrue (safe c (trace_of c))
 Holds form.ReplayJson c = IsTrue (safe c (trace_of c))
 Holds (form.Bulk n) c = IsTrue (safe c (trace_of c))
 

@@ -4,6 +4,7 @@ pub mod Forms
 pub mod Known
 pub mod Posts
 pub mod Replays
+pub mod Safely
 pub mod Sound
 pub mod Stops
 pub mod Writing

@@ -6,6 +6,7 @@ ghost use Rattle.yard_model.specs.Safe.{safe};
 ghost use Rattle.yard_model.specs.Script.{setting};
 ghost use Rattle.yard_model.specs.Text.{fact_line, report};
 ghost use Rattle.yard_model.specs.World.{played, trace_of, wire_limit};
+ghost use Rattle.play_laws.specs.SafeText.{SafeText};
 ghost use Rattle.shard_store.specs.Stores.{lists_at};
 ghost use Rattle.trace_text.specs.Foldable.{is_foldable_in_all};
 ghost use Rattle.trace_text.specs.Json.{json_text};
@@ -20,7 +21,7 @@ use crate::writing::{WriteError, write_part};
 use behaviour_core::Behaviour;
 use behaviour_core::laws::decided_law;
 use behaviour_kinds::{Account, Cart, Counter};
-use play_laws::play::trace_is_safe;
+use play_laws::play::{replay_is_safe, trace_is_safe};
 use shard_store::Stores;
 use std::alloc::{AllocError, Global};
 use trace_text::{push_fact, push_report};
@@ -42,8 +43,10 @@ pub fn write_replay<K: Sink>(
         (record { taken = K.taken sink.new; flushed = K.flushed sink.new; faults = K.faults sink.new }) }
     ensures stop { IfOk result (λ stop. stop ≡ stop_in (trace_of charter.now)) }
     ensures safe { IsTrue (safe charter.now (trace_of charter.now)) }
+    ensures safely { SafeText charter.now (replay_text charter.now) }
 {
     is_safe(charter);
+    replay_is_safe();
     match charter.config().kind {
         Kind::Counter => replayed(alloc, charter, Counter::new(), sink),
         Kind::Account => replayed(alloc, charter, Account::new(), sink),

@@ -4,6 +4,7 @@ ghost use Rattle.yard_model.specs.Behaviour.{is_in};
 ghost use Rattle.bulk_gen.specs.Bulk.{bulk_script};
 ghost use Rattle.yard_top.specs.Ends.{IfWhole, IfUsage, IfRefused, IfReadFault, IfWriteFault, IfNoMemory, IfWireFull, IfNumber, Asked, Taken, Wrote, Began, WroteFront, CameRefused, CameScript, HasNone, HasScript, IsOf, IsEarly, IsComplete, from_of, is_there, end_of};
 ghost use Rattle.yard_top.specs.Forms.{form_in};
+ghost use Rattle.yard_top.specs.Safely.{IfWritten, IfReplay, WroteSafely};
 
 use crate::forms::{Form, ScriptFrom, form_of};
 use crate::status::Status;
@@ -26,6 +27,7 @@ const MOST_READ: usize = 4_194_305;
 /// the trace as it arises, and then the report of what the slots' lists come to; `replay json` writes
 /// that report alone, as JSON. `bulk` plays the script of a number in the same way, and writes counts
 /// of its trace.
+#[tactic(auto, using(crate::proofs::SafelyLaws::safely))]
 pub fn sharder<S: Source, K: Sink>(
     alloc: Global,
     words: &[String],
@@ -46,6 +48,8 @@ pub fn sharder<S: Source, K: Sink>(
     ensures wire_full { IfWireFull result (λ line. Asked (form_in words.now) (λ f. Wrote f (Some line) (S.left source.old) (S.left source.new)
         (record { bytes = K.taken sink.old; flushed = K.flushed sink.old })
         (record { bytes = K.taken sink.new; flushed = K.flushed sink.new }))) }
+    // What `replay` wrote is the lines of a safe trace, and the report of that trace's lists, which are lawful.
+    ensures safely { IfWritten result (Asked (form_in words.now) (λ f. IfReplay f (WroteSafely (S.left source.old) (K.taken sink.old) (K.taken sink.new)))) }
     // What came is no script, or is more than 4 MiB; nothing was written.
     ensures refused { IfRefused result (λ line why. Asked (form_in words.now) (λ f. HasNone (from_of f) (S.left source.old) (S.left source.new) line why)) }
     ensures refused_writes_nothing { IfRefused result (λ line why. (K.taken sink.new ≡ K.taken sink.old) × (K.flushed sink.new ≡ K.flushed sink.old)) }

@@ -14,7 +14,7 @@ use crate::runs::{after_run, reach};
 use std::alloc::{AllocError, Global};
 use std::marker::Model;
 use wire_packet::{Wire, WireFault};
-use yard_model::{Fact, Facts, Item, Out, Packet};
+use yard_model::{Charter, Fact, Facts, Item, Out, Packet};
 
 /// The packets of a world, numbered from 1, which of them were never delivered, and what a turn
 /// made and isn't told yet. At most 1,000,000 are posted.
@@ -39,22 +39,23 @@ impl Model for Mail {
 }
 
 impl Mail {
-    /// No packets and no items. It takes no memory.
-    pub fn new(alloc: Global) -> Mail
-        ensures packets { result.packets ≡ [] }
-        ensures fresh { result.fresh ≡ [] }
-        ensures items { result.items ≡ [] }
-        ensures spare { result.spare ≡ 0 }
-        ensures full { result.full ≡ false }
+    /// No packets and no items, for a world of this charter. The only error is want of memory.
+    pub fn new(alloc: Global, charter: &Charter) -> Result<Mail, AllocError>
+        ensures packets { IfOk result (λ m. m.packets ≡ []) }
+        ensures fresh { IfOk result (λ m. m.fresh ≡ []) }
+        ensures items { IfOk result (λ m. m.items ≡ []) }
+        ensures spare { IfOk result (λ m. m.spare ≡ 0) }
+        ensures full { IfOk result (λ m. m.full ≡ false) }
     {
-        Mail {
-            wire: Wire::new(alloc),
+        let wire = Wire::new(alloc, charter)?;
+        Ok(Mail {
+            wire,
             count: 0,
             out: Out::new(alloc),
             full: false,
             base: 0,
             reached: 0,
-        }
+        })
     }
 
     /// What isn't told yet, for a turn to add to.
@@ -111,10 +112,7 @@ impl Mail {
         ensures packet { result ≡ packet_at self.now.packets number }
         ensures there { IsSome result ↔ ((0 < number) × (number ≤ length self.now.packets)) }
     {
-        match self.wire.get(number) {
-            Some(packet) => Some(*packet),
-            None => None,
-        }
+        self.wire.get(number)
     }
 
     /// The packet of this number, which was posted, is delivered.
@@ -249,7 +247,7 @@ impl Mail {
         ensures past { IfOk result (λ past. past ≡ is_past wire_limit (length self.old.packets) (item.Post packet.now ∷ [])) }
         ensures err { OnErr result (facts.new ≡ facts.old) }
     {
-        match self.wire.post(*packet) {
+        match self.wire.post(packet) {
             Ok(number) => {
                 self.count = number;
                 facts.push(Fact::Sent(number, *packet))?;

@@ -41,7 +41,8 @@ const PACKET: Packet = Packet {
 
 #[test]
 fn posts_are_numbered_and_delivered_in_their_order(rt: HostRuntime) -> Result<(), Fail> {
-    let mut mail = Mail::new(rt.alloc());
+    let charter = one_up(rt.alloc())?;
+    let mut mail = Mail::new(rt.alloc(), &charter)?;
     let mut facts = Facts::new(rt.alloc());
     mail.reserve(3)?;
     mail.push(Item::Post(PACKET));

@@ -126,6 +126,7 @@ fn new_yard<B: Behaviour + Copy + Drop>(
     let nodes = no_nodes(alloc, count)?;
     let ups = zeros(alloc, count)?;
     let ordered = zeros(alloc, producers)?;
+    let mail = Mail::new(alloc, &charter)?;
     Ok(Yard {
         alloc,
         charter,
@@ -136,7 +137,7 @@ fn new_yard<B: Behaviour + Copy + Drop>(
         version: 0,
         ups,
         ordered,
-        mail: Mail::new(alloc),
+        mail,
         past: 0,
         holds: PhantomData,
     })

@@ -13,8 +13,6 @@ use Rattle.std.proofs.lemmas.List.Folds.{list_all-append}
 use Rattle.yard_model.specs.declared.event.Kind.{Kind}
 use Rattle.yard_model.specs.declared.fact.Fact.{Fact}
 use Rattle.yard_model.specs.declared.packet.Message.{Message}
-use Rattle.yard_model.specs.declared.packet.Packet.{Packet}
-use Rattle.wire_packet.specs.Wire.{packet_at}
 use Rattle.yard_model.specs.declared.packet.Record.{Record}
 use Rattle.yard_model.specs.declared.charter.Config.{Config}
 use Rattle.yard_model.specs.Script.{is_name}
@@ -244,7 +242,3 @@ all_at p (y ∷ ys) (suc i) x all e = all_at p ys i x (and_both (p y) (list_all 
 
 pub shard_inside : (config : Config) (posted : List Message) (lists : List (List Fact)) (entities : BTreeMap (List ℕ) Known) → KnowsAll config posted lists entities → (e : List ℕ) → shard config.shards e < length lists
 shard_inside config posted lists entities k e = subst (λ n. shard config.shards e < n) (sym k.wide) (mod-lt (absolute (java_hash e)) (omega (arith, k.some)))
-
--- the packet of a number above 0
-pub packet_found : (packets : List Packet) (n : ℕ) → 0 < n → packet_at packets n ≡ slice_get packets (n - 1)
-packet_found packets n above = ap (λ b. if b then None else slice_get packets (n - 1)) (not_same n 0 (λ e. absurd (omega arith)))

@@ -3,7 +3,6 @@ mod FactsLaws
 mod FoldableLaws
 mod FreedLaws
 mod KnownLaws
-mod OutputLaws
 mod PlayLaws
 mod ResultLaws
 mod SafelyLaws

@@ -2,7 +2,6 @@ pub mod Ends
 pub mod Facts
 pub mod Forms
 pub mod Known
-pub mod Posts
 pub mod Replays
 pub mod Safely
 pub mod Sound

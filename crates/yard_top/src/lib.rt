@@ -9,7 +9,6 @@ mod entity;
 mod following;
 mod forms;
 mod json;
-mod output;
 mod played;
 mod posts;
 mod replay;

@@ -374,7 +374,7 @@ fn long_replays(rt: HostRuntime) -> Result<(), Fail> {
 #[test]
 fn faults(rt: HostRuntime) -> Result<(), Fail> {
     expect(&rt, ONE_COMMAND, &[1], &[], Status::ReadFault, b"")?;
-    expect(&rt, ONE_COMMAND, &[], &[2], Status::WriteFault, b"report\n")
+    expect(&rt, ONE_COMMAND, &[], &[1], Status::WriteFault, b"")
 }
 
 #[test]

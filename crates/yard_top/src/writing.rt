@@ -3,9 +3,8 @@ ghost use Rattle.yard_top.specs.Writing.{Writes};
 ghost use Rattle.yard_top.specs.declared.writing.WriteError.TheVariants as write_error;
 ghost use Rattle.std.specs.Prelude.{◌≡◌};
 
-use crate::output::write_lines;
 use std::alloc::AllocError;
-use yard_io::{Failed, Sink};
+use yard_io::{Failed, Sink, write_all};
 
 /// Why a text was not written whole.
 #[derive(Clone, Copy, Debug, PartialEq, Eq)]
@@ -32,13 +31,13 @@ impl From<AllocError> for WriteError {
     }
 }
 
-/// Writes a part of a text, a line at a time. Nothing is flushed.
+/// Writes a part of a text. Nothing is flushed.
 pub fn write_part<K: Sink>(sink: &mut K, part: &[u8]) -> Result<(), WriteError>
     ensures { Writes part.now result
         (record { taken = K.taken sink.old; flushed = K.flushed sink.old; faults = K.faults sink.old })
         (record { taken = K.taken sink.new; flushed = K.flushed sink.new; faults = K.faults sink.new }) }
 {
-    match write_lines(sink, part) {
+    match write_all(sink, part) {
         Ok(()) => Ok(()),
         Err(Failed) => Err(WriteError::Failed),
     }

@@ -4,7 +4,7 @@ ghost use Rattle.text_tests.specs.Sample.{sample_list, sample_script};
 
 use std::alloc::Global;
 use std::test::Fail;
-use trace_text::{push_report, report_value};
+use trace_text::{push_lists, push_report, report_value};
 use yard_model::{
     Charter, Command, Config, CoordEntry, EntityName, Event, Events, Kind, Line, Lists, Order,
     ProducerNo, QueueEntry, Record, Reply, ShardEntry, ShardNo,
@@ -126,5 +126,22 @@ end
     assert_eq!(rt; text.as_slice(), wanted.as_slice());
     let json = report_value(alloc, &charter, &lists)?.to_string(alloc)?;
     assert_eq!(rt; json.as_str(), JSON);
+    Ok(())
+}
+
+#[test]
+fn the_lists_of_two_slots(rt: HostRuntime) -> Result<(), Fail> {
+    let alloc = rt.alloc();
+    let charter = sample_charter(alloc)?;
+    let lists = sample_lists(alloc)?;
+    let mut text = Vec::new(alloc);
+    push_lists(&mut text, &charter, &lists)?;
+    let wanted = b"slot shard:0 1
+wrote c1 1 epoch 1 by 1:1 add 5 / added 5 / ok 5
+slot queue:1 2
+queued 1 c1 1 add 5
+confirmed 1 c1 1
+";
+    assert_eq!(rt; text.as_slice(), wanted.as_slice());
     Ok(())
 }

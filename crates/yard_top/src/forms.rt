@@ -14,7 +14,7 @@ pub enum Form {
     Replay,
     /// `replay json`
     ReplayJson,
-    /// `bulk` and a number, 1 to 1,000
+    /// `bulk` and a number, 1 to 1,000.
     Bulk(u32),
 }
 

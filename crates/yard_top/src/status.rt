@@ -7,7 +7,7 @@ use script_text::Why;
 /// How a run of the program ends.
 #[derive(Clone, Copy, Debug, PartialEq, Eq)]
 pub enum Status {
-    /// The input was read to its end, and the whole text was written and flushed.
+    /// The whole text was written and flushed; the input was read to its end, where the form reads one.
     Ok,
     /// The words are not a form that the program knows; nothing was read or written.
     Usage,
@@ -26,7 +26,7 @@ pub enum Status {
     /// There was no memory; what was written is a front of the text.
     OutOfMemory,
     /// A packet past the 1,000,000 that can be posted came up: the trace stops with the order on
-    /// this line. The whole text of the trace up to there, with its report, was written and flushed.
+    /// this line. The whole text of the trace up to there was written and flushed.
     WireFull {
         /// The line.
         line: u32,

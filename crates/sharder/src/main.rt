@@ -5,9 +5,7 @@
 use std::env::{self, Env};
 use std::process::ExitCode;
 use yard_io::{StdSink, StdSource};
-use yard_top::{Status, sharder};
-
-const USAGE: &str = "usage: sharder solo or replay [json] or live TURNS SEED or bulk NUMBER";
+use yard_top::{Status, sharder, status_without_words, without_name};
 
 const HELP: &str = "sharder: a cluster of sharded, event-sourced entities with reliable delivery
 
@@ -28,27 +26,22 @@ at the 1,000,000 packets that can be posted.
 
 const VERSION: &str = "sharder 0.1.0\n";
 
-/// The words after the program's name; None where one isn't text.
-fn words_of(rt: &(impl Env + AllocGlobal)) -> Option<Vec<String>> {
-    let mut words = env::args(rt).ok()?;
-    words.next();
-    words.collect(rt.alloc()).ok()
+/// The words after the program's name; how the run ends where they couldn't be had.
+fn words_of(rt: &(impl Env + AllocGlobal)) -> Result<Vec<String>, Status> {
+    match env::args(rt) {
+        Ok(arguments) => match arguments.collect(rt.alloc()) {
+            Ok(arguments) => Ok(without_name(arguments)),
+            Err(_) => Err(Status::OutOfMemory),
+        },
+        Err(e) => Err(status_without_words(e.kind())),
+    }
 }
 
 /// What stands on standard error beside the status, if anything.
 fn complain(rt: &impl Eprint, status: Status) {
-    let _ = match status {
-        Status::Ok => Ok(()),
-        Status::Usage => eprintln!(rt; "{USAGE}"),
-        Status::Refused { line, why } => {
-            let reason = why.number();
-            eprintln!(rt; "sharder: line {line}: reason {reason}")
-        }
-        Status::ReadFault => eprintln!(rt; "sharder: read fault"),
-        Status::WriteFault => eprintln!(rt; "sharder: write fault"),
-        Status::OutOfMemory => eprintln!(rt; "sharder: out of memory"),
-        Status::WireFull { line } => eprintln!(rt; "sharder: line {line}: wire full"),
-    };
+    if status != Status::Ok {
+        let _ = eprintln!(rt; "{status}");
+    }
 }
 
 /// What `--help` or `--version` prints, where it is the only word.
@@ -64,8 +57,9 @@ fn told(words: &[String]) -> Option<&'static str> {
 }
 
 fn run(rt: &HostRuntime) -> Status {
-    let Some(words) = words_of(rt) else {
-        return Status::Usage;
+    let words = match words_of(rt) {
+        Ok(words) => words,
+        Err(status) => return status,
     };
     if let Some(text) = told(words.as_slice()) {
         return match print!(rt; "{text}") {

@@ -1,3 +1,4 @@
+pub mod Complaint
 pub mod Ends
 pub mod Facts
 pub mod Forms

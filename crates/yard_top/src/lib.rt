@@ -17,11 +17,13 @@ mod sound;
 mod status;
 mod text;
 mod top;
+mod words;
 mod writing;
 
 pub use forms::{Form, ScriptFrom, form_of};
 pub use status::Status;
 pub use top::sharder;
+pub use words::{status_without_words, without_name};
 
 #[cfg(test)]
 mod tests;

@@ -3,6 +3,10 @@ ghost use Rattle.std.specs.Prelude.{◌≡◌};
 ghost use Rattle.yard_top.specs.Ends.{code_of};
 
 use script_text::Why;
+use std::fmt;
+
+/// The forms of the command line, also those that aren't built yet.
+const USAGE: &str = "usage: sharder solo or replay [json] or live TURNS SEED or bulk NUMBER";
 
 /// How a run of the program ends.
 #[derive(Clone, Copy, Debug, PartialEq, Eq)]
@@ -46,6 +50,30 @@ impl Status {
             Status::WriteFault => 5,
             Status::OutOfMemory => 6,
             Status::WireFull { .. } => 7,
+        }
+    }
+}
+
+/// What stands on standard error beside the status, as one line; nothing where the whole text was
+/// written.
+impl fmt::Display for Status {
+    ghost use Rattle.std.specs.Prelude.{Some};
+    ghost use Rattle.yard_top.specs.Complaint.{complaint};
+
+    ghost output = { λ s. Some (complaint s) };
+
+    fn fmt<W: fmt::Write>(&self, f: &mut fmt::Formatter<W>) -> fmt::Result {
+        match *self {
+            Status::Ok => Ok(()),
+            Status::Usage => f.write_str(USAGE),
+            Status::Refused { line, why } => {
+                let reason = why.number();
+                write!(f, "sharder: line {line}: reason {reason}")
+            }
+            Status::ReadFault => f.write_str("sharder: read fault"),
+            Status::WriteFault => f.write_str("sharder: write fault"),
+            Status::OutOfMemory => f.write_str("sharder: out of memory"),
+            Status::WireFull { line } => write!(f, "sharder: line {line}: wire full"),
         }
     }
 }

@@ -1,12 +1,11 @@
 -- Parts of a text, one after the other.
-use Rattle.std.proofs.Common.{◌≡◌, ◌≤◌, ◌<◌, refl, sym, ap, ◌∙◌, subst, arith, ℕ, List, [], ◌∷◌, ◌++◌}
-use Rattle.std.specs.Prelude.{Result, Ok, Err}
+use Rattle.std.proofs.Common.{◌≡◌, ◌≤◌, ◌<◌, refl, sym, ap, ◌∙◌, subst, arith, ℕ, [], ◌++◌}
 use Rattle.yard_io.specs.Told.{followed_by, TakesFront}
 use Rattle.yard_io.proofs.ToldLemmas.{followed_both, followed_nil, front_first, front_second}
 use Rattle.yard_model.specs.Text.{Bytes}
 use Rattle.yard_top.specs.declared.writing.WriteError.{WriteError}
 use Rattle.yard_top.specs.declared.writing.WriteError.TheVariants as error
-use Rattle.yard_top.specs.Writing.{Sunk, IfFailed, Took, TookFront, Writes}
+use Rattle.yard_top.specs.Writing.{Sunk, IfFailed, Took, TookFront}
 
 -- nothing of a text was taken yet
 pub took_nothing : (s : Sunk) → Took [] s s

@@ -1,4 +1,4 @@
-use Rattle.std.proofs.Common.{◌≡◌, ◌++◌, ap, sym, ◌∙◌, subst, take, arith}
+use Rattle.std.proofs.Common.{◌++◌, ap, sym, subst, take, arith}
 use Rattle.std.proofs.lemmas.List.{append-nil, take_all}
 use Rattle.bulk_gen.specs.Counted.{IsSummary}
 use Rattle.yard_top.proofs.TraceLaws.{told_more}

@@ -1,4 +1,4 @@
-use Rattle.std.proofs.Common.{◌≡◌, sym, ◌∙◌, subst}
+use Rattle.std.proofs.Common.{◌∙◌, subst}
 use Rattle.yard_io.proofs.ToldLemmas.{front_whole}
 use Rattle.yard_top.specs.declared.forms.ScriptFrom.{ScriptFrom}
 use Rattle.yard_top.specs.Ends.{HasScript}

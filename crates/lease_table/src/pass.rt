@@ -1,4 +1,6 @@
 //! A pass: a seat at the table, with the slots that are out with it in their order.
+ghost use Rattle.lease_table.specs.Leasing.{Spans};
+
 use crate::View;
 use atomic_table::Seat;
 use shard_store::Store;
@@ -23,6 +25,15 @@ impl Model for LeasePass {
     ghost view = { λ p. pass p.seat.table_id p.seat.me.0 };
 
     ghost invariant = { λ p. IsPass p.charter.value p.seat.me p.order.items (vec_capacity p.order) };
+}
+
+impl LeasePass {
+    /// What is so of each pass: of each slot it has a list. It does nothing.
+    pub fn stands(&self)
+        ensures { Spans self.now.view }
+    {
+        let _ = &self.seat;
+    }
 }
 
 /// What another may be shown: it has seen what a pass had, and has no number.

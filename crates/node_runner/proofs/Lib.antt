@@ -1,0 +1,4 @@
+pub mod Alone
+pub mod Fresh
+pub mod Slotted
+pub mod Published

@@ -1,16 +1,16 @@
 //! The orders of one worker.
-ghost use Rattle.std.specs.Prelude.{◌≡◌, ◌-◌, ◌<◌, ◌≤◌, [], ◌∷◌, ◌++◌, List, length, take, MatchOption};
+ghost use Rattle.std.specs.Prelude.{◌≡◌, ◌-◌, ◌<◌, ◌≤◌, [], ◌∷◌, ◌++◌, List, IfSome, MatchOption};
 ghost use Rattle.yard_model.specs.declared.charter.Order.{Order};
 ghost use Rattle.yard_model.specs.Workers.{worker_orders, is_for};
-ghost use Rattle.worker_orders.specs.Waiting.{Knows, orders_in};
+ghost use Rattle.worker_orders.specs.Waiting.{Knows, IsDue};
 
 use std::marker::Model;
-use yard_model::{Charter, Line, NodeNo, Order, ProducerNo};
+use yard_model::{Charter, NodeNo, Order, ProducerNo};
 
 /// The orders of the worker of one node that are left, in script order: those that name its node, a
 /// `rest` and a `send` of a producer whose last `produce` names it, and each `rebalance` and `passivate`.
 pub struct Orders<'c> {
-    lines: &'c [Line],
+    charter: &'c Charter,
     node: NodeNo,
     at: usize,
     mine: [bool; 32],
@@ -22,18 +22,19 @@ impl<'c> Model for Orders<'c> {
 
     ghost Value = { Waiting };
 
-    ghost view = { λ o. record { orders = left_after o.node o.lines.now o.at; lines = length o.lines.now - o.at } };
+    ghost view = { λ o. record { script = o.charter.now; node = o.node; orders = left_after o.node o.charter.now.orders o.at; lines = length o.charter.now.orders - o.at } };
 
-    ghost invariant = { λ o. IsCursor o.node o.lines.now o.at o.mine };
+    ghost invariant = { λ o. IsCursor o.node o.charter.now.orders o.at o.mine };
 }
 
 impl<'c> Orders<'c> {
     /// All orders of the worker of this node.
     pub fn new(charter: &'c Charter, node: NodeNo) -> Orders<'c>
-        ensures { result.orders ≡ worker_orders charter.now node }
+        ensures script { (result.script ≡ charter.now) × (result.node ≡ node) }
+        ensures orders { result.orders ≡ worker_orders charter.now node }
     {
         Orders {
-            lines: charter.orders(),
+            charter,
             node,
             at: 0,
             mine: [false; 32],
@@ -42,7 +43,9 @@ impl<'c> Orders<'c> {
 
     /// The next one. None exactly where none is left.
     pub fn next(&mut self) -> Option<Order>
-        ensures { MatchOption result ((self.old.orders ≡ []) × (self.new.orders ≡ [])) (λ o. self.old.orders ≡ o ∷ self.new.orders) }
+        ensures script { (self.new.script ≡ self.old.script) × (self.new.node ≡ self.old.node) }
+        ensures orders { MatchOption result ((self.old.orders ≡ []) × (self.new.orders ≡ [])) (λ o. self.old.orders ≡ o ∷ self.new.orders) }
+        ensures due { IfSome result (IsDue self.old.script self.old.node) }
     {
         for _ in 0..self.lines_left() {
             if let Some(order) = self.take_line() {
@@ -57,7 +60,7 @@ impl<'c> Orders<'c> {
     fn lines_left(&self) -> usize
         ensures { result ≡ self.now.lines }
     {
-        self.lines.len() - self.at
+        self.charter.orders().len() - self.at
     }
 
     /// Past the last line no order is left. It does nothing.
@@ -66,16 +69,18 @@ impl<'c> Orders<'c> {
         requires { self.now.lines ≡ 0 }
         ensures { self.now.orders ≡ [] }
     {
-        let _ = &self.lines;
+        let _ = &self.charter;
     }
 
     /// Goes past a line; its order where that is the worker's.
     fn take_line(&mut self) -> Option<Order>
         requires { 0 < self.old.lines }
+        ensures script { (self.new.script ≡ self.old.script) × (self.new.node ≡ self.old.node) }
         ensures lines { self.new.lines ≡ self.old.lines - 1 }
         ensures orders { MatchOption result (self.old.orders ≡ self.new.orders) (λ o. self.old.orders ≡ o ∷ self.new.orders) }
+        ensures due { IfSome result (IsDue self.old.script self.old.node) }
     {
-        let order = self.lines[self.at].order;
+        let order = self.charter.orders()[self.at].order;
         let is_mine = is_mine(&self.mine, &order, self.node);
         note(&mut self.mine, &order, self.node);
         self.at += 1;

@@ -1,4 +1,5 @@
 //! A pass: a seat at the table, with the slots that are out with it in their order.
+ghost use Rattle.std.specs.Prelude.{◌≡◌, []};
 ghost use Rattle.lease_table.specs.Leasing.{Spans};
 
 use crate::View;
@@ -51,4 +52,13 @@ impl Model for Note {
     ghost view = { λ p. pass p.seat.table_id p.seat.me.0 };
 
     ghost invariant = { λ p. IsNote p.seat.me };
+}
+
+impl Note {
+    /// What is so of each note: it has no number. It does nothing.
+    pub fn stands(&self)
+        ensures { self.now.view.numbers ≡ [] }
+    {
+        let _ = &self.seat;
+    }
 }

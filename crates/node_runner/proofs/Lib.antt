@@ -2,3 +2,9 @@ pub mod Alone
 pub mod Fresh
 pub mod Slotted
 pub mod Published
+pub mod Noted
+pub mod Shown
+pub mod Dues
+pub mod Freed
+pub mod Queueing
+pub mod Stepping

@@ -1,6 +1,6 @@
 -- A pass after a publish: its node rests on it, and has seen what the pass has.
-use Rattle.std.proofs.Common.{◌≡◌, ◌≢◌, ℕ, zero, suc, ◌+◌, ◌-◌, ◌<◌, ◌≤◌, ◌⊎◌, inl, inr, ⊎_elim, Bool, true, ◌&&◌, List, [], ◌∷◌, length, refl, sym, ap, ◌∙◌, subst, arith, eqb, eq-eqb, get_or-set_same, get_or-set_other}
-use Rattle.std.specs.Prelude.{Option, None, Some, IfSome, is_some, slice_get, slice_set}
+use Rattle.std.proofs.Common.{◌≡◌, ◌≢◌, ℕ, zero, suc, ◌+◌, ◌-◌, ◌<◌, ◌≤◌, ◌⊎◌, inl, inr, ⊎_elim, Bool, true, false, ◌&&◌, List, [], ◌∷◌, length, refl, sym, ap, ◌∙◌, subst, arith, eqb, eq-eqb, ne_eqb, get_or-set_same, get_or-set_other}
+use Rattle.std.specs.Prelude.{◌==◌, Option, None, Some, IfSome, is_some, slice_get, slice_set}
 use Rattle.std.specs.List.{list_all}
 use Rattle.atomic_table.specs.Seated.{TableId}
 use Rattle.plain_laws.proofs.Booleans.{both}
@@ -9,7 +9,9 @@ use Rattle.yard_model.specs.declared.fact.Fact.{Fact}
 use Rattle.yard_model.specs.declared.incarnation.Slot.{Slot}
 use Rattle.yard_model.specs.Genuine.{is_slot_of}
 use Rattle.yard_model.specs.Lawful.{own}
-use Rattle.yard_model.specs.Node.{Node}
+use Rattle.yard_model.specs.declared.out.Item.{Item}
+use Rattle.yard_model.specs.Node.{Node, Act}
+use Rattle.yard_model.specs.SlotLists.{SlotLists}
 use Rattle.yard_model.specs.Script.{Script, IsScript}
 use Rattle.yard_model.specs.Words.{at}
 use Rattle.actor_laws.specs.Hands.{held_list}
@@ -18,6 +20,8 @@ use Rattle.shard_store.specs.Stores.{place_of, slot_at}
 use Rattle.shard_store.proofs.PlaceLaws.{place_within, slot_back}
 use Rattle.shard_lease.specs.Meaning.{Meaning, Begins, Stays, confirms}
 use Rattle.node_core.specs.Leased.{IsHandOf, Rests}
+use Rattle.node_core.specs.Gave.{moment}
+use Rattle.node_core.specs.Turned.{Turned}
 use Rattle.node_core.specs.Slots.{held_slots}
 use Rattle.node_core.specs.Standing.{Standing}
 use Rattle.node_core.proofs.AskLaws.{hand_stays}
@@ -145,11 +149,34 @@ one_more z c me first p q v n s list b at_n e wide table now seen =
 pub all_published : (z : TableId) (c : Script) (me : ℕ) (first now : Pass) (v : Standing) (n : ℕ) → Publishing z c me first now v n → length (held_slots c v.state) ≤ n → ArePublished c now v.state
 all_published z c me first now v n b many s here = by (held_list s v.state) refl
   where
+    le_lt : (i k n : ℕ) → i < k → k ≤ n → i < n
+    le_lt i k n a b = omega (arith, a, b)
+
     by : (o : Option (List Fact)) → held_list s v.state ≡ o → IfSome o (λ list. seen_at now.view.seen (place_of c.config s) ≡ list)
     by None e = tt
     by (Some list) e =
         let a : Among s (held_slots c v.state) = held_among c v.state s list here e in
         b.below a.place s list (le_lt a.place (length (held_slots c v.state)) n a.less many) a.is e
 
-    le_lt : (i k n : ℕ) → i < k → k ≤ n → i < n
-    le_lt i k n a b = omega (arith, a, b)
+-- A turn, and then what it holds is published.
+
+no_other : (me n : ℕ) (b d : Bool) → n ≢ me → ((n == me) && b) ≡ ((n == me) && d)
+no_other me n b d ne = let none : (n == me) ≡ false = ne_eqb n me ne in ap (λ x. x && b) none ∙ sym (ap (λ x. x && d) none)
+
+pub turned_on : (c : Script) (acts : SlotLists → List Act) (me : ℕ) (p mid r : Pass) (st w : Node) (old new : List Item) → st.who.node ≡ me → Turned c acts (moment (means me p) st old) (moment (means me mid) w new) → SeesOn me mid r → Rests (means me r) c w
+    → Turned c acts (moment (means me p) st old) (moment (means me r) w new)
+turned_on c acts me p mid r st w old new who t on rests = record {
+  told = t.told;
+  items_are = t.items_are;
+  node_is = t.node_is;
+  acts_are = t.acts_are;
+  tells = t.tells;
+  in_hand = t.in_hand;
+  lists = t.lists;
+  found = t.found;
+  found_acts = t.found_acts;
+  keeps = t.keeps;
+  rests = rests;
+  stays = stays_both (means me p) (means me mid) (means me r) t.stays on;
+  others = λ n s ne. no_other me n (is_slot_of r.view.charter s && is_some (at r.view.held (place_of r.view.charter.config s))) (is_slot_of p.view.charter s && is_some (at p.view.held (place_of p.view.charter.config s))) (λ e. ne (e ∙ sym who));
+}

@@ -1,2 +1,5 @@
 pub mod Alone
 pub mod Rested
+pub mod Shown
+pub mod Ordered
+pub mod Progress

@@ -1,9 +1,9 @@
 //! What a turn over a pass finds.
 ghost use Rattle.node_runner.specs.Alone.{SteadyIsFree};
+ghost use Rattle.node_runner.specs.Ordered.{DuesAreGiven};
 ghost use Rattle.node_runner.specs.Rested.{NewNodeRests};
 
 /// The queue of a steady producer is free for its node, whatever its turn finds, unless it has it.
-#[tactic(auto, using(crate::proofs::Alone::steady_is_free))]
 pub fn steady_is_free()
     ensures { SteadyIsFree }
 {}
@@ -12,4 +12,9 @@ pub fn steady_is_free()
 #[tactic(auto, using(crate::proofs::Fresh::new_node_rests))]
 pub fn new_node_rests()
     ensures { NewNodeRests }
+{}
+
+/// An order that is due to the worker of a node may be given to it.
+pub fn dues_are_given()
+    ensures { DuesAreGiven }
 {}

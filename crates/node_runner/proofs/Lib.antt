@@ -8,3 +8,5 @@ pub mod Dues
 pub mod Freed
 pub mod Queueing
 pub mod Stepping
+pub mod MembersLaws
+pub mod RosterLaws

@@ -1,0 +1,5 @@
+pub mod Rules
+pub mod Places
+pub mod Rows
+pub mod Dealt
+pub mod Holders

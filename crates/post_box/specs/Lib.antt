@@ -1,0 +1,5 @@
+pub mod Rule
+pub mod Holding
+pub mod Tables
+pub mod Left
+pub mod Making

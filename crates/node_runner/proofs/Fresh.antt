@@ -16,10 +16,14 @@ use Rattle.actor_laws.specs.Hands.{held_list}
 use Rattle.node_core.specs.Leased.{IsNoQueue, IsHandOf, Rests}
 use Rattle.lease_table.specs.Fits.{admits, is_let}
 use Rattle.lease_table.proofs.Meant.{idle_free}
-use Rattle.node_runner.specs.Rested.{NewNodeRests, means}
+use Rattle.node_core.specs.Standing.{Standing}
+use Rattle.lease_table.specs.Leasing.{Pass}
+use Rattle.lease_table.specs.Lists.{seen_at}
+use Rattle.shard_store.specs.Stores.{place_of}
+use Rattle.node_runner.specs.Rested.{NewNodeRests, ArePublished, means}
 
 -- a new node holds nothing
-none_held : (c : Script) (version : ℕ) (who : Incarnation) (s : Slot) → held_list s (new_node (setting c) version who) ≡ None
+pub none_held : (c : Script) (version : ℕ) (who : Incarnation) (s : Slot) → held_list s (new_node (setting c) version who) ≡ None
 none_held c version who (slot.Shard s) = ap (option_map (λ h. h.entries)) (get_replicate c.config.shards s None)
 none_held c version who slot.Coordinator = refl
 none_held c version who (slot.Queue p) = ap (option_map (λ k. k.entries)) (get_replicate c.config.producers (p - 1) None)
@@ -46,3 +50,7 @@ new_node_rests z c version who p v idle node within script state = record {
     leased_are = λ s h. subst (λ o. IfSome o (λ list. holder list ≡ Some who)) (sym (none_held c version who s)) tt;
   });
 }
+
+-- and it has nothing that others are to see
+pub new_shown : (c : Script) (version : ℕ) (who : Incarnation) (p : Pass) (v : Standing) → v.state ≡ new_node (setting c) version who → ArePublished c p v.state
+new_shown c version who p v state s here = subst (λ (st : Node). IfSome (held_list s st) (λ list. seen_at p.view.seen (place_of c.config s) ≡ list)) (sym state) (subst (λ o. IfSome o (λ list. seen_at p.view.seen (place_of c.config s) ≡ list)) (sym (none_held c version who s)) tt)

@@ -10,3 +10,6 @@ pub mod Queueing
 pub mod Stepping
 pub mod MembersLaws
 pub mod RosterLaws
+pub mod ParcelLaws
+pub mod SendLaws
+pub mod Ways

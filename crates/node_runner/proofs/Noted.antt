@@ -1,10 +1,11 @@
 -- A pass that met a note: its node rests on it, and it has seen what the note shows.
-use Rattle.std.proofs.Common.{◌≡◌, ◌≢◌, ℕ, ◌+◌, ◌<◌, ◌≤◌, ◌⊎◌, inl, inr, ⊎_elim, true, List, [], ◌∷◌, ◌++◌, refl, sym, ap, ◌∙◌, subst, append-nil, get_or-set_other}
+use Rattle.std.proofs.Common.{◌≡◌, ◌≢◌, ℕ, ◌+◌, ◌<◌, ◌≤◌, ◌⊎◌, inl, inr, ⊎_elim, true, List, [], ◌∷◌, ◌++◌, refl, sym, ap, ◌∙◌, subst, append-nil, get_or-set_other, arith}
 use Rattle.std.specs.Prelude.{Option, None, Some, IfSome, is_some, slice_set}
 use Rattle.atomic_table.specs.Seated.{TableId}
 use Rattle.yard_model.specs.declared.fact.Fact.{Fact}
 use Rattle.yard_model.specs.declared.incarnation.Slot.{Slot}
-use Rattle.yard_model.specs.Genuine.{is_slot_of}
+use Rattle.yard_model.specs.declared.incarnation.Slot.TheVariants as slot
+use Rattle.yard_model.specs.Genuine.{is_slot_of, is_shard}
 use Rattle.yard_model.specs.Node.{Node}
 use Rattle.yard_model.specs.Script.{Script}
 use Rattle.actor_laws.specs.Hands.{held_list}
@@ -20,6 +21,8 @@ use Rattle.lease_table.specs.Tells.{tied, united, longest}
 use Rattle.lease_table.proofs.Meant.{Grows, stays, holds_by, told_by}
 use Rattle.lease_table.proofs.Places.{begins_here, same_or_not}
 use Rattle.lease_table.proofs.Records.{recorded_begins}
+use Rattle.plain_laws.proofs.Booleans.{below}
+use Rattle.node_runner.specs.Progress.{AreQueuesShown}
 use Rattle.node_runner.specs.Rested.{Rested, SeesOn, means}
 
 -- it has seen more at one slot, and the rest is as before
@@ -69,3 +72,13 @@ pub met_vouches : (c : Script) (me : ℕ) (p note q : Pass) (e : List ℕ) (i n 
 met_vouches c me p note q e i n charter m h =
     let same : q.view.charter ≡ c = ap (λ (u : View). u.charter) m.now ∙ charter in
     ap (λ (y : Script). recorded e i n (seen_at q.view.seen (home_of y e))) same ∙ recorded_begins e i n (seen_at note.view.seen (home_of c e)) (seen_at q.view.seen (home_of c e)) m.theirs h
+
+-- of a shard: what it has seen of queues is as before
+pub met_shown : (c : Script) (p note q : Pass) (st : Node) (k : ℕ) → is_shard c k ≡ true → Met p.view note.view k q.view → AreQueuesShown c p st → AreQueuesShown c q st
+met_shown c p note q st k shard m shown i here = subst (λ l. IfSome (held_list (slot.Queue i) st) (λ list. l ≡ list)) (sym same) (shown i here)
+  where
+    apart : c.config.shards + i ≢ k
+    apart e = let less : k < c.config.shards = below k c.config.shards shard in absurd (omega (arith, e, less))
+
+    same : seen_at q.view.seen (c.config.shards + i) ≡ seen_at p.view.seen (c.config.shards + i)
+    same = ap (λ (x : View). seen_at x.seen (c.config.shards + i)) m.now ∙ get_or-set_other p.view.seen k (c.config.shards + i) (longest (seen_at p.view.seen k) (seen_at (united p.view note.view).olds k)) [] apart

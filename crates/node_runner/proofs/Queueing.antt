@@ -41,8 +41,8 @@ use Rattle.live_laws.proofs.Queues.{turn_keeps_queue, send_queues, produce_takes
 use Rattle.live_laws.proofs.Runs.{steady_run}
 use Rattle.live_laws.proofs.Steadies.{queued_grows}
 use Rattle.node_runner.specs.Ordered.{input_of}
-use Rattle.node_runner.specs.Progress.{Progress, queued_seen}
-use Rattle.node_runner.specs.Rested.{Rested, ArePublished, SeesOn, means}
+use Rattle.node_runner.specs.Progress.{Progress, AreQueuesShown, queued_seen}
+use Rattle.node_runner.specs.Rested.{Rested, SeesOn, means}
 use Rattle.node_runner.proofs.Alone.{steady_is_free}
 
 -- Orders, one more.
@@ -101,10 +101,10 @@ pub queued_on : (me : ℕ) (p r : Pass) (c : Script) (q : ℕ) → p.view.charte
 queued_on me p r c q old new here on = queued_grows (seen_at p.view.seen (place_of c.config (slot.Queue q))) (seen_at r.view.seen (place_of c.config (slot.Queue q))) (sees_at me p r c (slot.Queue q) old new here on)
 
 -- of a queue that its node has in hand, it has seen the whole
-whole : (c : Script) (p : Pass) (st : Node) (q : ℕ) (k : Producer) → ArePublished c p st → is_producer c q ≡ true → at st.producers (q - 1) ≡ Some k → queued_seen c q p ≡ queued_in_all k.entries
+whole : (c : Script) (p : Pass) (st : Node) (q : ℕ) (k : Producer) → AreQueuesShown c p st → is_producer c q ≡ true → at st.producers (q - 1) ≡ Some k → queued_seen c q p ≡ queued_in_all k.entries
 whole c p st q k published here there =
     let held : held_list (slot.Queue q) st ≡ Some k.entries = ap (option_map (λ (x : Producer). x.entries)) there in
-    ap queued_in_all (subst (λ o. IfSome o (λ list. seen_at p.view.seen (place_of c.config (slot.Queue q)) ≡ list)) held (published (slot.Queue q) here))
+    ap queued_in_all (subst (λ o. IfSome o (λ list. seen_at p.view.seen (place_of c.config (slot.Queue q)) ≡ list)) held (published q here))
 
 -- An order that a node's worker takes while the node is down, or that does nothing.
 
@@ -165,7 +165,7 @@ own_input c vouches st (input.Send r) may = (and_both (nat_le 1 r) (nat_le r c.c
 own_input c vouches st i may = refl
 
 module _ (z : TableId) (c : Script) (turns n q : ℕ) (steady : is_steady c turns q n ≡ true) (here : is_producer c q ≡ true) (i : Input) (own : is_own_input i ≡ true) (p r : Pass) (v w : Standing) (old new : List Item)
-    (before : Rested z c n p v) (sound : IsSoundNode c v.state) (shown : ArePublished c p v.state) (then_rested : Rested z c n r w) (then_shown : ArePublished c r w.state)
+    (before : Rested z c n p v) (sound : IsSoundNode c v.state) (shown : AreQueuesShown c p v.state) (then_rested : Rested z c n r w) (then_shown : AreQueuesShown c r w.state)
     (t : Turned c (λ lists. turn (all_sends c) lists i v.state) (moment (means n p) v.state old) (moment (means n r) w.state new)) where
   above : 0 < q
   above = let some : 1 ≤ q = at_most 1 q (and_both (nat_le 1 q) (nat_le q c.config.producers) here).0 in omega (arith, some)

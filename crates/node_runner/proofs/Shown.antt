@@ -24,7 +24,8 @@ use Rattle.lease_table.specs.Leasing.{Pass, Met}
 use Rattle.lease_table.specs.Lists.{seen_at}
 use Rattle.node_runner.specs.declared.offer.Confirmed.{Confirmed}
 use Rattle.node_runner.specs.Rested.{Rested, means}
-use Rattle.node_runner.specs.Shown.{confirmed_of, is_record_seen, is_shown_of, AreApart, IsHanded}
+use Rattle.node_runner.specs.Parcels.{is_shown, has_seen}
+use Rattle.node_runner.specs.Shown.{confirmed_of, AreApart, IsHanded}
 use Rattle.node_runner.proofs.Noted.{met_vouches}
 
 -- the record that is confirmed may be, if there is one
@@ -52,12 +53,18 @@ handed_of c me p v x genuine within to apart may =
 pub plain_handed : (c : Script) (me : ℕ) (p : Pass) (v : Standing) (x : Packet) → is_genuine_packet c x ≡ true → is_within x.from.number ≡ true → x.to ≡ v.state.who → AreApart x.body → confirmed_of x.body ≡ None → IsHanded c me p v x
 plain_handed c me p v x genuine within to apart none = handed_of c me p v x genuine within to apart (subst (MayConfirmIt (means me p).vouches v.state) (sym none) tt)
 
+-- where it confirms a record, its note has seen that
+shown_of : (c : Script) (b : Body) (r : Confirmed) (note : Option Pass) → confirmed_of b ≡ Some r → is_shown c b note ≡ true → has_seen c r.entity r.producer r.number note ≡ true
+shown_of c (body.Ack p e n) r note is h = ap (λ (x : Confirmed). has_seen c x.entity x.producer x.number note) (sym (some_is (record { producer = p; entity = e; number = n }) r is)) ∙ h
+shown_of c (body.Request p e n u) r note is h = ap (λ (x : Confirmed). has_seen c x.entity x.producer x.number note) (sym (some_is (record { producer = p; entity = e; number = n }) r is)) ∙ h
+shown_of c b r note is h = absurd (none_is_not_some r is)
+
 -- it confirms a record that its note has seen
 pub shown_handed : (z : TableId) (c : Script) (me : ℕ) (p note q : Pass) (v : Standing) (x : Packet) (r : Confirmed) → Rested z c me p v → is_genuine_packet c x ≡ true → is_within x.from.number ≡ true → x.to ≡ v.state.who → AreApart x.body
-    → confirmed_of x.body ≡ Some r → is_shown_of c (Some r) (Some note) ≡ true → Met p.view note.view (home_of c r.entity) q.view
+    → confirmed_of x.body ≡ Some r → is_shown c x.body (Some note) ≡ true → Met p.view note.view (home_of c r.entity) q.view
     → ((k : Producer) → at v.state.producers (r.producer - 1) ≡ Some k → r.number ≤ queued r.entity k.entries) → IsHanded c me q v x
 shown_handed z c me p note q v x r rested genuine within to apart is shown met there =
-    handed_of c me q v x genuine within to apart (subst (MayConfirmIt (means me q).vouches v.state) (sym is) (λ k e. (there k e, met_vouches c me p note q r.entity r.producer r.number rested.charter met shown)))
+    handed_of c me q v x genuine within to apart (subst (MayConfirmIt (means me q).vouches v.state) (sym is) (λ k e. (there k e, met_vouches c me p note q r.entity r.producer r.number rested.charter met (shown_of c x.body r (Some note) is shown))))
 
 -- What is queued at a node.
 

@@ -1,5 +1,5 @@
 -- How far the sends of a steady producer are queued by its worker.
-use Rattle.std.specs.Prelude.{◌≡◌, ℕ, ◌+◌, ◌-◌, ◌*◌, ◌≤◌, ◌⊎◌, Bool, true, false, List, [], ◌∷◌, ◌++◌, length, count_by, Option, Some, None, is_some, IsSomeAnd, MatchOption}
+use Rattle.std.specs.Prelude.{◌≡◌, ℕ, ◌+◌, ◌-◌, ◌*◌, ◌≤◌, ◌⊎◌, Bool, true, false, List, [], ◌∷◌, ◌++◌, length, count_by, Option, Some, None, is_some, IfSome, IsSomeAnd, MatchOption}
 use Rattle.std.specs.List.{list_any}
 use Rattle.atomic_table.specs.Seated.{TableId}
 use Rattle.yard_model.specs.declared.charter.Order.{Order}
@@ -7,20 +7,18 @@ use Rattle.yard_model.specs.declared.incarnation.Slot.TheVariants as slot
 use Rattle.yard_model.specs.declared.input.Input.{Input}
 use Rattle.yard_model.specs.declared.input.Input.TheVariants as input
 use Rattle.yard_model.specs.Genuine.{is_producer}
-use Rattle.yard_model.specs.Node.{Node, turn}
+use Rattle.yard_model.specs.Node.{Node}
 use Rattle.yard_model.specs.Script.{Script}
 use Rattle.yard_model.specs.SlotReads.{queued_in_all}
 use Rattle.yard_model.specs.Words.{at}
 use Rattle.yard_model.specs.Workers.{is_up, is_steady, worker_orders}
-use Rattle.yard_model.specs.World.{all_sends}
+use Rattle.actor_laws.specs.Hands.{held_list}
 use Rattle.shard_store.specs.Stores.{place_of}
-use Rattle.node_core.specs.Gave.{Moment}
 use Rattle.node_core.specs.Standing.{Standing}
-use Rattle.node_core.specs.Turned.{Turned}
 use Rattle.lease_table.specs.Leasing.{Pass, Idle}
 use Rattle.lease_table.specs.Lists.{seen_at}
 use Rattle.live_laws.specs.Live.{is_produce_of, is_send, SawQueued}
-use Rattle.node_runner.specs.Rested.{Rested, ArePublished, means}
+use Rattle.node_runner.specs.Rested.{Rested, ArePublished}
 
 -- so many commands of a producer are queued in the list that the pass has seen
 abbrev pub queued_seen : Script → ℕ → Pass → ℕ
@@ -31,6 +29,13 @@ pub record Progress (c : Script) (n q : ℕ) (taken : List Order) (p : Pass) (no
   pub sent : count_by (is_send q) taken ≤ queued_seen c q p
   pub up : list_any (is_up n) taken ≡ true → is_some node ≡ true
   pub held : list_any (is_produce_of q) taken ≡ true → IsSomeAnd node (λ v. is_some (at v.state.producers (q - 1)) ≡ true)
+
+-- of the queues that a node has in hand, all may be seen
+abbrev pub AreQueuesShown : Script → Pass → Node → Type 0
+AreQueuesShown c p st = (q : ℕ) → is_producer c q ≡ true → IfSome (held_list (slot.Queue q) st) (λ list. seen_at p.view.seen (place_of c.config (slot.Queue q)) ≡ list)
+
+abbrev pub QueuesAreShown : Type 0
+QueuesAreShown = (c : Script) (p : Pass) (st : Node) → ArePublished c p st → AreQueuesShown c p st
 
 -- a node that isn't up holds nothing; one that is rests on its pass, and what it has in hand may be seen
 abbrev pub StandsAt : TableId → Script → ℕ → Pass → Option Standing → Type 0
@@ -53,6 +58,11 @@ Takes c n o p node r after = (turns : ℕ) (left : List Order) → Progressed c 
 -- all sends of each steady producer are queued, as the pass has seen
 abbrev pub SawAll : Script → ℕ → ℕ → Pass → Type 0
 SawAll c turns n p = (q : ℕ) → is_producer c q ≡ true → is_steady c turns q n ≡ true → SawQueued c p.view q
+
+-- an order that changes nothing of a producer
+abbrev pub is_passivation : Input → Bool
+is_passivation (input.Passivate e) = true
+is_passivation i = false
 
 abbrev pub is_rest : Input → Bool
 is_rest (input.Rest q) = true

@@ -10,11 +10,13 @@ mod parcel;
 mod roster;
 mod steps;
 mod turn;
+mod worker;
 
 pub use draws::{Draws, Fate};
 pub use inputs::input_of;
 pub use offer::{Confirmed, handed};
 pub use parcel::{Parcel, Run, confirms, is_within_limit};
 pub use roster::{Roster, Views, enter, leave};
-pub use steps::{Place, give};
+pub use steps::{Place, finish, give, take_order, take_packet};
 pub use turn::{node_ends, node_starts, publish_all, take_turn};
+pub use worker::{Course, work};

@@ -1,7 +1,7 @@
 //! What a packet needs before its node takes it. Where it can't be shown, the packet is lost.
 ghost use Rattle.std.specs.Prelude.{◌≡◌, ◌≤◌, ◌-◌, [], true, IfSome, Some};
 ghost use Rattle.yard_model.specs.declared.incarnation.Slot.TheVariants as slot;
-ghost use Rattle.yard_model.specs.Genuine.{is_genuine_packet};
+ghost use Rattle.yard_model.specs.Genuine.{is_genuine_packet, is_shard};
 ghost use Rattle.yard_model.specs.Producer.{Producer};
 ghost use Rattle.yard_model.specs.SlotReads.{queued};
 ghost use Rattle.yard_model.specs.Words.{at};
@@ -10,8 +10,10 @@ ghost use Rattle.shard_store.specs.Stores.{slot_of_ref, entries_of_ref};
 ghost use Rattle.lease_table.specs.Belongs.{id_of, charter_of};
 ghost use Rattle.lease_table.specs.Fits.{is_within, home_of};
 ghost use Rattle.lease_table.specs.Leasing.{Met};
+ghost use Rattle.node_runner.specs.Progress.{AreQueuesShown};
 ghost use Rattle.node_runner.specs.Rested.{Rested, SeesOn};
-ghost use Rattle.node_runner.specs.Shown.{confirmed_of, is_shown, AreApart, IsHanded};
+ghost use Rattle.node_runner.specs.Parcels.{is_shown};
+ghost use Rattle.node_runner.specs.Shown.{confirmed_of, AreApart, IsHanded};
 
 use behaviour_core::Behaviour;
 use durable_queue::QueueStore;
@@ -54,6 +56,7 @@ pub fn handed<B: Behaviour + Drop>(
     requires shown { is_shown (charter_of table.now) packet.now.body note ≡ true }
     ensures rested { Rested (id_of table.now) (charter_of table.now) me result.0 node.now }
     ensures sees { SeesOn me pass result.0 }
+    ensures queues { AreQueuesShown (charter_of table.now) pass node.now.state → AreQueuesShown (charter_of table.now) result.0 node.now.state }
     ensures may { result.1 ≡ true → IsHanded (charter_of table.now) me result.0 node.now packet.now }
 {
     are_apart(&packet.body);
@@ -126,6 +129,7 @@ fn meet_record(
     requires note { note.table ≡ id_of table.now }
     ensures table { result.table ≡ pass.table }
     ensures none { note.view.numbers ≡ [] }
+    ensures shard { is_shard (charter_of table.now) (home_of (charter_of table.now) entity.now) ≡ true }
     ensures met { Met pass.view note.view (home_of (charter_of table.now) entity.now) result.view }
 {
     note.stands();

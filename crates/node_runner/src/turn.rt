@@ -77,6 +77,7 @@ pub fn take_turn<B: Behaviour + Drop>(
 }
 
 /// A node that comes up, with nothing in hand. The only error is want of memory.
+#[tactic(auto, using(crate::proofs::Fresh::new_node_rests, crate::proofs::Fresh::new_shown))]
 pub fn node_starts<B: Behaviour + Drop>(
     alloc: Global,
     table: &LeaseTable,
@@ -92,6 +93,7 @@ pub fn node_starts<B: Behaviour + Drop>(
     requires kind { B.kind_of behaviour ≡ charter.now.config.kind }
     requires version { is_version charter.now (B.version_of behaviour) ≡ true }
     ensures rested { IfOk result (Rested (id_of table.now) (charter_of table.now) who.node pass.now) }
+    ensures published { IfOk result (λ n. ArePublished (charter_of table.now) pass.now n.state) }
     ensures who { IfOk result (λ n. n.state.who ≡ who) }
 {
     let _ = table;

@@ -9,6 +9,7 @@ use yard_model::{Charter, NodeNo, Order, ProducerNo};
 
 /// The orders of the worker of one node that are left, in script order: those that name its node, a
 /// `rest` and a `send` of a producer whose last `produce` names it, and each `rebalance` and `passivate`.
+#[derive(Drop)]
 pub struct Orders<'c> {
     charter: &'c Charter,
     node: NodeNo,

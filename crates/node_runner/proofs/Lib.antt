@@ -1,2 +1,4 @@
 pub mod MembersLaws
 pub mod RosterLaws
+pub mod ParcelLaws
+pub mod SendLaws

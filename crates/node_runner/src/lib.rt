@@ -8,3 +8,6 @@ mod roster;
 pub use draws::{Draws, Fate};
 pub use parcel::{Parcel, Run, confirms, is_within_limit};
 pub use roster::{Roster, Views, enter, leave};
+
+#[cfg(test)]
+mod tests;

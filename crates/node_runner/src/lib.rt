@@ -20,3 +20,6 @@ pub use roster::{Roster, Views, enter, leave};
 pub use steps::{Place, finish, give, take_order, take_packet};
 pub use turn::{node_ends, node_starts, publish_all, take_turn};
 pub use worker::{Course, work};
+
+#[cfg(test)]
+mod tests;

@@ -13,3 +13,4 @@ pub mod RosterLaws
 pub mod ParcelLaws
 pub mod SendLaws
 pub mod Ways
+pub mod Posted

@@ -138,8 +138,8 @@ one_more z c me first p q v n s list b at_n e wide table now seen =
       below = λ i t l less' at_i h. ⊎_elim
           (λ (is : t ≡ s). subst (λ (u : Slot). seen_at q.view.seen (place_of c.config u) ≡ l) (sym is) (placed ∙ some_is list l (sym e ∙ ap (λ (u : Slot). held_list u v.state) (sym is) ∙ h)))
           (λ (ne : place_of c.config t ≢ k).
-            ap (λ (u : View). seen_at u.seen (place_of c.config t)) now ∙ get_or-set_other p.view.seen k (place_of c.config t) list [] ne
-            ∙ b.below i t l (lower i less' (λ is. ne (ap (place_of c.config) (some_is t s (sym at_i ∙ ap (slice_get (held_slots c v.state)) is ∙ at_n))))) at_i h)
+          ap (λ (u : View). seen_at u.seen (place_of c.config t)) now ∙ get_or-set_other p.view.seen k (place_of c.config t) list [] ne
+          ∙ b.below i t l (lower i less' (λ is. ne (ap (place_of c.config) (some_is t s (sym at_i ∙ ap (slice_get (held_slots c v.state)) is ∙ at_n))))) at_i h)
           (slot_or_not c t s (held_is_slot c v.state i t at_i) here);
     }
   where

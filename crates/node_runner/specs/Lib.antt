@@ -7,3 +7,4 @@ pub mod Drawn
 pub mod Parcels
 pub mod Entered
 pub mod OnWay
+pub mod Posts

@@ -1,5 +1,5 @@
 //! What a worker does in a turn: its node is given an input, comes up, or goes.
-ghost use Rattle.std.specs.Prelude.{◌≡◌, ℕ, true, false, [], Some, None, IfOk, IfSome};
+ghost use Rattle.std.specs.Prelude.{◌≡◌, ℕ, true, false, [], Some, None, IfOk, IfSome, OnOk};
 ghost use Rattle.yard_model.specs.declared.charter.Order.{Order};
 ghost use Rattle.yard_model.specs.Behaviour.{is_in};
 ghost use Rattle.yard_model.specs.Genuine.{is_brought, is_genuine_packet};
@@ -11,6 +11,7 @@ ghost use Rattle.lease_table.specs.Leasing.{Idle};
 ghost use Rattle.worker_orders.specs.Waiting.{IsDue};
 ghost use Rattle.node_runner.specs.Ordered.{input_of, IsGiven, IfPassivate};
 ghost use Rattle.node_runner.specs.Progress.{StandsAt, AreQueuesShown, GoesOn, Takes, Progressed, SawAll, is_passivation, is_rest};
+ghost use Rattle.node_runner.specs.Posts.{StayGenuine};
 ghost use Rattle.node_runner.specs.Rested.{Rested, ArePublished, SeesOn, means};
 ghost use Rattle.node_runner.specs.Parcels.{is_shown};
 
@@ -50,6 +51,7 @@ pub fn give<B: Behaviour + Drop>(
     ensures stands { IfOk result (λ r. StandsAt (id_of table.now) (charter_of table.now) me r.pass r.node) }
     ensures goes_on { IfOk result (λ r. is_rest input ≡ false → GoesOn (charter_of table.now) me pass (Some node) r.pass r.node) }
     ensures takes { IfOk result (λ r. (o : Order) → input_of o ≡ Some input → Takes (charter_of table.now) me o pass (Some node) r.pass r.node) }
+    ensures posts { OnOk result (StayGenuine (charter_of table.now) out.old.items out.new.items) }
 {
     let mut node = node;
     node.stands();
@@ -82,6 +84,7 @@ pub fn take_packet<B: Behaviour + Drop>(
     requires shown { is_shown (charter_of table.now) packet.now.body note ≡ true }
     ensures stands { IfOk result (λ r. StandsAt (id_of table.now) (charter_of table.now) me r.pass r.node) }
     ensures goes_on { IfOk result (λ r. GoesOn (charter_of table.now) me pass (Some node) r.pass r.node) }
+    ensures posts { OnOk result (StayGenuine (charter_of table.now) out.old.items out.new.items) }
 {
     queues_are_shown();
     let (mut pass, may) = handed(table, pass, me, &node, charter, packet, note);
@@ -92,15 +95,7 @@ pub fn take_packet<B: Behaviour + Drop>(
             node: Some(node),
         });
     }
-    give(
-        table,
-        charter,
-        me,
-        pass,
-        node,
-        Input::Packet(*packet),
-        out,
-    )
+    give(table, charter, me, pass, node, Input::Packet(*packet), out)
 }
 
 /// The worker takes an order: where the node is down, only an `up` does something, which starts it with
@@ -125,6 +120,7 @@ pub fn take_order<B: Behaviour + Copy + Drop>(
     requires version { is_version charter.now (B.version_of behaviour) ≡ true }
     ensures stands { IfOk result (λ r. StandsAt (id_of table.now) (charter_of table.now) me r.pass r.node) }
     ensures takes { IfOk result (λ r. Takes (charter_of table.now) me order.now place.pass place.node r.pass r.node) }
+    ensures posts { OnOk result (StayGenuine (charter_of table.now) out.old.items out.new.items) }
 {
     let Place { pass, node } = place;
     match node {
@@ -193,6 +189,7 @@ fn up_order<B: Behaviour + Drop>(
     requires due { IsDue (charter_of table.now) me order.now }
     ensures stands { IfOk result (λ r. StandsAt (id_of table.now) (charter_of table.now) me r.pass r.node) }
     ensures takes { IfOk result (λ r. Takes (charter_of table.now) me order.now pass (Some node) r.pass r.node) }
+    ensures posts { OnOk result (StayGenuine (charter_of table.now) out.old.items out.new.items) }
 {
     if let Order::Crash(_) = *order {
         let pass = crash(table, me, pass, node, out)?;
@@ -219,6 +216,7 @@ fn act<B: Behaviour + Drop>(
     requires due { IsDue (charter_of table.now) me order.now }
     ensures stands { IfOk result (λ r. StandsAt (id_of table.now) (charter_of table.now) me r.pass r.node) }
     ensures takes { IfOk result (λ r. Takes (charter_of table.now) me order.now pass (Some node) r.pass r.node) }
+    ensures posts { OnOk result (StayGenuine (charter_of table.now) out.old.items out.new.items) }
 {
     let Some(input) = input_of(order) else {
         return Ok(Place {
@@ -260,6 +258,7 @@ fn crash<B: Behaviour + Drop>(
     requires rested { Rested (id_of table.now) (charter_of table.now) me pass node }
     ensures idle { IfOk result (Idle (id_of table.now) (charter_of table.now) me) }
     ensures sees { IfOk result (SeesOn me pass) }
+    ensures posts { OnOk result (StayGenuine (charter_of table.now) out.old.items out.new.items) }
 {
     let mut node = node;
     node.reserve(out)?;
@@ -277,6 +276,7 @@ pub fn finish<B: Behaviour + Drop>(
     requires stands { StandsAt (id_of table.now) (charter_of table.now) me place.pass place.node }
     ensures idle { IfOk result (Idle (id_of table.now) (charter_of table.now) me) }
     ensures saw { IfOk result (λ r. (turns : ℕ) → Progressed (charter_of table.now) turns me [] place.pass place.node → SawAll (charter_of table.now) turns me r) }
+    ensures posts { OnOk result (StayGenuine (charter_of table.now) out.old.items out.new.items) }
 {
     let Place { pass, node } = place;
     match node {

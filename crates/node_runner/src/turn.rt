@@ -14,6 +14,7 @@ ghost use Rattle.node_core.specs.Turned.{Turned, Ended};
 ghost use Rattle.lease_table.specs.Belongs.{id_of, charter_of};
 ghost use Rattle.lease_table.specs.Fits.{admits, is_within};
 ghost use Rattle.lease_table.specs.Leasing.{Idle};
+ghost use Rattle.node_runner.specs.Posts.{StayGenuine};
 ghost use Rattle.node_runner.specs.Rested.{Rested, ArePublished, SeesOn, means};
 
 use behaviour_core::Behaviour;
@@ -68,6 +69,7 @@ pub fn take_turn<B: Behaviour + Drop>(
     ensures published { ArePublished (charter_of table.now) result node.new.state }
     ensures who { node.new.state.who ≡ node.old.state.who }
     ensures turned { Turned (charter_of table.now) (λ lists. turn (all_sends (charter_of table.now)) lists input node.old.state) (moment (means me pass) node.old.state out.old.items) (moment (means me result) node.new.state out.new.items) }
+    ensures posts { StayGenuine (charter_of table.now) out.old.items out.new.items }
 {
     let mut leases = TablePass::new(table, pass, me);
     node.turn(charter, input, &mut leases, out);
@@ -113,6 +115,7 @@ pub fn node_ends<B: Behaviour + Drop>(
     requires ready { IsReady node out.old.spare }
     ensures idle { Idle (id_of table.now) (charter_of table.now) me result }
     ensures ended { Ended (charter_of table.now) (moment (means me pass) node.state out.old.items) (means me result) out.new.items }
+    ensures posts { StayGenuine (charter_of table.now) out.old.items out.new.items }
 {
     let pass = give_back(table, pass, me, node, out);
     pass.stands();

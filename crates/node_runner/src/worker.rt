@@ -86,12 +86,7 @@ fn one_turn<'c, B: Behaviour + Copy + Drop>(
     requires on_way { OnWay (id_of table.now) (charter_of table.now) me turn course.place.pass course.place.node course.next course.orders course.idle }
     ensures { IfOk result (λ x. OnWay (id_of table.now) (charter_of table.now) me (turn + 1) x.place.pass x.place.node x.next x.orders x.idle) }
 {
-    match due_order(
-        &course.next,
-        course.place.node.is_some(),
-        course.idle,
-        draw,
-    ) {
+    match due_order(&course.next, course.place.node.is_some(), course.idle, draw) {
         Some(order) => order_turn(
             alloc, table, charter, me, course, &order, turn, behaviour, out,
         ),

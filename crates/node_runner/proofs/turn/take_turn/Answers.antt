@@ -12,6 +12,7 @@ use Rattle.lease_table.specs.Leasing.{Pass}
 use Rattle.lease_table.specs.Means.{meaning_of}
 use Rattle.lease_table.proofs.Meant.{same_pass}
 use Rattle.node_runner.specs.Rested.{means}
+use Rattle.node_runner.proofs.Posted.{turned_posts}
 use Rattle.node_runner.proofs.Published.{turned_on}
 use Rattle.node_runner.proofs.turn.take_turn.Goals as goal
 
@@ -34,3 +35,6 @@ returns-clause-turned g c =
     subst (λ (y : Script). Turned y (λ lists. turn (all_sends y) lists c.args.input st) (moment (means me c.args.pass) st old) (moment (means me c.publish_all.new.pass) w new)) script
     (turned_on c.args.node.now.script (λ lists. turn (all_sends c.args.node.now.script) lists c.args.input st) me c.args.pass mid c.publish_all.new.pass st w old new c.requires.rested.who with_me c.publish_all.ensures.sees
     (subst (λ (y : Script). Rests (means me c.publish_all.new.pass) y w) (sym script) c.publish_all.ensures.rested.rests))
+
+pub returns-clause-posts : goal.returns-clause-posts
+returns-clause-posts g c = turned_posts (charter_of c.args.table.now) (λ lists. turn (all_sends (charter_of c.args.table.now)) lists c.args.input c.args.node.now.state) (moment (means c.args.me c.args.pass) c.args.node.now.state c.args.out.now.items) (moment (means c.args.me c.publish_all.new.pass) c.turn.new.self.state c.turn.new.out.items) (returns-clause-turned g c)

@@ -10,7 +10,7 @@ use Rattle.worker_orders.proofs.orders.Orders.take_line.Goals as goal
 
 pub returns-clause-due : goal.returns-clause-due
 returns-clause-due c = elim c.if-is_mine.branch [
-  then-is_mine w ↦
+  | then-is_mine w ↦
       let s = c.self.inside in
       let d : Line = c.index-orders-self.result in
       let line : Line = get_or c.orders.result.now s.at d in

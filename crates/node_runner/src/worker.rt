@@ -139,7 +139,6 @@ fn order_turn<'c, B: Behaviour + Copy + Drop>(
 }
 
 /// A worker's turn that takes no order.
-#[tactic(auto, using(crate::proofs::Ways::other_way))]
 fn other_turn<'c, B: Behaviour + Drop>(
     table: &LeaseTable,
     charter: &'c Charter,

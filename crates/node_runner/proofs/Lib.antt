@@ -1,2 +1,16 @@
+pub mod Alone
+pub mod Fresh
+pub mod Slotted
+pub mod Published
+pub mod Noted
+pub mod Shown
+pub mod Dues
+pub mod Freed
+pub mod Queueing
+pub mod Stepping
 pub mod MembersLaws
 pub mod RosterLaws
+pub mod ParcelLaws
+pub mod SendLaws
+pub mod Ways
+pub mod Posted

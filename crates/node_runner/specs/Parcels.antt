@@ -25,10 +25,10 @@ has_seen c e p n None = false
 has_seen c e p n (Some w) = recorded e p n (seen_at w.view.seen (home_of c e))
 
 -- the note has seen what the body confirms
-abbrev pub shows : Script → Body → Option Pass → Bool
-shows c (body.Request p e n u) note = has_seen c e p n note
-shows c (body.Ack p e n) note = has_seen c e p n note
-shows c b note = true
+abbrev pub is_shown : Script → Body → Option Pass → Bool
+is_shown c (body.Request p e n u) note = has_seen c e p n note
+is_shown c (body.Ack p e n) note = has_seen c e p n note
+is_shown c b note = true
 
 -- it confirms something
 abbrev pub is_confirming : Body → Bool

@@ -22,6 +22,7 @@ pub enum Fate {
 }
 
 /// The words that a worker draws, one after the other.
+#[derive(Drop)]
 pub struct Draws {
     pub(crate) words: Lcg64Xsh32,
 }

@@ -1,8 +1,8 @@
 //! What live nodes post to one another.
-ghost use Rattle.std.specs.Prelude.{◌≡◌, true, false};
+ghost use Rattle.std.specs.Prelude.{◌≡◌, true, false, IfSome};
 ghost use Rattle.yard_model.specs.Genuine.{is_genuine_packet};
 ghost use Rattle.node_laws.specs.Members.{has_different_members, is_different_body};
-ghost use Rattle.node_runner.specs.Parcels.{table_of_note, shows, is_confirming, is_within_body, is_within_packet, are_within_limit};
+ghost use Rattle.node_runner.specs.Parcels.{table_of_note, is_shown, is_confirming, is_within_body, is_within_packet, are_within_limit};
 
 use lease_table::Note;
 use std::marker::{Brand, PhantomData};
@@ -41,16 +41,17 @@ pub struct Parcel<J: Run> {
     ghost genuine: { is_genuine_packet J.script packet ≡ true },
     ghost within: { is_within_packet packet ≡ true },
     ghost belongs: { table_of_note note J.table ≡ J.table },
-    ghost shown: { shows J.script packet.body note ≡ true },
+    ghost shown: { is_shown J.script packet.body note ≡ true },
 }
 
 impl<J: Run> Parcel<J> {
-    /// A packet that confirms something, with a note that has seen the record.
+    /// A packet, with a note that has seen the record where it confirms something.
+    #[tactic(auto, using(crate::proofs::ParcelLaws::belongs))]
     pub fn new(packet: Packet, note: Option<Note>) -> Parcel<J>
         requires genuine { is_genuine_packet J.script packet ≡ true }
         requires within { is_within_packet packet ≡ true }
-        requires belongs { table_of_note note J.table ≡ J.table }
-        requires shown { shows J.script packet.body note ≡ true }
+        requires belongs { IfSome note (λ w. w.table ≡ J.table) }
+        requires shown { is_shown J.script packet.body note ≡ true }
     {
         Parcel {
             packet,
@@ -73,12 +74,13 @@ impl<J: Run> Parcel<J> {
     }
 
     /// The packet, and the note where it confirms something.
+    #[tactic(auto, using(crate::proofs::ParcelLaws::of_table))]
     pub fn into_parts(self) -> (Packet, Option<Note>)
         ensures genuine { is_genuine_packet J.script result.0 ≡ true }
         ensures within { is_within_packet result.0 ≡ true }
         ensures different { has_different_members result.0 ≡ true }
-        ensures belongs { table_of_note result.1 J.table ≡ J.table }
-        ensures shown { shows J.script result.0.body result.1 ≡ true }
+        ensures belongs { IfSome result.1 (λ w. w.table ≡ J.table) }
+        ensures shown { is_shown J.script result.0.body result.1 ≡ true }
     {
         let Parcel {
             packet,

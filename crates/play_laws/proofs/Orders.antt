@@ -36,9 +36,9 @@ use Rattle.node_laws.specs.Carried.{is_carried_body, IsBrought}
 use Rattle.node_laws.specs.Cluster.{IsMember}
 use Rattle.node_laws.specs.NodeTurns.{MayConfirm, Promised, MayTake}
 use Rattle.node_laws.specs.Traces.{recorded}
-use Rattle.play_laws.specs.Sound.{Sound, IsWell}
+use Rattle.play_laws.specs.Sound.{SoundIf, Sound, IsWell}
 use Rattle.play_laws.proofs.Handled.{Laws, handle_goes}
-use Rattle.play_laws.proofs.Steps.{Leads, none_leads, then_leads, if_leads, heard, nothing_leads, come_up_leads, go_down_leads, up_order_leads, crash_order_leads, is_freed, AreFreed, freed_still, crash_frees}
+use Rattle.play_laws.proofs.Steps.{LeadsIf, Leads, none_leads, then_leads, if_leads, heard, nothing_leads, come_up_leads, go_down_leads, up_order_leads, crash_order_leads, is_freed, AreFreed, freed_still, crash_frees}
 use Rattle.play_laws.proofs.Turned.{nodes_still}
 
 -- A node that is up stands at some place.
@@ -72,14 +72,14 @@ active_placed e w = fold_placed e w.nodes w.nodes (λ j st k. record { place = j
 -- Inputs.
 
 -- what the input promises, after any trace that leads to this world
-abbrev pub May : Script → World → Input → Type 0
-May c w i = (trace : List Fact) → Sound c trace w → (st : Node) (k : ℕ) → at w.nodes k ≡ Some st → MayTake c (recorded c trace) st i
+abbrev pub MayIf : Type 0 → Script → World → Input → Type 0
+MayIf T c w i = (trace : List Fact) → SoundIf T c trace w → (st : Node) (k : ℕ) → at w.nodes k ≡ Some st → MayTake c (recorded c trace) st i
 
-pub give_or_leads : Laws → (c : Script) (w : World) (i : Input) (o : Option Node) (q : Step) → IsPlaced w.nodes o → May c w i → IsBrought c w.lists i → Leads c w (q w) → Leads c w (give_or i o q w)
+pub give_or_leads : {T : Type 0} → Laws → (c : Script) (w : World) (i : Input) (o : Option Node) (q : Step) → IsPlaced w.nodes o → MayIf T c w i → IsBrought c w.lists i → LeadsIf T c w (q w) → LeadsIf T c w (give_or i o q w)
 give_or_leads laws c w i None q placed may told rest = rest
 give_or_leads laws c w i (Some st) q placed may told rest = λ trace s. let p : Place w.nodes st = placed st refl in handle_goes laws c trace w p.place st i p.here (may trace s st p.place p.here) told s
 
-pub give_leads : Laws → (c : Script) (w : World) (i : Input) (o : Option Node) → IsPlaced w.nodes o → May c w i → IsBrought c w.lists i → Leads c w (give i o w)
+pub give_leads : {T : Type 0} → Laws → (c : Script) (w : World) (i : Input) (o : Option Node) → IsPlaced w.nodes o → MayIf T c w i → IsBrought c w.lists i → LeadsIf T c w (give i o w)
 give_leads laws c w i o placed may told = give_or_leads laws c w i o (tell []) placed may told (none_leads c w)
 
 -- Deliveries.
@@ -91,7 +91,7 @@ may_confirm c trace w k st p e n s here producer there j at_p =
     let me : IsMember c trace k st = s.cluster.members k st here in
     let in_hand : queue_list w.lists p ≡ j.entries = ap (λ l. queue_list l p) (s.lists_are ∙ sym me.has.of_trace.lists_are) ∙ me.has.holds.producers p j (producer_above c p producer) at_p in
     let least : n ≤ position p (journal e (shard_list w.lists (shard_of (setting c) e))) = at_most n (position p (journal e (shard_list w.lists (shard_of (setting c) e)))) there in (
-      subst (λ l. n ≤ queued e l) in_hand (most n (position p (journal e (shard_list w.lists (shard_of (setting c) e)))) (queued e (queue_list w.lists p)) least (s.queued_are p e)),
+      subst (λ l. n ≤ queued e l) in_hand (most n (position p (journal e (shard_list w.lists (shard_of (setting c) e)))) (queued e (queue_list w.lists p)) least (s.queued_are tt p e)),
       ap (λ (l : SlotLists). nat_le n (position p (journal e (shard_list l (shard_of (setting c) e))))) (sym s.lists_are) ∙ there,
     )
   where
@@ -105,7 +105,7 @@ promised c trace w k st (body.Request p e n u) s here genuine different carried 
 promised c trace w k st (body.Ack p e n) s here genuine different carried = may_confirm c trace w k st p e n s here (and_both (is_producer c p) (is_brought c e) genuine).0 carried
 promised c trace w k st b s here genuine different carried = tt
 
-pub well_may : (c : Script) (w : World) (p : Packet) → IsWell c w.lists p → May c w (input.Packet p)
+pub well_may : (c : Script) (w : World) (p : Packet) → IsWell c w.lists p → MayIf (Unit {0}) c w (input.Packet p)
 well_may c w p well trace s st k here =
     let m : ((is_node c p.from && is_node c p.to) ≡ true) × (is_genuine_body c p.body ≡ true) = and_both (is_node c p.from && is_node c p.to) (is_genuine_body c p.body) well.genuine in
     record { from_is = (and_both (is_node c p.from) (is_node c p.to) m.0).0; genuine = m.1; promised = promised c trace w k st p.body s here m.1 well.different well.carried }
@@ -139,18 +139,18 @@ drain_leads laws c from (suc n) w = more_lead laws c w (world.drain from n) (dra
 
 -- Producing and sending.
 
-pub send_waiting_leads : Laws → (c : Script) (p n k : ℕ) (w : World) → is_producer c p ≡ true → Leads c w (world.send_waiting p n k w)
+pub send_waiting_leads : {T : Type 0} → Laws → (c : Script) (p n k : ℕ) (w : World) → is_producer c p ≡ true → LeadsIf T c w (world.send_waiting p n k w)
 send_waiting_leads laws c p n zero w producer = none_leads c w
 send_waiting_leads laws c p n (suc k) w producer =
     let m : Made = give (input.Send p) (node_at w n) w in
     then_leads c w m (world.send_waiting p n k) (give_leads laws c w (input.Send p) (node_at w n) (at_place w n) (λ trace s st j e. producer) tt) (λ e. send_waiting_leads laws c p n k m.world producer)
 
-send_all_leads : Laws → (c : Script) (p n : ℕ) (w : World) → is_producer c p ≡ true → Leads c w (world.send_all_waiting p n w)
+send_all_leads : {T : Type 0} → Laws → (c : Script) (p n : ℕ) (w : World) → is_producer c p ≡ true → LeadsIf T c w (world.send_all_waiting p n w)
 send_all_leads laws c p n w producer =
     let k : ℕ = ordered_of w p - queued_in_all (queue_list w.lists p) in
     if_leads c w (is_of_node n (queue_holder w p)) (world.send_waiting p n k w) (tell [] w) (λ e. send_waiting_leads laws c p n k w producer) (λ e. none_leads c w)
 
-pub produce_leads : Laws → (c : Script) (p n : ℕ) (w : World) → is_producer c p ≡ true → Leads c w (world.produce p n w)
+pub produce_leads : {T : Type 0} → Laws → (c : Script) (p n : ℕ) (w : World) → is_producer c p ≡ true → LeadsIf T c w (world.produce p n w)
 produce_leads laws c p n w producer =
     let m : Made = give (input.Produce p) (node_at w n) w in
     if_leads c w (is_none (node_at w n) || is_of_node n (queue_holder w p)) (world.nothing w) (then_step m (world.send_all_waiting p n)) (λ e. nothing_leads laws c w)
@@ -159,19 +159,19 @@ produce_leads laws c p n w producer =
 -- Settling.
 
 -- each step of the list leads
-abbrev pub AllLead : Script → List Step → Type 0
-AllLead c [] = Unit {0}
-AllLead c (q ∷ qs) = ((w : World) → Leads c w (q w)) × AllLead c qs
+abbrev pub AllLeadIf : Type 0 → Script → List Step → Type 0
+AllLeadIf T c [] = Unit {0}
+AllLeadIf T c (q ∷ qs) = ((w : World) → LeadsIf T c w (q w)) × AllLeadIf T c qs
 
-pub all_lead : (c : Script) (qs : List Step) (w : World) → AllLead c qs → Leads c w (in_order qs w)
+pub all_lead : {T : Type 0} → (c : Script) (qs : List Step) (w : World) → AllLeadIf T c qs → LeadsIf T c w (in_order qs w)
 all_lead c [] w h = none_leads c w
 all_lead c (q ∷ qs) w h = then_leads c w (q w) (in_order qs) (h.0 w) (λ e. all_lead c qs (q w).world h.1)
 
-pub downs_lead : Laws → (c : Script) (ns : List ℕ) → AllLead c (map world.go_down ns)
+pub downs_lead : {T : Type 0} → Laws → (c : Script) (ns : List ℕ) → AllLeadIf T c (map world.go_down ns)
 downs_lead laws c [] = tt
 downs_lead laws c (n ∷ ns) = ((λ w. go_down_leads laws c w n), downs_lead laws c ns)
 
-pub produces_lead : Laws → (c : Script) (n : ℕ) (ps : List ℕ) → list_all (is_producer c) ps ≡ true → AllLead c (map (λ p. world.produce p n) ps)
+pub produces_lead : {T : Type 0} → Laws → (c : Script) (n : ℕ) (ps : List ℕ) → list_all (is_producer c) ps ≡ true → AllLeadIf T c (map (λ p. world.produce p n) ps)
 produces_lead laws c n [] all = tt
 produces_lead laws c n (p ∷ ps) all =
     let m : (is_producer c p ≡ true) × (list_all (is_producer c) ps ≡ true) = and_both (is_producer c p) (list_all (is_producer c) ps) all in
@@ -295,7 +295,7 @@ first_node c script = (and_both (nat_le 1 c.config.nodes) (nat_le c.config.nodes
     nodes : is_in 1 16 k.nodes ≡ true
     nodes = (and_both (is_in 1 16 k.nodes) (is_in 1 128 k.shards) (and_both (is_in 1 16 k.nodes && is_in 1 128 k.shards) (is_in 1 32 k.producers) (and_both (is_in 1 16 k.nodes && is_in 1 128 k.shards && is_in 1 32 k.producers) (is_in 1 1000 k.buffer) two).0).0).0
 
-pub end_leads : Laws → (c : Script) (from : ℕ) (w : World) → Leads c w (world.settle_end from w)
+pub end_leads : {T : Type 0} → Laws → (c : Script) (from : ℕ) (w : World) → LeadsIf T c w (world.settle_end from w)
 end_leads laws c from w =
     let qs : List Step = world.go_down 1 ∷ tell (fact.Settled ∷ []) ∷ [] in
     if_leads c w (world.is_unsettled from w) (tell [] w) (in_order qs w) (λ e. none_leads c w) (λ e. all_lead c qs w ((λ v. go_down_leads laws c v 1), ((λ v. heard laws c v fact.Settled refl refl), tt)))

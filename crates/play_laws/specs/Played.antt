@@ -13,7 +13,7 @@ use Rattle.yard_model.specs.SlotLists.{SlotLists}
 use Rattle.yard_model.specs.SlotReads.{holder}
 use Rattle.yard_model.specs.Trace.{list_at}
 use Rattle.yard_model.specs.World.{World, new_world, given_world, play_line, in_order, played, trace_of}
-use Rattle.play_laws.specs.Sound.{Sound, AreQueued, LeadsOn}
+use Rattle.play_laws.specs.Sound.{SoundIf, Sound, AreQueued, LeadsOn}
 
 -- the name that an order brings is the script's
 abbrev pub is_named : Script → Order → Bool
@@ -35,6 +35,11 @@ PlayedIsSound = (c : Script) (limit n : ℕ) → IsScript c → LeadsOn (first_e
 abbrev pub GivenIsSound : Type 0
 GivenIsSound = (c : Script) (version : ℕ) (lists : SlotLists) → IsScript c → is_version c version ≡ true → lawful c lists ≡ true → ((s : Slot) → is_slot_of c s ≡ true → holder (list_at lists s) ≡ None) → AreQueued c lists
     → Sound c (opening_of version lists) (given_world c version lists)
+
+-- so much of it stands, too, where more may be recorded than is queued
+abbrev pub GivenStands : Type 0
+GivenStands = (c : Script) (version : ℕ) (lists : SlotLists) → IsScript c → is_version c version ≡ true → lawful c lists ≡ true → ((s : Slot) → is_slot_of c s ≡ true → holder (list_at lists s) ≡ None)
+    → SoundIf ⊥ c (opening_of version lists) (given_world c version lists)
 
 -- so the trace of every script is safe at each prefix, also one that stops at the limit
 abbrev pub PlayedIsSafe : Type 0

@@ -1,5 +1,5 @@
 //! What the orders of a script lead to.
-ghost use Rattle.play_laws.specs.Played.{LineLeadsOn, GivenIsSound, PlayedIsSound, PlayedIsSafe, TraceIsSafe, PlayedLists};
+ghost use Rattle.play_laws.specs.Played.{LineLeadsOn, GivenIsSound, GivenStands, PlayedIsSound, PlayedIsSafe, TraceIsSafe, PlayedLists};
 
 use actor_laws::region::shards_are_there;
 use era_laws::opening::{era_opens, opening_gives_lists, opening_is_quiet};
@@ -40,6 +40,29 @@ pub fn line_leads_on()
 /// A world that begins with given lawful lists, of which none is held, is sound.
 pub fn given_is_sound()
     ensures { GivenIsSound }
+{
+    cluster_turns();
+    turn_is_guarded();
+    recorded_stays();
+    turn_carries();
+    cluster_loses();
+    cluster_hears();
+    cluster_gains();
+    cluster_begins();
+    cluster_upgrades();
+    cluster_is_safe();
+    opening_gives_lists();
+    opening_is_quiet();
+    era_opens();
+    reshaped_is_lawful();
+    reshaped_keeps_journals();
+    shards_are_there();
+}
+
+/// All but that stands also where more of a producer's commands is recorded than is queued, as it may be
+/// in lists that are lawful and no more.
+pub fn given_stands()
+    ensures { GivenStands }
 {
     cluster_turns();
     turn_is_guarded();

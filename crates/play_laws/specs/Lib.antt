@@ -1,3 +1,4 @@
+pub mod Confirming
 pub mod Played
 pub mod Sound
 pub mod TurnItems

@@ -76,6 +76,9 @@ active_placed e w = fold_placed e w.nodes w.nodes (λ j st k. record { place = j
 abbrev pub MayIf : Type 0 → Script → World → Input → Type 0
 MayIf T c w i = (trace : List Fact) → SoundIf T c trace w → (st : Node) (k : ℕ) → at w.nodes k ≡ Some st → MayTake c (recorded c trace) st i
 
+abbrev pub May : Script → World → Input → Type 0
+May c w i = MayIf (Unit {0}) c w i
+
 pub give_or_leads : {T : Type 0} → Laws → (c : Script) (w : World) (i : Input) (o : Option Node) (q : Step) → IsPlaced w.nodes o → MayIf T c w i → IsBrought c w.lists i → LeadsIf T c w (q w) → LeadsIf T c w (give_or i o q w)
 give_or_leads laws c w i None q placed may told rest = rest
 give_or_leads laws c w i (Some st) q placed may told rest = λ trace s. let p : Place w.nodes st = placed st refl in handle_goes laws c trace w p.place st i p.here (may trace s st p.place p.here) told s

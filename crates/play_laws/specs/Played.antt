@@ -1,5 +1,5 @@
 -- What the orders of a script lead to.
-use Rattle.std.specs.Prelude.{◌≡◌, ℕ, Bool, true, ◌&&◌, ◌||◌, not, List, map, take, None}
+use Rattle.std.specs.Prelude.{◌≡◌, ℕ, Bool, true, ◌&&◌, ◌||◌, not, List, ◌++◌, length, map, take, None}
 use Rattle.yard_model.specs.declared.fact.Fact.{Fact}
 use Rattle.std.specs.Option.{option_map_or}
 use Rattle.yard_model.specs.declared.charter.Line.{Line}
@@ -13,7 +13,7 @@ use Rattle.yard_model.specs.Script.{Script, IsScript, brought, is_order, is_upgr
 use Rattle.yard_model.specs.SlotLists.{SlotLists}
 use Rattle.yard_model.specs.SlotReads.{holder}
 use Rattle.yard_model.specs.Trace.{list_at}
-use Rattle.yard_model.specs.World.{World, new_world, given_world, play_line, in_order, played, trace_of}
+use Rattle.yard_model.specs.World.{World, new_world, given_world, settle, settle_bound, play_line, in_order, played, trace_of}
 use Rattle.play_laws.specs.Confirming.{MaySettle}
 use Rattle.play_laws.specs.Sound.{SoundIf, Sound, AreQueued, LeadsOn}
 
@@ -46,6 +46,10 @@ GivenStands = (c : Script) (version : ℕ) (lists : SlotLists) → IsScript c �
 -- a settling of a sound world hands over nothing that confirms what isn't queued
 abbrev pub SoundMaySettle : Type 0
 SoundMaySettle = (c : Script) (from bound : ℕ) (trace : List Fact) (w : World) → Sound c trace w → MaySettle c from bound w
+
+-- and of which that is so leads to a world that stands
+abbrev pub SettleStands : Type 0
+SettleStands = (c : Script) (trace : List Fact) (w : World) → MaySettle c (length w.wire) (settle_bound w) w → SoundIf ⊥ c trace w → SoundIf ⊥ c (trace ++ (settle w).facts) (settle w).world
 
 -- so the trace of every script is safe at each prefix, also one that stops at the limit
 abbrev pub PlayedIsSafe : Type 0

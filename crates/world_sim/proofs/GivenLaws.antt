@@ -8,6 +8,7 @@ use Rattle.std.proofs.lemmas.List.Folds.{list_all-append}
 use Rattle.yard_model.specs.declared.charter.Sending.{Sending}
 use Rattle.yard_model.specs.declared.fact.Fact.{Fact}
 use Rattle.yard_model.specs.declared.fact.Fact.TheVariants as fact
+use Rattle.yard_model.specs.declared.incarnation.Incarnation.{Incarnation}
 use Rattle.yard_model.specs.declared.incarnation.Slot.{Slot}
 use Rattle.yard_model.specs.declared.incarnation.Slot.TheVariants as slot
 use Rattle.yard_model.specs.Era.{opening_of}
@@ -23,7 +24,7 @@ use Rattle.plain_laws.proofs.Booleans.{true_is_not_false, and_both, both, below,
 use Rattle.plain_laws.proofs.Lists.{by_place}
 use Rattle.shard_lease.specs.Book.{Book, meaning_of}
 use Rattle.shard_store.specs.declared.store.Store.{Store}
-use Rattle.shard_store.specs.Stores.{entries_at, lists_at, place_of, slot_at}
+use Rattle.shard_store.specs.Stores.{Shelves, entries_at, lists_at, place_of, slot_at}
 use Rattle.node_core.specs.Leased.{Tells}
 use Rattle.node_core.specs.Standing.{Standing}
 use Rattle.settle_laws.specs.Settles.{IsUnheld, StoresEnd, StoresSettle, FewOrdersFit, GivenMaySettle}
@@ -34,7 +35,8 @@ use Rattle.world_sim.specs.Keeps.{Keeps}
 use Rattle.world_sim.specs.Played.{Settling, WasSettled, WasCut, AreSettled}
 use Rattle.world_sim.specs.Stands.{Stands}
 use Rattle.world_sim.specs.Stepped.{IsWhole, IsCut}
-use Rattle.world_sim.specs.World.{IsWorld, IsOf, IsHeld, IsFromStores}
+use Rattle.world_sim.specs.declared.world.Origin.{Origin}
+use Rattle.world_sim.specs.World.{IsWorld, IsOf, IsHeld, IsFromStores, given_in}
 use Rattle.world_sim.specs.Yard.{Yard, IsSeen, IsSound, IsSoundTo, Settles, Goes, state_in}
 use Rattle.world_sim.proofs.NumberLaws.{joined}
 use Rattle.world_sim.proofs.ReshardLaws.{entries_are, tells_free}
@@ -168,8 +170,9 @@ none_leased_at c places k free less = by_shard (nat_lt k c.config.shards) refl
     unheld : (s : Slot) → is_slot_of c s ≡ true → place_of c.config s ≡ k → is_held (entries_at places k) ≡ false
     unheld s i e = ap (λ j. is_held (entries_at places j)) (sym e) ∙ (ap is_held (entries_are c b s i) ∙ ap is_some_holder (free s i))
       where
-        is_some_holder : Option _ → Bool
-        is_some_holder o = elim o as (λ x. Bool) [ None ↦ false | Some x ↦ true ]
+        is_some_holder : Option Incarnation → Bool
+        is_some_holder None = false
+        is_some_holder (Some x) = true
 
     is_least : (a m : ℕ) → a ≤ m → nat_le a m ≡ true
     is_least a m h = grind (arith, nat_tests, h)
@@ -307,3 +310,19 @@ ready_ordered c (Some g) y n f w some first going = ordered_within c g y w.given
 -- the lists that the settle of given ones left
 pub settled_lists : (c : Script) (version : ℕ) (given lists : SlotLists) → StoresEnd c version given → lists ≡ (settled_from c version given).world.lists → AreSettled c given lists
 settled_lists c version given lists e same = subst (AreSettled c given) (sym same) (record { settled_is = e.all_settled; lawful_is = e.ends.lawful_is; unheld = e.ends.unheld; longer = e.ends.longer })
+
+-- The type of a world that begins so.
+
+given_is : (o : Origin) (c : Script) (version : ℕ) (x : Shelves) → o.stores.value ≡ x → x.script ≡ c → o.version ≡ version → given_in (Some o) ≡ Some (record { version = version; lists = lists_at c.config x.places })
+given_is o c version x stores script is =
+    ap (λ l. Some (record { version = o.version; lists = l })) (ap (λ (y : Shelves). lists_at y.script.config y.places) stores ∙ ap (λ (s : Script). lists_at s.config x.places) script)
+    ∙ ap (λ v. Some (record { version = v; lists = lists_at c.config x.places })) is
+
+pub world_from : Keeps → (y : Yard) (c s : Script) (o : Origin) (version : ℕ) (x : Shelves) → s ≡ c → o.stores.value ≡ x → x.script ≡ c → o.version ≡ version → IsScript c → IsGiven c version (lists_at c.config x.places) → y.script ≡ c → y.version ≡ 0
+    → IsSeen y (given_world c version (lists_at c.config x.places)) → IsWorld s (given_in (Some o)) y 0 None
+world_from keeps y c s o version x same stores script is known given e none seen =
+    subst (λ k. IsWorld k (given_in (Some o)) y 0 None) (sym same) (subst (λ k. IsWorld c k y 0 None) (sym (given_is o c version x stores script is)) (world_given keeps y c version (lists_at c.config x.places) known given e none seen))
+
+pub view_from : (c s : Script) (o : Origin) (version : ℕ) (x : Shelves) → s ≡ c → o.stores.value ≡ x → x.script ≡ c → o.version ≡ version
+    → seen s (given_in (Some o)) 0 None ≡ seen c (Some (record { version = version; lists = lists_at c.config x.places })) 0 None
+view_from c s o version x same stores script is = ap (λ k. seen k (given_in (Some o)) 0 None) same ∙ ap (λ k. seen c k 0 None) (given_is o c version x stores script is)

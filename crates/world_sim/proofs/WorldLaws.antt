@@ -159,7 +159,7 @@ world_spent c y z n f w = record { script_is = w.script_is; few = w.few; kept = 
 
 -- The answers.
 
-abbrev seen : Script → Option Given → ℕ → Option StepFault → Played
+abbrev pub seen : Script → Option Given → ℕ → Option StepFault → Played
 seen c o n f = record { script = c; given = o; count = n; fault = f }
 
 told_next : Keeps → (c : Script) (o : Option Given) (y z : Yard) (n : ℕ) (f : Option StepFault) (l : Line) (before after : List Fact) → IsPlaying c y n f → f ≡ None → IsNext y z n l before after → Told (seen c o n f) l before after

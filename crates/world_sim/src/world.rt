@@ -143,7 +143,6 @@ impl<B: Behaviour + Copy + Drop> World<B> {
         ensures settles { OnOk result (LineSettles self.old line.now) }
     {
         made_is_safe();
-        settle_line_settles();
         if let Some(fault) = self.fault {
             return Err(fault);
         }
@@ -155,9 +154,11 @@ impl<B: Behaviour + Copy + Drop> World<B> {
         requires new { self.old.given ≡ None }
         requires going { self.old.fault ≡ None }
         requires next { slice_get self.old.script.orders self.old.count ≡ Some line.now }
-        ensures { Answers self.old line.now out.old result self.new out.new }
+        ensures answers { Answers self.old line.now out.old result self.new out.new }
+        ensures settles { OnOk result (LineSettles self.old line.now) }
     {
         standing_is_kept();
+        settle_line_settles();
         match self.yard.play_line(line, out) {
             Ok(()) => {}
             Err(_) => {

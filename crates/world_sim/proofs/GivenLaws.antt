@@ -271,10 +271,10 @@ world_cut c (Some g) y z n f w some = record { script_is = w.script_is; given_is
 
 -- What it answers.
 
-pub settle_told : {E : Type 0} → StoresSettle → FewOrdersFit → GivenMaySettle → (c : Script) (o : Option Given) (y z : Yard) (n : ℕ) (f : Option StepFault) (u : Unit {0}) (before after : List Fact) → IsWorld c o y n f → n ≡ 0 → f ≡ None → IsWhole (IsSoundTo Settles) 18 settle y z before after
+pub settle_told : (E : Type 0) → StoresSettle → FewOrdersFit → GivenMaySettle → (c : Script) (o : Option Given) (y z : Yard) (n : ℕ) (f : Option StepFault) (u : Unit {0}) (before after : List Fact) → IsWorld c o y n f → n ≡ 0 → f ≡ None → IsWhole (IsSoundTo Settles) 18 settle y z before after
     → IfSome o (λ g. Settling {E = E} (seen c o n f) g before (Ok u) (seen c o 1 f) after)
-settle_told ends fits law c None y z n f u before after w first going s = tt
-settle_told ends fits law c (Some g) y z n f u before after w first going s =
+settle_told E ends fits law c None y z n f u before after w first going s = tt
+settle_told E ends fits law c (Some g) y z n f u before after w first going s =
     let may : IsSoundTo Settles y (given_world c g.version g.lists) = settles_given law c g y w.script_is w.given_is (given_of c g y n f w first going) in
     record {
       ends = ends c g.version g.lists w.script_is w.given_is.admitted w.given_is.lawful_is w.given_is.unheld (fits c g.version g.lists w.script_is w.given_is.few);

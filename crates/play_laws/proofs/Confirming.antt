@@ -61,7 +61,7 @@ sound_settles laws c from bound trace w s full =
     let m : Made = in_order (map world.go_down (numbers 1 c.config.nodes)) w in
     let v : Sound c (trace ++ m.facts) m.world = all_lead c (map world.go_down (numbers 1 c.config.nodes)) w (downs_lead laws c (numbers 1 c.config.nodes)) trace s in
     let none : at m.world.nodes 0 ≡ None = downs_empty c.config.nodes w (at_most 1 c.config.nodes (and_both (nat_le 1 1) (nat_le 1 c.config.nodes) (first_node c s.script_is)).1)
-        (λ k st e. let me : IsMember c trace k st = s.cluster.members k st e in me.node_is) in
+    (λ k st e. let me : IsMember c trace k st = s.cluster.members k st e in me.node_is) in
     sound_begins laws c from bound ((trace ++ m.facts) ++ (world.come_up 1 m.world).facts) (world.come_up 1 m.world).world (come_up_leads laws c m.world 1 (first_node c s.script_is) none (trace ++ m.facts) v)
 
 -- A settle of which that is so, too.

@@ -51,9 +51,10 @@ fn in_shard(greatest: u32, s: ShardNo, entries: &[ShardEntry]) -> u32
 fn in_coordinator(greatest: u32, entries: &[CoordEntry]) -> u32
     ensures { result ≡ fold number_step greatest (map coord_fact entries.now) }
 {
-    entries
-        .iter()
-        .fold(greatest, |greatest, entry| after_coordinator(greatest, entry))
+    entries.iter().fold(
+        greatest,
+        |greatest, entry| after_coordinator(greatest, entry),
+    )
 }
 
 /// The greater one of this number and those in the queues.

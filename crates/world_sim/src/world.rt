@@ -17,9 +17,7 @@ use crate::places::{no_nodes, set_number, zeros};
 use crate::sent::all_sent;
 use crate::yard::Yard;
 use behaviour_core::Behaviour;
-use settle_laws::worlds::{
-    few_orders_fit, given_may_settle, settle_line_settles, stores_settle,
-};
+use settle_laws::worlds::{few_orders_fit, given_may_settle, settle_line_settles, stores_settle};
 use shard_lease::LeaseBook;
 use shard_store::Stores;
 use std::alloc::{AllocError, Global};

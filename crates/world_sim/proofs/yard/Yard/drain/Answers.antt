@@ -14,9 +14,11 @@ returns-in_default g c =
 pub deliver-requires : goal.deliver-requires
 deliver-requires g c =
     let i = c.loop.invariant.draining.goes_on c.requires.world.0 c.requires.world.1 in
-    let one : c.args.n - c.loop.counter ≡ suc (c.args.n - (c.loop.counter + 1)) = omega (arith, c.loop-test.true) in
-    (i.now, drain_next c.loop.self c.args.from c.args.n (c.args.n - c.loop.counter) (c.args.n - (c.loop.counter + 1)) c.in-Some.number c.requires.world.0 c.args.facts.now c.loop.facts one i
-    (subst (λ (v : Yard). Heads c.in-Some.number (filter (nat_lt c.args.from) v.mail.fresh)) c.self.view_is c.in-Some.ensures))
+    let one : c.args.n - c.loop.counter ≡ suc (c.args.n - (c.loop.counter + 1)) = omega (arith, c.loop-test.true) in (
+      i.now,
+      drain_next c.loop.self c.args.from c.args.n (c.args.n - c.loop.counter) (c.args.n - (c.loop.counter + 1)) c.in-Some.number c.requires.world.0 c.args.facts.now c.loop.facts one i
+          (subst (λ (v : Yard). Heads c.in-Some.number (filter (nat_lt c.args.from) v.mail.fresh)) c.self.view_is c.in-Some.ensures),
+    )
 
 pub returns-then-is_full : goal.returns-then-is_full
 returns-then-is_full g c =

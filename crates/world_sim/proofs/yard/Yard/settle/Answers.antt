@@ -16,9 +16,11 @@ settle_bound-bound-requires-clause-ordered g c = subst (λ (v : Yard). (k : ℕ)
 pub settle_by-requires-clause-world : goal.settle_by-requires-clause-world
 settle_by-requires-clause-world g c =
     let w = c.requires.world.0 in
-    let bound = subst (λ (v : Yard). (w : World) → IsSound v w → c.settle_bound-bound.result ≡ settle_bound w) c.begin-from.ensures.same c.settle_bound-bound.ensures in
-    (w, subst (λ (v : Yard). IsSoundTo (SettlesBy c.begin-from.result c.settle_bound-bound.result) v w) (sym c.begin-from.ensures.same)
-    (settles_by c.args.self.now w c.begin-from.result c.settle_bound-bound.result c.begin-from.ensures.from (bound w c.requires.world.1.sound) c.requires.world.1))
+    let bound = subst (λ (v : Yard). (w : World) → IsSound v w → c.settle_bound-bound.result ≡ settle_bound w) c.begin-from.ensures.same c.settle_bound-bound.ensures in (
+      w,
+      subst (λ (v : Yard). IsSoundTo (SettlesBy c.begin-from.result c.settle_bound-bound.result) v w) (sym c.begin-from.ensures.same)
+          (settles_by c.args.self.now w c.begin-from.result c.settle_bound-bound.result c.begin-from.ensures.from (bound w c.requires.world.1.sound) c.requires.world.1),
+    )
 
 pub settle_by-requires-clause-from : goal.settle_by-requires-clause-from
 settle_by-requires-clause-from g c = let fits = c.begin-from.ensures.fits in omega (arith, fits)

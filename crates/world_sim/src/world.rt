@@ -199,6 +199,7 @@ fn given_yard<B: Behaviour + Copy + Drop>(
     let mut ups = zeros(alloc, count)?;
     set_number(&mut ups, NodeNo::FIRST, greatest);
     let ordered = all_sent(alloc, &charter)?;
+    let mail = Mail::new(alloc, &charter)?;
     Ok(Yard {
         alloc,
         charter,
@@ -209,7 +210,7 @@ fn given_yard<B: Behaviour + Copy + Drop>(
         version: 0,
         ups,
         ordered,
-        mail: Mail::new(alloc),
+        mail,
         past: 0,
         holds: PhantomData,
     })

@@ -84,6 +84,15 @@ posted_at : {A : Type 0} (ps : List A) (k : ℕ) → 0 < k → (if k == 0 then N
 posted_at ps k h = let e : (k == 0) ≡ false = grind (arith, nat_tests) in ap (λ b. if b then None else slice_get ps (k - 1)) e
 
 -- after it is marked it may be on the wire
+got_inside : {A : Type 0} (xs : List A) (i : ℕ) (x : A) → slice_get xs i ≡ Some x → i < length xs
+got_inside [] i x e = absurd (none_is_not_some x e)
+got_inside (y ∷ ys) zero x e = omega arith
+got_inside (y ∷ ys) (suc i) x e = let less : i < length ys = got_inside ys i x e in omega (arith, less)
+
+-- it was posted
+pub posted_inside : (ps : List Packet) (k : ℕ) (p : Packet) → 0 < k → packet_at ps k ≡ Some p → k ≤ length ps
+posted_inside ps k p above e = let less : k - 1 < length ps = got_inside ps (k - 1) p (sym (posted_at ps k above) ∙ e) in omega (arith, above, less)
+
 -- the packet may be handed over
 hands : (c : Script) (w : World) (k : ℕ) (p : Packet) → 0 < k → slice_get w.wire (k - 1) ≡ Some p → MayDeliver c w k → w.past < k → MayHand c w.lists p
 hands c w zero p above got may past = absurd (omega (arith, above))

@@ -19,7 +19,7 @@ use Rattle.yard_model.specs.SlotLists.{SlotLists, shard_list, queue_list}
 use Rattle.yard_model.specs.SlotReads.{holder}
 use Rattle.yard_model.specs.Trace.{list_at}
 use Rattle.yard_model.specs.Words.{at, numbers}
-use Rattle.yard_model.specs.World.{World, Made, all_sends, given_world, number_step, settle, settle_bound, settled_from}
+use Rattle.yard_model.specs.World.{World, Made, all_sends, given_world, number_step, is_any_up, settle, settle_bound, settled_from}
 use Rattle.plain_laws.proofs.Booleans.{true_is_not_false, and_both, both, below, not_below, same_number, at_most, get_replicate}
 use Rattle.plain_laws.proofs.Lists.{by_place}
 use Rattle.shard_lease.specs.Book.{Book, meaning_of}
@@ -32,7 +32,7 @@ use Rattle.world_sim.specs.declared.fault.StepFault.{StepFault}
 use Rattle.world_sim.specs.declared.fault.StepFault.TheVariants as fault
 use Rattle.world_sim.specs.Given.{Given, IsGiven, is_numbered}
 use Rattle.world_sim.specs.Keeps.{Keeps}
-use Rattle.world_sim.specs.Played.{Settling, WasSettled, WasCut, AreSettled}
+use Rattle.world_sim.specs.Played.{Played, Settling, WasSettled, WasCut, AreSettled, made_at}
 use Rattle.world_sim.specs.Stands.{Stands}
 use Rattle.world_sim.specs.Stepped.{IsWhole, IsCut}
 use Rattle.world_sim.specs.declared.world.Origin.{Origin}
@@ -326,3 +326,21 @@ world_from keeps y c s o version x same stores script is known given e none seen
 pub view_from : (c s : Script) (o : Origin) (version : ℕ) (x : Shelves) → s ≡ c → o.stores.value ≡ x → x.script ≡ c → o.version ≡ version
     → seen s (given_in (Some o)) 0 None ≡ seen c (Some (record { version = version; lists = lists_at c.config x.places })) 0 None
 view_from c s o version x same stores script is = ap (λ k. seen k (given_in (Some o)) 0 None) same ∙ ap (λ k. seen c k 0 None) (given_is o c version x stores script is)
+
+-- Made, settled and taken apart.
+
+pub stores_settled : (E : Type 0) (c : Script) (version : ℕ) (given : SlotLists) (w v : Played) (before after : List Fact) (u : Unit {0}) (d : Script) (places : List (Option Store)) → w ≡ seen c (Some (record { version = version; lists = given })) 0 None
+    → IfSome w.given (λ g. Settling {E = E} w g before (Ok u) v after) → (is_any_up (made_at v).world ≡ false → lists_at d.config places ≡ (made_at v).world.lists) → (IsSome v.given → d ≡ v.script) → AreSettled c given (lists_at c.config places)
+stores_settled E c version given w v before after u d places is told same script = settled_lists c version given (lists_at c.config places) s.ends (ap (λ (x : Script). lists_at x.config places) (sym its) ∙ here s.ends.ends.none_up)
+  where
+    g : Given
+    g = record { version = version; lists = given }
+
+    s : WasSettled (seen c (Some g) 0 None) g before v after
+    s = subst (λ (x : Played). IfSome x.given (λ o. Settling {E = E} x o before (Ok u) v after)) is told
+
+    its : d ≡ c
+    its = subst (λ (x : Played). IsSome x.given → d ≡ x.script) s.new_is script refl
+
+    here : is_any_up (settled_from c version given).world ≡ false → lists_at d.config places ≡ (settled_from c version given).world.lists
+    here = subst (λ (x : Played). is_any_up (made_at x).world ≡ false → lists_at d.config places ≡ (made_at x).world.lists) s.new_is same

@@ -57,6 +57,7 @@ pub fn settle_stores<B: Behaviour + Copy + Drop>(
     let mut world = World::from_stores(alloc, charter, behaviour, stores)?;
     let mut facts = Facts::new(alloc);
     world.settle(&mut facts)?;
-    let (_, settled) = world.into_stores()?;
+    let (last, settled) = world.into_stores()?;
+    let _ = &last;
     Ok(settled)
 }

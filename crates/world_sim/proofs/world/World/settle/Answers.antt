@@ -18,8 +18,8 @@ settle-requires-clause-ups g c = ready_ups c.self.inside.script.value (given_in 
 pub settle-requires-clause-ordered : goal.settle-requires-clause-ordered
 settle-requires-clause-ordered g c = ready_ordered c.self.inside.script.value (given_in c.self.inside.given) c.self.inside.yard c.self.inside.count c.self.inside.fault c.self.invariant (subst (λ (p : Played). IsSome p.given) (sym c.self.view_is) c.requires.given) (ap (λ (p : Played). p.count) c.self.view_is ∙ c.requires.first) (ap (λ (p : Played). p.fault) c.self.view_is ∙ c.requires.going)
 
-pub invariant_of-self-in-Ok : goal.invariant_of-self-in-Ok
-invariant_of-self-in-Ok g c = world_settled c.standing_is_kept.ensures c.given_may_settle.ensures c.self.inside.script.value (given_in c.self.inside.given) c.self.inside.yard c.settle.new.self c.self.inside.count c.self.inside.fault c.args.out.now c.settle.new.facts c.self.invariant (subst (λ (p : Played). IsSome p.given) (sym c.self.view_is) c.requires.given) (ap (λ (p : Played). p.count) c.self.view_is ∙ c.requires.first) (ap (λ (p : Played). p.fault) c.self.view_is ∙ c.requires.going) c.in-Ok.ensures
+pub invariant_of-self : goal.invariant_of-self
+invariant_of-self g c = world_settled c.standing_is_kept.ensures c.given_may_settle.ensures c.self.inside.script.value (given_in c.self.inside.given) c.self.inside.yard c.settle.new.self c.self.inside.count c.self.inside.fault c.args.out.now c.settle.new.facts c.self.invariant (subst (λ (p : Played). IsSome p.given) (sym c.self.view_is) c.requires.given) (ap (λ (p : Played). p.count) c.self.view_is ∙ c.requires.first) (ap (λ (p : Played). p.fault) c.self.view_is ∙ c.requires.going) c.in-Ok.ensures
 
 pub invariant_of-self-in-Err : goal.invariant_of-self-in-Err
 invariant_of-self-in-Err g c = world_cut c.self.inside.script.value (given_in c.self.inside.given) c.self.inside.yard c.settle.new.self c.self.inside.count c.self.inside.fault c.self.invariant (subst (λ (p : Played). IsSome p.given) (sym c.self.view_is) c.requires.given)

@@ -2,7 +2,7 @@ use Rattle.std.specs.Prelude.{Some}
 use Rattle.yard_model.specs.World.{deliver_by, hand_over}
 use Rattle.world_sim.specs.Steps.{marked}
 use Rattle.world_sim.specs.Yard.{IsSound, IsSoundTo, Delivers}
-use Rattle.world_sim.proofs.DeliveryLaws.{marked_sound, over_stepped}
+use Rattle.world_sim.proofs.DeliveryLaws.{marked_sound, over_stepped, posted_inside}
 use Rattle.world_sim.proofs.StepLaws.{cut_from, step_cut, step_err}
 use Rattle.world_sim.proofs.yard.Yard.deliver_packet.Goals as goal
 
@@ -21,3 +21,6 @@ returns g c = over_stepped c.standing_is_kept.ensures c.args.self.now c.mark.new
 pub returns-in_err-mark : goal.returns-in_err-mark
 returns-in_err-mark g c = step_err (IsSoundTo (Delivers c.args.number)) 0 (deliver_by c.args.number (Some c.args.packet.now)) c.from_residual.result _ _ _ _ c.from_residual.ensures.0 (step_cut (IsSoundTo (Delivers c.args.number)) (marked c.args.number) (hand_over c.args.number c.args.packet.now) c.args.self.now c.mark.new.self c.args.facts.now c.mark.new.facts
     (cut_from IsSound (IsSoundTo (Delivers c.args.number)) (marked c.args.number) c.args.self.now c.mark.new.self c.args.facts.now c.mark.new.facts (λ w s. s.sound) c.in_err-mark.ensures))
+
+pub mark-requires-clause-posted : goal.mark-requires-clause-posted
+mark-requires-clause-posted g c = posted_inside c.args.self.now.mail.packets c.args.number c.args.packet.now c.requires.above c.requires.posted

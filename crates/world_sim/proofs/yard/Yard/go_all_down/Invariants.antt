@@ -1,5 +1,6 @@
 use Rattle.std.proofs.Common.{◌+◌, ◌-◌, ◌≤◌}
 use Rattle.yard_model.specs.Words.{numbers}
+use Rattle.world_sim.specs.Yard.{IsSound}
 use Rattle.world_sim.proofs.LoopLaws.{OnWay}
 use Rattle.world_sim.proofs.SettleLaws.{downs}
 use Rattle.world_sim.proofs.yard.Yard.go_all_down.Given as goal

@@ -1,5 +1,6 @@
 use Rattle.std.proofs.Common.{◌+◌, ◌-◌, ◌≤◌}
 use Rattle.yard_model.specs.Words.{numbers}
+use Rattle.world_sim.specs.Yard.{IsSound}
 use Rattle.world_sim.proofs.LoopLaws.{OnWay}
 use Rattle.world_sim.proofs.SettleLaws.{takes}
 use Rattle.world_sim.proofs.yard.Yard.take_all.Given as goal

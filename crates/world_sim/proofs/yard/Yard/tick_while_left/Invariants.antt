@@ -1,5 +1,6 @@
 use Rattle.std.proofs.Common.{◌-◌, ◌≤◌}
 use Rattle.yard_model.specs.World.{tick_while_left}
+use Rattle.world_sim.specs.Yard.{IsBacked}
 use Rattle.world_sim.proofs.LoopLaws.{OnWay}
 use Rattle.world_sim.proofs.yard.Yard.tick_while_left.Given as goal
 

@@ -12,3 +12,4 @@ pub mod MembersLaws
 pub mod RosterLaws
 pub mod ParcelLaws
 pub mod SendLaws
+pub mod Confirming

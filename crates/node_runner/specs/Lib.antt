@@ -6,3 +6,4 @@ pub mod Progress
 pub mod Drawn
 pub mod Parcels
 pub mod Entered
+pub mod Mailed

@@ -6,18 +6,19 @@ mod draws;
 mod inputs;
 pub mod laws;
 mod offer;
+mod mail;
 mod parcel;
+mod record;
 mod roster;
 mod steps;
 mod turn;
 
 pub use draws::{Draws, Fate};
 pub use inputs::input_of;
+pub use mail::Mail;
 pub use offer::{Confirmed, handed};
 pub use parcel::{Parcel, Run, confirms, is_within_limit};
+pub use record::parcel_of;
 pub use roster::{Roster, Views, enter, leave};
 pub use steps::{Place, give};
 pub use turn::{node_ends, node_starts, publish_all, take_turn};
-
-#[cfg(test)]
-mod tests;

@@ -28,6 +28,7 @@ use crate::pair::{Pair, Sends};
 use crate::place::Place;
 use crate::producer::{Producer, push};
 use durable_queue::QueueStore;
+use name_places::Guesses;
 use std::alloc::{AllocError, Global};
 use std::marker::{Model, PhantomData};
 use std::snapshot::Snapshot;
@@ -61,6 +62,7 @@ pub struct Producers {
     script: Snapshot<Charter>,
     who: Incarnation,
     names: Vec<EntityName>,
+    guesses: Guesses,
     held: Vec<Option<Producer>>,
     tables: Vec<Option<Vec<Pair>>>,
     pending: Option<Pending>,
@@ -84,12 +86,14 @@ impl Producers {
     {
         let producers = charter.config().producers;
         let names = Vec::from_slice(alloc, charter.names())?;
+        let guesses = Guesses::new(alloc, names.as_slice())?;
         let held = none_held(alloc, producers)?;
         let tables = new_tables(alloc, producers, names.len())?;
         Ok(Producers {
             script: Snapshot::of(charter),
             who,
             names,
+            guesses,
             held,
             tables,
             pending: None,
@@ -330,7 +334,7 @@ impl Producers {
     {
         Place {
             entity: *entity,
-            at: place_in(self.names.as_slice(), entity),
+            at: self.guesses.place(self.names.as_slice(), entity),
         }
     }
 
@@ -431,18 +435,5 @@ fn pending_of(p: ProducerNo, entity: &EntityName, sends: Option<Sends>) -> Optio
             sends,
         }),
         None => None,
-    }
-}
-
-/// Where a name stands among names in order.
-fn place_in(names: &[EntityName], entity: &EntityName) -> usize
-    requires sorted { IsStrictlySortedBy (slice_cmp nat_cmp) names.now }
-    requires among { list_any (is_name entity.now) names.now ≡ true }
-    ensures within { result < length names.now }
-    ensures it { name_at names.now result ≡ entity.now }
-{
-    match names.binary_search(entity) {
-        Ok(place) => place,
-        Err(_) => unreachable!(),
     }
 }

@@ -1,3 +1,5 @@
+pub mod PlaceLaws
+pub mod NamedLaws
 pub mod SendsLaws
 pub mod ListLaws
 pub mod KeptLaws

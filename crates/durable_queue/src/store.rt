@@ -9,9 +9,9 @@ ghost use Rattle.yard_model.specs.Script.{sends, plan, with_shards};
 ghost use Rattle.yard_model.specs.SlotReads as reads;
 
 use crate::counts::{count_of, put, zeros_of};
+use crate::names::Names;
 use crate::plans::{command_at, plans_of};
 use std::alloc::{AllocError, Global};
-use std::collections::BTreeMap;
 use std::marker::{Model, PhantomData};
 use std::snapshot::Snapshot as Ghost;
 use yard_model::laws::sending_law;
@@ -31,9 +31,10 @@ pub struct QueueStore {
     script: Ghost<Charter>,
     producer: ProducerNo,
     entries: Vec<QueueEntry>,
-    plans: BTreeMap<EntityName, Vec<Command>>,
-    queued: BTreeMap<EntityName, u32>,
-    confirmed: BTreeMap<EntityName, u32>,
+    names: Names,
+    plans: Vec<Vec<Command>>,
+    queued: Vec<u32>,
+    confirmed: Vec<u32>,
     total: u32,
     epoch: u32,
     leased: bool,
@@ -51,7 +52,7 @@ impl Model for QueueStore {
 
     ghost view = { λ q. record { script = q.script.value; producer = q.producer; entries = map (queue_fact q.producer) q.entries.items; spare = q.free } };
 
-    ghost invariant = { λ q. IsKept q.script.value q.producer q.entries.items q.plans q.queued q.confirmed q.total q.epoch q.leased q.free (vec_capacity q.entries) };
+    ghost invariant = { λ q. IsKept q.script.value q.producer q.entries.items q.names (map (λ v. v.items) q.plans.items) q.queued.items q.confirmed.items q.total q.epoch q.leased q.free (vec_capacity q.entries) };
 }
 
 impl QueueStore {
@@ -69,13 +70,15 @@ impl QueueStore {
         ensures spare { IfOk result (λ q. q.spare ≡ 0) }
     {
         let sends = charter.sends(producer);
-        let plans = plans_of(alloc, sends)?;
-        let queued = zeros_of(alloc, sends)?;
-        let confirmed = zeros_of(alloc, sends)?;
+        let names = Names::new(alloc, charter)?;
+        let plans = plans_of(alloc, &names, sends)?;
+        let queued = zeros_of(alloc, names.len())?;
+        let confirmed = zeros_of(alloc, names.len())?;
         Ok(QueueStore {
             script: Ghost::of(charter),
             producer,
             entries: Vec::new(alloc),
+            names,
             plans,
             queued,
             confirmed,
@@ -135,14 +138,14 @@ impl QueueStore {
     pub fn queued(&self, entity: &EntityName) -> u32
         ensures { result ≡ reads.queued entity.now self.now.entries }
     {
-        count_of(&self.queued, entity)
+        count_of(&self.names, self.queued.as_slice(), entity)
     }
 
     /// The last confirmed number to this entity; 0 before.
     pub fn confirmed(&self, entity: &EntityName) -> u32
         ensures { result ≡ reads.confirmed entity.now self.now.entries }
     {
-        count_of(&self.confirmed, entity)
+        count_of(&self.names, self.confirmed.as_slice(), entity)
     }
 
     /// The command of this number to this entity; None exactly where none of that number is queued.
@@ -155,7 +158,12 @@ impl QueueStore {
         if number == 0 || number > self.queued(entity) {
             return None;
         }
-        command_at(&self.plans, entity, number as usize - 1)
+        command_at(
+            &self.names,
+            self.plans.as_slice(),
+            entity,
+            number as usize - 1,
+        )
     }
 
     /// Makes the spare at least `n`. The only error is want of memory, which comes too where the
@@ -240,7 +248,12 @@ impl QueueStore {
     {
         sending_law();
         let sending = charter.sends(self.producer)[self.total as usize];
-        put(&mut self.queued, &sending.entity, sending.number);
+        put(
+            &self.names,
+            &mut self.queued,
+            &sending.entity,
+            sending.number,
+        );
         push(
             &mut self.entries,
             QueueEntry::Queued(sending.entity, sending.number, sending.command),
@@ -261,7 +274,7 @@ impl QueueStore {
         ensures producer { self.new.producer ≡ self.old.producer }
         ensures spare { self.new.spare + 1 ≡ self.old.spare }
     {
-        put(&mut self.confirmed, entity, number);
+        put(&self.names, &mut self.confirmed, entity, number);
         push(&mut self.entries, QueueEntry::Confirmed(*entity, number));
         self.free -= 1;
     }

@@ -4,12 +4,13 @@ use Rattle.yard_model.specs.declared.entry.QueueEntry.TheVariants as entry
 use Rattle.yard_model.specs.declared.fact.Fact.{Fact}
 use Rattle.yard_model.specs.Entry.{queue_fact}
 use Rattle.yard_model.specs.Lawful.{is_held}
-use Rattle.yard_model.specs.Script.{sends}
+use Rattle.std.specs.List.{list_any}
+use Rattle.yard_model.specs.Script.{sends, is_name}
 use Rattle.yard_model.specs.SlotReads as reads
 use Rattle.durable_queue.specs.Kept.{commands_to}
 use Rattle.durable_queue.proofs.FirstLaws.{queued_fits}
 use Rattle.durable_queue.proofs.ListLaws.{list_confirmed, sums_confirmed}
-use Rattle.durable_queue.proofs.KeptLaws.{kept_more, queued_confirmed, confirmed_confirmed, has_put}
+use Rattle.durable_queue.proofs.KeptLaws.{kept_more, queued_confirmed, confirmed_confirmed, size_put, IsPut}
 use Rattle.durable_queue.proofs.store.QueueStore.confirm.Goals as goal
 
 pub put-requires : goal.put-requires
@@ -20,7 +21,7 @@ put-requires c =
     let xs : List Fact = map (queue_fact q.producer) q.entries.items in
     let there : reads.queued e xs ≡ reads.queued e c.args.self.now.entries = ap (λ v. reads.queued e v.entries) c.self.view_is in
     let sent : reads.queued e xs ≤ length (commands_to e (sends q.script.value q.producer)) = queued_fits q.script.value q.producer xs e k.list.first in
-    k.confirmed_there.each e (omega arith)
+    record { sized = k.sized.confirmed; named = k.named.each e (omega arith) }
 
 pub invariant_of-self : goal.invariant_of-self
 invariant_of-self c =
@@ -31,11 +32,13 @@ invariant_of-self c =
     let e = c.args.entity.now in
     let held : is_held xs ≡ true = ap (λ v. is_held v.entries) c.self.view_is ∙ c.requires.leased in
     let there : reads.queued e xs ≡ reads.queued e c.args.self.now.entries = ap (λ v. reads.queued e v.entries) c.self.view_is in
+    let sent : reads.queued e xs ≤ length (commands_to e (sends q.script.value q.producer)) = queued_fits q.script.value q.producer xs e k.list.first in
+    let named : list_any (is_name e) q.names ≡ true = k.named.each e (omega arith) in
+    let put : IsPut q.names q.confirmed.items c.put.new.counts.items e c.args.number = record { sized = k.sized.confirmed; named = named; is = c.put.ensures } in
     let last : reads.confirmed e xs ≡ reads.confirmed e c.args.self.now.entries = ap (λ v. reads.confirmed e v.entries) c.self.view_is in
-    kept_more q.script.value q.producer q.entries.items c.push.new.entries.items (entry.Confirmed e c.args.number) q.plans q.queued q.confirmed q.queued c.put.new.counts
-    q.total q.epoch q.total q.epoch q.leased _ q.free _ _ k c.push.ensures.items (omega arith) c.push.ensures.capacity (omega arith) (omega arith) k.queued_there
-    (has_put q.confirmed c.put.new.counts (sends q.script.value q.producer) e c.args.number c.put.ensures k.confirmed_there)
+    kept_more q.script.value q.producer q.entries.items c.push.new.entries.items (entry.Confirmed e c.args.number) q.names (map (λ v. v.items) q.plans.items) q.queued.items q.confirmed.items q.queued.items c.put.new.counts.items
+    q.total q.epoch q.total q.epoch q.leased _ q.free _ _ k c.push.ensures.items (omega arith) c.push.ensures.capacity (omega arith) (omega arith) (record { plans = k.sized.plans; queued = k.sized.queued; confirmed = size_put q.names q.confirmed.items c.put.new.counts.items e c.args.number put })
     (list_confirmed q.script.value q.producer c.args.number xs e held (omega arith) (omega arith) k.list)
-    (queued_confirmed q.queued xs q.producer e c.args.number k.queued)
-    (confirmed_confirmed q.confirmed c.put.new.counts xs q.producer e c.args.number c.put.ensures k.confirmed)
+    (queued_confirmed q.names q.queued.items xs q.producer e c.args.number k.queued)
+    (confirmed_confirmed q.names q.confirmed.items c.put.new.counts.items xs q.producer e c.args.number put k.confirmed)
     (sums_confirmed q.total q.epoch c.args.number q.leased xs q.producer e k.sums)

@@ -15,3 +15,4 @@ pub mod SendLaws
 pub mod Ways
 pub mod Posted
 pub mod Confirming
+pub mod Mailing

@@ -5,11 +5,12 @@
 mod draws;
 mod inputs;
 pub mod laws;
-mod offer;
 mod mail;
+mod offer;
 mod parcel;
 mod record;
 mod roster;
+mod sending;
 mod steps;
 mod turn;
 mod worker;

@@ -14,3 +14,6 @@ pub mod ParcelLaws
 pub mod SendLaws
 pub mod Ways
 pub mod Posted
+pub mod Joins
+pub mod Working
+pub mod CrossLaws

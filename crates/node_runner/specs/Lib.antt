@@ -8,3 +8,5 @@ pub mod Parcels
 pub mod Entered
 pub mod OnWay
 pub mod Posts
+pub mod Ran
+pub mod Jobs

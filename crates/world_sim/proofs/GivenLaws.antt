@@ -1,6 +1,6 @@
 -- A world of given stores.
 use Rattle.std.proofs.Common.{◌≡◌, ◌<◌, ◌≤◌, ℕ, zero, suc, ◌+◌, ◌-◌, ◌*◌, true, List, [], ◌∷◌, ◌++◌, length, refl, ap, sym, ◌∙◌, subst, arith}
-use Rattle.std.specs.Prelude.{Bool, false, max, ◌==◌, ◌&&◌, nat_lt, nat_le, map, fold, replicate, Option, Some, None, IfSome, IsSome, Result, Ok, Err, slice_index_or, slice_set, if◌then◌else◌}
+use Rattle.std.specs.Prelude.{Bool, false, max, ◌==◌, ◌&&◌, nat_lt, nat_le, map, fold, replicate, Option, Some, None, IfSome, IsSome, slice_index_or, slice_set, if◌then◌else◌}
 use Rattle.std.specs.List.{list_all, flat_map}
 use Rattle.std.proofs.lemmas.Bool.Decides.{nat_tests}
 use Rattle.std.proofs.lemmas.List.{length-replicate}
@@ -32,7 +32,7 @@ use Rattle.world_sim.specs.declared.fault.StepFault.{StepFault}
 use Rattle.world_sim.specs.declared.fault.StepFault.TheVariants as fault
 use Rattle.world_sim.specs.Given.{Given, IsGiven, is_numbered}
 use Rattle.world_sim.specs.Keeps.{Keeps}
-use Rattle.world_sim.specs.Played.{Played, Settling, WasSettled, WasCut, AreSettled, made_at}
+use Rattle.world_sim.specs.Played.{Played, WasSettled, WasCut, AreSettled, made_at}
 use Rattle.world_sim.specs.Stands.{Stands}
 use Rattle.world_sim.specs.Stepped.{IsWhole, IsCut}
 use Rattle.world_sim.specs.declared.world.Origin.{Origin}
@@ -271,10 +271,10 @@ world_cut c (Some g) y z n f w some = record { script_is = w.script_is; given_is
 
 -- What it answers.
 
-pub settle_told : (E : Type 0) → StoresSettle → FewOrdersFit → GivenMaySettle → (c : Script) (o : Option Given) (y z : Yard) (n : ℕ) (f : Option StepFault) (u : Unit {0}) (before after : List Fact) → IsWorld c o y n f → n ≡ 0 → f ≡ None → IsWhole (IsSoundTo Settles) 18 settle y z before after
-    → IfSome o (λ g. Settling {E = E} (seen c o n f) g before (Ok u) (seen c o 1 f) after)
-settle_told E ends fits law c None y z n f u before after w first going s = tt
-settle_told E ends fits law c (Some g) y z n f u before after w first going s =
+pub settle_told : StoresSettle → FewOrdersFit → GivenMaySettle → (c : Script) (o : Option Given) (y z : Yard) (n : ℕ) (f : Option StepFault) (before after : List Fact) → IsWorld c o y n f → n ≡ 0 → f ≡ None → IsWhole (IsSoundTo Settles) 18 settle y z before after
+    → IfSome o (λ g. WasSettled (seen c o n f) g before (seen c o 1 f) after)
+settle_told ends fits law c None y z n f before after w first going s = tt
+settle_told ends fits law c (Some g) y z n f before after w first going s =
     let may : IsSoundTo Settles y (given_world c g.version g.lists) = settles_given law c g y w.script_is w.given_is (given_of c g y n f w first going) in
     record {
       ends = ends c g.version g.lists w.script_is w.given_is.admitted w.given_is.lawful_is w.given_is.unheld (fits c g.version g.lists w.script_is w.given_is.few);
@@ -282,10 +282,10 @@ settle_told E ends fits law c (Some g) y z n f u before after w first going s =
       new_is = λ i. record { script = c; given = Some g; count = 1; fault = going i };
     }
 
-pub settle_short : {E : Type 0} → GivenMaySettle → (c : Script) (o : Option Given) (y z : Yard) (n : ℕ) (f : Option StepFault) (e : E) (before after : List Fact) → IsWorld c o y n f → n ≡ 0 → f ≡ None → IsCut (IsSoundTo Settles) settle y z before after
-    → IfSome o (λ g. Settling (seen c o n f) g before (Err e) (seen c o n (Some fault.OutOfMemory)) after)
-settle_short law c None y z n f e before after w first going s = tt
-settle_short law c (Some g) y z n f e before after w first going s = record {
+pub settle_short : GivenMaySettle → (c : Script) (o : Option Given) (y z : Yard) (n : ℕ) (f : Option StepFault) (before after : List Fact) → IsWorld c o y n f → n ≡ 0 → f ≡ None → IsCut (IsSoundTo Settles) settle y z before after
+    → IfSome o (λ g. WasCut (seen c o n f) g before (seen c o n (Some fault.OutOfMemory)) after)
+settle_short law c None y z n f before after w first going s = tt
+settle_short law c (Some g) y z n f before after w first going s = record {
   told_some = s.told (given_world c g.version g.lists) (settles_given law c g y w.script_is w.given_is (given_of c g y n f w first going));
   new_is = refl;
 }
@@ -329,15 +329,15 @@ view_from c s o version x same stores script is = ap (λ k. seen k (given_in (So
 
 -- Made, settled and taken apart.
 
-pub stores_settled : (E : Type 0) (c : Script) (version : ℕ) (given : SlotLists) (w v : Played) (before after : List Fact) (u : Unit {0}) (d : Script) (places : List (Option Store)) → w ≡ seen c (Some (record { version = version; lists = given })) 0 None
-    → IfSome w.given (λ g. Settling {E = E} w g before (Ok u) v after) → (is_any_up (made_at v).world ≡ false → lists_at d.config places ≡ (made_at v).world.lists) → (IsSome v.given → d ≡ v.script) → AreSettled c given (lists_at c.config places)
-stores_settled E c version given w v before after u d places is told same script = settled_lists c version given (lists_at c.config places) s.ends (ap (λ (x : Script). lists_at x.config places) (sym its) ∙ here s.ends.ends.none_up)
+pub stores_settled : (c : Script) (version : ℕ) (given : SlotLists) (w v : Played) (before after : List Fact) (d : Script) (places : List (Option Store)) → w ≡ seen c (Some (record { version = version; lists = given })) 0 None
+    → IfSome w.given (λ g. WasSettled w g before v after) → (is_any_up (made_at v).world ≡ false → lists_at d.config places ≡ (made_at v).world.lists) → (IsSome v.given → d ≡ v.script) → AreSettled c given (lists_at c.config places)
+stores_settled c version given w v before after d places is told same script = settled_lists c version given (lists_at c.config places) s.ends (ap (λ (x : Script). lists_at x.config places) (sym its) ∙ here s.ends.ends.none_up)
   where
     g : Given
     g = record { version = version; lists = given }
 
     s : WasSettled (seen c (Some g) 0 None) g before v after
-    s = subst (λ (x : Played). IfSome x.given (λ o. Settling {E = E} x o before (Ok u) v after)) is told
+    s = subst (λ (x : Played). IfSome x.given (λ o. WasSettled x o before v after)) is told
 
     its : d ≡ c
     its = subst (λ (x : Played). IsSome x.given → d ≡ x.script) s.new_is script refl

@@ -1,7 +1,7 @@
 use Rattle.std.proofs.Common.{ap, sym, ◌∙◌, subst}
-use Rattle.std.specs.Prelude.{IsSome, IfSome, Ok, Err, Some}
+use Rattle.std.specs.Prelude.{IsSome, IfSome, Some}
 use Rattle.world_sim.specs.declared.fault.StepFault.TheVariants as fault
-use Rattle.world_sim.specs.Played.{Played, Settling}
+use Rattle.world_sim.specs.Played.{Played, WasSettled, WasCut}
 use Rattle.world_sim.specs.World.{given_in}
 use Rattle.world_sim.proofs.GivenLaws.{ready, ready_version, ready_ups, ready_ordered, world_settled, world_cut, settle_told, settle_short}
 use Rattle.world_sim.proofs.world.World.settle.Goals as goal
@@ -26,10 +26,10 @@ invariant_of-self-in-Err g c = world_cut c.self.inside.script.value (given_in c.
 
 pub returns-in-Ok : goal.returns-in-Ok
 returns-in-Ok g c =
-    subst (λ (p : Played). IfSome p.given (λ o. Settling p o c.args.out.now _ (record { script = c.self.inside.script.value; given = given_in c.self.inside.given; count = 1; fault = c.self.inside.fault }) c.settle.new.facts)) c.self.view_is
-    (settle_told _ c.stores_settle.ensures c.few_orders_fit.ensures c.given_may_settle.ensures c.self.inside.script.value (given_in c.self.inside.given) c.self.inside.yard c.settle.new.self c.self.inside.count c.self.inside.fault _ c.args.out.now c.settle.new.facts c.self.invariant (ap (λ (p : Played). p.count) c.self.view_is ∙ c.requires.first) (ap (λ (p : Played). p.fault) c.self.view_is ∙ c.requires.going) c.in-Ok.ensures)
+    subst (λ (p : Played). IfSome p.given (λ o. WasSettled p o c.args.out.now (record { script = c.self.inside.script.value; given = given_in c.self.inside.given; count = 1; fault = c.self.inside.fault }) c.settle.new.facts)) c.self.view_is
+    (settle_told c.stores_settle.ensures c.few_orders_fit.ensures c.given_may_settle.ensures c.self.inside.script.value (given_in c.self.inside.given) c.self.inside.yard c.settle.new.self c.self.inside.count c.self.inside.fault c.args.out.now c.settle.new.facts c.self.invariant (ap (λ (p : Played). p.count) c.self.view_is ∙ c.requires.first) (ap (λ (p : Played). p.fault) c.self.view_is ∙ c.requires.going) c.in-Ok.ensures)
 
 pub returns-in-Err : goal.returns-in-Err
 returns-in-Err g c =
-    subst (λ (p : Played). IfSome p.given (λ o. Settling p o c.args.out.now _ (record { script = c.self.inside.script.value; given = given_in c.self.inside.given; count = c.self.inside.count; fault = Some fault.OutOfMemory }) c.settle.new.facts)) c.self.view_is
-    (settle_short c.given_may_settle.ensures c.self.inside.script.value (given_in c.self.inside.given) c.self.inside.yard c.settle.new.self c.self.inside.count c.self.inside.fault _ c.args.out.now c.settle.new.facts c.self.invariant (ap (λ (p : Played). p.count) c.self.view_is ∙ c.requires.first) (ap (λ (p : Played). p.fault) c.self.view_is ∙ c.requires.going) c.in-Err.ensures)
+    subst (λ (p : Played). IfSome p.given (λ o. WasCut p o c.args.out.now (record { script = c.self.inside.script.value; given = given_in c.self.inside.given; count = c.self.inside.count; fault = Some fault.OutOfMemory }) c.settle.new.facts)) c.self.view_is
+    (settle_short c.given_may_settle.ensures c.self.inside.script.value (given_in c.self.inside.given) c.self.inside.yard c.settle.new.self c.self.inside.count c.self.inside.fault c.args.out.now c.settle.new.facts c.self.invariant (ap (λ (p : Played). p.count) c.self.view_is ∙ c.requires.first) (ap (λ (p : Played). p.fault) c.self.view_is ∙ c.requires.going) c.in-Err.ensures)

@@ -14,3 +14,5 @@ pub mod ParcelLaws
 pub mod SendLaws
 pub mod Ways
 pub mod Posted
+pub mod Confirming
+pub mod Mailing

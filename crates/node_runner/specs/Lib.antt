@@ -8,3 +8,4 @@ pub mod Parcels
 pub mod Entered
 pub mod OnWay
 pub mod Posts
+pub mod Mailed

@@ -1,10 +1,14 @@
 -- What a packet needs before its node takes it.
-use Rattle.std.specs.Prelude.{◌≡◌, ℕ, true, Option, Some, None}
+use Rattle.std.specs.Prelude.{◌≡◌, ℕ, Bool, true, false, List, Option, Some, None, IsSomeAnd}
+use Rattle.yard_model.specs.declared.incarnation.Slot.TheVariants as slot
 use Rattle.yard_model.specs.declared.packet.Body.{Body}
 use Rattle.yard_model.specs.declared.packet.Body.TheVariants as body
 use Rattle.yard_model.specs.declared.packet.Packet.{Packet}
 use Rattle.yard_model.specs.Members.{are_of_different_nodes}
+use Rattle.yard_model.specs.Node.{Node}
 use Rattle.yard_model.specs.Script.{Script}
+use Rattle.actor_laws.specs.Hands.{held_list}
+use Rattle.lease_table.specs.Fits.{recorded, home_of}
 use Rattle.lease_table.specs.Leasing.{Pass}
 use Rattle.node_core.specs.Leased.{IsFor}
 use Rattle.node_core.specs.Standing.{Standing}
@@ -27,3 +31,7 @@ AreApart b = Unit {0}
 pub record IsHanded (c : Script) (me : ℕ) (p : Pass) (v : Standing) (packet : Packet) : Type 0 where
   pub addressed : IsFor (means me p) v.state.who packet
   pub promised : IsPromised c (means me p).vouches v.state packet.from packet.body
+
+-- the node has this shard in hand, and the record stands in its list
+abbrev pub IsRecordedIn : ℕ → Confirmed → Node → Type 0
+IsRecordedIn s r st = IsSomeAnd (held_list (slot.Shard s) st) (λ list. recorded r.entity r.producer r.number list ≡ true)

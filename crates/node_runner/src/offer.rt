@@ -24,7 +24,7 @@ use shard_store::StoreRef;
 use yard_model::{Body, Charter, EntityName, NodeNo, Packet, ProducerNo, Slot};
 
 /// One more than the slots of any script: 128 shards, the coordinator, 32 queues.
-const PAST_SLOTS: u16 = 162;
+pub(crate) const PAST_SLOTS: u16 = 162;
 
 /// A record that a packet confirms.
 #[derive(Clone, Copy, Debug, PartialEq, Eq)]
@@ -80,7 +80,7 @@ pub fn handed<B: Behaviour + Drop>(
 }
 
 /// The record that a packet confirms; None exactly where it confirms none.
-fn confirmed_of(body: &Body) -> Option<Confirmed>
+pub(crate) fn confirmed_of(body: &Body) -> Option<Confirmed>
     ensures { result ≡ confirmed_of body.now }
 {
     match *body {

@@ -1,12 +1,12 @@
 //! What live nodes post to one another.
-ghost use Rattle.std.specs.Prelude.{◌≡◌, true, false, IfSome};
+ghost use Rattle.std.specs.Prelude.{◌≡◌, ◌≤◌, true, false, IfSome};
 ghost use Rattle.yard_model.specs.Genuine.{is_genuine_packet};
 ghost use Rattle.node_laws.specs.Members.{has_different_members, is_different_body};
 ghost use Rattle.node_runner.specs.Parcels.{table_of_note, is_shown, is_confirming, is_within_body, is_within_packet, are_within_limit};
 
 use lease_table::Note;
 use std::marker::{Brand, PhantomData};
-use yard_model::{Body, Incarnation, Packet};
+use yard_model::{Body, Incarnation, NodeNo, Packet};
 
 /// No incarnation of a live run has a greater number.
 const LIMIT: u32 = 4_000_000_000;
@@ -71,6 +71,13 @@ impl<J: Run> Parcel<J> {
             note: None,
             run: PhantomData,
         }
+    }
+
+    /// The node to which it goes, one of the run's.
+    pub fn to(&self) -> NodeNo
+        ensures { result ≤ J.script.config.nodes }
+    {
+        self.packet.to.node
     }
 
     /// The packet, and the note where it confirms something.

@@ -1,22 +1,32 @@
 //! The worker of a node: so many turns, and the end.
-ghost use Rattle.std.specs.Prelude.{◌≡◌, ◌+◌, ◌<◌, ◌≤◌, ◌⊎◌, true, is_some, nat_lt, Some, None, IfOk, MatchOption, if◌then◌else◌};
+ghost use Rattle.std.specs.Prelude.{◌≡◌, ◌+◌, ◌<◌, ◌≤◌, ◌⊎◌, true, [], length, is_some, nat_lt, Some, None, IfOk, OnOk, MatchOption, if◌then◌else◌};
 ghost use Rattle.yard_model.specs.Behaviour.{is_in};
 ghost use Rattle.yard_model.specs.Script.{is_version};
 ghost use Rattle.lease_table.specs.Belongs.{id_of, charter_of};
 ghost use Rattle.lease_table.specs.Fits.{is_within};
 ghost use Rattle.lease_table.specs.Leasing.{Idle};
+ghost use Rattle.node_runner.specs.Mailed.{IsSameHolder};
 ghost use Rattle.node_runner.specs.OnWay.{OnWay, IsDone};
+ghost use Rattle.node_runner.specs.Posts.{AreGenuine, StayGenuine};
 ghost use Rattle.node_runner.specs.Progress.{StandsAt, GoesOn, SawAll};
+ghost use Rattle.node_runner.specs.Rested.{Rested, ArePublished};
 
 use crate::draws::Draws;
 use crate::laws::queues_are_shown;
-use crate::steps::{Place, finish, give, take_order};
+use crate::mail::Mail;
+use crate::parcel::{Parcel, Run};
+use crate::roster::Roster;
+use crate::sending::{member, post_place, tell_roster};
+use crate::steps::{Place, finish, give, take_order, take_packet};
 use behaviour_core::Behaviour;
 use lease_table::{LeasePass, LeaseTable};
+use node_core::Node;
+use post_box::{BoxPass, PostBox};
 use std::alloc::{AllocError, Global};
+use std::sync::{Mutex, Wait};
 use worker_orders::Orders;
 use yard_io::Gate;
-use yard_model::{Charter, Input, NodeNo, Order, Out};
+use yard_model::{Charter, Incarnation, Input, NodeNo, Order, Out};
 
 /// No incarnation of a live run has a greater number.
 const LIMIT: u32 = 4_000_000_000;
@@ -67,12 +77,15 @@ fn due_order(next: &Option<Order>, is_up: bool, idle: u8, draw: u32) -> Option<O
     }
 }
 
-/// A worker's turn. Where no order is due, the node, which is up, gets its timer.
-fn one_turn<'c, B: Behaviour + Copy + Drop>(
+/// A worker's turn, by itself. It may wait.
+fn one_turn<'c, J: Run, R: Wait, B: Behaviour + Copy + Drop>(
+    rt: &R,
     alloc: Global,
     table: &LeaseTable,
+    boxes: &PostBox<Parcel<J>>,
     charter: &'c Charter,
     me: NodeNo,
+    mail: &mut Mail<J>,
     course: Course<'c, B>,
     draw: u32,
     turn: u32,
@@ -83,14 +96,18 @@ fn one_turn<'c, B: Behaviour + Copy + Drop>(
     requires node { is_in 1 charter.now.config.nodes me ≡ true }
     requires kind { B.kind_of behaviour ≡ charter.now.config.kind }
     requires version { is_version charter.now (B.version_of behaviour) ≡ true }
+    requires run { (J.script ≡ charter_of table.now) × (J.table ≡ id_of table.now) }
+    requires belongs { mail.old.pass.tables ≡ boxes.now.tables }
     requires on_way { OnWay (id_of table.now) (charter_of table.now) me turn course.place.pass course.place.node course.next course.orders course.idle }
-    ensures { IfOk result (λ x. OnWay (id_of table.now) (charter_of table.now) me (turn + 1) x.place.pass x.place.node x.next x.orders x.idle) }
+    ensures on_way { IfOk result (λ x. OnWay (id_of table.now) (charter_of table.now) me (turn + 1) x.place.pass x.place.node x.next x.orders x.idle) }
+    ensures posts { OnOk result (StayGenuine (charter_of table.now) out.old.items out.new.items) }
+    ensures kept { IsSameHolder mail.old.pass mail.new.pass }
 {
     match due_order(&course.next, course.place.node.is_some(), course.idle, draw) {
         Some(order) => order_turn(
             alloc, table, charter, me, course, &order, turn, behaviour, out,
         ),
-        None => other_turn(table, charter, me, course, turn, out),
+        None => other_turn(rt, table, boxes, charter, me, mail, course, turn, out),
     }
 }
 
@@ -112,7 +129,8 @@ fn order_turn<'c, B: Behaviour + Copy + Drop>(
     requires version { is_version charter.now (B.version_of behaviour) ≡ true }
     requires on_way { OnWay (id_of table.now) (charter_of table.now) me turn course.place.pass course.place.node course.next course.orders course.idle }
     requires next { course.next ≡ Some order.now }
-    ensures { IfOk result (λ x. OnWay (id_of table.now) (charter_of table.now) me (turn + 1) x.place.pass x.place.node x.next x.orders x.idle) }
+    ensures on_way { IfOk result (λ x. OnWay (id_of table.now) (charter_of table.now) me (turn + 1) x.place.pass x.place.node x.next x.orders x.idle) }
+    ensures posts { OnOk result (StayGenuine (charter_of table.now) out.old.items out.new.items) }
 {
     let _ = turn;
     let Course {
@@ -138,19 +156,26 @@ fn order_turn<'c, B: Behaviour + Copy + Drop>(
     })
 }
 
-/// A worker's turn that takes no order.
-fn other_turn<'c, B: Behaviour + Drop>(
+/// A worker's turn that takes no order. It may wait.
+fn other_turn<'c, J: Run, R: Wait, B: Behaviour + Drop>(
+    rt: &R,
     table: &LeaseTable,
+    boxes: &PostBox<Parcel<J>>,
     charter: &'c Charter,
     me: NodeNo,
+    mail: &mut Mail<J>,
     course: Course<'c, B>,
     turn: u32,
     out: &mut Out,
 ) -> Result<Course<'c, B>, AllocError>
     requires charter { charter.now ≡ charter_of table.now }
+    requires run { (J.script ≡ charter_of table.now) × (J.table ≡ id_of table.now) }
+    requires belongs { mail.old.pass.tables ≡ boxes.now.tables }
     requires on_way { OnWay (id_of table.now) (charter_of table.now) me turn course.place.pass course.place.node course.next course.orders course.idle }
     requires none { (course.next ≡ None) ⊎ ((is_some course.place.node ≡ true) × (course.idle < 3)) }
-    ensures { IfOk result (λ x. OnWay (id_of table.now) (charter_of table.now) me (turn + 1) x.place.pass x.place.node x.next x.orders x.idle) }
+    ensures on_way { IfOk result (λ x. OnWay (id_of table.now) (charter_of table.now) me (turn + 1) x.place.pass x.place.node x.next x.orders x.idle) }
+    ensures posts { OnOk result (StayGenuine (charter_of table.now) out.old.items out.new.items) }
+    ensures kept { IsSameHolder mail.old.pass mail.new.pass }
 {
     let _ = turn;
     let Course {
@@ -160,7 +185,8 @@ fn other_turn<'c, B: Behaviour + Drop>(
         idle,
         ups,
     } = course;
-    let place = tick(table, charter, me, place, out)?;
+    let parcel = mail.take(rt, boxes);
+    let place = tick(table, charter, me, place, parcel, out)?;
     Ok(Course {
         place,
         next,
@@ -170,25 +196,53 @@ fn other_turn<'c, B: Behaviour + Drop>(
     })
 }
 
-/// A node that is up gets its timer.
-fn tick<B: Behaviour + Drop>(
+/// A node that is up takes the parcel, or gets its timer where there is none.
+fn tick<J: Run, B: Behaviour + Drop>(
     table: &LeaseTable,
     charter: &Charter,
     me: NodeNo,
     place: Place<B>,
+    parcel: Option<Parcel<J>>,
     out: &mut Out,
 ) -> Result<Place<B>, AllocError>
     requires charter { charter.now ≡ charter_of table.now }
+    requires run { (J.script ≡ charter_of table.now) × (J.table ≡ id_of table.now) }
     requires stands { StandsAt (id_of table.now) (charter_of table.now) me place.pass place.node }
     ensures stands { IfOk result (λ r. StandsAt (id_of table.now) (charter_of table.now) me r.pass r.node) }
     ensures goes_on { IfOk result (λ r. GoesOn (charter_of table.now) me place.pass place.node r.pass r.node) }
+    ensures posts { OnOk result (StayGenuine (charter_of table.now) out.old.items out.new.items) }
 {
     let Place { pass, node } = place;
-    queues_are_shown();
     match node {
         None => Ok(Place { pass, node: None }),
-        Some(node) => give(table, charter, me, pass, node, Input::Tick, out),
+        Some(node) => wake(table, charter, me, pass, node, parcel, out),
     }
+}
+
+/// The node, which is up, takes the parcel, or gets its timer where there is none.
+fn wake<J: Run, B: Behaviour + Drop>(
+    table: &LeaseTable,
+    charter: &Charter,
+    me: NodeNo,
+    pass: LeasePass,
+    node: Node<B>,
+    parcel: Option<Parcel<J>>,
+    out: &mut Out,
+) -> Result<Place<B>, AllocError>
+    requires charter { charter.now ≡ charter_of table.now }
+    requires run { (J.script ≡ charter_of table.now) × (J.table ≡ id_of table.now) }
+    requires rested { Rested (id_of table.now) (charter_of table.now) me pass node }
+    requires published { ArePublished (charter_of table.now) pass node.state }
+    ensures stands { IfOk result (λ r. StandsAt (id_of table.now) (charter_of table.now) me r.pass r.node) }
+    ensures goes_on { IfOk result (λ r. GoesOn (charter_of table.now) me pass (Some node) r.pass r.node) }
+    ensures posts { OnOk result (StayGenuine (charter_of table.now) out.old.items out.new.items) }
+{
+    let Some(parcel) = parcel else {
+        queues_are_shown();
+        return give(table, charter, me, pass, node, Input::Tick, out);
+    };
+    let (packet, note) = parcel.into_parts();
+    take_packet(table, charter, me, pass, node, &packet, note, out)
 }
 
 /// One more turn without an order, of which three are counted.
@@ -213,15 +267,106 @@ fn is_over<B: Behaviour>(course: &Course<'_, B>) -> bool
     course.next.is_none() && course.place.node.is_none()
 }
 
-/// All turns of a worker, or those until nothing is left to do. The only error is want of memory.
-fn run_turns<'c, B: Behaviour + Copy + Drop, G: Gate>(
+/// A worker's turn, and what is posted after it. It may wait. The only error is want of memory.
+fn whole_turn<'c, J: Run, R: Wait, B: Behaviour + Copy + Drop>(
+    rt: &R,
     alloc: Global,
     table: &LeaseTable,
+    boxes: &PostBox<Parcel<J>>,
+    roster: &Mutex<Roster<J>>,
     charter: &'c Charter,
     me: NodeNo,
+    mail: &mut Mail<J>,
+    course: Course<'c, B>,
+    draw: u32,
+    turn: u32,
+    behaviour: B,
+    out: &mut Out,
+) -> Result<Course<'c, B>, AllocError>
+    requires charter { charter.now ≡ charter_of table.now }
+    requires node { is_in 1 charter.now.config.nodes me ≡ true }
+    requires kind { B.kind_of behaviour ≡ charter.now.config.kind }
+    requires version { is_version charter.now (B.version_of behaviour) ≡ true }
+    requires run { (J.script ≡ charter_of table.now) × (J.table ≡ id_of table.now) }
+    requires belongs { mail.old.pass.tables ≡ boxes.now.tables }
+    requires nodes { length boxes.now.tables ≡ J.script.config.nodes }
+    requires own { mail.old.pass.node ≡ me }
+    requires on_way { OnWay (id_of table.now) (charter_of table.now) me turn course.place.pass course.place.node course.next course.orders course.idle }
+    requires empty { out.old.items ≡ [] }
+    ensures on_way { IfOk result (λ x. OnWay (id_of table.now) (charter_of table.now) me (turn + 1) x.place.pass x.place.node x.next x.orders x.idle) }
+    ensures kept { IsSameHolder mail.old.pass mail.new.pass }
+    ensures emptied { OnOk result (out.new.items ≡ []) }
+{
+    let before = member(table, me, &course.place);
+    let course = one_turn(
+        rt, alloc, table, boxes, charter, me, mail, course, draw, turn, behaviour, out,
+    )?;
+    post_turn(
+        rt, table, boxes, roster, charter, me, mail, course, before, turn, out,
+    )
+}
+
+/// After a turn: what was held is posted, then the views where the node came up or went, then what the
+/// node posted. It may wait. The only error is want of memory.
+fn post_turn<'c, J: Run, R: Wait, B: Behaviour + Drop>(
+    rt: &R,
+    table: &LeaseTable,
+    boxes: &PostBox<Parcel<J>>,
+    roster: &Mutex<Roster<J>>,
+    charter: &'c Charter,
+    me: NodeNo,
+    mail: &mut Mail<J>,
+    course: Course<'c, B>,
+    before: Option<Incarnation>,
+    turn: u32,
+    out: &mut Out,
+) -> Result<Course<'c, B>, AllocError>
+    requires charter { charter.now ≡ charter_of table.now }
+    requires node { is_in 1 charter.now.config.nodes me ≡ true }
+    requires run { (J.script ≡ charter_of table.now) × (J.table ≡ id_of table.now) }
+    requires belongs { mail.old.pass.tables ≡ boxes.now.tables }
+    requires nodes { length boxes.now.tables ≡ J.script.config.nodes }
+    requires own { mail.old.pass.node ≡ me }
+    requires on_way { OnWay (id_of table.now) (charter_of table.now) me (turn + 1) course.place.pass course.place.node course.next course.orders course.idle }
+    requires genuine { AreGenuine (charter_of table.now) out.old.items }
+    ensures on_way { IfOk result (λ x. OnWay (id_of table.now) (charter_of table.now) me (turn + 1) x.place.pass x.place.node x.next x.orders x.idle) }
+    ensures kept { IsSameHolder mail.old.pass mail.new.pass }
+    ensures emptied { OnOk result (out.new.items ≡ []) }
+{
+    let _ = turn;
+    mail.release(rt, boxes);
+    let Course {
+        place,
+        next,
+        orders,
+        idle,
+        ups,
+    } = course;
+    let after = member(table, me, &place);
+    tell_roster(rt, boxes, roster, mail, before, after)?;
+    let place = post_place(rt, table, boxes, charter, mail, place, out)?;
+    Ok(Course {
+        place,
+        next,
+        orders,
+        idle,
+        ups,
+    })
+}
+
+/// All turns of a worker, or those until nothing is left to do. It may wait. The only error is want of
+/// memory.
+fn run_turns<'c, J: Run, R: Wait, B: Behaviour + Copy + Drop, G: Gate>(
+    rt: &R,
+    alloc: Global,
+    table: &LeaseTable,
+    boxes: &PostBox<Parcel<J>>,
+    roster: &Mutex<Roster<J>>,
+    charter: &'c Charter,
+    me: NodeNo,
+    mail: &mut Mail<J>,
     course: Course<'c, B>,
     turns: u32,
-    seed: u32,
     gate: &G,
     behaviour: B,
     out: &mut Out,
@@ -230,32 +375,42 @@ fn run_turns<'c, B: Behaviour + Copy + Drop, G: Gate>(
     requires node { is_in 1 charter.now.config.nodes me ≡ true }
     requires kind { B.kind_of behaviour ≡ charter.now.config.kind }
     requires version { is_version charter.now (B.version_of behaviour) ≡ true }
+    requires run { (J.script ≡ charter_of table.now) × (J.table ≡ id_of table.now) }
+    requires belongs { mail.old.pass.tables ≡ boxes.now.tables }
+    requires nodes { length boxes.now.tables ≡ J.script.config.nodes }
+    requires own { mail.old.pass.node ≡ me }
     requires on_way { OnWay (id_of table.now) (charter_of table.now) me 0 course.place.pass course.place.node course.next course.orders course.idle }
-    ensures { IfOk result (λ x. IsDone (id_of table.now) (charter_of table.now) turns me x.place.pass x.place.node) }
+    requires empty { out.old.items ≡ [] }
+    ensures done { IfOk result (λ x. IsDone (id_of table.now) (charter_of table.now) turns me x.place.pass x.place.node) }
+    ensures kept { IsSameHolder mail.old.pass mail.new.pass }
 {
-    let mut draws = Draws::new(seed, me);
     let mut course = course;
     for turn in 0..turns {
         gate.pass(me, turn + 1);
-        let draw = draws.next();
+        let draw = mail.draw();
         if is_over(&course) {
             return Ok(course);
         }
-        course = one_turn(
-            alloc, table, charter, me, course, draw, turn, behaviour, out,
+        course = whole_turn(
+            rt, alloc, table, boxes, roster, charter, me, mail, course, draw, turn, behaviour, out,
         )?;
     }
     Ok(course)
 }
 
-/// The worker of a node, from its pass to the end of its turns; then its node goes. It holds nothing
-/// then, and its pass has seen all sends of its steady producers queued. The only error is want of memory.
-pub fn work<B: Behaviour + Copy + Drop, G: Gate>(
+/// The worker of a node, from its passes at the table and at the boxes to the end of its turns; then its
+/// node goes. It holds nothing then, and its pass has seen all sends of its steady producers queued. It
+/// may wait. The only error is want of memory.
+pub fn work<J: Run, R: Wait, B: Behaviour + Copy + Drop, G: Gate>(
+    rt: &R,
     alloc: Global,
     table: &LeaseTable,
+    boxes: &PostBox<Parcel<J>>,
+    roster: &Mutex<Roster<J>>,
     charter: &Charter,
     me: NodeNo,
     pass: LeasePass,
+    box_pass: BoxPass<Parcel<J>>,
     turns: u32,
     seed: u32,
     gate: &G,
@@ -265,14 +420,20 @@ pub fn work<B: Behaviour + Copy + Drop, G: Gate>(
     requires node { is_in 1 charter.now.config.nodes me ≡ true }
     requires kind { B.kind_of behaviour ≡ charter.now.config.kind }
     requires version { is_version charter.now (B.version_of behaviour) ≡ true }
+    requires run { (J.script ≡ charter_of table.now) × (J.table ≡ id_of table.now) }
+    requires belongs { box_pass.tables ≡ boxes.now.tables }
+    requires nodes { length boxes.now.tables ≡ J.script.config.nodes }
+    requires own { box_pass.node ≡ me }
     requires idle { Idle (id_of table.now) (charter_of table.now) me pass }
     ensures idle { IfOk result (Idle (id_of table.now) (charter_of table.now) me) }
     ensures saw { IfOk result (SawAll (charter_of table.now) turns me) }
 {
     let mut out = Out::new(alloc);
+    let mut mail = Mail::new(alloc, box_pass, Draws::new(seed, me));
     let course = begin(table, charter, me, pass);
     let course = run_turns(
-        alloc, table, charter, me, course, turns, seed, gate, behaviour, &mut out,
+        rt, alloc, table, boxes, roster, charter, me, &mut mail, course, turns, gate, behaviour,
+        &mut out,
     )?;
     let Course {
         place,
@@ -281,5 +442,8 @@ pub fn work<B: Behaviour + Copy + Drop, G: Gate>(
         idle: _,
         ups: _,
     } = course;
-    finish(table, me, place, &mut out)
+    let before = member(table, me, &place);
+    let pass = finish(table, me, place, &mut out)?;
+    tell_roster(rt, boxes, roster, &mut mail, before, None)?;
+    Ok(pass)
 }

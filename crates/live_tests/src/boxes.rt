@@ -4,7 +4,7 @@ ghost use Rattle.std.specs.Prelude.{◌≡◌, ◌+◌, ◌<◌, ◌≤◌, leng
 ghost use Rattle.post_box.specs.Holding.{new_holder};
 ghost use Rattle.post_box.specs.Left.{left_of};
 
-use crate::{BoxPass, PostBox};
+use post_box::{BoxPass, PostBox};
 use std::alloc::{AllocError, Global};
 use std::sync::Wait;
 use std::test::Fail;

@@ -7,7 +7,7 @@ use Rattle.post_box.specs.contracts.pass.BoxPass as pass
 use Rattle.post_box.proofs.SendLaws.{boxes_sync, pass_send}
 use Rattle.node_runner.proofs.SendLaws.{parcel_send}
 use Rattle.node_runner.specs.contracts.parcel.Parcel as parcel
-use Rattle.node_runner.proofs.tests.empty_both.Goals as goal
+use Rattle.live_tests.proofs.parcels.empty_both.Goals as goal
 
 pub join-requires-send-F : goal.join-requires-send-F
 join-requires-send-F g c κs within =

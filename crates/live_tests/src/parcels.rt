@@ -2,7 +2,7 @@
 //! worker's draws.
 ghost use Rattle.std.specs.Prelude.{◌≡◌, ◌≤◌, length};
 
-use crate::{Draws, Parcel, Roster, Run, leave};
+use node_runner::{Draws, Parcel, Roster, Run, leave};
 use post_box::{BoxPass, PostBox};
 use std::marker::Brand;
 use std::sync::{Mutex, Wait};

@@ -98,11 +98,7 @@ fn unite_all(
 }
 
 /// All workers, each in a thread of its own where one can be had; then one pass for all of them.
-fn run_all<
-    R: Threads + Sync,
-    B: Behaviour + Copy + Drop + Send + Sync,
-    G: Gate + Sync,
->(
+fn run_all<R: Threads + Sync, B: Behaviour + Copy + Drop + Send + Sync, G: Gate + Sync>(
     rt: &R,
     alloc: Global,
     table: &LeaseTable,
@@ -123,11 +119,7 @@ fn run_all<
     let worker = move |job: Job| -> Result<LeasePass, AllocError>
         requires { (charter.now ≡ charter_of table.now) × (B.kind_of behaviour ≡ charter.now.config.kind) × (is_version charter.now (B.version_of behaviour) ≡ true) × IsJob (id_of table.now) (charter_of table.now) job.node job }
         ensures { IfOk result (IsLeft (id_of table.entry.now) (charter_of table.entry.now) turns job.entry.node) }
-    {
-        run_job(
-            alloc, table, charter, job, turns, seed, gate, behaviour,
-        )
-    };
+    { run_job(alloc, table, charter, job, turns, seed, gate, behaviour) };
     let left = map_vec(rt, jobs, &worker)?;
     unite_all(table, turns, left)
 }
@@ -136,11 +128,7 @@ fn run_all<
 /// at most so many turns. The stores that it leaves: no slot is held, the lists are lawful, no incarnation
 /// in them has a number above 4,000,000,000, and all sends of each steady producer are queued. The only
 /// error is want of memory.
-pub fn run_live<
-    R: Threads + Sync,
-    B: Behaviour + Copy + Drop + Send + Sync,
-    G: Gate + Sync,
->(
+pub fn run_live<R: Threads + Sync, B: Behaviour + Copy + Drop + Send + Sync, G: Gate + Sync>(
     rt: &R,
     alloc: Global,
     charter: &Charter,

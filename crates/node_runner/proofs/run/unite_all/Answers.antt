@@ -12,7 +12,7 @@ loop-next-init c =
 pub unite-all-requires-clause-table : goal.unite-all-requires-clause-table
 unite-all-requires-clause-table c = (
   (left_last (id_of c.args.table.now) (charter_of c.args.table.now) c.args.turns c.loop-next.left.items c.pop-in-loop-next.new.self.items c.in_ok-next.next c.loop-next.invariant.left
-  (c.in-Some-pop.ensures.items ∙ ap (λ r. c.pop-in-loop-next.new.self.items ++ r ∷ []) c.in_ok-next.was)).idle.table,
+      (c.in-Some-pop.ensures.items ∙ ap (λ r. c.pop-in-loop-next.new.self.items ++ r ∷ []) c.in_ok-next.was)).idle.table,
   c.loop-next.invariant.ran.table,
 )
 

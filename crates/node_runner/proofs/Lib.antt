@@ -16,3 +16,6 @@ pub mod Ways
 pub mod Posted
 pub mod Confirming
 pub mod Mailing
+pub mod Joins
+pub mod Working
+pub mod CrossLaws

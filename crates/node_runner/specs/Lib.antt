@@ -9,3 +9,5 @@ pub mod Entered
 pub mod OnWay
 pub mod Posts
 pub mod Mailed
+pub mod Ran
+pub mod Jobs

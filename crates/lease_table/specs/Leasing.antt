@@ -49,6 +49,12 @@ pub record IsPass (c : Script) (me : Me (Option Store) View) (order : List ℕ) 
   pub count : length order ≡ counted me.0.held
   pub room : slot_count c ≤ capacity
 
+-- it has something of each slot
+pub record Spans (v : View) : Type 0 where
+  pub helds : length v.held ≡ slot_count v.charter
+  pub seens : length v.seen ≡ slot_count v.charter
+  pub oldss : length v.olds ≡ slot_count v.charter
+
 -- the pass may act for it at the slot
 pub record MayAct (v : View) (who : Incarnation) (k : ℕ) : Type 0 where
   pub slot : k < slot_count v.charter

@@ -1,4 +1,7 @@
 //! A pass: a seat at the table, with the slots that are out with it in their order.
+ghost use Rattle.std.specs.Prelude.{◌≡◌, []};
+ghost use Rattle.lease_table.specs.Leasing.{Spans};
+
 use crate::View;
 use atomic_table::Seat;
 use shard_store::Store;
@@ -25,6 +28,15 @@ impl Model for LeasePass {
     ghost invariant = { λ p. IsPass p.charter.value p.seat.me p.order.items (vec_capacity p.order) };
 }
 
+impl LeasePass {
+    /// What is so of each pass: of each slot it has a list. It does nothing.
+    pub fn stands(&self)
+        ensures { Spans self.now.view }
+    {
+        let _ = &self.seat;
+    }
+}
+
 /// What another may be shown: it has seen what a pass had, and has no number.
 #[derive(Drop)]
 pub struct Note {
@@ -40,4 +52,13 @@ impl Model for Note {
     ghost view = { λ p. pass p.seat.table_id p.seat.me.0 };
 
     ghost invariant = { λ p. IsNote p.seat.me };
+}
+
+impl Note {
+    /// What is so of each note: it has no number. It does nothing.
+    pub fn stands(&self)
+        ensures { self.now.view.numbers ≡ [] }
+    {
+        let _ = &self.seat;
+    }
 }

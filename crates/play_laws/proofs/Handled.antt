@@ -38,7 +38,7 @@ use Rattle.node_laws.specs.NodeFound.{Finds, AreLawful}
 use Rattle.node_laws.specs.NodeStands.{is_own_fact}
 use Rattle.node_laws.specs.NodeTurns.{MayTake}
 use Rattle.node_laws.specs.Traces.{recorded, RecordedStays, TurnGoesOn, TurnIsGuarded}
-use Rattle.play_laws.specs.Sound.{Sound, AreNumbered, AreQueued}
+use Rattle.play_laws.specs.Sound.{SoundIf, AreNumbered, AreQueued}
 use Rattle.play_laws.proofs.Queued.{all_queued_on}
 use Rattle.play_laws.proofs.Same.{IsSameTrace, input_same, cluster_same}
 use Rattle.play_laws.proofs.Tells.{turn_still}
@@ -142,12 +142,12 @@ lawful_lists c trace g =
 
 -- A turn.
 
-abbrev Turned : Script → List Fact → World → Node → List Act → Type 0
-Turned c trace w st acts = let fs : List Fact = input_facts w (items_of acts) in Sound c (trace ++ fs) (with_node (fold after st acts) (fold world_after w fs))
+abbrev Turned : Type 0 → Script → List Fact → World → Node → List Act → Type 0
+Turned T c trace w st acts = let fs : List Fact = input_facts w (items_of acts) in SoundIf T c (trace ++ fs) (with_node (fold after st acts) (fold world_after w fs))
 
-turned : Laws → (c : Script) (trace : List Fact) (w : World) (k : ℕ) (st : Node) (i : Input) → at w.nodes k ≡ Some st → MayTake c (recorded c trace) st i → IsBrought c w.lists i → Sound c trace w
-    → Turned c trace w st (turn (all_sends c) (lists_of (setting c) trace) i st)
-turned laws c trace w k st i here may brought s = record {
+turned : {T : Type 0} → Laws → (c : Script) (trace : List Fact) (w : World) (k : ℕ) (st : Node) (i : Input) → at w.nodes k ≡ Some st → MayTake c (recorded c trace) st i → IsBrought c w.lists i → SoundIf T c trace w
+    → Turned T c trace w st (turn (all_sends c) (lists_of (setting c) trace) i st)
+turned {T = T} laws c trace w k st i here may brought s = record {
   script_is = s.script_is;
   set_is = went.set_is ∙ s.set_is;
   behaviour_is = went.version_is ∙ (s.behaviour_is ∙ sym (same.version_are ∙ version_own st.who trace pure go.own_are));
@@ -169,7 +169,7 @@ turned laws c trace w k st i here may brought s = record {
   given_are = λ j y e. subst (λ l. y.who.number ≤ slice_index_or l (y.who.node - 1) 0) (sym went.ups_are) (placed_all (λ j y. y.who.number ≤ slice_index_or w.ups (y.who.node - 1) 0) j y (ap (λ l. at l j) (sym nodes_is) ∙ e) (subst (λ (x : Incarnation). x.number ≤ slice_index_or w.ups (x.node - 1) 0) (sym stays) (s.given_are k st here)) (s.given_are j y));
   numbered_are = λ e x m. subst (λ l. x.number ≤ slice_index_or l (x.node - 1) 0) (sym went.ups_are)
       (numbered_on st.who w.ups trace pure go.own_are (s.given_are k st here) s.numbered_are e x (ap (is_among x) (sym (same.live_are e)) ∙ m));
-  queued_are = subst (AreQueued c) (sym went.lists_are) went.queued_are;
+  queued_are = λ t. subst (AreQueued c) (sym went.lists_are) (went.queued_are t);
   carries = λ j y e. subst (λ l. Carries l y) (sym went.lists_are) (placed_all (λ j y. Carries (lists_of (setting c) (trace ++ pure)) y) j y (ap (λ l. at l j) (sym nodes_is) ∙ e)
       (subst (λ l. Carries l now) (hand_lists c me.hand pure ∙ (ap (λ l. fold (lists_step (setting c)) l pure) me.has.of_trace.lists_are ∙ lists_on c trace pure)) on.carries)
       (λ f. subst (λ l. Carries l y) (lists_on c trace pure) (carries_on c (lists_of (setting c) trace) pure y (subst (λ l. Carries l y) s.lists_are (s.carries j y f)))));
@@ -220,10 +220,10 @@ turned laws c trace w k st i here may brought s = record {
     on = laws.carries c (recorded c trace) lists st i me.hand s.script_is me.sound me.viewed (lawful_lists c trace g) may me.has.holds finds
         (subst (λ l. Carries l st) in_hand (s.carries k st here)) (subst (λ l. IsBrought c l i) in_hand brought)
 
-    went : WentOn c w (lists_of (setting c) (trace ++ pure)) v
+    went : WentOn T c w (lists_of (setting c) (trace ++ pure)) v
     went = went_input c st.who (items_of acts) trace me.hand w me.has.of_trace.lists_are s.set_is s.lists_are next.guarded_are go.posts_are
         (turn_still (all_sends c) lists i st) on.carried_are
-        (subst (AreQueued c) s.lists_are s.queued_are) (subst (λ l. AreWell c l w.past w.wire) s.lists_are s.wire_is)
+        (λ t. subst (AreQueued c) s.lists_are (s.queued_are t)) (subst (λ l. AreWell c l w.past w.wire) s.lists_are s.wire_is)
 
     same : IsSameTrace c (trace ++ fs) (trace ++ pure)
     same = input_same c w (items_of acts) trace trace (all_own_open st.who pure go.own_are) (record { guarded_are = refl; lists_are = refl; live_are = λ e. refl; version_are = refl })
@@ -248,7 +248,7 @@ turned laws c trace w k st i here may brought s = record {
         (λ at_k. subst (λ n. P n y) (sym at_k) (subst (P k) (some_is now y (sym (placed_at w.nodes k (Some now) less) ∙ (ap (at (slice_set w.nodes k (Some now))) (sym at_k) ∙ e))) new))
         (λ other. old (sym (placed_beside w.nodes k j (Some now) other) ∙ e))
 
-pub handle_goes : Laws → (c : Script) (trace : List Fact) (w : World) (k : ℕ) (st : Node) (i : Input) → at w.nodes k ≡ Some st → MayTake c (recorded c trace) st i → IsBrought c w.lists i → Sound c trace w
-    → let m : Made = handle i st w in Sound c (trace ++ m.facts) m.world
-handle_goes laws c trace w k st i here may brought s =
-    subst (Turned c trace w st) (ap₂ (λ x l. turn x l i st) (sym s.sends_are) (sym s.lists_are)) (turned laws c trace w k st i here may brought s)
+pub handle_goes : {T : Type 0} → Laws → (c : Script) (trace : List Fact) (w : World) (k : ℕ) (st : Node) (i : Input) → at w.nodes k ≡ Some st → MayTake c (recorded c trace) st i → IsBrought c w.lists i → SoundIf T c trace w
+    → let m : Made = handle i st w in SoundIf T c (trace ++ m.facts) m.world
+handle_goes {T = T} laws c trace w k st i here may brought s =
+    subst (Turned T c trace w st) (ap₂ (λ x l. turn x l i st) (sym s.sends_are) (sym s.lists_are)) (turned laws c trace w k st i here may brought s)

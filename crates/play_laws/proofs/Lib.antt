@@ -1,3 +1,4 @@
+pub mod Confirming
 pub mod Lines
 pub mod Handled
 pub mod Orders

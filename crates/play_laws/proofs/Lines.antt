@@ -35,8 +35,8 @@ use Rattle.yard_laws.proofs.Guarding.{guarded_opens}
 use Rattle.yard_laws.proofs.SafetyLaws.{guarded_is_safe_now, safe_begins, safe_both}
 use Rattle.node_laws.specs.Cluster.{IsCluster, IsHeldBy}
 use Rattle.node_laws.specs.Members.{IsThere}
-use Rattle.play_laws.specs.Sound.{Sound, AreQueued, LeadsOn}
-use Rattle.play_laws.specs.Played.{is_named, is_played, LineLeadsOn, GivenIsSound, PlayedIsSound, PlayedIsSafe, PlayedLists}
+use Rattle.play_laws.specs.Sound.{SoundIf, Sound, AreQueued, LeadsOn}
+use Rattle.play_laws.specs.Played.{is_named, is_played, LineLeadsOn, GivenIsSound, GivenStands, PlayedIsSound, PlayedIsSafe, PlayedLists}
 use Rattle.play_laws.proofs.Handled.{Laws}
 use Rattle.play_laws.proofs.Orders.{is_steady, names_are, play_leads}
 use Rattle.play_laws.proofs.Steps.{Leads, heard, lists_next, nothing_leads, ordered_sound}
@@ -253,9 +253,9 @@ module _ (laws : Laws) (c : Script) (trace : List Fact) (w : World) (n : ℕ) (s
     are_members = λ k st e. absurd (none k st e);
     given_are = λ k st e. absurd (none k st e);
     numbered_are = λ e x m. absurd (true≢false (sym m ∙ ap (is_among x) (quiet.1 e)));
-    queued_are = λ p e. subst (λ (l : SlotLists). position p (journal e (shard_list l (shard_of (setting next) e))) ≤ queued e (queue_list l p)) (sym new_lists)
+    queued_are = λ t p e. subst (λ (l : SlotLists). position p (journal e (shard_list l (shard_of (setting next) e))) ≤ queued e (queue_list l p)) (sym new_lists)
         (subst (λ l. position p l ≤ queued e (queue_list lists p)) (sym (laws.reshaped_keeps c n k lists fits parts.1 e))
-        (subst (λ (l : SlotLists). position p (journal e (shard_list l (shard_of (setting c) e))) ≤ queued e (queue_list l p)) s.lists_are (s.queued_are p e)));
+        (subst (λ (l : SlotLists). position p (journal e (shard_list l (shard_of (setting c) e))) ≤ queued e (queue_list l p)) s.lists_are (s.queued_are tt p e)));
     carries = λ k st e. absurd (none k st e);
     wire_is = λ j p after e. absurd (none_is_not_some p (sym (past_end w.wire j after) ∙ e));
   }
@@ -399,9 +399,9 @@ orders_played c script =
         both (p x && q x && r x) (list_all (λ x. p x && q x && r x) xs) (both (p x && q x) (r x) (both (p x) (q x) a.0 b.0) d.0) (all_three p q r xs a.1 b.1 d.1)
 
 -- a world in which no node is up and nothing is posted, with lists that come of the trace
-begun : Laws → (c : Script) (version limit : ℕ) (lists : SlotLists) (ups ordered : List ℕ) (trace : List Fact) → IsScript c → is_version c version ≡ true → length ups ≡ c.config.nodes
-    → guarded c trace ≡ true → lists_of (setting c) trace ≡ lists → version_in trace ≡ version → ((e : List ℕ) → live_at e trace ≡ []) → ((s : Slot) → is_slot_of c s ≡ true → holder (list_at lists s) ≡ None) → AreQueued c lists
-    → Sound c trace (world.world_of c version limit lists ups ordered)
+begun : {T : Type 0} → Laws → (c : Script) (version limit : ℕ) (lists : SlotLists) (ups ordered : List ℕ) (trace : List Fact) → IsScript c → is_version c version ≡ true → length ups ≡ c.config.nodes
+    → guarded c trace ≡ true → lists_of (setting c) trace ≡ lists → version_in trace ≡ version → ((e : List ℕ) → live_at e trace ≡ []) → ((s : Slot) → is_slot_of c s ≡ true → holder (list_at lists s) ≡ None) → (T → AreQueued c lists)
+    → SoundIf T c trace (world.world_of c version limit lists ups ordered)
 begun laws c version limit lists ups ordered trace script admits long g gives is_version quiet free queued = record {
   script_is = script;
   set_is = refl;
@@ -435,7 +435,7 @@ begun laws c version limit lists ups ordered trace script admits long g gives is
 begins_sound : Laws → (c : Script) (limit : ℕ) → IsScript c → Sound c [] (new_world c limit)
 begins_sound laws c limit script = begun laws c 1 limit (no_lists (setting c)) (replicate c.config.nodes 0) (replicate c.config.producers 0) [] script (one_admitted (list_any (λ (l : Line). is_upgrade l.order) c.orders))
     (length-replicate c.config.nodes 0) (both (is_safe_now c []) true (safe_begins c) refl) refl refl (λ e. refl) free
-    (λ p e. subst (λ l. position p (journal e l) ≤ queued e (queue_list (no_lists (setting c)) p)) (sym (get_replicate c.config.shards (shard_of (setting c) e) [])) (least (queued e (queue_list (no_lists (setting c)) p))))
+    (λ t p e. subst (λ l. position p (journal e l) ≤ queued e (queue_list (no_lists (setting c)) p)) (sym (get_replicate c.config.shards (shard_of (setting c) e) [])) (least (queued e (queue_list (no_lists (setting c)) p))))
   where
     one_admitted : (b : Bool) → list_any (λ v. v == 1) (if b then 1 ∷ 2 ∷ [] else 1 ∷ []) ≡ true
     one_admitted true = refl
@@ -449,12 +449,19 @@ begins_sound laws c limit script = begun laws c 1 limit (no_lists (setting c)) (
     free slot.Coordinator there = refl
     free (slot.Queue p) there = ap holder (get_replicate c.config.producers (p - 1) [])
 
-pub given_is_sound : Laws → GivenIsSound
-given_is_sound laws c version lists script admits is_lawful free queued =
+given_begins : {T : Type 0} → Laws → (c : Script) (version : ℕ) (lists : SlotLists) → IsScript c → is_version c version ≡ true → lawful c lists ≡ true → ((s : Slot) → is_slot_of c s ≡ true → holder (list_at lists s) ≡ None) → (T → AreQueued c lists)
+    → SoundIf T c (opening_of version lists) (given_world c version lists)
+given_begins laws c version lists script admits is_lawful free queued =
     begun laws c version wire_limit lists (given_world c version lists).ups (given_world c version lists).ordered (opening_of version lists) script admits
     (length-set (replicate c.config.nodes 0) 0 _ ∙ length-replicate c.config.nodes 0)
     (guarded_opens c ((flat_map (λ l. l) lists.shards ++ lists.coordinator) ++ flat_map (λ l. l) lists.queues) version (laws.opens c version lists is_lawful))
     (laws.opening_gives c version lists is_lawful) (laws.opening_quiet c version lists is_lawful).0 (laws.opening_quiet c version lists is_lawful).1 free queued
+
+pub given_is_sound : Laws → GivenIsSound
+given_is_sound laws c version lists script admits is_lawful free queued = given_begins laws c version lists script admits is_lawful free (λ t. queued)
+
+pub given_stands : Laws → GivenStands
+given_stands laws c version lists script admits is_lawful free = given_begins laws c version lists script admits is_lawful free (λ t. absurd t)
 
 pub played_is_sound : Laws → PlayedIsSound
 played_is_sound laws c limit n script = lines_on laws (take n c.orders) (new_world c limit) (first_era c) (all_take (λ (l : Line). is_played c l.order) n c.orders (orders_played c script)) (begins_sound laws c limit script)

@@ -36,9 +36,10 @@ use Rattle.node_laws.specs.Carried.{is_carried_body, IsBrought}
 use Rattle.node_laws.specs.Cluster.{IsMember}
 use Rattle.node_laws.specs.NodeTurns.{MayConfirm, Promised, MayTake}
 use Rattle.node_laws.specs.Traces.{recorded}
-use Rattle.play_laws.specs.Sound.{Sound, IsWell}
+use Rattle.play_laws.specs.Confirming.{is_confirming, MayHand, MayDeliver, MayNext, MayDrain}
+use Rattle.play_laws.specs.Sound.{SoundIf, AreQueued, IsWell}
 use Rattle.play_laws.proofs.Handled.{Laws, handle_goes}
-use Rattle.play_laws.proofs.Steps.{Leads, none_leads, then_leads, if_leads, heard, nothing_leads, come_up_leads, go_down_leads, up_order_leads, crash_order_leads, is_freed, AreFreed, freed_still, crash_frees}
+use Rattle.play_laws.proofs.Steps.{LeadsIf, Leads, none_leads, then_leads, if_leads, heard, nothing_leads, come_up_leads, go_down_leads, up_order_leads, crash_order_leads, is_freed, AreFreed, freed_still, crash_frees}
 use Rattle.play_laws.proofs.Turned.{nodes_still}
 
 -- A node that is up stands at some place.
@@ -72,62 +73,85 @@ active_placed e w = fold_placed e w.nodes w.nodes (λ j st k. record { place = j
 -- Inputs.
 
 -- what the input promises, after any trace that leads to this world
-abbrev pub May : Script → World → Input → Type 0
-May c w i = (trace : List Fact) → Sound c trace w → (st : Node) (k : ℕ) → at w.nodes k ≡ Some st → MayTake c (recorded c trace) st i
+abbrev pub MayIf : Type 0 → Script → World → Input → Type 0
+MayIf T c w i = (trace : List Fact) → SoundIf T c trace w → (st : Node) (k : ℕ) → at w.nodes k ≡ Some st → MayTake c (recorded c trace) st i
 
-pub give_or_leads : Laws → (c : Script) (w : World) (i : Input) (o : Option Node) (q : Step) → IsPlaced w.nodes o → May c w i → IsBrought c w.lists i → Leads c w (q w) → Leads c w (give_or i o q w)
+abbrev pub May : Script → World → Input → Type 0
+May c w i = MayIf (Unit {0}) c w i
+
+pub give_or_leads : {T : Type 0} → Laws → (c : Script) (w : World) (i : Input) (o : Option Node) (q : Step) → IsPlaced w.nodes o → MayIf T c w i → IsBrought c w.lists i → LeadsIf T c w (q w) → LeadsIf T c w (give_or i o q w)
 give_or_leads laws c w i None q placed may told rest = rest
 give_or_leads laws c w i (Some st) q placed may told rest = λ trace s. let p : Place w.nodes st = placed st refl in handle_goes laws c trace w p.place st i p.here (may trace s st p.place p.here) told s
 
-pub give_leads : Laws → (c : Script) (w : World) (i : Input) (o : Option Node) → IsPlaced w.nodes o → May c w i → IsBrought c w.lists i → Leads c w (give i o w)
+pub give_leads : {T : Type 0} → Laws → (c : Script) (w : World) (i : Input) (o : Option Node) → IsPlaced w.nodes o → MayIf T c w i → IsBrought c w.lists i → LeadsIf T c w (give i o w)
 give_leads laws c w i o placed may told = give_or_leads laws c w i o (tell []) placed may told (none_leads c w)
 
 -- Deliveries.
 
 -- what a packet confirms is recorded, and so it is queued
-may_confirm : (c : Script) (trace : List Fact) (w : World) (k : ℕ) (st : Node) (p : ℕ) (e : List ℕ) (n : ℕ) → Sound c trace w → at w.nodes k ≡ Some st → is_producer c p ≡ true
+may_confirm : {T : Type 0} → (c : Script) (trace : List Fact) (w : World) (k : ℕ) (st : Node) (p : ℕ) (e : List ℕ) (n : ℕ) → SoundIf T c trace w → AreQueued c w.lists → at w.nodes k ≡ Some st → is_producer c p ≡ true
     → nat_le n (position p (journal e (shard_list w.lists (shard_of (setting c) e)))) ≡ true → MayConfirm (recorded c trace) st p e n
-may_confirm c trace w k st p e n s here producer there j at_p =
+may_confirm c trace w k st p e n s all here producer there j at_p =
     let me : IsMember c trace k st = s.cluster.members k st here in
     let in_hand : queue_list w.lists p ≡ j.entries = ap (λ l. queue_list l p) (s.lists_are ∙ sym me.has.of_trace.lists_are) ∙ me.has.holds.producers p j (producer_above c p producer) at_p in
     let least : n ≤ position p (journal e (shard_list w.lists (shard_of (setting c) e))) = at_most n (position p (journal e (shard_list w.lists (shard_of (setting c) e)))) there in (
-      subst (λ l. n ≤ queued e l) in_hand (most n (position p (journal e (shard_list w.lists (shard_of (setting c) e)))) (queued e (queue_list w.lists p)) least (s.queued_are p e)),
+      subst (λ l. n ≤ queued e l) in_hand (most n (position p (journal e (shard_list w.lists (shard_of (setting c) e)))) (queued e (queue_list w.lists p)) least (all p e)),
       ap (λ (l : SlotLists). nat_le n (position p (journal e (shard_list l (shard_of (setting c) e))))) (sym s.lists_are) ∙ there,
     )
   where
     most : (a b d : ℕ) → a ≤ b → b ≤ d → a ≤ d
     most a b d f g = omega (arith, f, g)
 
-promised : (c : Script) (trace : List Fact) (w : World) (k : ℕ) (st : Node) (b : Body) → Sound c trace w → at w.nodes k ≡ Some st → is_genuine_body c b ≡ true → is_different_body b ≡ true → is_carried_body c w.lists b ≡ true → Promised (recorded c trace) st b
-promised c trace w k st (body.View v xs) s here genuine different carried = different
-promised c trace w k st (body.Request p e n u) s here genuine different carried =
-    may_confirm c trace w k st p e n s here (and_both (is_producer c p) (is_brought c e) (and_both (is_producer c p && is_brought c e) (u == n + c.config.window) genuine).0).0 carried
-promised c trace w k st (body.Ack p e n) s here genuine different carried = may_confirm c trace w k st p e n s here (and_both (is_producer c p) (is_brought c e) genuine).0 carried
-promised c trace w k st b s here genuine different carried = tt
+promised : {T : Type 0} → (c : Script) (trace : List Fact) (w : World) (k : ℕ) (st : Node) (b : Body) → SoundIf T c trace w → (is_confirming b ≡ true → AreQueued c w.lists) → at w.nodes k ≡ Some st → is_genuine_body c b ≡ true → is_different_body b ≡ true
+    → is_carried_body c w.lists b ≡ true → Promised (recorded c trace) st b
+promised c trace w k st (body.View v xs) s all here genuine different carried = different
+promised c trace w k st (body.Request p e n u) s all here genuine different carried =
+    may_confirm c trace w k st p e n s (all refl) here (and_both (is_producer c p) (is_brought c e) (and_both (is_producer c p && is_brought c e) (u == n + c.config.window) genuine).0).0 carried
+promised c trace w k st (body.Ack p e n) s all here genuine different carried = may_confirm c trace w k st p e n s (all refl) here (and_both (is_producer c p) (is_brought c e) genuine).0 carried
+promised c trace w k st b s all here genuine different carried = tt
 
-pub well_may : (c : Script) (w : World) (p : Packet) → IsWell c w.lists p → May c w (input.Packet p)
-well_may c w p well trace s st k here =
+pub well_may : {T : Type 0} → (c : Script) (w : World) (p : Packet) → IsWell c w.lists p → MayHand c w.lists p → MayIf T c w (input.Packet p)
+well_may c w p well all trace s st k here =
     let m : ((is_node c p.from && is_node c p.to) ≡ true) × (is_genuine_body c p.body ≡ true) = and_both (is_node c p.from && is_node c p.to) (is_genuine_body c p.body) well.genuine in
-    record { from_is = (and_both (is_node c p.from) (is_node c p.to) m.0).0; genuine = m.1; promised = promised c trace w k st p.body s here m.1 well.different well.carried }
+    record { from_is = (and_both (is_node c p.from) (is_node c p.to) m.0).0; genuine = m.1; promised = promised c trace w k st p.body s all here m.1 well.different well.carried }
 
-over_leads : Laws → (c : Script) (w : World) (k : ℕ) (p : Packet) → (w.past < k → IsWell c w.lists p) → Leads c w (world.hand_over k p w)
-over_leads laws c w k p well = if_leads c w (nat_lt w.past k && is_among p.to w.members) (give (input.Packet p) (node_at w p.to.node) w) (tell [] w)
-    (λ e. let one : IsWell c w.lists p = well (below w.past k (and_both (nat_lt w.past k) (is_among p.to w.members) e).0) in give_leads laws c w (input.Packet p) (node_at w p.to.node) (at_place w p.to.node) (well_may c w p one) one.carried) (λ e. none_leads c w)
+over_leads_if : {T : Type 0} → Laws → (c : Script) (w : World) (k : ℕ) (p : Packet) → (w.past < k → IsWell c w.lists p) → (w.past < k → MayHand c w.lists p) → LeadsIf T c w (world.hand_over k p w)
+over_leads_if laws c w k p well all = if_leads c w (nat_lt w.past k && is_among p.to w.members) (give (input.Packet p) (node_at w p.to.node) w) (tell [] w)
+    (λ e.
+    let past : w.past < k = below w.past k (and_both (nat_lt w.past k) (is_among p.to w.members) e).0 in
+    let one : IsWell c w.lists p = well past in
+    give_leads laws c w (input.Packet p) (node_at w p.to.node) (at_place w p.to.node) (well_may c w p one (all past)) one.carried) (λ e. none_leads c w)
 
-deliver_by_leads : Laws → (c : Script) (w : World) (i : ℕ) (o : Option Packet) → slice_get w.wire i ≡ o → Leads c w (world.deliver_by (suc i) o w)
-deliver_by_leads laws c w i None e = nothing_leads laws c w
-deliver_by_leads laws c w i (Some p) e = λ trace s.
+deliver_by_leads_if : {T : Type 0} → Laws → (c : Script) (w : World) (i : ℕ) (o : Option Packet) → slice_get w.wire i ≡ o → MayDeliver c w (suc i) → LeadsIf T c w (world.deliver_by (suc i) o w)
+deliver_by_leads_if laws c w i None e all = nothing_leads laws c w
+deliver_by_leads_if laws c w i (Some p) e all = λ trace s.
     let got : Fact = fact.Got (suc i) in
     let v : World = world_after w got in
     then_leads c w (tell (got ∷ []) w) (world.hand_over (suc i) p) (heard laws c w got refl refl)
-    (λ f. over_leads laws c v (suc i) p (λ past. let well : IsWell c w.lists p = s.wire_is i p (before w.past i past) e in record { genuine = well.genuine; different = well.different; carried = well.carried })) trace s
+    (λ f. over_leads_if laws c v (suc i) p (λ past. let well : IsWell c w.lists p = s.wire_is i p (before w.past i past) e in record { genuine = well.genuine; different = well.different; carried = well.carried }) (λ past h. all p e past h)) trace s
   where
     before : (a b : ℕ) → a < suc b → a ≤ b
     before a b h = omega (arith, h)
 
+pub deliver_leads_if : {T : Type 0} → Laws → (c : Script) (w : World) (i : ℕ) → MayDeliver c w i → LeadsIf T c w (world.deliver i w)
+deliver_leads_if laws c w zero all = nothing_leads laws c w
+deliver_leads_if laws c w (suc i) all = deliver_by_leads_if laws c w i (slice_get w.wire i) refl all
+
+more_lead_if : {T : Type 0} → Laws → (c : Script) (w : World) (q : Step) (P : World → Type 0) → ((v : World) → P v → LeadsIf T c v (q v)) → (ks : List ℕ) → MayNext c w P ks → LeadsIf T c w (elim ks as (λ x. Made) [ [] ↦ tell [] w | k ∷ ks ↦ then_step (world.deliver k w) q ])
+more_lead_if laws c w q P h [] all = none_leads c w
+more_lead_if laws c w q P h (k ∷ ks) all = then_leads c w (world.deliver k w) q (deliver_leads_if laws c w k all.0) (λ e. h (world.deliver k w).world (all.1 e))
+
+pub drain_leads_if : {T : Type 0} → Laws → (c : Script) (from n : ℕ) (w : World) → MayDrain c from n w → LeadsIf T c w (world.drain from n w)
+drain_leads_if laws c from zero w all = none_leads c w
+drain_leads_if laws c from (suc n) w all = more_lead_if laws c w (world.drain from n) (MayDrain c from n) (drain_leads_if laws c from n) (filter (nat_lt from) w.fresh) all
+
+-- where all that is recorded is queued, each may be delivered
+pub may_deliver : (c : Script) (w : World) (i : ℕ) → AreQueued c w.lists → MayDeliver c w i
+may_deliver c w zero q = tt
+may_deliver c w (suc i) q = λ p e past h. q
+
 pub deliver_leads : Laws → (c : Script) (w : World) (i : ℕ) → Leads c w (world.deliver i w)
-deliver_leads laws c w zero = nothing_leads laws c w
-deliver_leads laws c w (suc i) = deliver_by_leads laws c w i (slice_get w.wire i) refl
+deliver_leads laws c w i = λ trace s. deliver_leads_if laws c w i (may_deliver c w i (s.queued_are tt)) trace s
 
 more_lead : Laws → (c : Script) (w : World) (q : Step) → ((v : World) → Leads c v (q v)) → (ks : List ℕ) → Leads c w (elim ks as (λ x. Made) [ [] ↦ tell [] w | k ∷ ks ↦ then_step (world.deliver k w) q ])
 more_lead laws c w q h [] = none_leads c w
@@ -139,18 +163,18 @@ drain_leads laws c from (suc n) w = more_lead laws c w (world.drain from n) (dra
 
 -- Producing and sending.
 
-pub send_waiting_leads : Laws → (c : Script) (p n k : ℕ) (w : World) → is_producer c p ≡ true → Leads c w (world.send_waiting p n k w)
+pub send_waiting_leads : {T : Type 0} → Laws → (c : Script) (p n k : ℕ) (w : World) → is_producer c p ≡ true → LeadsIf T c w (world.send_waiting p n k w)
 send_waiting_leads laws c p n zero w producer = none_leads c w
 send_waiting_leads laws c p n (suc k) w producer =
     let m : Made = give (input.Send p) (node_at w n) w in
     then_leads c w m (world.send_waiting p n k) (give_leads laws c w (input.Send p) (node_at w n) (at_place w n) (λ trace s st j e. producer) tt) (λ e. send_waiting_leads laws c p n k m.world producer)
 
-send_all_leads : Laws → (c : Script) (p n : ℕ) (w : World) → is_producer c p ≡ true → Leads c w (world.send_all_waiting p n w)
+send_all_leads : {T : Type 0} → Laws → (c : Script) (p n : ℕ) (w : World) → is_producer c p ≡ true → LeadsIf T c w (world.send_all_waiting p n w)
 send_all_leads laws c p n w producer =
     let k : ℕ = ordered_of w p - queued_in_all (queue_list w.lists p) in
     if_leads c w (is_of_node n (queue_holder w p)) (world.send_waiting p n k w) (tell [] w) (λ e. send_waiting_leads laws c p n k w producer) (λ e. none_leads c w)
 
-pub produce_leads : Laws → (c : Script) (p n : ℕ) (w : World) → is_producer c p ≡ true → Leads c w (world.produce p n w)
+pub produce_leads : {T : Type 0} → Laws → (c : Script) (p n : ℕ) (w : World) → is_producer c p ≡ true → LeadsIf T c w (world.produce p n w)
 produce_leads laws c p n w producer =
     let m : Made = give (input.Produce p) (node_at w n) w in
     if_leads c w (is_none (node_at w n) || is_of_node n (queue_holder w p)) (world.nothing w) (then_step m (world.send_all_waiting p n)) (λ e. nothing_leads laws c w)
@@ -159,23 +183,32 @@ produce_leads laws c p n w producer =
 -- Settling.
 
 -- each step of the list leads
-abbrev pub AllLead : Script → List Step → Type 0
-AllLead c [] = Unit {0}
-AllLead c (q ∷ qs) = ((w : World) → Leads c w (q w)) × AllLead c qs
+abbrev pub AllLeadIf : Type 0 → Script → List Step → Type 0
+AllLeadIf T c [] = Unit {0}
+AllLeadIf T c (q ∷ qs) = ((w : World) → LeadsIf T c w (q w)) × AllLeadIf T c qs
 
-pub all_lead : (c : Script) (qs : List Step) (w : World) → AllLead c qs → Leads c w (in_order qs w)
+abbrev pub AllLead : Script → List Step → Type 0
+AllLead c qs = AllLeadIf (Unit {0}) c qs
+
+pub all_lead : {T : Type 0} → (c : Script) (qs : List Step) (w : World) → AllLeadIf T c qs → LeadsIf T c w (in_order qs w)
 all_lead c [] w h = none_leads c w
 all_lead c (q ∷ qs) w h = then_leads c w (q w) (in_order qs) (h.0 w) (λ e. all_lead c qs (q w).world h.1)
 
+pub downs_lead_if : (T : Type 0) → Laws → (c : Script) (ns : List ℕ) → AllLeadIf T c (map world.go_down ns)
+downs_lead_if T laws c [] = tt
+downs_lead_if T laws c (n ∷ ns) = ((λ w. go_down_leads laws c w n), downs_lead_if T laws c ns)
+
+pub produces_lead_if : (T : Type 0) → Laws → (c : Script) (n : ℕ) (ps : List ℕ) → list_all (is_producer c) ps ≡ true → AllLeadIf T c (map (λ p. world.produce p n) ps)
+produces_lead_if T laws c n [] all = tt
+produces_lead_if T laws c n (p ∷ ps) all =
+    let m : (is_producer c p ≡ true) × (list_all (is_producer c) ps ≡ true) = and_both (is_producer c p) (list_all (is_producer c) ps) all in
+    ((λ w. produce_leads laws c p n w m.0), produces_lead_if T laws c n ps m.1)
+
 pub downs_lead : Laws → (c : Script) (ns : List ℕ) → AllLead c (map world.go_down ns)
-downs_lead laws c [] = tt
-downs_lead laws c (n ∷ ns) = ((λ w. go_down_leads laws c w n), downs_lead laws c ns)
+downs_lead laws c ns = downs_lead_if (Unit {0}) laws c ns
 
 pub produces_lead : Laws → (c : Script) (n : ℕ) (ps : List ℕ) → list_all (is_producer c) ps ≡ true → AllLead c (map (λ p. world.produce p n) ps)
-produces_lead laws c n [] all = tt
-produces_lead laws c n (p ∷ ps) all =
-    let m : (is_producer c p ≡ true) × (list_all (is_producer c) ps ≡ true) = and_both (is_producer c p) (list_all (is_producer c) ps) all in
-    ((λ w. produce_leads laws c p n w m.0), produces_lead laws c n ps m.1)
+produces_lead laws c n ps all = produces_lead_if (Unit {0}) laws c n ps all
 
 pub ticks_lead : Laws → (c : Script) (from bound n : ℕ) (w : World) → Leads c w (world.tick_while_left from bound n w)
 ticks_lead laws c from bound zero w = none_leads c w
@@ -295,7 +328,7 @@ first_node c script = (and_both (nat_le 1 c.config.nodes) (nat_le c.config.nodes
     nodes : is_in 1 16 k.nodes ≡ true
     nodes = (and_both (is_in 1 16 k.nodes) (is_in 1 128 k.shards) (and_both (is_in 1 16 k.nodes && is_in 1 128 k.shards) (is_in 1 32 k.producers) (and_both (is_in 1 16 k.nodes && is_in 1 128 k.shards && is_in 1 32 k.producers) (is_in 1 1000 k.buffer) two).0).0).0
 
-pub end_leads : Laws → (c : Script) (from : ℕ) (w : World) → Leads c w (world.settle_end from w)
+pub end_leads : {T : Type 0} → Laws → (c : Script) (from : ℕ) (w : World) → LeadsIf T c w (world.settle_end from w)
 end_leads laws c from w =
     let qs : List Step = world.go_down 1 ∷ tell (fact.Settled ∷ []) ∷ [] in
     if_leads c w (world.is_unsettled from w) (tell [] w) (in_order qs w) (λ e. none_leads c w) (λ e. all_lead c qs w ((λ v. go_down_leads laws c v 1), ((λ v. heard laws c v fact.Settled refl refl), tt)))

@@ -42,45 +42,48 @@ use Rattle.node_laws.specs.Members.{IsThere}
 use Rattle.node_laws.specs.Carried.{is_queued_in, Carries, is_carried_fact, carried_in_hand}
 use Rattle.node_laws.specs.Cluster.{IsMember, IsCluster}
 use Rattle.node_laws.specs.NodeStands.{is_own_fact}
-use Rattle.play_laws.specs.Sound.{Sound, IsWell, AreNumbered, AreQueued}
+use Rattle.play_laws.specs.Sound.{SoundIf, IsWell, AreNumbered, AreQueued}
 use Rattle.play_laws.proofs.Handled.{Laws, numbered_on, carries_on, lists_on, version_own}
 use Rattle.play_laws.proofs.Turned.{is_still, members_still, ups_still, nodes_still, wire_still, AreWell, well_more, WentOn, went_items, set_still, version_still, past_still, lists_still}
 
--- what is made leads from a sound world to a sound one, and its facts go on with the trace
+-- what is made leads from a sound world to a sound one, and its facts go on with the trace; what is recorded stays queued, if it was
+abbrev pub LeadsIf : Type 0 → Script → World → Made → Type 0
+LeadsIf T c w m = (trace : List Fact) → SoundIf T c trace w → SoundIf T c (trace ++ m.facts) m.world
+
 abbrev pub Leads : Script → World → Made → Type 0
-Leads c w m = (trace : List Fact) → Sound c trace w → Sound c (trace ++ m.facts) m.world
+Leads c w m = LeadsIf (Unit {0}) c w m
 
 -- Steps in turn.
 
-pub none_leads : (c : Script) (w : World) → Leads c w (tell [] w)
-none_leads c w trace s = subst (λ t. Sound c t w) (sym (append-nil trace)) s
+pub none_leads : {T : Type 0} → (c : Script) (w : World) → LeadsIf T c w (tell [] w)
+none_leads {T = T} c w trace s = subst (λ t. SoundIf T c t w) (sym (append-nil trace)) s
 
-pub then_leads : (c : Script) (w : World) (m : Made) (q : Step) → Leads c w m → (m.world.full ≡ false → Leads c m.world (q m.world)) → Leads c w (then_step m q)
-then_leads c w m q f g = step m.world.full refl
+pub then_leads : {T : Type 0} → (c : Script) (w : World) (m : Made) (q : Step) → LeadsIf T c w m → (m.world.full ≡ false → LeadsIf T c m.world (q m.world)) → LeadsIf T c w (then_step m q)
+then_leads {T = T} c w m q f g = step m.world.full refl
   where
-    step : (b : Bool) → m.world.full ≡ b → Leads c w (elim b as (λ b. Made) [ true ↦ m | false ↦ let n : Made = q m.world in record { facts = m.facts ++ n.facts; world = n.world } ])
+    step : (b : Bool) → m.world.full ≡ b → LeadsIf T c w (elim b as (λ b. Made) [ true ↦ m | false ↦ let n : Made = q m.world in record { facts = m.facts ++ n.facts; world = n.world } ])
     step true e = f
-    step false e = λ trace s. subst (λ t. Sound c t (q m.world).world) (append_assoc trace m.facts (q m.world).facts) (g e (trace ++ m.facts) (f trace s))
+    step false e = λ trace s. subst (λ t. SoundIf T c t (q m.world).world) (append_assoc trace m.facts (q m.world).facts) (g e (trace ++ m.facts) (f trace s))
 
-pub if_leads : (c : Script) (w : World) (b : Bool) (m n : Made) → (b ≡ true → Leads c w m) → (b ≡ false → Leads c w n) → Leads c w (if b then m else n)
+pub if_leads : {T : Type 0} → (c : Script) (w : World) (b : Bool) (m n : Made) → (b ≡ true → LeadsIf T c w m) → (b ≡ false → LeadsIf T c w n) → LeadsIf T c w (if b then m else n)
 if_leads c w true m n f g = f refl
 if_leads c w false m n f g = g refl
 
-tell_more : (c : Script) (w : World) (f : Fact) (fs : List Fact) → Leads c w (tell (f ∷ []) w) → Leads c (world_after w f) (tell fs (world_after w f)) → Leads c w (tell (f ∷ fs) w)
-tell_more c w f fs one rest trace s = subst (λ t. Sound c t (fold world_after (world_after w f) fs)) (append_assoc trace (f ∷ []) fs) (rest (trace ++ f ∷ []) (one trace s))
+tell_more : {T : Type 0} → (c : Script) (w : World) (f : Fact) (fs : List Fact) → LeadsIf T c w (tell (f ∷ []) w) → LeadsIf T c (world_after w f) (tell fs (world_after w f)) → LeadsIf T c w (tell (f ∷ fs) w)
+tell_more {T = T} c w f fs one rest trace s = subst (λ t. SoundIf T c t (fold world_after (world_after w f) fs)) (append_assoc trace (f ∷ []) fs) (rest (trace ++ f ∷ []) (one trace s))
 
-tell_both : (c : Script) (w : World) (fs gs : List Fact) → Leads c w (tell fs w) → Leads c (fold world_after w fs) (tell gs (fold world_after w fs)) → Leads c w (tell (fs ++ gs) w)
-tell_both c w fs gs f g trace s =
-    subst (Sound c (trace ++ (fs ++ gs))) (sym (fold-append world_after w fs gs))
-    (subst (λ t. Sound c t (fold world_after (fold world_after w fs) gs)) (append_assoc trace fs gs) (g (trace ++ fs) (f trace s)))
+tell_both : {T : Type 0} → (c : Script) (w : World) (fs gs : List Fact) → LeadsIf T c w (tell fs w) → LeadsIf T c (fold world_after w fs) (tell gs (fold world_after w fs)) → LeadsIf T c w (tell (fs ++ gs) w)
+tell_both {T = T} c w fs gs f g trace s =
+    subst (SoundIf T c (trace ++ (fs ++ gs))) (sym (fold-append world_after w fs gs))
+    (subst (λ t. SoundIf T c t (fold world_after (fold world_after w fs) gs)) (append_assoc trace fs gs) (g (trace ++ fs) (f trace s)))
 
 -- Facts that all hear.
 
-pub lists_next : (c : Script) (trace : List Fact) (w : World) (f : Fact) → Sound c trace w → lists_step w.set w.lists f ≡ lists_of (setting c) (trace ++ f ∷ [])
+pub lists_next : {T : Type 0} → (c : Script) (trace : List Fact) (w : World) (f : Fact) → SoundIf T c trace w → lists_step w.set w.lists f ≡ lists_of (setting c) (trace ++ f ∷ [])
 lists_next c trace w f s = ap (λ x. lists_step x w.lists f) s.set_is ∙ (ap (λ l. lists_step (setting c) l f) s.lists_are ∙ sym (lists_more c trace f))
 
 -- a fact of no slot, that tells nothing of nodes and packets
-pub heard : Laws → (c : Script) (w : World) (f : Fact) → is_free f ≡ true → is_still f ≡ true → Leads c w (tell (f ∷ []) w)
+pub heard : {T : Type 0} → Laws → (c : Script) (w : World) (f : Fact) → is_free f ≡ true → is_still f ≡ true → LeadsIf T c w (tell (f ∷ []) w)
 heard laws c w f free still trace s = record {
   script_is = s.script_is;
   set_is = set_still w.set f still ∙ s.set_is;
@@ -98,7 +101,7 @@ heard laws c w f free still trace s = record {
   are_members = λ k st e. ap (is_among st.who) members ∙ s.are_members k st (ap (λ l. at l k) (sym nodes) ∙ e);
   given_are = λ k st e. subst (λ l. st.who.number ≤ slice_index_or l (st.who.node - 1) 0) (sym ups) (s.given_are k st (ap (λ l. at l k) (sym nodes) ∙ e));
   numbered_are = λ e x m. subst (λ l. x.number ≤ slice_index_or l (x.node - 1) 0) (sym ups) (s.numbered_are e x (ap (is_among x) (sym (free_leaves_live e trace f free)) ∙ m));
-  queued_are = subst (AreQueued c) (sym lists) s.queued_are;
+  queued_are = λ t. subst (AreQueued c) (sym lists) (s.queued_are t);
   carries = λ k st e. subst (λ l. Carries l st) (sym lists) (s.carries k st (ap (λ l. at l k) (sym nodes) ∙ e));
   wire_is = subst (λ n. AreWell c (world_after w f).lists n (world_after w f).wire) (sym (past_still w.wire w.past f still))
       (subst (λ l. AreWell c l w.past (world_after w f).wire) (sym lists) (subst (AreWell c w.lists w.past) (sym (wire_still w.wire f still)) s.wire_is));
@@ -116,11 +119,11 @@ heard laws c w f free still trace s = record {
     lists : (world_after w f).lists ≡ w.lists
     lists = lists_still w.set w.lists f still ∙ lists_next c trace w f s ∙ (free_leaves_lists c trace f free ∙ sym s.lists_are)
 
-pub nothing_leads : Laws → (c : Script) (w : World) → Leads c w (world.nothing w)
+pub nothing_leads : {T : Type 0} → Laws → (c : Script) (w : World) → LeadsIf T c w (world.nothing w)
 nothing_leads laws c w = heard laws c w fact.Nothing refl refl
 
 -- what the orders set is none of this
-pub ordered_sound : (c : Script) (trace : List Fact) (o : Option Order) (w : World) → Sound c trace w → Sound c trace (with_order o w)
+pub ordered_sound : {T : Type 0} → (c : Script) (trace : List Fact) (o : Option Order) (w : World) → SoundIf T c trace w → SoundIf T c trace (with_order o w)
 ordered_sound c trace (Some (order.Send p e k)) w s = record {
   script_is = s.script_is;
   set_is = s.set_is;
@@ -146,7 +149,7 @@ ordered_sound c trace (Some o) w s = s
 -- Views.
 
 -- a packet is posted that promises what it says
-sent : Laws → (c : Script) (w : World) (n : ℕ) (p : Packet) → ((trace : List Fact) → Sound c trace w → IsWell c w.lists p) → Leads c w (tell (fact.Sent n p ∷ []) w)
+sent : {T : Type 0} → Laws → (c : Script) (w : World) (n : ℕ) (p : Packet) → ((trace : List Fact) → SoundIf T c trace w → IsWell c w.lists p) → LeadsIf T c w (tell (fact.Sent n p ∷ []) w)
 sent laws c w n p well trace s = record {
   script_is = s.script_is;
   set_is = s.set_is;
@@ -171,16 +174,16 @@ abbrev view_to : ℕ → List Incarnation → Incarnation → Packet
 view_to v xs x = record { from = x; to = x; body = body.View v xs }
 
 -- it is one of the script's nodes that are up
-members_nodes : (c : Script) (trace : List Fact) (w : World) → Sound c trace w → list_all (is_node c) w.members ≡ true
+members_nodes : {T : Type 0} → (c : Script) (trace : List Fact) (w : World) → SoundIf T c trace w → list_all (is_node c) w.members ≡ true
 members_nodes c trace w s = all_among (is_node c) w.members (λ x m.
     let t : IsThere w x = s.members_are x m in
     let u : IsMember c trace (x.node - 1) t.node = s.cluster.members (x.node - 1) t.node t.is_up in
     ap (is_node c) (sym t.who_is) ∙ u.sound.who_is)
 
-posts_lead : Laws → (c : Script) (limit v : ℕ) (xs ys : List Incarnation) (n : ℕ) (w : World) → list_all (is_node c) xs ≡ true → are_of_different_nodes xs ≡ true → list_all (is_node c) ys ≡ true
-    → Leads c w (tell (numbered limit n (map (λ x. item.Post (view_to v xs x)) ys)) w)
+posts_lead : {T : Type 0} → Laws → (c : Script) (limit v : ℕ) (xs ys : List Incarnation) (n : ℕ) (w : World) → list_all (is_node c) xs ≡ true → are_of_different_nodes xs ≡ true → list_all (is_node c) ys ≡ true
+    → LeadsIf T c w (tell (numbered limit n (map (λ x. item.Post (view_to v xs x)) ys)) w)
 posts_lead laws c limit v xs [] n w nodes different there = none_leads c w
-posts_lead laws c limit v xs (y ∷ ys) n w nodes different there = by (nat_lt n limit) (λ u. posts_lead laws c limit v xs ys (n + 1) u nodes different m.1)
+posts_lead {T = T} laws c limit v xs (y ∷ ys) n w nodes different there = by (nat_lt n limit) (λ u. posts_lead laws c limit v xs ys (n + 1) u nodes different m.1)
   where
     m : (is_node c y ≡ true) × (list_all (is_node c) ys ≡ true)
     m = and_both (is_node c y) (list_all (is_node c) ys) there
@@ -191,13 +194,13 @@ posts_lead laws c limit v xs (y ∷ ys) n w nodes different there = by (nat_lt n
     more : List Fact
     more = numbered limit (n + 1) (map (λ x. item.Post (view_to v xs x)) ys)
 
-    by : (b : Bool) → ((u : World) → Leads c u (tell more u)) → Leads c w (tell ((if b then fact.Sent (n + 1) p ∷ [] else []) ++ more) w)
+    by : (b : Bool) → ((u : World) → LeadsIf T c u (tell more u)) → LeadsIf T c w (tell ((if b then fact.Sent (n + 1) p ∷ [] else []) ++ more) w)
     by true rest = tell_more c w (fact.Sent (n + 1) p) more
         (sent laws c w (n + 1) p (λ trace s. record { genuine = both (is_node c y && is_node c y) (list_all (is_node c) xs) (both (is_node c y) (is_node c y) m.0 m.0) nodes; different = different; carried = refl })) (rest (world_after w (fact.Sent (n + 1) p)))
     by false rest = rest w
 
-pub views_lead : Laws → (c : Script) (w : World) → Leads c w (world.views w)
-views_lead laws c w trace s =
+pub views_lead : {T : Type 0} → Laws → (c : Script) (w : World) → LeadsIf T c w (world.views w)
+views_lead {T = T} laws c w trace s =
     let nodes : list_all (is_node c) w.members ≡ true = members_nodes c trace w s in
     tell_both c w fs (full b) (posts_lead laws c w.limit w.version w.members w.members (length w.wire) w nodes s.members_different nodes) (last b) trace s
   where
@@ -213,7 +216,7 @@ views_lead laws c w trace s =
     full : Bool → List Fact
     full b = if b then fact.WireFull ∷ [] else []
 
-    last : (b : Bool) → Leads c (fold world_after w fs) (tell (full b) (fold world_after w fs))
+    last : (b : Bool) → LeadsIf T c (fold world_after w fs) (tell (full b) (fold world_after w fs))
     last true = heard laws c (fold world_after w fs) fact.WireFull refl refl
     last false = none_leads c (fold world_after w fs)
 
@@ -234,7 +237,7 @@ new_carries c lists version x = record {
   stashed = λ e. ap (λ (l : entities.Cell). list_all (is_queued_in lists) l.stash) (get_replicate (length (setting c).names) (place (setting c) e) (new_cell (setting c)));
 }
 
-pub up_leads : Laws → (c : Script) (w : World) (n : ℕ) → is_in 1 c.config.nodes n ≡ true → at w.nodes (n - 1) ≡ None → let x : Incarnation = record { node = n; number = slice_index_or w.ups (n - 1) 0 + 1 } in Leads c w (tell (fact.Up x ∷ []) w)
+pub up_leads : {T : Type 0} → Laws → (c : Script) (w : World) (n : ℕ) → is_in 1 c.config.nodes n ≡ true → at w.nodes (n - 1) ≡ None → let x : Incarnation = record { node = n; number = slice_index_or w.ups (n - 1) 0 + 1 } in LeadsIf T c w (tell (fact.Up x ∷ []) w)
 up_leads laws c w n node empty trace s = record {
   script_is = s.script_is;
   set_is = s.set_is;
@@ -326,7 +329,7 @@ up_leads laws c w n node empty trace s = record {
         let t : IsThere w y = s.members_are y m in
         none_is_not_some t.node (sym empty ∙ (ap (λ i. at w.nodes (i - 1)) (sym same) ∙ t.is_up))))
 
-pub come_up_leads : Laws → (c : Script) (w : World) (n : ℕ) → is_in 1 c.config.nodes n ≡ true → at w.nodes (n - 1) ≡ None → Leads c w (world.come_up n w)
+pub come_up_leads : {T : Type 0} → Laws → (c : Script) (w : World) (n : ℕ) → is_in 1 c.config.nodes n ≡ true → at w.nodes (n - 1) ≡ None → LeadsIf T c w (world.come_up n w)
 come_up_leads laws c w n node empty =
     let x : Incarnation = record { node = n; number = slice_index_or w.ups (n - 1) 0 + 1 } in
     let m : Made = tell (fact.Up x ∷ []) w in
@@ -396,11 +399,11 @@ freed_carried c h (f ∷ fs) all =
     one f e = absurd (true≢false (sym e))
 
 -- the words after slots are freed
-freed_went : (c : Script) (who : Incarnation) (fs u : List Fact) (w : World) → AreFreed fs → w.set ≡ setting c → w.lists ≡ lists_of (setting c) u → guarded c (u ++ fs) ≡ true
-    → AreQueued c (lists_of (setting c) u) → AreWell c (lists_of (setting c) u) w.past w.wire → WentOn c w (lists_of (setting c) (u ++ fs)) (fold world_after w fs)
-freed_went c who fs u w freed set_is lists_are g q wire =
-    subst (λ xs. WentOn c w (lists_of (setting c) (u ++ xs)) (fold world_after w fs)) (facts_are fs)
-    (subst (λ xs. WentOn c w (lists_of (setting c) (u ++ facts_in is)) (fold world_after w xs)) (numbered_is 0 0 fs)
+freed_went : {T : Type 0} → (c : Script) (who : Incarnation) (fs u : List Fact) (w : World) → AreFreed fs → w.set ≡ setting c → w.lists ≡ lists_of (setting c) u → guarded c (u ++ fs) ≡ true
+    → (T → AreQueued c (lists_of (setting c) u)) → AreWell c (lists_of (setting c) u) w.past w.wire → WentOn T c w (lists_of (setting c) (u ++ fs)) (fold world_after w fs)
+freed_went {T = T} c who fs u w freed set_is lists_are g q wire =
+    subst (λ xs. WentOn T c w (lists_of (setting c) (u ++ xs)) (fold world_after w fs)) (facts_are fs)
+    (subst (λ xs. WentOn T c w (lists_of (setting c) (u ++ facts_in is)) (fold world_after w xs)) (numbered_is 0 0 fs)
     (went_items c who 0 0 is u h w refl set_is lists_are (ap (λ xs. guarded c (u ++ xs)) (facts_are fs) ∙ g) (own_facts c who fs)
     (ap (list_all is_still) (facts_are fs) ∙ all_map is_freed is_still freed_still fs freed) (freed_carried c h fs freed) q wire))
   where
@@ -410,8 +413,8 @@ freed_went c who fs u w freed set_is lists_are g q wire =
     h : Hand
     h = record { lists = lists_of (setting c) u; live = []; version = 1 }
 
-down_leads : Laws → (c : Script) (w : World) (k : ℕ) (st : Node) → at w.nodes k ≡ Some st → Leads c w (tell (fact.Gone st.who ∷ crash st) w)
-down_leads laws c w k st here trace s = record {
+down_leads : {T : Type 0} → Laws → (c : Script) (w : World) (k : ℕ) (st : Node) → at w.nodes k ≡ Some st → LeadsIf T c w (tell (fact.Gone st.who ∷ crash st) w)
+down_leads {T = T} laws c w k st here trace s = record {
   script_is = s.script_is;
   set_is = went.set_is ∙ s.set_is;
   behaviour_is = went.version_is ∙ (s.behaviour_is ∙ sym (ap version_in (sym joined) ∙ (version_own st.who first fs (all_map is_freed (is_own_fact st.who) (freed_own st.who) fs (crash_frees st)) ∙ fold-append upgrade_step 1 trace (gone ∷ []))));
@@ -430,7 +433,7 @@ down_leads laws c w k st here trace s = record {
   given_are = λ j y e. subst (λ l. y.who.number ≤ slice_index_or l (y.who.node - 1) 0) (sym went.ups_are) (s.given_are j y (old j y e));
   numbered_are = λ e x m. subst (λ l. x.number ≤ slice_index_or l (x.node - 1) 0) (sym went.ups_are)
       (numbered_on st.who w.ups first fs (all_map is_freed (is_own_fact st.who) (freed_own st.who) fs (crash_frees st)) (s.given_are k st here) gone_numbered e x (ap (λ t. is_among x (live_at e t)) joined ∙ m));
-  queued_are = subst (AreQueued c) (sym went.lists_are) went.queued_are;
+  queued_are = λ t. subst (AreQueued c) (sym went.lists_are) (went.queued_are t);
   carries = λ j y e. subst (λ l. Carries l y) (lists_on c first fs ∙ sym went.lists_are) (carries_on c (lists_of (setting c) first) fs y (subst (λ l. Carries l y) (s.lists_are ∙ sym first_lists) (s.carries j y (old j y e))));
   wire_is = subst (λ n. AreWell c v.lists n v.wire) (sym went.past_is) (subst (λ l. AreWell c l w.past v.wire) (sym went.lists_are) went.wire_is);
 }
@@ -459,9 +462,9 @@ down_leads laws c w k st here trace s = record {
     first_lists : lists_of (setting c) first ≡ lists_of (setting c) trace
     first_lists = lists_more c trace gone
 
-    went : WentOn c v1 (lists_of (setting c) (first ++ fs)) v
+    went : WentOn T c v1 (lists_of (setting c) (first ++ fs)) v
     went = freed_went c st.who fs first v1 (crash_frees st) s.set_is (s.lists_are ∙ sym first_lists) (ap (guarded c) joined ∙ next.guarded_are)
-        (subst (AreQueued c) (s.lists_are ∙ sym first_lists) s.queued_are) (subst (λ l. AreWell c l w.past w.wire) (s.lists_are ∙ sym first_lists) s.wire_is)
+        (λ t. subst (AreQueued c) (s.lists_are ∙ sym first_lists) (s.queued_are t)) (subst (λ l. AreWell c l w.past w.wire) (s.lists_are ∙ sym first_lists) s.wire_is)
 
     me : IsMember c trace k st
     me = s.cluster.members k st here
@@ -502,17 +505,17 @@ down_leads laws c w k st here trace s = record {
     gone_numbered : AreNumbered w.ups first
     gone_numbered e x m = s.numbered_are e x (among_kept (λ z. not (is_same st.who z)) x (live_at e trace) (ap (is_among x) (sym (fold-append (live_step e) [] trace (gone ∷ []))) ∙ m))
 
-pub go_down_leads : Laws → (c : Script) (w : World) (n : ℕ) → Leads c w (world.go_down n w)
-go_down_leads laws c w n = by (node_at w n) refl
+pub go_down_leads : {T : Type 0} → Laws → (c : Script) (w : World) (n : ℕ) → LeadsIf T c w (world.go_down n w)
+go_down_leads {T = T} laws c w n = by (node_at w n) refl
   where
-    by : (o : Option Node) → at w.nodes (n - 1) ≡ o → Leads c w (world.go_down_by o w)
+    by : (o : Option Node) → at w.nodes (n - 1) ≡ o → LeadsIf T c w (world.go_down_by o w)
     by None e = none_leads c w
     by (Some st) e = down_leads laws c w (n - 1) st e
 
-pub up_order_leads : Laws → (c : Script) (w : World) (n : ℕ) → is_in 1 c.config.nodes n ≡ true → Leads c w (world.up n w)
+pub up_order_leads : {T : Type 0} → Laws → (c : Script) (w : World) (n : ℕ) → is_in 1 c.config.nodes n ≡ true → LeadsIf T c w (world.up n w)
 up_order_leads laws c w n node = if_leads c w (is_none (node_at w n)) (world.come_up n w) (world.nothing w) (λ e. come_up_leads laws c w n node (none_of (node_at w n) e)) (λ e. nothing_leads laws c w)
 
-pub crash_order_leads : Laws → (c : Script) (w : World) (n : ℕ) → Leads c w (world.crash_node n w)
+pub crash_order_leads : {T : Type 0} → Laws → (c : Script) (w : World) (n : ℕ) → LeadsIf T c w (world.crash_node n w)
 crash_order_leads laws c w n =
     let m : Made = world.go_down n w in
     if_leads c w (is_none (node_at w n)) (world.nothing w) (then_step m world.views) (λ e. nothing_leads laws c w) (λ e. then_leads c w m world.views (go_down_leads laws c w n) (λ e. views_lead laws c m.world))

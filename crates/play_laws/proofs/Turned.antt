@@ -104,7 +104,7 @@ well_on c lists fs past wire all j p after e =
 -- Along.
 
 -- the world after the items: these words are as they were, and the lists are these
-pub record Went (c : Script) (set : Setting) (version past : ℕ) (sends : List (List Sending)) (ups : List ℕ) (members : List Incarnation) (nodes : List (Option Node)) (lists : SlotLists) (v : World) : Type 0 where
+pub record Went (T : Type 0) (c : Script) (set : Setting) (version past : ℕ) (sends : List (List Sending)) (ups : List ℕ) (members : List Incarnation) (nodes : List (Option Node)) (lists : SlotLists) (v : World) : Type 0 where
   pub set_is : v.set ≡ set
   pub version_is : v.behaviour ≡ version
   pub past_is : v.past ≡ past
@@ -113,21 +113,21 @@ pub record Went (c : Script) (set : Setting) (version past : ℕ) (sends : List 
   pub members_are : v.members ≡ members
   pub nodes_are : v.nodes ≡ nodes
   pub lists_are : v.lists ≡ lists
-  pub queued_are : AreQueued c lists
+  pub queued_are : T → AreQueued c lists
   pub wire_is : AreWell c lists past v.wire
 
-abbrev pub WentOn : Script → World → SlotLists → World → Type 0
-WentOn c w lists v = Went c w.set w.behaviour w.past w.sends w.ups w.members w.nodes lists v
+abbrev pub WentOn : Type 0 → Script → World → SlotLists → World → Type 0
+WentOn T c w lists v = Went T c w.set w.behaviour w.past w.sends w.ups w.members w.nodes lists v
 
 no_view : (b : Body) → not (is_view b) ≡ true → is_different_body b ≡ true
 no_view (body.View v xs) h = absurd (true≢false (sym h))
 no_view b h = refl
 
-pub went_items : (c : Script) (who : Incarnation) (limit k : ℕ) (is : List Item) (u : List Fact) (h : Hand) (w : World) → h.lists ≡ lists_of (setting c) u → w.set ≡ setting c → w.lists ≡ lists_of (setting c) u
+pub went_items : {T : Type 0} → (c : Script) (who : Incarnation) (limit k : ℕ) (is : List Item) (u : List Fact) (h : Hand) (w : World) → h.lists ≡ lists_of (setting c) u → w.set ≡ setting c → w.lists ≡ lists_of (setting c) u
     → guarded c (u ++ facts_in is) ≡ true → list_all (is_own_post c who) is ≡ true → list_all is_still (facts_in is) ≡ true → carried_in_hand c h is ≡ true
-    → AreQueued c (lists_of (setting c) u) → AreWell c (lists_of (setting c) u) w.past w.wire
-    → WentOn c w (lists_of (setting c) (u ++ facts_in is)) (fold world_after w (numbered limit k is))
-went_items c who limit k [] u h w hand set_is lists_are g posts still carried q wire = subst (λ t. WentOn c w (lists_of (setting c) t) w) (sym (append-nil u)) (record {
+    → (T → AreQueued c (lists_of (setting c) u)) → AreWell c (lists_of (setting c) u) w.past w.wire
+    → WentOn T c w (lists_of (setting c) (u ++ facts_in is)) (fold world_after w (numbered limit k is))
+went_items {T = T} c who limit k [] u h w hand set_is lists_are g posts still carried q wire = subst (λ t. WentOn T c w (lists_of (setting c) t) w) (sym (append-nil u)) (record {
   set_is = refl;
   version_is = refl;
   past_is = refl;
@@ -139,7 +139,7 @@ went_items c who limit k [] u h w hand set_is lists_are g posts still carried q 
   queued_are = q;
   wire_is = wire;
 })
-went_items c who limit k (item.Post p ∷ is) u h w hand set_is lists_are g posts still carried q wire =
+went_items {T = T} c who limit k (item.Post p ∷ is) u h w hand set_is lists_are g posts still carried q wire =
     by (nat_lt k limit) (λ v s l r. went_items c who limit (k + 1) is u h v hand s l g (and_both (is_own_post c who (item.Post p)) (list_all (is_own_post c who) is) posts).1 still m.1 q r)
   where
     m : ((not (is_view p.body) && is_carried_body c h.lists p.body) ≡ true) × (carried_in_hand c h is ≡ true)
@@ -161,24 +161,24 @@ went_items c who limit k (item.Post p ∷ is) u h w hand set_is lists_are g post
     lists : SlotLists
     lists = lists_of (setting c) (u ++ facts_in is)
 
-    by : (b : Bool) → ((v : World) → v.set ≡ setting c → v.lists ≡ lists_of (setting c) u → AreWell c (lists_of (setting c) u) v.past v.wire → WentOn c v lists (fold world_after v more))
-        → WentOn c w lists (fold world_after w ((if b then fact.Sent (k + 1) p ∷ [] else []) ++ more))
+    by : (b : Bool) → ((v : World) → v.set ≡ setting c → v.lists ≡ lists_of (setting c) u → AreWell c (lists_of (setting c) u) v.past v.wire → WentOn T c v lists (fold world_after v more))
+        → WentOn T c w lists (fold world_after w ((if b then fact.Sent (k + 1) p ∷ [] else []) ++ more))
     by true rest = rest (world_after w (fact.Sent (k + 1) p)) set_is lists_are (well_more c (lists_of (setting c) u) w.past w.wire p well wire)
     by false rest = rest w set_is lists_are wire
-went_items c who limit k (item.Fact f ∷ is) u h w hand set_is lists_are g posts still carried q wire =
+went_items {T = T} c who limit k (item.Fact f ∷ is) u h w hand set_is lists_are g posts still carried q wire =
     let m : (is_carried_fact h.lists f ≡ true) × (carried_in_hand c (hand_after c h f) is ≡ true) = and_both (is_carried_fact h.lists f) (carried_in_hand c (hand_after c h f) is) carried in
     let s : (is_still f ≡ true) × (list_all is_still (facts_in is) ≡ true) = and_both (is_still f) (list_all is_still (facts_in is)) still in
     let longer : (u ++ f ∷ []) ++ facts_in is ≡ u ++ (f ∷ facts_in is) = append_assoc u (f ∷ []) (facts_in is) in
     let all : guarded c ((u ++ f ∷ []) ++ facts_in is) ≡ true = ap (guarded c) longer ∙ g in
     let one : (guarded c u ≡ true) × (guard c u f ≡ true) = and_both (guarded c u) (guard c u f) (sym (guarded_more c u f (still_opens f s.0)) ∙ guarded_was c (u ++ f ∷ []) (facts_in is) (all_map is_still (λ f. not (opens f)) (λ f k. ap not (still_opens f k)) (facts_in is) s.1) all) in
     let next : lists_step (setting c) (lists_of (setting c) u) f ≡ lists_of (setting c) (u ++ f ∷ []) = sym (lists_more c u f) in
-    let rest : WentOn c (world_after w f) (lists_of (setting c) ((u ++ f ∷ []) ++ facts_in is)) (fold world_after (world_after w f) (numbered limit k is)) =
+    let rest : WentOn T c (world_after w f) (lists_of (setting c) ((u ++ f ∷ []) ++ facts_in is)) (fold world_after (world_after w f) (numbered limit k is)) =
     went_items c who limit k is (u ++ f ∷ []) (hand_after c h f) (world_after w f) (ap (λ l. lists_step (setting c) l f) hand ∙ next) (set_still w.set f s.0 ∙ set_is)
     (lists_still w.set w.lists f s.0 ∙ (ap (λ t. lists_step t w.lists f) set_is ∙ (ap (λ l. lists_step (setting c) l f) lists_are ∙ next))) all
-    posts s.1 m.1 (fact_queued c u f one.1 (subst (λ l. is_carried_fact l f ≡ true) hand m.0) q)
+    posts s.1 m.1 (λ t. fact_queued c u f one.1 (subst (λ l. is_carried_fact l f ≡ true) hand m.0) (q t))
     (subst (λ n. AreWell c (lists_of (setting c) (u ++ f ∷ [])) n (world_after w f).wire) (sym (past_still w.wire w.past f s.0))
     (subst (AreWell c (lists_of (setting c) (u ++ f ∷ [])) w.past) (sym (wire_still w.wire f s.0)) (subst (λ l. AreWell c l w.past w.wire) next (well_on c (lists_of (setting c) u) (f ∷ []) w.past w.wire wire)))) in
-    subst (λ t. WentOn c w (lists_of (setting c) t) (fold world_after (world_after w f) (numbered limit k is))) longer (record {
+    subst (λ t. WentOn T c w (lists_of (setting c) t) (fold world_after (world_after w f) (numbered limit k is))) longer (record {
       set_is = rest.set_is ∙ set_still w.set f s.0;
       version_is = rest.version_is ∙ version_still w.behaviour f s.0;
       past_is = rest.past_is ∙ past_still w.wire w.past f s.0;
@@ -191,12 +191,12 @@ went_items c who limit k (item.Fact f ∷ is) u h w hand set_is lists_are g post
       wire_is = subst (λ n. AreWell c (lists_of (setting c) ((u ++ f ∷ []) ++ facts_in is)) n (fold world_after (world_after w f) (numbered limit k is)).wire) (past_still w.wire w.past f s.0) rest.wire_is;
     })
 
-pub went_input : (c : Script) (who : Incarnation) (is : List Item) (u : List Fact) (h : Hand) (w : World) → h.lists ≡ lists_of (setting c) u → w.set ≡ setting c → w.lists ≡ lists_of (setting c) u
+pub went_input : {T : Type 0} → (c : Script) (who : Incarnation) (is : List Item) (u : List Fact) (h : Hand) (w : World) → h.lists ≡ lists_of (setting c) u → w.set ≡ setting c → w.lists ≡ lists_of (setting c) u
     → guarded c (u ++ facts_in is) ≡ true → list_all (is_own_post c who) is ≡ true → list_all is_still (facts_in is) ≡ true → carried_in_hand c h is ≡ true
-    → AreQueued c (lists_of (setting c) u) → AreWell c (lists_of (setting c) u) w.past w.wire
-    → WentOn c w (lists_of (setting c) (u ++ facts_in is)) (fold world_after w (input_facts w is))
-went_input c who is u h w hand set_is lists_are g posts still carried q wire =
-    subst (WentOn c w (lists_of (setting c) (u ++ facts_in is))) (sym (fold-append world_after w fs (full b)))
+    → (T → AreQueued c (lists_of (setting c) u)) → AreWell c (lists_of (setting c) u) w.past w.wire
+    → WentOn T c w (lists_of (setting c) (u ++ facts_in is)) (fold world_after w (input_facts w is))
+went_input {T = T} c who is u h w hand set_is lists_are g posts still carried q wire =
+    subst (WentOn T c w (lists_of (setting c) (u ++ facts_in is))) (sym (fold-append world_after w fs (full b)))
     (last b (went_items c who w.limit (length w.wire) is u h w hand set_is lists_are g posts still carried q wire))
   where
     fs : List Fact
@@ -208,7 +208,7 @@ went_input c who is u h w hand set_is lists_are g posts still carried q wire =
     full : Bool → List Fact
     full b = if b then fact.WireFull ∷ [] else []
 
-    last : (b : Bool) → let v : World = fold world_after w fs in WentOn c w (lists_of (setting c) (u ++ facts_in is)) v → WentOn c w (lists_of (setting c) (u ++ facts_in is)) (fold world_after v (full b))
+    last : (b : Bool) → let v : World = fold world_after w fs in WentOn T c w (lists_of (setting c) (u ++ facts_in is)) v → WentOn T c w (lists_of (setting c) (u ++ facts_in is)) (fold world_after v (full b))
     last true m = record {
       set_is = m.set_is;
       version_is = m.version_is;

@@ -1,3 +1,4 @@
+pub mod Confirming
 pub mod Played
 pub mod SafeText
 pub mod Sound

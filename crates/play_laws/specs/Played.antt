@@ -1,5 +1,6 @@
 -- What the orders of a script lead to.
-use Rattle.std.specs.Prelude.{◌≡◌, ℕ, Bool, true, ◌&&◌, ◌||◌, not, map, take, None}
+use Rattle.std.specs.Prelude.{◌≡◌, ℕ, Bool, true, ◌&&◌, ◌||◌, not, List, ◌++◌, length, map, take, None}
+use Rattle.yard_model.specs.declared.fact.Fact.{Fact}
 use Rattle.std.specs.Option.{option_map_or}
 use Rattle.yard_model.specs.declared.charter.Line.{Line}
 use Rattle.yard_model.specs.declared.charter.Order.{Order}
@@ -12,8 +13,9 @@ use Rattle.yard_model.specs.Script.{Script, IsScript, brought, is_order, is_upgr
 use Rattle.yard_model.specs.SlotLists.{SlotLists}
 use Rattle.yard_model.specs.SlotReads.{holder}
 use Rattle.yard_model.specs.Trace.{list_at}
-use Rattle.yard_model.specs.World.{World, new_world, given_world, play_line, in_order, played, trace_of}
-use Rattle.play_laws.specs.Sound.{Sound, AreQueued, LeadsOn}
+use Rattle.yard_model.specs.World.{World, new_world, given_world, settle, settle_bound, play_line, in_order, played, trace_of}
+use Rattle.play_laws.specs.Confirming.{MaySettle}
+use Rattle.play_laws.specs.Sound.{SoundIf, Sound, AreQueued, LeadsOn}
 
 -- the name that an order brings is the script's
 abbrev pub is_named : Script → Order → Bool
@@ -35,6 +37,19 @@ PlayedIsSound = (c : Script) (limit n : ℕ) → IsScript c → LeadsOn (first_e
 abbrev pub GivenIsSound : Type 0
 GivenIsSound = (c : Script) (version : ℕ) (lists : SlotLists) → IsScript c → is_version c version ≡ true → lawful c lists ≡ true → ((s : Slot) → is_slot_of c s ≡ true → holder (list_at lists s) ≡ None) → AreQueued c lists
     → Sound c (opening_of version lists) (given_world c version lists)
+
+-- so much of it stands, too, where more may be recorded than is queued
+abbrev pub GivenStands : Type 0
+GivenStands = (c : Script) (version : ℕ) (lists : SlotLists) → IsScript c → is_version c version ≡ true → lawful c lists ≡ true → ((s : Slot) → is_slot_of c s ≡ true → holder (list_at lists s) ≡ None)
+    → SoundIf ⊥ c (opening_of version lists) (given_world c version lists)
+
+-- a settling of a sound world hands over nothing that confirms what isn't queued
+abbrev pub SoundMaySettle : Type 0
+SoundMaySettle = (c : Script) (from bound : ℕ) (trace : List Fact) (w : World) → Sound c trace w → MaySettle c from bound w
+
+-- and of which that is so leads to a world that stands
+abbrev pub SettleStands : Type 0
+SettleStands = (c : Script) (trace : List Fact) (w : World) → MaySettle c (length w.wire) (settle_bound w) w → SoundIf ⊥ c trace w → SoundIf ⊥ c (trace ++ (settle w).facts) (settle w).world
 
 -- so the trace of every script is safe at each prefix, also one that stops at the limit
 abbrev pub PlayedIsSafe : Type 0

@@ -34,8 +34,8 @@ AreQueued c lists = (p : ℕ) (e : List ℕ) → position p (journal e (shard_li
 abbrev pub AreNumbered : List ℕ → List Fact → Type 0
 AreNumbered ups trace = (e : List ℕ) (x : Incarnation) → is_among x (live_at e trace) ≡ true → x.number ≤ slice_index_or ups (x.node - 1) 0
 
--- c is the script with the number of shards in force, and the trace that of the era: facts that come to the lists which the era begins with, and its own
-pub record Sound (c : Script) (trace : List Fact) (w : World) : Type 0 where
+-- c is the script with the number of shards in force, and the trace that of the era: facts that come to the lists which the era begins with, and its own. What is recorded is queued, if T
+pub record SoundIf (T : Type 0) (c : Script) (trace : List Fact) (w : World) : Type 0 where
   pub script_is : IsScript c
   pub set_is : w.set ≡ setting c
   pub behaviour_is : w.behaviour ≡ version_in trace
@@ -53,11 +53,14 @@ pub record Sound (c : Script) (trace : List Fact) (w : World) : Type 0 where
   -- the numbers of those that are up, and of those where something is live, were given
   pub given_are : (k : ℕ) (st : Node) → at w.nodes k ≡ Some st → st.who.number ≤ slice_index_or w.ups (st.who.node - 1) 0
   pub numbered_are : AreNumbered w.ups trace
-  pub queued_are : AreQueued c w.lists
+  pub queued_are : T → AreQueued c w.lists
   -- each message that a node keeps or stashes is queued
   pub carries : (k : ℕ) (st : Node) → at w.nodes k ≡ Some st → Carries w.lists st
   -- each packet since the number of shards last changed
   pub wire_is : (j : ℕ) (p : Packet) → w.past ≤ j → slice_get w.wire j ≡ Some p → IsWell c w.lists p
+
+abbrev pub Sound : Script → List Fact → World → Type 0
+Sound c trace w = SoundIf (Unit {0}) c trace w
 
 -- a step from a sound world leads to a sound one in the era where its facts end, and they are safe at each prefix
 pub record LeadsOn (era : Era) (m : Made) : Type 0 where

@@ -1,5 +1,5 @@
 //! What the orders of a script lead to.
-ghost use Rattle.play_laws.specs.Played.{LineLeadsOn, GivenIsSound, PlayedIsSound, PlayedIsSafe, TraceIsSafe, PlayedLists};
+ghost use Rattle.play_laws.specs.Played.{LineLeadsOn, GivenIsSound, GivenStands, PlayedIsSound, PlayedIsSafe, SettleStands, SoundMaySettle, TraceIsSafe, PlayedLists};
 ghost use Rattle.play_laws.specs.SafeText.{ReplayIsSafe};
 
 use actor_laws::region::shards_are_there;
@@ -60,9 +60,77 @@ pub fn given_is_sound()
     shards_are_there();
 }
 
+/// All but that stands also where more of a producer's commands is recorded than is queued, as it may be
+/// in lists that are lawful and no more.
+pub fn given_stands()
+    ensures { GivenStands }
+{
+    cluster_turns();
+    turn_is_guarded();
+    recorded_stays();
+    turn_carries();
+    cluster_loses();
+    cluster_hears();
+    cluster_gains();
+    cluster_begins();
+    cluster_upgrades();
+    cluster_is_safe();
+    opening_gives_lists();
+    opening_is_quiet();
+    era_opens();
+    reshaped_is_lawful();
+    reshaped_keeps_journals();
+    shards_are_there();
+}
+
 /// After any number of the orders of any script, with any limit of packets, the world is sound.
 pub fn played_is_sound()
     ensures { PlayedIsSound }
+{
+    cluster_turns();
+    turn_is_guarded();
+    recorded_stays();
+    turn_carries();
+    cluster_loses();
+    cluster_hears();
+    cluster_gains();
+    cluster_begins();
+    cluster_upgrades();
+    cluster_is_safe();
+    opening_gives_lists();
+    opening_is_quiet();
+    era_opens();
+    reshaped_is_lawful();
+    reshaped_keeps_journals();
+    shards_are_there();
+}
+
+/// A settling of a sound world hands over no packet that confirms what isn't queued.
+pub fn sound_may_settle()
+    ensures { SoundMaySettle }
+{
+    cluster_turns();
+    turn_is_guarded();
+    recorded_stays();
+    turn_carries();
+    cluster_loses();
+    cluster_hears();
+    cluster_gains();
+    cluster_begins();
+    cluster_upgrades();
+    cluster_is_safe();
+    opening_gives_lists();
+    opening_is_quiet();
+    era_opens();
+    reshaped_is_lawful();
+    reshaped_keeps_journals();
+    shards_are_there();
+}
+
+/// A settling that hands over no such packet leads from what stands to what stands, though more may be
+/// recorded than is queued before it.
+pub fn settle_stands()
+    ensures { SettleStands }
 {
     cluster_turns();
     turn_is_guarded();

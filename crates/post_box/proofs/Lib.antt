@@ -3,3 +3,4 @@ pub mod Places
 pub mod Rows
 pub mod Dealt
 pub mod Holders
+pub mod SendLaws

@@ -7,8 +7,6 @@ mod make;
 mod pass;
 mod queue;
 mod seats;
-#[cfg(test)]
-mod tests;
 
 pub use boxes::PostBox;
 pub use make::BoxPasses;

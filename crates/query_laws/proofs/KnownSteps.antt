@@ -339,7 +339,7 @@ over_known shows c orders trace w j p k fit e s = by (nat_lt w.past (suc j)) ref
         (along_shown orders k.views st.who i k w st got (plain k got (λ u. refl) (λ x n o. refl) (λ u o. refl)) (along_start c orders trace w i st k fit.agree up s)
         (ap (option_map (λ (q : Packet). q.to)) there ∙ ap Some (sym who)) (record { count = fit.agree.knows.count; now = fit.agree.knows.now; posted = fit.agree.knows.posted })) in
         (handle_known shows c orders k.views (trace ++ got ∷ []) v i st (input.Packet p) (know k got) up
-        (well_may c v p (record { genuine = well.genuine; different = well.different; carried = well.carried }) (trace ++ got ∷ []) after_got st i up) after_got fit.tidy refl a there
+        (well_may c v p (record { genuine = well.genuine; different = well.different; carried = well.carried }) (λ e. after_got.queued_are tt) (trace ++ got ∷ []) after_got st i up) after_got fit.tidy refl a there
         (told_view k.views p (fit.agree.knows.posted j p e)) full).0
 
     here : nat_lt w.past (suc j) ≡ true → (b : Bool) → is_among p.to w.members ≡ b → IsOver (if b then give (input.Packet p) (node_at v p.to.node) v else tell [] v)

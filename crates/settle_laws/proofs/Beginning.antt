@@ -75,7 +75,7 @@ pub record Early (P : World → Type 0) (w : World) (n : ℕ) (m : Made) : Type 
 abbrev pub Goes : (World → Type 0) → World → ℕ → ℕ → ℕ → Made → Type 0
 Goes P w before most n m = IsFull w.limit before most m ⊎ Early P w n m
 
-waits_one : (wire : List Packet) (ks : List ℕ) (p : Packet) → ArePosted wire ks (p ∷ []) → (k : ℕ) × (ks ≡ k ∷ [])
+pub waits_one : (wire : List Packet) (ks : List ℕ) (p : Packet) → ArePosted wire ks (p ∷ []) → (k : ℕ) × (ks ≡ k ∷ [])
 waits_one wire [] p h = absurd h
 waits_one wire (k ∷ []) p h = (k, refl)
 waits_one wire (k ∷ j ∷ js) p h = absurd h.2
@@ -226,7 +226,7 @@ can_begin laws c w k = record {
 abbrev pub IsBegun : Script → Base → ℕ → World → Type 0
 IsBegun c b from v = IsLonely c b from 3 v (beginning b) × (v.lists.queues ≡ b.lists.queues)
 
-own_may : (c : Script) (trace : List Fact) (w : World) (st : Node) (b : Base) (x : Body) → is_node c b.who ≡ true → is_genuine_body c x ≡ true → Promised (recorded c trace) st x → MayTake c (recorded c trace) st (input.Packet (own_packet b x))
+pub own_may : (c : Script) (trace : List Fact) (w : World) (st : Node) (b : Base) (x : Body) → is_node c b.who ≡ true → is_genuine_body c x ≡ true → Promised (recorded c trace) st x → MayTake c (recorded c trace) st (input.Packet (own_packet b x))
 own_may c trace w st b x node genuine promised = record { from_is = node; genuine = genuine; promised = promised }
 
 pub drain_begins : Rests → (c : Script) (w w2 : World) (from k : ℕ) (e : IsEmpty c w) → let b : Base = base_of c w in IsBy b.who from 0 w2 (new_node b.set b.behaviour b.who) (own_packet b (body.View b.version (b.who ∷ [])) ∷ []) → Known c w2 → w2.lists ≡ w.lists → w2.ordered ≡ w.ordered

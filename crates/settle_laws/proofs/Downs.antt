@@ -227,7 +227,7 @@ sound_downs laws sendings c trace w s full k = record {
     }
 
     recorded : (p : ℕ) (e : List ℕ) → 0 < p → position p (journal e (shard_list v.lists (shard_of (setting c) e))) ≤ count_to e (take (ordered_of v p) (sends c p))
-    recorded p e above = le_then (position p (journal e (shard_list v.lists (shard_of (setting c) e)))) (queued e (queue_list v.lists p)) (count_to e (take (ordered_of v p) (sends c p))) (next.queued_are p e) (by (nat_lt c.config.producers p) refl)
+    recorded p e above = le_then (position p (journal e (shard_list v.lists (shard_of (setting c) e)))) (queued e (queue_list v.lists p)) (count_to e (take (ordered_of v p) (sends c p))) (next.queued_are tt p e) (by (nat_lt c.config.producers p) refl)
       where
         low : (p : ℕ) → 0 < p → 1 ≤ p
         low p h = omega (arith, h)

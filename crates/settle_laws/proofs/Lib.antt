@@ -10,6 +10,7 @@ pub mod Downs
 pub mod Drains
 pub mod Ending
 pub mod Few
+pub mod Given
 pub mod Homes
 pub mod Lasting
 pub mod Loads

@@ -93,7 +93,7 @@ all_settled c b all lists base made h = along (producers (setting c)) (producers
         both (list_all (is_settled_pair c all lists p) (setting c).names) (list_all (λ p. list_all (is_settled_pair c all lists p) (setting c).names) ps) (names p (setting c).names m.0 h.0) (along ps m.1 h.1)
 
 -- one of these numbers
-each_at : (P : ℕ → Type 0) (n a p : ℕ) → a ≤ p → p < a + n → Each P (numbers a n) → P p
+pub each_at : (P : ℕ → Type 0) (n a p : ℕ) → a ≤ p → p < a + n → Each P (numbers a n) → P p
 each_at P zero a p low high h = absurd (none a p low high)
   where
     none : (a p : ℕ) → a ≤ p → p < a + 0 → ⊥
@@ -281,7 +281,7 @@ given_empty laws opens c version lists script admits is_lawful free = record {
         mapped [] = refl
         mapped (x ∷ xs) = ap suc (mapped xs)
 
-given_is_ordered : Rests → Opens → (c : Script) (version : ℕ) (lists : SlotLists) → IsScript c → is_version c version ≡ true → lawful c lists ≡ true → IsUnheld c lists → IsOrdered c (given_world c version lists)
+pub given_is_ordered : Rests → Opens → (c : Script) (version : ℕ) (lists : SlotLists) → IsScript c → is_version c version ≡ true → lawful c lists ≡ true → IsUnheld c lists → IsOrdered c (given_world c version lists)
 given_is_ordered laws opens c version lists script admits is_lawful free = record {
   queued_ordered = λ p is. subst (λ n. queued_in_all (queue_list lists p) ≤ n) (sym (given_ordered c version lists p is)) (queue_reads laws.sendings c p (queue_list lists p) (known_queue c (given_world c version lists) (given_empty laws opens c version lists script admits is_lawful free).known p is)).within;
   ordered_sent = λ p is. of_equal (given_ordered c version lists p is);

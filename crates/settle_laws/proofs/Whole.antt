@@ -56,7 +56,7 @@ producer_in c p low high = both (nat_le 1 p) (nat_le p c.config.producers) (is_l
     within p n h = omega (arith, h)
 
 -- the budget is more than three
-three_less : (n : ℕ) → 3 ≤ n → (k : ℕ) × (n ≡ suc (suc (suc k)))
+pub three_less : (n : ℕ) → 3 ≤ n → (k : ℕ) × (n ≡ suc (suc (suc k)))
 three_less zero h = absurd (no h)
   where
     no : 3 ≤ 0 → ⊥

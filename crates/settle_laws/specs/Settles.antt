@@ -18,6 +18,7 @@ use Rattle.yard_model.specs.SlotLists.{SlotLists, queue_list}
 use Rattle.yard_model.specs.SlotReads.{holder, queued_in_all}
 use Rattle.yard_model.specs.Trace.{list_at}
 use Rattle.yard_model.specs.World.{World, Made, is_any_up, new_world, in_order, play_line, ordered_of, outstanding, settle, settled_from, settle_bound, given_world, all_sends, wire_limit}
+use Rattle.play_laws.specs.Confirming.{MaySettle}
 use Rattle.settle_laws.specs.Lonely.{deliveries_in, is_settled_fact, IsLonger}
 
 -- the sends of each producer that were ordered so far
@@ -73,6 +74,10 @@ pub record StoresEnd (c : Script) (version : ℕ) (lists : SlotLists) : Type 0 w
 -- given lists that are lawful and that nobody holds, of any script and a version that it admits, where the wire has room for so many packets: their settling ends, and every send of the script is settled
 abbrev pub StoresSettle : Type 0
 StoresSettle = (c : Script) (version : ℕ) (lists : SlotLists) → IsScript c → is_version c version ≡ true → lawful c lists ≡ true → IsUnheld c lists → most_deliveries (given_world c version lists) ≤ wire_limit → StoresEnd c version lists
+
+-- though more may be recorded in such lists than is queued, it hands over nothing that confirms until node 1 has taken every queue, and then all that is recorded is queued
+abbrev pub GivenMaySettle : Type 0
+GivenMaySettle = (c : Script) (version : ℕ) (lists : SlotLists) → IsScript c → is_version c version ≡ true → lawful c lists ≡ true → IsUnheld c lists → let w : World = given_world c version lists in MaySettle c (length w.wire) (settle_bound w) w
 
 -- the wire has that room where the script has at most 20,000 orders
 abbrev pub FewOrdersFit : Type 0

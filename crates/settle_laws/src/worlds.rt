@@ -1,5 +1,5 @@
 //! The settling of a world: after any orders, and of given lists.
-ghost use Rattle.settle_laws.specs.Settles.{BudgetSuffices, FewOrdersFit, OrdersSettle, SettleLineSettles, SettlesLeaveNone, StoresSettle};
+ghost use Rattle.settle_laws.specs.Settles.{BudgetSuffices, FewOrdersFit, GivenMaySettle, OrdersSettle, SettleLineSettles, SettlesLeaveNone, StoresSettle};
 
 use crate::alone::{delivery_falls, tick_costs};
 use actor_laws::region::shards_are_there;
@@ -39,6 +39,24 @@ pub fn stores_settle()
     turn_is_guarded();
     delivery_falls();
     tick_costs();
+}
+
+/// In given lists more may be recorded than is queued; but a settling of them hands over no packet that
+/// confirms until every queue is taken, and then all that is recorded is queued.
+pub fn given_may_settle()
+    ensures { GivenMaySettle }
+{
+    sending_law();
+    shards_are_there();
+    era_opens();
+    opening_gives_lists();
+    opening_is_quiet();
+    cluster_begins();
+    cluster_gains();
+    cluster_loses();
+    cluster_turns();
+    recorded_stays();
+    turn_is_guarded();
 }
 
 /// It has that room where the script has at most 20,000 orders.

@@ -4,11 +4,13 @@ pub mod DownLaws
 pub mod EndLaws
 pub mod FreshLaws
 pub mod GiveLaws
+pub mod GivenLaws
 pub mod KeepLaws
 pub mod LeftLaws
 pub mod LoopLaws
 pub mod MembersLaws
 pub mod NewLaws
+pub mod NumberLaws
 pub mod OrderedLaws
 pub mod OwnLaws
 pub mod PlaceLaws
@@ -20,6 +22,7 @@ pub mod RestsLaws
 pub mod RunLaws
 pub mod SeekLaws
 pub mod SeenLaws
+pub mod SentLaws
 pub mod SettleLaws
 pub mod StepLaws
 pub mod StoresLaws

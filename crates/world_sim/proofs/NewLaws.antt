@@ -11,7 +11,7 @@ use Rattle.node_core.specs.Leased.{Tells}
 use Rattle.node_core.specs.Standing.{Standing}
 use Rattle.world_sim.specs.Keeps.{Keeps}
 use Rattle.plain_laws.proofs.Booleans.{get_replicate}
-use Rattle.world_sim.specs.World.{IsWorld}
+use Rattle.world_sim.specs.World.{IsPlaying}
 use Rattle.world_sim.specs.Yard.{Yard, IsSeen, state_in}
 
 -- the parts of a world in which no node is up
@@ -58,7 +58,7 @@ seen_new y c k = record {
   tells_is = subst (λ s. Tells (meaning_of y.book) s (no_lists (setting c))) (sym k.script_is) k.tells_is;
 }
 
-pub world_new : Keeps → (y : Yard) (c : Script) → IsScript c → y.script ≡ c → y.version ≡ 0 → y.ups ≡ replicate c.config.nodes 0 → y.ordered ≡ replicate c.config.producers 0 → IsSeen y (new_world c wire_limit) → IsWorld c y 0 None
+pub world_new : Keeps → (y : Yard) (c : Script) → IsScript c → y.script ≡ c → y.version ≡ 0 → y.ups ≡ replicate c.config.nodes 0 → y.ordered ≡ replicate c.config.producers 0 → IsSeen y (new_world c wire_limit) → IsPlaying c y 0 None
 world_new keeps y c script e version ups ordered seen =
     let era : y.script ≡ with_shards y.script.config.shards c = e ∙ ap (λ (x : Script). with_shards x.config.shards c) (sym e) in
     record {

@@ -29,7 +29,7 @@ use Rattle.world_sim.specs.Stands.{Stands}
 use Rattle.world_sim.specs.Stepped.{IsWhole, IsPlayed, Plays, Stepped}
 use Rattle.world_sim.specs.Steps.{resharded, upgraded}
 use Rattle.world_sim.specs.Stopped.{IsStopped}
-use Rattle.world_sim.specs.Yard.{Yard, IsSeen, IsSound, Goes, state_in}
+use Rattle.world_sim.specs.Yard.{Yard, IsSeen, IsSound, IsBacked, Goes, state_in}
 use Rattle.world_sim.proofs.StepLaws.{counts_same, plays_of, step_as, step_told, if_true, if_false}
 use Rattle.world_sim.proofs.StoresLaws.{lists_home, none_holds, none_leased, stopped_all}
 use Rattle.world_sim.proofs.UpLaws.{firm_of, node_kept}
@@ -114,22 +114,22 @@ reshard_is : (n : ℕ) (y : Yard) (w : World) → IsSeen y w → (is_any_up w ||
 reshard_is n y w s = ap (λ a. a || (n == w.set.config.shards)) (sym (any_up y w s)) ∙ ap (λ (set : Setting). list_any is_some y.nodes || (n == set.config.shards)) s.set_is
 
 pub not_resharded : {E : Type 0} (n : ℕ) (y : Yard) (r : Result (Unit {0}) E) (before after : List Fact) → (list_any is_some y.nodes || is_same_number n y) ≡ true → OnOk r (after ≡ before ++ fact.Nothing ∷ []) → OnErr r (after ≡ before) → Plays 0 (world.play (order.Reshard n)) r y y before after
-not_resharded n y r before after h ok err = plays_of 0 0 (world.play (order.Reshard n)) r y y before after (omega arith) (step_told IsSound 0 (world.play (order.Reshard n)) r y before after fact.Nothing ok err (λ w s.
-    subst (Goes before (before ++ fact.Nothing ∷ []) y) (if_true (is_any_up w || (n == w.set.config.shards)) (world.nothing w) (resharded n w) (reshard_is n y w s.seen_is ∙ h)) (record { seen_is = s.seen_is; facts_are = refl })))
+not_resharded n y r before after h ok err = plays_of 0 0 (world.play (order.Reshard n)) r y y before after (omega arith) (step_told IsBacked 0 (world.play (order.Reshard n)) r y before after fact.Nothing ok err (λ w s.
+    subst (Goes before (before ++ fact.Nothing ∷ []) y) (if_true (is_any_up w || (n == w.set.config.shards)) (world.nothing w) (resharded n w) (reshard_is n y w s.sound.seen_is ∙ h)) (record { seen_is = s.sound.seen_is; facts_are = refl })))
 
 pub is_resharded : {E : Type 0} (n : ℕ) (y new : Yard) (r : Result (Unit {0}) E) (before after : List Fact) → (list_any is_some y.nodes || is_same_number n y) ≡ false → Plays 0 (resharded n) r y new before after → Plays 0 (world.play (order.Reshard n)) r y new before after
 is_resharded n y new (Ok u) before after h s = record {
   script_is = s.script_is;
   counts = s.counts;
-  goes = λ w k. subst (Goes before after new) (if_false (is_any_up w || (n == w.set.config.shards)) (world.nothing w) (resharded n w) (reshard_is n y w k.seen_is ∙ h)) (s.goes w k);
+  goes = λ w k. subst (Goes before after new) (if_false (is_any_up w || (n == w.set.config.shards)) (world.nothing w) (resharded n w) (reshard_is n y w k.sound.seen_is ∙ h)) (s.goes w k);
 }
 is_resharded n y new (Err e) before after h s = record {
   script_is = s.script_is;
-  told = λ w k. subst (λ (m : Made). ToldSome before after m.facts) (if_false (is_any_up w || (n == w.set.config.shards)) (world.nothing w) (resharded n w) (reshard_is n y w k.seen_is ∙ h)) (s.told w k);
+  told = λ w k. subst (λ (m : Made). ToldSome before after m.facts) (if_false (is_any_up w || (n == w.set.config.shards)) (world.nothing w) (resharded n w) (reshard_is n y w k.sound.seen_is ∙ h)) (s.told w k);
 }
 
 -- so nobody holds a slot
-stopped : (y : Yard) (w : World) → IsSound y w → list_any is_some y.nodes ≡ false → IsStopped y.script.config.nodes w.lists y w
+stopped : (y : Yard) (w : World) → IsSound y w → list_any is_some y.nodes ≡ false → IsStopped ⊥ y.script.config.nodes w.lists y w
 stopped y w s h = stopped_all y w (firm_of y w s) (λ k less. down_at y w s.seen_is h k)
 
 pub nobody_holds : (y : Yard) (w : World) → IsSound y w → list_any is_some y.nodes ≡ false → (t : Slot) → is_slot_of y.book.script t ≡ true → at y.book.holders (place_of y.book.script.config t) ≡ None
@@ -145,7 +145,7 @@ number_at f a zero i h = absurd (omega (arith, h))
 number_at f a (suc n) zero h = let same : a ≡ a + 0 = omega arith in ap f same
 number_at f a (suc n) (suc i) h = let same : (a + 1) + i ≡ a + suc i = omega arith in number_at f (a + 1) n i (omega (arith, h)) ∙ ap f same
 
-entries_are : (c : Script) (b : Book) (s : Slot) → is_slot_of c s ≡ true → entries_at b.places (place_of c.config s) ≡ list_at (lists_at c.config b.places) s
+pub entries_are : (c : Script) (b : Book) (s : Slot) → is_slot_of c s ≡ true → entries_at b.places (place_of c.config s) ≡ list_at (lists_at c.config b.places) s
 entries_are c b (slot.Shard k) i = let same : 0 + k ≡ k = omega arith in sym (number_at (entries_at b.places) 0 c.config.shards k (below k c.config.shards i) ∙ ap (entries_at b.places) same)
 entries_are c b slot.Coordinator i = refl
 entries_are c b (slot.Queue p) i =
@@ -156,7 +156,7 @@ entries_are c b (slot.Queue p) i =
     ap (λ q. entries_at b.places (c.config.shards + q)) same ∙ sym (number_at (λ q. entries_at b.places (c.config.shards + q)) 1 c.config.producers (p - 1) (omega (arith, some, most)))
 
 -- what a book in which nobody holds a slot tells
-tells_free : (c : Script) (b : Book) (lists : SlotLists) (n : ℕ) → b.script ≡ c → b.holders ≡ replicate n None → lists_at c.config b.places ≡ lists → ((s : Slot) → is_slot_of c s ≡ true → holder (list_at lists s) ≡ None) → Tells (meaning_of b) c lists
+pub tells_free : (c : Script) (b : Book) (lists : SlotLists) (n : ℕ) → b.script ≡ c → b.holders ≡ replicate n None → lists_at c.config b.places ≡ lists → ((s : Slot) → is_slot_of c s ≡ true → holder (list_at lists s) ≡ None) → Tells (meaning_of b) c lists
 tells_free c b lists n e none l free = λ s i.
     let its : is_slot_of b.script s ≡ true = ap (λ (x : Script). is_slot_of x s) e ∙ i in
     let nobody : at b.holders (place_of b.script.config s) ≡ None = ap (λ (hs : List (Option Incarnation)). at hs (place_of b.script.config s)) none ∙ get_replicate n (place_of b.script.config s) None in
@@ -184,8 +184,9 @@ pub record IsReshaped (n : ℕ) (y z : Yard) : Type 0 where
   pub holders_none : z.book.holders ≡ replicate (length z.book.places) None
   pub lists_are : lists_at z.script.config z.book.places ≡ reshaped (setting y.book.script) n (greatest_epoch (lists_at y.book.script.config y.book.places)) (lists_at y.book.script.config y.book.places)
 
-reshaped_seen : Keeps → (n : ℕ) (y z : Yard) (w : World) → IsSound y w → list_any is_some y.nodes ≡ false → is_in 1 128 n ≡ true → is_same_number n y ≡ false → IsReshaped n y z → IsSeen z (resharded n w).world
-reshaped_seen keeps n y z w s quiet fits other r =
+reshaped_seen : Keeps → (n : ℕ) (y z : Yard) (w : World) → IsBacked y w → list_any is_some y.nodes ≡ false → is_in 1 128 n ≡ true → is_same_number n y ≡ false → IsReshaped n y z → IsSeen z (resharded n w).world
+reshaped_seen keeps n y z w t quiet fits other r =
+    let s : IsSound y w = t.sound in
     let u : IsSeen y w = s.seen_is in
     let v : World = (resharded n w).world in
     let here : lists_at y.book.script.config y.book.places ≡ w.lists = lists_are y w s quiet in
@@ -193,7 +194,7 @@ reshaped_seen keeps n y z w s quiet fits other r =
     let lists : lists_at z.script.config z.book.places ≡ v.lists = r.lists_are ∙ (ap (λ x. reshaped x n (greatest_epoch (lists_at y.book.script.config y.book.places)) (lists_at y.book.script.config y.book.places)) set
     ∙ ap (λ l. reshaped w.set n (greatest_epoch l) l) here) in
     let down : (k : ℕ) → at w.nodes k ≡ None = down_at y w u quiet in
-    let stands : Stands z.script v = subst (λ c. Stands c v) (sym r.script_is) (keeps.reshards y.script w n fits (sym (any_up y w u) ∙ quiet) (ap (λ (x : Setting). n == x.config.shards) u.set_is ∙ other) s.going_is s.stands_is) in
+    let stands : Stands z.script v = subst (λ c. Stands c v) (sym r.script_is) (keeps.reshards y.script w n fits (sym (any_up y w u) ∙ quiet) (ap (λ (x : Setting). n == x.config.shards) u.set_is ∙ other) s.going_is s.stands_is t.may) in
     record {
       set_is = ap (λ (x : Setting). record { config = record x.config { shards = n }; names = x.names }) u.set_is ∙ ap setting (sym r.script_is);
       kind_is = r.kind_is ∙ (u.kind_is ∙ ap (λ (c : Script). c.config.kind) (sym r.script_is));
@@ -232,6 +233,6 @@ reshaped_played keeps n epoch y z before after quiet fits other e r told = recor
   counts = counts_same y z 0 r.version_is r.ups_are;
   goes = λ w s. record {
     seen_is = reshaped_seen keeps n y z w s quiet fits other r;
-    facts_are = told ∙ ap (λ k. before ++ fact.Reshard n k ∷ []) (e ∙ ap greatest_epoch (lists_are y w s quiet));
+    facts_are = told ∙ ap (λ k. before ++ fact.Reshard n k ∷ []) (e ∙ ap greatest_epoch (lists_are y w s.sound quiet));
   };
 }

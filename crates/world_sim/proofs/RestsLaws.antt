@@ -45,6 +45,7 @@ use Rattle.node_laws.specs.NodeFound.{AreLawful}
 use Rattle.node_laws.specs.NodeStands.{IsProducerAt, IsCoordinatorAt}
 use Rattle.node_laws.specs.NodeTurns.{Promised, IsPromised, MayTake}
 use Rattle.node_laws.specs.Traces.{recorded}
+use Rattle.play_laws.specs.Confirming.{MayHand}
 use Rattle.play_laws.specs.Sound.{IsWell}
 use Rattle.play_laws.proofs.Handled.{lawful_lists}
 use Rattle.play_laws.proofs.Orders.{well_may}
@@ -254,9 +255,9 @@ promised_more c vouches st (body.Request p e n u) h = λ k at_p. ((h k at_p).0, 
 promised_more c vouches st (body.Ack p e n) h = λ k at_p. ((h k at_p).0, refl)
 promised_more c vouches st b h = tt
 
-pub may_of : (c : Script) (w : World) (k : ℕ) (st : Node) (p : Packet) → Stands c w → IsWell c w.lists p → at w.nodes k ≡ Some st → MayTake c all_vouched st (input.Packet p)
-may_of c w k st p s well here =
-    let may : IsPromised c (recorded c s.trace) st p.from p.body = well_may c w p well s.trace s.sound st k here in
+pub may_of : (c : Script) (w : World) (k : ℕ) (st : Node) (p : Packet) → Stands c w → IsWell c w.lists p → MayHand c w.lists p → at w.nodes k ≡ Some st → MayTake c all_vouched st (input.Packet p)
+may_of c w k st p s well all here =
+    let may : IsPromised c (recorded c s.trace) st p.from p.body = well_may c w p well all s.trace s.sound st k here in
     record { from_is = may.from_is; genuine = may.genuine; promised = promised_more c (recorded c s.trace) st p.body may.promised }
 
 -- Stores before any entry.

@@ -19,7 +19,7 @@ use Rattle.play_laws.proofs.Orders.{downs_empty, first_node}
 use Rattle.world_sim.specs.Keeps.{Keeps}
 use Rattle.world_sim.specs.Stepped.{IsWhole, Stepped}
 use Rattle.world_sim.specs.Steps.{given, ticked, all_down, settled_by, ended}
-use Rattle.world_sim.specs.Yard.{Yard, IsSeen, IsSound, MayGive, Goes, state_in}
+use Rattle.world_sim.specs.Yard.{Yard, IsSeen, IsSound, IsSoundTo, IsBacked, ComesUp, SettlesBy, Settles, MayGive, Goes, state_in}
 use Rattle.node_core.specs.Standing.{Standing}
 use Rattle.world_sim.proofs.EndLaws.{go_down_full, none_kept}
 use Rattle.world_sim.proofs.LoopLaws.{KeepsOf, IsNextOf, order_one, sound_after}
@@ -36,7 +36,7 @@ downs ns = in_order (map go_down ns)
 pub down_going : (y z : Yard) (n : ℕ) (before after : List Fact) → IsWhole IsSound 1 (go_down n) y z before after → (w : World) × IsSound y w → z.mail.full ≡ false
 down_going y z n before after s r = (s.goes r.0 r.1).seen_is.full_is ∙ (go_down_full r.0 n ∙ r.1.going_is)
 
-pub downs_next : (y : Yard) (i n left rest : ℕ) → n ≡ i + 1 → left ≡ suc rest → IsNextOf downs y (go_down n) (numbers (i + 1) left) (numbers (i + 1 + 1) rest)
+pub downs_next : (y : Yard) (i n left rest : ℕ) → n ≡ i + 1 → left ≡ suc rest → IsNextOf IsSound downs y (go_down n) (numbers (i + 1) left) (numbers (i + 1 + 1) rest)
 downs_next y i n left rest e f = λ w s. ap (λ k. then_step (go_down k w) (downs (numbers (i + 1 + 1) rest))) e ∙ ap (λ k. downs (numbers (i + 1) k) w) (sym f)
 
 pub downs_done : (i left : ℕ) (w : World) → left ≡ 0 → tell [] w ≡ downs (numbers (i + 1) left) w
@@ -58,6 +58,13 @@ pub all_down_sound : Keeps → (y z : Yard) (before after : List Fact) → IsWho
 all_down_sound keeps y z before after s w k g =
     let going : (all_down y.script w).world.full ≡ false = downs_full (numbers 1 y.script.config.nodes) w ∙ k.going_is in
     sound_after y z (all_down y.script) w before after s.script_is (keeps.downs y.script w k.stands_is) (g.seen_is.full_is ∙ going) g
+
+-- so node 1 may come up
+pub all_down_to : Keeps → (from bound : ℕ) (y z : Yard) (before after : List Fact) → IsWhole IsSound 16 (all_down y.script) y z before after → (w : World) → IsSoundTo (SettlesBy from bound) y w → Goes before after z (all_down y.script w)
+    → ((all_down y.script w).world.full ≡ false) × IsSoundTo (ComesUp from bound) z (all_down y.script w).world
+all_down_to keeps from bound y z before after s w k g =
+    let on : ((all_down y.script w).world.full ≡ false) × IsSound z (all_down y.script w).world = all_down_sound keeps y z before after s w k.sound g in
+    (on.0, record { sound = on.1; may = subst (λ c. ComesUp from bound c (all_down y.script w).world) (sym s.script_is) k.may })
 
 some_node : (c : Script) → IsScript c → 1 ≤ c.config.nodes
 some_node c script = (node_within 1 c.config.nodes (first_node c script)).1
@@ -84,7 +91,7 @@ first_in y r = first_node y.script r.1.stands_is.sound.script_is
 abbrev pub takes : List ℕ → Step
 takes ps = in_order (map (λ p. produce p 1) ps)
 
-pub takes_next : (y : Yard) (i p left rest : ℕ) → p ≡ i + 1 → left ≡ suc rest → IsNextOf takes y (produce p 1) (numbers (i + 1) left) (numbers (i + 1 + 1) rest)
+pub takes_next : (y : Yard) (i p left rest : ℕ) → p ≡ i + 1 → left ≡ suc rest → IsNextOf IsSound takes y (produce p 1) (numbers (i + 1) left) (numbers (i + 1 + 1) rest)
 takes_next y i p left rest e f = λ w s. ap (λ k. then_step (produce k 1 w) (takes (numbers (i + 1 + 1) rest))) e ∙ ap (λ k. takes (numbers (i + 1) k) w) (sym f)
 
 pub takes_done : (i left : ℕ) (w : World) → left ≡ 0 → tell [] w ≡ takes (numbers (i + 1) left) w
@@ -107,7 +114,7 @@ tick_none y n before e down = record {
       subst (λ o. Goes before before y (world.give input.Tick o w)) (sym none) (goes_still y w before s.seen_is);
 }
 
-pub ticks_next : (y : Yard) (from bound left rest : ℕ) → left ≡ suc rest → ((w : World) → IsSound y w → list_any (is_left w) (producers w.set) ≡ true) → IsNextOf (world.tick_while_left from bound) y (ticked from bound) left rest
+pub ticks_next : (y : Yard) (from bound left rest : ℕ) → left ≡ suc rest → ((w : World) → IsBacked y w → list_any (is_left w) (producers w.set) ≡ true) → IsNextOf IsBacked (world.tick_while_left from bound) y (ticked from bound) left rest
 ticks_next y from bound left rest e h = λ w s.
     ap (λ b. elim b as (λ b. Made) [ false ↦ tell [] w | true ↦ then_step (then_step (world.give input.Tick (node_at w 1) w) (world.drain from bound)) (world.tick_while_left from bound rest) ]) (sym (h w s))
     ∙ ap (λ k. world.tick_while_left from bound k w) (sym e)
@@ -161,6 +168,14 @@ settle_is y w from bound e f s =
         ∷ world.settle_end from
         ∷ [])
 
+-- the numbers are those of the world
+pub settles_by : (y : Yard) (w : World) (from bound : ℕ) → from ≡ length y.mail.packets → bound ≡ world.settle_bound w → IsSoundTo Settles y w → IsSoundTo (SettlesBy from bound) y w
+settles_by y w from bound e f s = record {
+  sound = s.sound;
+  may = subst (λ k. SettlesBy k bound y.script w) (sym (e ∙ ap length s.sound.seen_is.wire_is)) (subst (λ k. SettlesBy (length w.wire) k y.script w) (sym f) s.may);
+}
+
 pub settle_stepped : {E : Type 0} (y new : Yard) (from bound : ℕ) (r : Result (Unit {0}) E) (before after : List Fact) → from ≡ length y.mail.packets → ((w : World) → IsSound y w → bound ≡ world.settle_bound w)
-    → Stepped IsSound 18 (settled_by y.script from bound) r y new before after → Stepped IsSound 18 world.settle r y new before after
-settle_stepped y new from bound r before after e f s = step_as IsSound IsSound 18 18 (settled_by y.script from bound) world.settle r y new before after (omega arith) (λ w k. (k, settle_is y w from bound e (f w k) k)) s
+    → Stepped (IsSoundTo (SettlesBy from bound)) 18 (settled_by y.script from bound) r y new before after → Stepped (IsSoundTo Settles) 18 world.settle r y new before after
+settle_stepped y new from bound r before after e f s =
+    step_as (IsSoundTo (SettlesBy from bound)) (IsSoundTo Settles) 18 18 (settled_by y.script from bound) world.settle r y new before after (omega arith) (λ w k. (settles_by y w from bound e (f w k.sound) k, settle_is y w from bound e (f w k.sound) k.sound)) s

@@ -9,7 +9,7 @@ use Rattle.yard_model.specs.World.{World, Made, Step, tell, then_step}
 use Rattle.plain_laws.proofs.Booleans.{true_is_not_false}
 use Rattle.world_sim.specs.Mail.{ToldSome}
 use Rattle.world_sim.specs.Stepped.{Counts, IsWhole, IsCut, Plays, Stepped}
-use Rattle.world_sim.specs.Yard.{Yard, IsSeen, IsSound, Goes}
+use Rattle.world_sim.specs.Yard.{Yard, IsSeen, IsBacked, Goes}
 
 -- Beginnings of facts.
 
@@ -185,11 +185,11 @@ if_false true m n e = absurd (true_is_not_false e)
 same_script : (c d : Script) → d ≡ c → d ≡ with_shards d.config.shards c
 same_script c d e = e ∙ ap (λ (x : Script). with_shards x.config.shards c) (sym e)
 
-pub plays_of : {E : Type 0} (n m : ℕ) (q : Step) (r : Result (Unit {0}) E) (old new : Yard) (before after : List Fact) → n ≤ m → Stepped IsSound n q r old new before after → Plays m q r old new before after
+pub plays_of : {E : Type 0} (n m : ℕ) (q : Step) (r : Result (Unit {0}) E) (old new : Yard) (before after : List Fact) → n ≤ m → Stepped IsBacked n q r old new before after → Plays m q r old new before after
 plays_of n m q (Ok u) old new before after l s = record { script_is = same_script old.script new.script s.script_is; counts = counts_more n m old new l s.counts; goes = s.goes }
 plays_of n m q (Err e) old new before after l s = s
 
-pub plays_err : {E : Type 0} (n : ℕ) (q : Step) (r : Result (Unit {0}) E) (old new : Yard) (before after : List Fact) → IsErr r → IsCut IsSound q old new before after → Plays n q r old new before after
+pub plays_err : {E : Type 0} (n : ℕ) (q : Step) (r : Result (Unit {0}) E) (old new : Yard) (before after : List Fact) → IsErr r → IsCut IsBacked q old new before after → Plays n q r old new before after
 plays_err n q (Ok u) old new before after h s = absurd (true_is_not_false (sym h))
 plays_err n q (Err e) old new before after h s = s
 

@@ -1,7 +1,7 @@
 -- The end of a world: every node stops, and the stores are at home.
 use Rattle.std.proofs.Common.{◌≡◌, ◌≢◌, ℕ, zero, suc, ◌+◌, ◌-◌, ◌<◌, ◌≤◌, true, List, [], ◌∷◌, ◌++◌, length, fold, refl, ap, sym, ◌∙◌, subst, arith}
-use Rattle.std.specs.Prelude.{Bool, false, ◌*◌, Result, Ok, Err, IfOk, nat_lt, nat_le, map, Option, Some, None, is_some, slice_index_or, slice_set}
-use Rattle.std.specs.List.{list_all, flat_map}
+use Rattle.std.specs.Prelude.{Bool, false, ◌*◌, Result, Ok, Err, IfOk, IsSome, nat_lt, nat_le, map, Option, Some, None, is_some, slice_index_or, slice_set}
+use Rattle.std.specs.List.{list_all, list_any, flat_map}
 use Rattle.std.proofs.lemmas.Bool.Decides.{nat_tests}
 use Rattle.std.proofs.lemmas.List.Folds.{list_all-append}
 use Rattle.std.proofs.lemmas.List.Sums.{fold-append}
@@ -20,7 +20,7 @@ use Rattle.yard_model.specs.SlotReads.{holder}
 use Rattle.yard_model.specs.Trace.{lists_step, list_at}
 use Rattle.yard_model.specs.Turns.{where_some}
 use Rattle.yard_model.specs.Words.{numbers, at}
-use Rattle.yard_model.specs.World.{World, Made, world_after, nodes_step, go_down, go_down_by, node_at}
+use Rattle.yard_model.specs.World.{World, Made, world_after, nodes_step, go_down, go_down_by, is_any_up, node_at}
 use Rattle.shard_store.specs.Stores.{entries_at, lists_at, place_of}
 use Rattle.shard_lease.specs.Book.{Book, known_at, meaning_of}
 use Rattle.node_core.specs.Leased.{IsTold, Tells}
@@ -33,9 +33,10 @@ use Rattle.plain_laws.proofs.Lists.{none_is_not_some, inside, placed_beside, by_
 use Rattle.plain_laws.proofs.Booleans.{true_is_not_false, and_both, both}
 use Rattle.world_sim.specs.declared.fault.StepFault.{StepFault}
 use Rattle.world_sim.specs.declared.fault.StepFault.TheVariants as fault
-use Rattle.world_sim.specs.Played.{FreesSome, AreFreed, is_freed, made_of}
-use Rattle.world_sim.specs.Stopped.{IsStopped}
-use Rattle.world_sim.specs.World.{IsAt, IsCounted, IsKept, IsWorld}
+use Rattle.world_sim.specs.Played.{FreesSome, AreFreed, is_freed, made_of, made_by}
+use Rattle.world_sim.specs.Stopped.{IsQuiet, IsStopped}
+use Rattle.world_sim.specs.Given.{Given}
+use Rattle.world_sim.specs.World.{IsAt, IsCounted, IsKept, IsPlaying, IsOf, IsHeld, IsFromStores, IsWorld}
 use Rattle.world_sim.specs.Yard.{Yard, IsSeen, IsFirm}
 use Rattle.world_sim.proofs.RestsLaws.{member, there_of, own_of, held_by, told_of}
 use Rattle.world_sim.proofs.TellLaws.{words_after, facts_within}
@@ -141,16 +142,17 @@ down_now c w j (Some st) s e =
 
 -- One node after the other.
 
-pub stopped_first : (y : Yard) (w : World) → IsFirm y w → IsStopped 0 w.lists y w
-stopped_first y w f = record { firm_is = f; down = λ k less. absurd (omega (arith, less)); freed_are = none_freed y.script w.lists }
+pub stopped_first : (y : Yard) (w : World) → IsFirm y w → IsStopped (IsQuiet w) 0 w.lists y w
+stopped_first y w f = record { firm_is = f; down = λ k less. absurd (omega (arith, less)); freed_are = none_freed y.script w.lists; still = λ q. (refl, q) }
 
-pub stopped_next : Keeps → (y z : Yard) (lists : SlotLists) (v : World) (i : ℕ) → is_in 1 y.script.config.nodes (i + 1) ≡ true → IsStopped i lists y v → z.script ≡ y.script → IsSeen z (go_down (i + 1) v).world → IsStopped (i + 1) lists z (go_down (i + 1) v).world
+pub stopped_next : {q : Type 0} → Keeps → (y z : Yard) (lists : SlotLists) (v : World) (i : ℕ) → is_in 1 y.script.config.nodes (i + 1) ≡ true → IsStopped q i lists y v → z.script ≡ y.script → IsSeen z (go_down (i + 1) v).world → IsStopped q (i + 1) lists z (go_down (i + 1) v).world
 stopped_next keeps y z lists v i node s e g = record {
   firm_is = record { seen_is = g; stands_is = subst (λ c. Stands c m.world) (sym e) (keeps.goes_down y.script v (i + 1) s.firm_is.stands_is) };
   down = λ k less. by_place (at m.world.nodes k ≡ None) k i
       (λ same. ap (at m.world.nodes) same ∙ down_now y.script v i (node_at v (i + 1)) s.firm_is.stands_is (ap (at v.nodes) here))
       (λ other. down_stays v (node_at v (i + 1)) k (s.down k (lower k less other)));
   freed_are = subst (λ c. FreesSome c lists m.world.lists) (sym e) (freed_on y.script lists v.lists m.world.lists s.freed_are (down_by y.script v (node_at v (i + 1)) s.firm_is.stands_is.sound.set_is));
+  still = λ q. let p : (v.lists ≡ lists) × IsQuiet v = s.still q in (ap (λ o. (go_down_by o v).world.lists) (p.1 (i + 1 - 1)) ∙ p.0, λ k. ap (λ o. at (go_down_by o v).world.nodes k) (p.1 (i + 1 - 1)) ∙ p.1 k);
 }
   where
     m : Made
@@ -163,12 +165,12 @@ stopped_next keeps y z lists v i node s e g = record {
     lower k less other = omega (arith, less, other)
 
 -- where all are down already
-pub stopped_all : (y : Yard) (w : World) → IsFirm y w → ((k : ℕ) → k < y.script.config.nodes → at w.nodes k ≡ None) → IsStopped y.script.config.nodes w.lists y w
-stopped_all y w f down = record { firm_is = f; down = down; freed_are = none_freed y.script w.lists }
+pub stopped_all : (y : Yard) (w : World) → IsFirm y w → ((k : ℕ) → k < y.script.config.nodes → at w.nodes k ≡ None) → IsStopped ⊥ y.script.config.nodes w.lists y w
+stopped_all y w f down = record { firm_is = f; down = down; freed_are = none_freed y.script w.lists; still = λ q. absurd q }
 
 -- what holds after so many nodes
 pub record Stopping (old y : Yard) (i : ℕ) : Type 0 where
-  pub goes_on : (w : World) → IsFirm old w → (v : World) × IsStopped i w.lists y v
+  pub goes_on : (w : World) → IsFirm old w → (v : World) × IsStopped (IsQuiet w) i w.lists y v
   pub script_is : y.script ≡ old.script
   pub version_is : y.version ≤ old.version + i
 
@@ -181,7 +183,7 @@ stopping_next keeps old y z start after i n one node s g =
     let more : z.version ≤ y.version + 1 = g.counts.version_is in
     record {
       goes_on = λ w f.
-          let r : (v : World) × IsStopped i w.lists y v = s.goes_on w f in (
+          let r : (v : World) × IsStopped (IsQuiet w) i w.lists y v = s.goes_on w f in (
             (go_down (i + 1) r.0).world,
             stopped_next keeps y z w.lists r.0 i (subst (λ n. is_in 1 y.script.config.nodes n ≡ true) one node) r.1 g.script_is
                 (subst (λ n. IsSeen z (go_down n r.0).world) one (g.goes r.0 r.1.firm_is).seen_is),
@@ -205,7 +207,7 @@ none_holds c w s stands down i = by (holder (list_at w.lists s)) refl
         absurd (none_is_not_some t.st (sym (down t.place less) ∙ t.here))
 
 -- so each slot that was held is freed
-pub all_free : (y : Yard) (lists : SlotLists) (w : World) → IsStopped y.script.config.nodes lists y w → AreFreed y.script lists w.lists
+pub all_free : {q : Type 0} → (y : Yard) (lists : SlotLists) (w : World) → IsStopped q y.script.config.nodes lists y w → AreFreed y.script lists w.lists
 all_free y lists w s = record {
   some_are = s.freed_are;
   own_are = λ t i. own_of y.script w t s.firm_is.stands_is i;
@@ -213,7 +215,7 @@ all_free y lists w s = record {
 }
 
 -- so the book has no holder
-pub none_leased : (b : Book) (y : Yard) (lists : SlotLists) (w : World) → b ≡ y.book → IsStopped y.script.config.nodes lists y w → (t : Slot) → is_slot_of b.script t ≡ true → at b.holders (place_of b.script.config t) ≡ None
+pub none_leased : {q : Type 0} → (b : Book) (y : Yard) (lists : SlotLists) (w : World) → b ≡ y.book → IsStopped q y.script.config.nodes lists y w → (t : Slot) → is_slot_of b.script t ≡ true → at b.holders (place_of b.script.config t) ≡ None
 none_leased b y lists w same s t i =
     let script : b.script ≡ y.script = ap (λ (b : Book). b.script) same ∙ s.firm_is.seen_is.book_is in
     let its : is_slot_of y.script t ≡ true = ap (λ (c : Script). is_slot_of c t) (sym script) ∙ i in
@@ -233,7 +235,7 @@ by_numbers f (x ∷ xs) a (suc n) e h =
 lists_same : (a b : SlotLists) → a.shards ≡ b.shards → a.coordinator ≡ b.coordinator → a.queues ≡ b.queues → a ≡ b
 lists_same a b e f g i = record { shards = e i; coordinator = f i; queues = g i }
 
-pub lists_home : (b : Book) (y : Yard) (lists : SlotLists) (w : World) → b ≡ y.book → IsStopped y.script.config.nodes lists y w → lists_at y.script.config b.places ≡ w.lists
+pub lists_home : {q : Type 0} → (b : Book) (y : Yard) (lists : SlotLists) (w : World) → b ≡ y.book → IsStopped q y.script.config.nodes lists y w → lists_at y.script.config b.places ≡ w.lists
 lists_home b y lists w same s = lists_same (lists_at y.script.config b.places) w.lists
     (by_numbers (entries_at b.places) w.lists.shards 0 y.script.config.shards there.shards
     (λ i j less e. let at_place : j ≡ i = omega (arith, e) in ap (entries_at b.places) at_place ∙ each (slot.Shard i) (lt_is i y.script.config.shards less)))
@@ -256,7 +258,7 @@ lists_home b y lists w same s = lists_same (lists_at y.script.config b.places) w
 
 -- The world's parts, where it found memory.
 
-at_end : (c : Script) (y : Yard) (n : ℕ) (f : Option StepFault) → IsWorld c y n f → f ≢ Some fault.OutOfMemory → (b : Bool) × IsAt c y n b × IsCounted y n
+at_end : (c : Script) (y : Yard) (n : ℕ) (f : Option StepFault) → IsPlaying c y n f → f ≢ Some fault.OutOfMemory → (b : Bool) × IsAt c y n b × IsCounted y n
 at_end c y n f w h = by f h w.kept
   where
     by : (f : Option StepFault) → f ≢ Some fault.OutOfMemory → IsKept c y n f → (b : Bool) × IsAt c y n b × IsCounted y n
@@ -264,19 +266,48 @@ at_end c y n f w h = by f h w.kept
     by (Some fault.WireFull) h k = (true, k.0, k.1)
     by (Some fault.OutOfMemory) h k = absurd (h refl)
 
-pub firm_kept : (c : Script) (y : Yard) (n : ℕ) (f : Option StepFault) → IsWorld c y n f → f ≢ Some fault.OutOfMemory → IsFirm y (made_of c n).world
-firm_kept c y n f w h = let k : (b : Bool) × IsAt c y n b × IsCounted y n = at_end c y n f w h in record { seen_is = k.1.seen_is; stands_is = k.1.stands_is }
+pub of_end : (c : Script) (g : Given) (y : Yard) (n : ℕ) (f : Option StepFault) → IsFromStores c g y n f → f ≢ Some fault.OutOfMemory → IsOf c g y n
+of_end c g y n f w h = by f h w.kept
+  where
+    by : (f : Option StepFault) → f ≢ Some fault.OutOfMemory → IsHeld c g y n f → IsOf c g y n
+    by None h k = k
+    by (Some fault.WireFull) h k = absurd k
+    by (Some fault.OutOfMemory) h k = absurd (h refl)
+
+pub firm_kept : (c : Script) (g : Option Given) (y : Yard) (n : ℕ) (f : Option StepFault) → IsWorld c g y n f → f ≢ Some fault.OutOfMemory → IsFirm y (made_by c g n).world
+firm_kept c None y n f w h = let k : (b : Bool) × IsAt c y n b × IsCounted y n = at_end c y n f w h in record { seen_is = k.1.seen_is; stands_is = k.1.stands_is }
+firm_kept c (Some g) y n f w h = let k : IsOf c g y n = of_end c g y n f w h in record { seen_is = k.seen_is; stands_is = subst (λ x. Stands x (made_by c (Some g) n).world) (sym k.script_is) k.stands_is }
 
 -- with the number of shards in force
-pub era_kept : (c : Script) (y : Yard) (n : ℕ) (f : Option StepFault) → IsWorld c y n f → f ≢ Some fault.OutOfMemory → y.script ≡ with_shards y.script.config.shards c
-era_kept c y n f w h = (at_end c y n f w h).1.era_is
+pub era_kept : (c : Script) (g : Option Given) (y : Yard) (n : ℕ) (f : Option StepFault) → IsWorld c g y n f → f ≢ Some fault.OutOfMemory → y.script ≡ with_shards y.script.config.shards c
+era_kept c None y n f w h = (at_end c y n f w h).1.era_is
+era_kept c (Some g) y n f w h = let k : IsOf c g y n = of_end c g y n f w h in k.script_is ∙ ap (λ (x : Script). with_shards x.config.shards c) (sym k.script_is)
 
-pub version_kept : (c : Script) (y : Yard) (n : ℕ) (f : Option StepFault) → IsWorld c y n f → f ≢ Some fault.OutOfMemory → y.version ≤ 4000000
-version_kept c y n f w h =
+-- which is that of given stores
+pub same_kept : (c : Script) (g : Option Given) (y : Yard) (n : ℕ) (f : Option StepFault) → IsWorld c g y n f → f ≢ Some fault.OutOfMemory → IsSome g → y.script ≡ c
+same_kept c None y n f w h some = absurd (true_is_not_false (sym some))
+same_kept c (Some g) y n f w h some = (of_end c g y n f w h).script_is
+
+pub version_kept : (c : Script) (g : Option Given) (y : Yard) (n : ℕ) (f : Option StepFault) → IsWorld c g y n f → f ≢ Some fault.OutOfMemory → y.version ≤ 4000000
+version_kept c None y n f w h =
     let counted : y.version ≤ 20 * n = (at_end c y n f w h).2.version_is in
     let few : n ≤ length c.orders = w.few in
     let fits : length c.orders ≤ 200000 = w.script_is.fits in
     omega (arith, counted, few, fits)
+version_kept c (Some g) y n f w h =
+    let counted : y.version ≤ 20 * n = (of_end c g y n f w h).version_is in
+    let few : n ≤ 1 = w.few in
+    omega (arith, counted, few)
+
+-- where no node is up
+pub quiet_of : (w : World) → is_any_up w ≡ false → IsQuiet w
+quiet_of w h = none_up w.nodes h
+  where
+    none_up : (os : List (Option Node)) → list_any is_some os ≡ false → (k : ℕ) → at os k ≡ None
+    none_up [] h k = refl
+    none_up (None ∷ os) h zero = refl
+    none_up (None ∷ os) h (suc k) = none_up os h k
+    none_up (Some v ∷ os) h k = absurd (true_is_not_false h)
 
 -- two things of what came, where it came
 pub both_ok : {T E : Type 0} (r : Result T E) (P Q R : T → Type 0) → ((x : T) → P x → Q x → R x) → IfOk r P → IfOk r Q → IfOk r R

@@ -1,4 +1,5 @@
 pub mod Found
+pub mod Given
 pub mod Keeps
 pub mod Lending
 pub mod Mail

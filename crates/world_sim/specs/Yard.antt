@@ -11,12 +11,13 @@ use Rattle.yard_model.specs.declared.packet.Packet.{Packet}
 use Rattle.yard_model.specs.Script.{Script, setting}
 use Rattle.yard_model.specs.Words.{at}
 use Rattle.yard_model.specs.Node.{Node}
-use Rattle.yard_model.specs.World.{World, Made, wire_limit}
+use Rattle.yard_model.specs.World.{World, Made, settle_bound, wire_limit}
 use Rattle.shard_lease.specs.Book.{Book, meaning_of}
 use Rattle.node_core.specs.Leased.{IfPacket, Tells}
 use Rattle.node_core.specs.Standing.{Standing}
 use Rattle.node_laws.specs.NodeTurns.{MayTake}
-use Rattle.play_laws.specs.Sound.{IsWell}
+use Rattle.play_laws.specs.Confirming.{MayHand, MayDeliver, MayDrain, MayTakeAll, MayBegin, MayComeUp, MaySettle}
+use Rattle.play_laws.specs.Sound.{AreQueued, IsWell}
 use Rattle.world_sim.specs.Mail.{Mails}
 use Rattle.world_sim.specs.Stands.{Stands}
 
@@ -76,6 +77,41 @@ pub record IsSound (y : Yard) (w : World) : Type 0 where
 pub record IsSoundFor (k : ℕ) (p : Packet) (y : Yard) (w : World) : Type 0 where
   pub sound : IsSound y w
   pub well : w.past < k → IsWell y.script w.lists p
+  pub may : w.past < k → MayHand y.script w.lists p
+
+-- and this is so of it
+pub record IsSoundTo (M : Script → World → Type 0) (y : Yard) (w : World) : Type 0 where
+  pub sound : IsSound y w
+  pub may : M y.script w
+
+-- all that is recorded is queued
+abbrev pub Backed : Script → World → Type 0
+Backed c w = AreQueued c w.lists
+
+abbrev pub IsBacked : Yard → World → Type 0
+IsBacked = IsSoundTo Backed
+
+-- what a packet confirms is queued where it is handed over: in the delivery of this number, in a drain, and in a settle from each of its steps on
+abbrev pub Delivers : ℕ → Script → World → Type 0
+Delivers n c w = MayDeliver c w n
+
+abbrev pub Drains : ℕ → ℕ → Script → World → Type 0
+Drains from n c w = MayDrain c from n w
+
+abbrev pub Takes : Script → World → Type 0
+Takes c w = MayTakeAll c w
+
+abbrev pub Begins : ℕ → ℕ → Script → World → Type 0
+Begins from bound c w = MayBegin c from bound w
+
+abbrev pub ComesUp : ℕ → ℕ → Script → World → Type 0
+ComesUp from bound c w = MayComeUp c from bound w
+
+abbrev pub SettlesBy : ℕ → ℕ → Script → World → Type 0
+SettlesBy from bound c w = MaySettle c from bound w
+
+abbrev pub Settles : Script → World → Type 0
+Settles c w = MaySettle c (length w.wire) (settle_bound w) w
 
 -- an input for this node, which keeps what it promises; all is vouched for
 pub record IsOffered (c : Script) (i : Input) (st : Node) : Type 0 where

@@ -4,7 +4,7 @@ ghost use Rattle.yard_model.specs.World.{World, hand_over, deliver, deliver_by, 
 ghost use Rattle.wire_packet.specs.Wire.{packet_at};
 ghost use Rattle.world_sim.specs.Stepped.{Stepped};
 ghost use Rattle.world_sim.specs.Steps.{marked};
-ghost use Rattle.world_sim.specs.Yard.{IsSound, IsSoundFor};
+ghost use Rattle.world_sim.specs.Yard.{IsSound, IsSoundFor, IsSoundTo, IsBacked, Delivers, Drains};
 
 use crate::laws::standing_is_kept;
 use crate::members::has;
@@ -16,8 +16,8 @@ use yard_model::{Fact, Facts, Input, Packet};
 impl<B: Behaviour + Copy + Drop> Yard<B> {
     /// The packet of this number is delivered, where one was posted.
     pub(crate) fn deliver(&mut self, number: u32, facts: &mut Facts) -> Result<(), AllocError>
-        requires { (w : World) × IsSound self.old w }
-        ensures { Stepped IsSound 0 (deliver number) result self.old self.new facts.old facts.new }
+        requires { (w : World) × IsSoundTo (Delivers number) self.old w }
+        ensures { Stepped (IsSoundTo (Delivers number)) 0 (deliver number) result self.old self.new facts.old facts.new }
     {
         match &self.mail.packet(number) {
             Some(packet) => self.deliver_packet(number, packet, facts),
@@ -32,10 +32,10 @@ impl<B: Behaviour + Copy + Drop> Yard<B> {
         packet: &Packet,
         facts: &mut Facts,
     ) -> Result<(), AllocError>
-        requires world { (w : World) × IsSound self.old w }
+        requires world { (w : World) × IsSoundTo (Delivers number) self.old w }
         requires above { 0 < number }
         requires posted { packet_at self.old.mail.packets number ≡ Some packet.now }
-        ensures { Stepped IsSound 0 (deliver_by number (Some packet.now)) result self.old self.new facts.old facts.new }
+        ensures { Stepped (IsSoundTo (Delivers number)) 0 (deliver_by number (Some packet.now)) result self.old self.new facts.old facts.new }
     {
         standing_is_kept();
         self.mark(number, facts)?;
@@ -77,9 +77,9 @@ impl<B: Behaviour + Copy + Drop> Yard<B> {
     /// At most `n` packets above `from` that were never delivered are delivered, the lowest number
     /// first, also those that are posted meanwhile.
     pub(crate) fn drain(&mut self, from: u32, n: u32, facts: &mut Facts) -> Result<(), AllocError>
-        requires world { (w : World) × IsSound self.old w }
+        requires world { (w : World) × IsSoundTo (Drains from n) self.old w }
         requires from { from < 4000000000 }
-        ensures { Stepped IsSound 0 (drain from n) result self.old self.new facts.old facts.new }
+        ensures { Stepped (IsSoundTo (Drains from n)) 0 (drain from n) result self.old self.new facts.old facts.new }
     {
         standing_is_kept();
         for _ in 0..n {
@@ -96,9 +96,10 @@ impl<B: Behaviour + Copy + Drop> Yard<B> {
 
     /// At most `n` packets that were never delivered are delivered; where there is none, nothing.
     pub(crate) fn pump(&mut self, n: u32, facts: &mut Facts) -> Result<(), AllocError>
-        requires { (w : World) × IsSound self.old w }
-        ensures { Stepped IsSound 0 (pump n) result self.old self.new facts.old facts.new }
+        requires { (w : World) × IsBacked self.old w }
+        ensures { Stepped IsBacked 0 (pump n) result self.old self.new facts.old facts.new }
     {
+        standing_is_kept();
         if !self.mail.has_fresh() {
             return facts.push(Fact::Nothing);
         }

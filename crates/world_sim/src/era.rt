@@ -6,7 +6,7 @@ ghost use Rattle.yard_model.specs.Behaviour.{is_in};
 ghost use Rattle.yard_model.specs.World.{World, play};
 ghost use Rattle.world_sim.specs.Stepped.{Plays, Stepped};
 ghost use Rattle.world_sim.specs.Steps.{resharded, upgraded};
-ghost use Rattle.world_sim.specs.Yard.{IsSound};
+ghost use Rattle.world_sim.specs.Yard.{IsBacked, IsSound};
 
 use crate::laws::standing_is_kept;
 use crate::places::is_any_up;
@@ -25,7 +25,7 @@ impl<B: Behaviour + Copy + Drop> Yard<B> {
     /// The number of shards is another from now on; nothing where a node is up, or where it is this
     /// one.
     pub(crate) fn reshard(&mut self, shards: u8, facts: &mut Facts) -> Result<(), AllocError>
-        requires world { (w : World) × IsSound self.old w }
+        requires world { (w : World) × IsBacked self.old w }
         requires shards { IsTrue (is_in 1 128 shards) }
         ensures { Plays 0 (play (order.Reshard shards)) result self.old self.new facts.old facts.new }
     {
@@ -45,7 +45,7 @@ impl<B: Behaviour + Copy + Drop> Yard<B> {
     /// The number of shards is another from now on: the leases are those of stores whose lists begin
     /// anew, and what was posted so far goes to nobody.
     fn reshape(&mut self, shards: u8, facts: &mut Facts) -> Result<(), AllocError>
-        requires world { (w : World) × IsSound self.old w }
+        requires world { (w : World) × IsBacked self.old w }
         requires quiet { list_any is_some self.old.nodes ≡ false }
         requires other { (shards == self.old.script.config.shards) ≡ false }
         requires shards { IsTrue (is_in 1 128 shards) }

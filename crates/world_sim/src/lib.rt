@@ -10,12 +10,14 @@ pub mod laws;
 mod left;
 mod mail;
 mod members;
+mod numbers;
 mod orders;
 mod places;
 mod produces;
 mod queues;
 mod runs;
 mod seek;
+mod sent;
 mod settle;
 mod stops;
 mod stores;
@@ -26,6 +28,7 @@ mod yard;
 
 pub use fault::StepFault;
 pub use mail::Mail;
+pub use stores::settle_stores;
 pub use world::World;
 
 #[cfg(test)]

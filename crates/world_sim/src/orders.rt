@@ -4,8 +4,9 @@ ghost use Rattle.yard_model.specs.Script.{is_order};
 ghost use Rattle.yard_model.specs.World.{World, play, play_line};
 ghost use Rattle.play_laws.specs.Played.{is_named};
 ghost use Rattle.world_sim.specs.Stepped.{Plays};
-ghost use Rattle.world_sim.specs.Yard.{IsSound, noted};
+ghost use Rattle.world_sim.specs.Yard.{IsBacked, IsSound, noted};
 
+use crate::laws::standing_is_kept;
 use crate::places::count_one;
 use crate::yard::Yard;
 use behaviour_core::Behaviour;
@@ -15,7 +16,7 @@ use yard_model::{Fact, Facts, Line, Order};
 impl<B: Behaviour + Copy + Drop> Yard<B> {
     /// The order of a line: `at`, and what it gives.
     pub(crate) fn play_line(&mut self, line: &Line, facts: &mut Facts) -> Result<(), AllocError>
-        requires world { (w : World) × IsSound self.old w }
+        requires world { (w : World) × IsBacked self.old w }
         requires order { IsTrue (is_order self.old.script.config line.now.order) }
         requires named { IsTrue (is_named self.old.script line.now.order) }
         requires version { self.old.version < 3000000000 }
@@ -42,7 +43,7 @@ impl<B: Behaviour + Copy + Drop> Yard<B> {
 
     /// What an order gives.
     fn play(&mut self, order: &Order, facts: &mut Facts) -> Result<(), AllocError>
-        requires world { (w : World) × IsSound self.old w }
+        requires world { (w : World) × IsBacked self.old w }
         requires order { IsTrue (is_order self.old.script.config order.now) }
         requires named { IsTrue (is_named self.old.script order.now) }
         requires version { self.old.version < 3000000000 }
@@ -50,6 +51,7 @@ impl<B: Behaviour + Copy + Drop> Yard<B> {
         requires ordered { (k : ℕ) → slice_index_or self.old.ordered k 0 ≤ 200000 }
         ensures { Plays 20 (play order.now) result self.old self.new facts.old facts.new }
     {
+        standing_is_kept();
         match order {
             Order::Up(n) => self.up(*n, facts),
             Order::Crash(n) => self.crash(*n, facts),

@@ -40,7 +40,7 @@ pub(crate) fn put_node<B: Behaviour + Drop>(
 /// The number of the next incarnation of this node.
 pub(crate) fn next_number(ups: &Vec<u32>, n: NodeNo) -> u32
     requires within { n ≤ length ups.now.items }
-    requires fits { slice_index_or ups.now.items (n - 1) 0 < 4000000000 }
+    requires fits { slice_index_or ups.now.items (n - 1) 0 < 4100000000 }
     ensures { result ≡ slice_index_or ups.now.items (n - 1) 0 + 1 }
 {
     let place = n.get() as usize - 1;

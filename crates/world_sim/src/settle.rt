@@ -6,7 +6,7 @@ ghost use Rattle.yard_model.specs.Words.{at};
 ghost use Rattle.yard_model.specs.World.{World, play, tick_while_left, settle_end, wire_limit};
 ghost use Rattle.world_sim.specs.Stepped.{Stepped};
 ghost use Rattle.world_sim.specs.Steps.{given, ticked, from_ticks, from_second, from_taking, from_first, from_up, settled_by, all_taken, all_down, ended};
-ghost use Rattle.world_sim.specs.Yard.{IsSound};
+ghost use Rattle.world_sim.specs.Yard.{IsSound, IsSoundTo, IsBacked, Takes, Begins, ComesUp, SettlesBy, Settles};
 
 use crate::laws::standing_is_kept;
 use crate::places::is_down;
@@ -26,11 +26,11 @@ impl<B: Behaviour + Copy + Drop> Yard<B> {
     /// Every node goes down, and node 1 comes up; what is posted from then on is delivered; it takes
     /// every queue; and it is given its timer while some send that was ordered isn't confirmed.
     pub(crate) fn settle(&mut self, facts: &mut Facts) -> Result<(), AllocError>
-        requires world { (w : World) × IsSound self.old w }
+        requires world { (w : World) × IsSoundTo Settles self.old w }
         requires version { self.old.version < 3000000000 }
-        requires ups { (k : ℕ) → slice_index_or self.old.ups k 0 < 3000000000 }
+        requires ups { (k : ℕ) → slice_index_or self.old.ups k 0 ≤ 4000000000 }
         requires ordered { (k : ℕ) → slice_index_or self.old.ordered k 0 ≤ 200000 }
-        ensures { Stepped IsSound 18 (play order.Settle) result self.old self.new facts.old facts.new }
+        ensures { Stepped (IsSoundTo Settles) 18 (play order.Settle) result self.old self.new facts.old facts.new }
     {
         let from = self.begin();
         let bound = self.settle_bound();
@@ -50,11 +50,11 @@ impl<B: Behaviour + Copy + Drop> Yard<B> {
 
     /// The same, of packets above `from`, with a budget for each drain and for the ticks.
     fn settle_by(&mut self, from: u32, bound: u32, facts: &mut Facts) -> Result<(), AllocError>
-        requires world { (w : World) × IsSound self.old w }
+        requires world { (w : World) × IsSoundTo (SettlesBy from bound) self.old w }
         requires from { from < 4000000000 }
         requires version { self.old.version < 3000000000 }
-        requires ups { (k : ℕ) → slice_index_or self.old.ups k 0 < 3000000000 }
-        ensures { Stepped IsSound 18 (settled_by self.old.script from bound) result self.old self.new facts.old facts.new }
+        requires ups { (k : ℕ) → slice_index_or self.old.ups k 0 ≤ 4000000000 }
+        ensures { Stepped (IsSoundTo (SettlesBy from bound)) 18 (settled_by self.old.script from bound) result self.old self.new facts.old facts.new }
     {
         standing_is_kept();
         self.go_all_down(facts)?;
@@ -80,12 +80,12 @@ impl<B: Behaviour + Copy + Drop> Yard<B> {
 
     /// A settle from where node 1 comes up.
     fn settle_up(&mut self, from: u32, bound: u32, facts: &mut Facts) -> Result<(), AllocError>
-        requires world { (w : World) × IsSound self.old w }
+        requires world { (w : World) × IsSoundTo (ComesUp from bound) self.old w }
         requires from { from < 4000000000 }
         requires down { at self.old.nodes 0 ≡ None }
         requires version { self.old.version < 3999999999 }
-        requires ups { slice_index_or self.old.ups 0 0 < 4000000000 }
-        ensures { Stepped IsSound 2 (from_up self.old.script from bound) result self.old self.new facts.old facts.new }
+        requires ups { slice_index_or self.old.ups 0 0 < 4100000000 }
+        ensures { Stepped (IsSoundTo (ComesUp from bound)) 2 (from_up self.old.script from bound) result self.old self.new facts.old facts.new }
     {
         standing_is_kept();
         self.come_up(first(), facts)?;
@@ -97,10 +97,10 @@ impl<B: Behaviour + Copy + Drop> Yard<B> {
 
     /// A settle from its first drain on.
     fn settle_first(&mut self, from: u32, bound: u32, facts: &mut Facts) -> Result<(), AllocError>
-        requires world { (w : World) × IsSound self.old w }
+        requires world { (w : World) × IsSoundTo (Begins from bound) self.old w }
         requires from { from < 4000000000 }
         requires version { self.old.version < 4000000000 }
-        ensures { Stepped IsSound 1 (from_first self.old.script from bound) result self.old self.new facts.old facts.new }
+        ensures { Stepped (IsSoundTo (Begins from bound)) 1 (from_first self.old.script from bound) result self.old self.new facts.old facts.new }
     {
         standing_is_kept();
         self.drain(from, bound, facts)?;
@@ -112,10 +112,10 @@ impl<B: Behaviour + Copy + Drop> Yard<B> {
 
     /// A settle from where node 1 takes the queues.
     fn settle_taking(&mut self, from: u32, bound: u32, facts: &mut Facts) -> Result<(), AllocError>
-        requires world { (w : World) × IsSound self.old w }
+        requires world { (w : World) × IsSoundTo Takes self.old w }
         requires from { from < 4000000000 }
         requires version { self.old.version < 4000000000 }
-        ensures { Stepped IsSound 1 (from_taking self.old.script from bound) result self.old self.new facts.old facts.new }
+        ensures { Stepped (IsSoundTo Takes) 1 (from_taking self.old.script from bound) result self.old self.new facts.old facts.new }
     {
         standing_is_kept();
         self.take_all(facts)?;
@@ -146,10 +146,10 @@ impl<B: Behaviour + Copy + Drop> Yard<B> {
 
     /// A settle from its second drain on.
     fn settle_second(&mut self, from: u32, bound: u32, facts: &mut Facts) -> Result<(), AllocError>
-        requires world { (w : World) × IsSound self.old w }
+        requires world { (w : World) × IsBacked self.old w }
         requires from { from < 4000000000 }
         requires version { self.old.version < 4000000000 }
-        ensures { Stepped IsSound 1 (from_second from bound) result self.old self.new facts.old facts.new }
+        ensures { Stepped IsBacked 1 (from_second from bound) result self.old self.new facts.old facts.new }
     {
         standing_is_kept();
         self.drain(from, bound, facts)?;
@@ -161,10 +161,10 @@ impl<B: Behaviour + Copy + Drop> Yard<B> {
 
     /// A settle from its ticks on.
     fn settle_ticks(&mut self, from: u32, bound: u32, facts: &mut Facts) -> Result<(), AllocError>
-        requires world { (w : World) × IsSound self.old w }
+        requires world { (w : World) × IsBacked self.old w }
         requires from { from < 4000000000 }
         requires version { self.old.version < 4000000000 }
-        ensures { Stepped IsSound 1 (from_ticks from bound) result self.old self.new facts.old facts.new }
+        ensures { Stepped IsBacked 1 (from_ticks from bound) result self.old self.new facts.old facts.new }
     {
         standing_is_kept();
         self.tick_while_left(from, bound, facts)?;
@@ -182,9 +182,9 @@ impl<B: Behaviour + Copy + Drop> Yard<B> {
         bound: u32,
         facts: &mut Facts,
     ) -> Result<(), AllocError>
-        requires world { (w : World) × IsSound self.old w }
+        requires world { (w : World) × IsBacked self.old w }
         requires from { from < 4000000000 }
-        ensures { Stepped IsSound 0 (tick_while_left from bound bound) result self.old self.new facts.old facts.new }
+        ensures { Stepped IsBacked 0 (tick_while_left from bound bound) result self.old self.new facts.old facts.new }
     {
         standing_is_kept();
         for _ in 0..bound {
@@ -201,9 +201,9 @@ impl<B: Behaviour + Copy + Drop> Yard<B> {
 
     /// A tick at node 1, and what is posted is delivered.
     fn tick_and_drain(&mut self, from: u32, n: u32, facts: &mut Facts) -> Result<(), AllocError>
-        requires world { (w : World) × IsSound self.old w }
+        requires world { (w : World) × IsBacked self.old w }
         requires from { from < 4000000000 }
-        ensures { Stepped IsSound 0 (ticked from n) result self.old self.new facts.old facts.new }
+        ensures { Stepped IsBacked 0 (ticked from n) result self.old self.new facts.old facts.new }
     {
         standing_is_kept();
         self.tick_first(facts)?;

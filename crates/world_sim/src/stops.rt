@@ -3,7 +3,7 @@ ghost use Rattle.std.specs.Prelude.{◌≡◌, ◌≤◌, IfOk, OnOk};
 ghost use Rattle.yard_model.specs.World.{World};
 ghost use Rattle.shard_store.specs.Stores.{lists_at};
 ghost use Rattle.world_sim.specs.Played.{AreFreed};
-ghost use Rattle.world_sim.specs.Stopped.{IsStopped};
+ghost use Rattle.world_sim.specs.Stopped.{IsQuiet, IsStopped};
 ghost use Rattle.world_sim.specs.Yard.{IsFirm};
 
 use crate::laws::standing_is_kept;
@@ -22,6 +22,7 @@ impl<B: Behaviour + Copy + Drop> Yard<B> {
         ensures charter { IfOk result (λ r. r.0 ≡ self.script) }
         ensures script { IfOk result (λ r. r.1.script ≡ self.script) }
         ensures lists { (w : World) → IsFirm self w → IfOk result (λ r. AreFreed self.script w.lists (lists_at self.script.config r.1.places)) }
+        ensures same { (w : World) → IsFirm self w → IsQuiet w → IfOk result (λ r. lists_at self.script.config r.1.places ≡ w.lists) }
     {
         let mut yard = self;
         yard.stop()?;
@@ -32,7 +33,7 @@ impl<B: Behaviour + Copy + Drop> Yard<B> {
     fn stop(&mut self) -> Result<(), AllocError>
         requires world { (w : World) × IsFirm self.old w }
         requires version { self.old.version ≤ 4000000 }
-        ensures stopped { OnOk result ((w : World) → IsFirm self.old w → (v : World) × IsStopped self.old.script.config.nodes w.lists self.new v) }
+        ensures stopped { OnOk result ((w : World) → IsFirm self.old w → (v : World) × IsStopped (IsQuiet w) self.old.script.config.nodes w.lists self.new v) }
         ensures script { self.new.script ≡ self.old.script }
     {
         standing_is_kept();

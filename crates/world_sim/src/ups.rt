@@ -33,7 +33,7 @@ impl<B: Behaviour + Copy + Drop> Yard<B> {
         requires node { is_in 1 self.old.script.config.nodes n ≡ true }
         requires down { at self.old.nodes (n - 1) ≡ None }
         requires version { self.old.version < 4000000000 }
-        requires ups { slice_index_or self.old.ups (n - 1) 0 < 4000000000 }
+        requires ups { slice_index_or self.old.ups (n - 1) 0 < 4100000000 }
         ensures { Stepped IsSound 1 (come_up n) result self.old self.new facts.old facts.new }
     {
         self.enter(n, facts)?;
@@ -46,7 +46,7 @@ impl<B: Behaviour + Copy + Drop> Yard<B> {
         requires node { is_in 1 self.old.script.config.nodes n ≡ true }
         requires down { at self.old.nodes (n - 1) ≡ None }
         requires version { self.old.version < 4000000000 }
-        requires ups { slice_index_or self.old.ups (n - 1) 0 < 4000000000 }
+        requires ups { slice_index_or self.old.ups (n - 1) 0 < 4100000000 }
         ensures { Stepped IsSound 1 (entered n) result self.old self.new facts.old facts.new }
     {
         let number = next_number(&self.ups, n);
@@ -66,7 +66,7 @@ impl<B: Behaviour + Copy + Drop> Yard<B> {
         requires world { (w : World) × IsSound self.old w }
         requires node { is_in 1 self.old.script.config.nodes n ≡ true }
         requires version { self.old.version < 4000000000 }
-        requires ups { slice_index_or self.old.ups (n - 1) 0 < 4000000000 }
+        requires ups { slice_index_or self.old.ups (n - 1) 0 < 4100000000 }
         ensures { Stepped IsSound 1 (up n) result self.old self.new facts.old facts.new }
     {
         if is_down(&self.nodes, n) {

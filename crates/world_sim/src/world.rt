@@ -1,45 +1,59 @@
 //! A world, order by order.
-ghost use Rattle.std.specs.Prelude.{◌≡◌, ◌≢◌, None, Some, IfOk, IfNone, IsTrue, replicate, slice_get};
+ghost use Rattle.std.specs.Prelude.{◌≡◌, None, Some, IfOk, IfNone, IfSome, IsSome, IsTrue, OnOk, replicate, slice_get};
 ghost use Rattle.yard_model.specs.Safe.{safe};
 ghost use Rattle.yard_model.specs.Script.{IsScript};
-ghost use Rattle.yard_model.specs.World.{new_world, wire_limit};
+ghost use Rattle.yard_model.specs.World.{given_world, new_world, wire_limit};
 ghost use Rattle.shard_store.specs.Stores.{lists_at};
 ghost use Rattle.world_sim.specs.declared.fault.StepFault.TheVariants as fault;
-ghost use Rattle.world_sim.specs.Played.{Answers, Steps, AreFreed, made_of};
+ghost use Rattle.world_sim.specs.Given.{IsGiven};
+ghost use Rattle.world_sim.specs.Played.{Answers, Steps, LineSettles, Settling, made_of};
 ghost use Rattle.world_sim.specs.Yard.{IsSeen};
 
 use crate::fault::StepFault;
 use crate::laws::{made_is_safe, standing_is_kept};
 use crate::mail::Mail;
-use crate::places::{no_nodes, zeros};
+use crate::numbers::greatest_number;
+use crate::places::{no_nodes, set_number, zeros};
+use crate::sent::all_sent;
 use crate::yard::Yard;
 use behaviour_core::Behaviour;
+use settle_laws::worlds::{few_orders_fit, given_may_settle, settle_line_settles, stores_settle};
 use shard_lease::LeaseBook;
 use shard_store::Stores;
 use std::alloc::{AllocError, Global};
 use std::marker::{Model, PhantomData};
 use std::snapshot::Snapshot;
-use yard_model::{Charter, Facts, Line, Members};
+use yard_model::{Charter, Facts, Line, Members, NodeNo};
 
 /// All nodes of a script, one step after the other: the members, the packets between them, and the
-/// leases. Seen as the script, how many of its orders were played, and what ended it.
+/// leases. It begins before the script's first order, or with given stores, which it settles. Seen as
+/// the script, what it began with, how many of the orders were played, and what ended it.
 #[derive(Drop)]
 pub struct World<B: Behaviour> {
     pub(crate) script: Snapshot<Charter>,
+    pub(crate) given: Option<Origin>,
     pub(crate) yard: Yard<B>,
     pub(crate) count: u32,
     pub(crate) fault: Option<StepFault>,
 }
 
+/// What a world of given stores began with: the stores, which contracts see, and the version of the
+/// behaviours.
+#[derive(Drop)]
+pub(crate) struct Origin {
+    pub(crate) stores: Snapshot<Stores>,
+    pub(crate) version: u8,
+}
+
 impl<B: Behaviour> Model for World<B> {
     ghost use Rattle.world_sim.specs.Played.{Played};
-    ghost use Rattle.world_sim.specs.World.{IsWorld};
+    ghost use Rattle.world_sim.specs.World.{IsWorld, given_in};
 
     ghost Value = { Played };
 
-    ghost view = { λ w. record { script = w.script.value; count = w.count; fault = w.fault } };
+    ghost view = { λ w. record { script = w.script.value; given = given_in w.given; count = w.count; fault = w.fault } };
 
-    ghost invariant = { λ w. IsWorld w.script.value w.yard w.count w.fault };
+    ghost invariant = { λ w. IsWorld w.script.value (given_in w.given) w.yard w.count w.fault };
 }
 
 impl<B: Behaviour + Copy + Drop> World<B> {
@@ -47,26 +61,84 @@ impl<B: Behaviour + Copy + Drop> World<B> {
     /// error is want of memory.
     pub fn new(alloc: Global, charter: &Charter, behaviour: B) -> Result<World<B>, AllocError>
         requires { B.kind_of behaviour ≡ charter.now.config.kind }
-        ensures { IfOk result (λ w. w ≡ record { script = charter.now; count = 0; fault = None }) }
+        ensures { IfOk result (λ w. w ≡ record { script = charter.now; given = None; count = 0; fault = None }) }
     {
         standing_is_kept();
         let yard = new_yard(alloc, charter, behaviour)?;
         Ok(World {
             script: Snapshot::of(charter),
+            given: None,
             yard,
             count: 0,
             fault: None,
         })
     }
 
+    /// The world of given stores of the script, in which every send of it is ordered, no node is up and
+    /// nothing is posted. Their lists are lawful, no slot is held, and no number of an incarnation in them
+    /// is above 4,000,000,000; node 1 goes on past its numbers there. The only error is want of memory.
+    pub fn from_stores(
+        alloc: Global,
+        charter: &Charter,
+        behaviour: B,
+        stores: Stores,
+    ) -> Result<World<B>, AllocError>
+        requires kind { B.kind_of behaviour ≡ charter.now.config.kind }
+        requires script { stores.script ≡ charter.now }
+        requires given { IsGiven charter.now (B.version_of behaviour) (lists_at charter.now.config stores.places) }
+        ensures { IfOk result (λ w. w ≡ record { script = charter.now; given = Some (record { version = B.version_of behaviour; lists = lists_at charter.now.config stores.places }); count = 0; fault = None }) }
+    {
+        standing_is_kept();
+        let given = Origin {
+            stores: Snapshot::of(&stores),
+            version: behaviour.version(),
+        };
+        let yard = given_yard(alloc, charter, behaviour, stores)?;
+        Ok(World {
+            script: Snapshot::of(charter),
+            given: Some(given),
+            yard,
+            count: 0,
+            fault: None,
+        })
+    }
+
+    /// Settles what was given: node 1 comes up, takes every queue, and runs until all is recorded and
+    /// confirmed. Every send of the script is settled then, the lists are lawful and go on from the given
+    /// ones, and nobody holds a slot. The only error is want of memory: then a beginning of the facts was
+    /// told, and the world is spent.
+    pub fn settle(&mut self, out: &mut Facts) -> Result<(), AllocError>
+        requires given { IsSome self.old.given }
+        requires first { self.old.count ≡ 0 }
+        requires going { self.old.fault ≡ None }
+        ensures { IfSome self.old.given (λ g. Settling self.old g out.old result self.new out.new) }
+    {
+        standing_is_kept();
+        given_may_settle();
+        stores_settle();
+        few_orders_fit();
+        match self.yard.settle(out) {
+            Ok(()) => {
+                self.count = 1;
+                Ok(())
+            }
+            Err(_) => {
+                self.fault = Some(StepFault::OutOfMemory);
+                Err(AllocError)
+            }
+        }
+    }
+
     /// Plays the next order, and tells its facts; where memory runs out, a beginning of them. A world
     /// that is spent answers what ended it. What the orders told so far is safe at each prefix: at most
     /// one incarnation of an entity is live, which holds its shard's lease, each state that is shown is
-    /// its journal's, and the lists are lawful.
+    /// its journal's, and the lists are lawful. A line that settles leaves every send so far settled.
     pub fn step(&mut self, line: &Line, out: &mut Facts) -> Result<(), StepFault>
-        requires { IfNone self.old.fault (slice_get self.old.script.orders self.old.count ≡ Some line.now) }
+        requires new { self.old.given ≡ None }
+        requires next { IfNone self.old.fault (slice_get self.old.script.orders self.old.count ≡ Some line.now) }
         ensures steps { Steps self.old line.now out.old result self.new out.new }
         ensures safe { IsTrue (safe self.new.script (made_of self.new.script self.new.count).facts) }
+        ensures settles { OnOk result (LineSettles self.old line.now) }
     {
         made_is_safe();
         if let Some(fault) = self.fault {
@@ -77,11 +149,14 @@ impl<B: Behaviour + Copy + Drop> World<B> {
 
     /// Plays the next order, where the world isn't spent.
     fn play(&mut self, line: &Line, out: &mut Facts) -> Result<(), StepFault>
+        requires new { self.old.given ≡ None }
         requires going { self.old.fault ≡ None }
         requires next { slice_get self.old.script.orders self.old.count ≡ Some line.now }
-        ensures { Answers self.old line.now out.old result self.new out.new }
+        ensures answers { Answers self.old line.now out.old result self.new out.new }
+        ensures settles { OnOk result (LineSettles self.old line.now) }
     {
         standing_is_kept();
+        settle_line_settles();
         match self.yard.play_line(line, out) {
             Ok(()) => {}
             Err(_) => {
@@ -96,6 +171,49 @@ impl<B: Behaviour + Copy + Drop> World<B> {
         }
         Ok(())
     }
+}
+
+/// The parts of a world of given stores. The only error is want of memory.
+fn given_yard<B: Behaviour + Copy + Drop>(
+    alloc: Global,
+    charter: &Charter,
+    behaviour: B,
+    stores: Stores,
+) -> Result<Yard<B>, AllocError>
+    requires kind { B.kind_of behaviour ≡ charter.now.config.kind }
+    requires script { stores.script ≡ charter.now }
+    requires given { IsGiven charter.now (B.version_of behaviour) (lists_at charter.now.config stores.places) }
+    ensures seen { IfOk result (λ y. IsSeen y (given_world charter.now (B.version_of behaviour) (lists_at charter.now.config stores.places))) }
+    ensures script { IfOk result (λ y. y.script ≡ charter.now) }
+    ensures version { IfOk result (λ y. y.version ≡ 0) }
+    ensures known { IfOk result (λ y. IsScript y.script) }
+{
+    let charter = charter.copy(alloc)?;
+    let count = charter.config().nodes;
+    let shards = charter.config().shards;
+    let producers = charter.config().producers;
+    let greatest = greatest_number(&stores, shards, producers);
+    let parts = stores.into_parts();
+    let book = LeaseBook::new(alloc, Stores::from_parts(parts))?;
+    let nodes = no_nodes(alloc, count)?;
+    let mut ups = zeros(alloc, count)?;
+    set_number(&mut ups, NodeNo::FIRST, greatest);
+    let ordered = all_sent(alloc, &charter)?;
+    let mail = Mail::new(alloc, &charter)?;
+    Ok(Yard {
+        alloc,
+        charter,
+        behaviour,
+        book,
+        nodes,
+        members: Members::empty(),
+        version: 0,
+        ups,
+        ordered,
+        mail,
+        past: 0,
+        holds: PhantomData,
+    })
 }
 
 /// The version of behaviours that is in force at first.

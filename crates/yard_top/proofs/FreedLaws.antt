@@ -18,7 +18,7 @@ use Rattle.yard_model.specs.Trace.{with_entry, lists_step}
 use Rattle.yard_model.specs.World.{Made, played, wire_limit}
 use Rattle.shard_store.specs.Stores.{Shelves, lists_at}
 use Rattle.trace_text.specs.Json.{entity_json, pair_json, entities_json, queues_json, whole_text, json_text}
-use Rattle.world_sim.specs.Played.{AreFreed, Played, is_freed, made_of}
+use Rattle.world_sim.specs.Played.{AreFreed, Played, is_freed, made_at, made_by, made_of}
 use Rattle.yard_top.specs.Replays.{IsDone}
 use Rattle.yard_top.proofs.KnownLaws.{true_is_not_false}
 
@@ -130,13 +130,17 @@ pub freed_json : (c : Script) (old new : SlotLists) → AreFreed c old new → j
 freed_json c old new freed = json_same (setting c) old new (freed_same c old new freed)
 
 -- the charter's setting is that of the world that is through
-pub set_of : (c d : Script) (world : Played) → IsDone c world → setting d ≡ (made_of world.script world.count).world.set → setting d ≡ (played c wire_limit).world.set
-set_of c d world done is = is ∙ (ap (λ (s : Script). (made_of s world.count).world.set) done.script_is ∙ ap (λ (m : Made). m.world.set) done.made_is)
+pub set_of : (c d : Script) (world : Played) → IsDone c world → setting d ≡ (made_at world).world.set → setting d ≡ (played c wire_limit).world.set
+set_of c d world done is =
+    is
+    ∙ (ap (λ o. (made_by world.script o world.count).world.set) done.given_is
+    ∙ (ap (λ (s : Script). (made_of s world.count).world.set) done.script_is ∙ ap (λ (m : Made). m.world.set) done.made_is))
 
 -- the lists of the stores of a world that is through with its script, for the number of shards in force
 pub freed_of : (c d : Script) (world : Played) (stores : Shelves) → IsDone c world → stores.script ≡ d
-    → AreFreed d (made_of world.script world.count).world.lists (lists_at d.config stores.places) → AreFreed d (played c wire_limit).world.lists (lists_at stores.script.config stores.places)
+    → AreFreed d (made_at world).world.lists (lists_at d.config stores.places) → AreFreed d (played c wire_limit).world.lists (lists_at stores.script.config stores.places)
 freed_of c d world stores done is freed =
-    let here : AreFreed d (made_of c world.count).world.lists (lists_at d.config stores.places) = subst (λ (s : Script). AreFreed d (made_of s world.count).world.lists (lists_at d.config stores.places)) done.script_is freed in
+    let none : AreFreed d (made_of world.script world.count).world.lists (lists_at d.config stores.places) = subst (λ o. AreFreed d (made_by world.script o world.count).world.lists (lists_at d.config stores.places)) done.given_is freed in
+    let here : AreFreed d (made_of c world.count).world.lists (lists_at d.config stores.places) = subst (λ (s : Script). AreFreed d (made_of s world.count).world.lists (lists_at d.config stores.places)) done.script_is none in
     let whole : AreFreed d (played c wire_limit).world.lists (lists_at d.config stores.places) = subst (λ (m : Made). AreFreed d m.world.lists (lists_at d.config stores.places)) done.made_is here in
     subst (λ (s : Script). AreFreed d (played c wire_limit).world.lists (lists_at s.config stores.places)) (sym is) whole

@@ -10,12 +10,13 @@ use Rattle.world_sim.specs.Played.{Played, made_of}
 
 -- so many orders were played, and the trace goes on
 pub record IsOn (c : Script) (n : ℕ) (world : Played) : Type 0 where
-  pub world_is : world ≡ record { script = c; count = n; fault = None }
+  pub world_is : world ≡ record { script = c; given = None; count = n; fault = None }
   pub going_is : (made_of c n).world.full ≡ false
 
 -- all orders were played, or those up to the one with which the trace stops
 pub record IsDone (c : Script) (world : Played) : Type 0 where
   pub script_is : world.script ≡ c
+  pub given_is : world.given ≡ None
   pub memory_is : world.fault ≢ Some fault.OutOfMemory
   pub made_is : made_of c world.count ≡ played c wire_limit
 

@@ -32,7 +32,7 @@ pub(crate) fn follow<B: Behaviour + Copy + Drop, N: Notes>(
     facts: &mut Facts,
     notes: &mut N,
 ) -> Result<(), AllocError>
-    requires world { world.old ≡ record { script = charter.now; count = 0; fault = None } }
+    requires world { world.old ≡ record { script = charter.now; given = None; count = 0; fault = None } }
     ensures done { OnOk result (IsDone charter.now world.new) }
     ensures told { OnOk result ((x : N.About) → N.told notes.old x [] → N.told notes.new x (trace_of charter.now)) }
 {

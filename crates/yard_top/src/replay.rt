@@ -105,7 +105,7 @@ fn play<B: Behaviour + Copy + Drop, K: Sink>(
     desk: &mut Desk,
     sink: &mut K,
 ) -> Result<(), WriteError>
-    requires world { world.old ≡ record { script = charter.now; count = 0; fault = None } }
+    requires world { world.old ≡ record { script = charter.now; given = None; count = 0; fault = None } }
     requires course { desk.old.course ≡ start }
     ensures wrote { Writes (trace_text charter.now) result
         (record { taken = K.taken sink.old; flushed = K.flushed sink.old; faults = K.faults sink.old })

@@ -8,5 +8,5 @@ use Rattle.world_sim.proofs.world.World.new.Goals as goal
 pub invariant_of-result : goal.invariant_of-result
 invariant_of-result g c =
     let e = c.in_ok-yard.ensures in
-    subst (λ s. IsWorld s c.in_ok-yard.yard 0 None) (sym c.of.ensures)
+    subst (λ s. IsWorld s None c.in_ok-yard.yard 0 None) (sym c.of.ensures)
     (world_new c.standing_is_kept.ensures c.in_ok-yard.yard c.args.charter.now (subst IsScript e.script e.known) e.script e.version e.ups e.ordered e.seen)

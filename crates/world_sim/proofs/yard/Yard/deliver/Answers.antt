@@ -1,8 +1,8 @@
 use Rattle.std.proofs.Common.{sym, ap, ◌∙◌}
 use Rattle.std.specs.Prelude.{Some, None}
 use Rattle.wire_packet.specs.Wire.{packet_at}
-use Rattle.world_sim.specs.Yard.{Yard}
-use Rattle.world_sim.proofs.DeliveryLaws.{deliver_stepped, nothing_stepped, deliver_as}
+use Rattle.world_sim.specs.Yard.{Yard, Delivers}
+use Rattle.world_sim.proofs.DeliveryLaws.{deliver_stepped, nothing_stepped, deliver_as, weak_to}
 use Rattle.world_sim.proofs.yard.Yard.deliver.Goals as goal
 
 pub returns-in-Some : goal.returns-in-Some
@@ -12,5 +12,6 @@ returns-in-Some g c =
 
 pub returns-in-None : goal.returns-in-None
 returns-in-None g c =
-    nothing_stepped _ 0 c.push.result c.args.self.now c.args.facts.now c.push.new.self c.push.ensures.ok c.push.ensures.err (λ w s.
-    deliver_as c.args.self.now c.args.number None w (ap (λ (v : Yard). packet_at v.mail.packets c.args.number) (sym c.self.view_is) ∙ (sym c.packet.ensures.packet ∙ c.in-None.is)) s)
+    weak_to (Delivers c.args.number) 0 _ c.push.result c.args.self.now _ c.args.facts.now c.push.new.self
+    (nothing_stepped _ 0 c.push.result c.args.self.now c.args.facts.now c.push.new.self c.push.ensures.ok c.push.ensures.err (λ w s.
+    deliver_as c.args.self.now c.args.number None w (ap (λ (v : Yard). packet_at v.mail.packets c.args.number) (sym c.self.view_is) ∙ (sym c.packet.ensures.packet ∙ c.in-None.is)) s))

@@ -1,8 +1,8 @@
 use Rattle.std.proofs.Common.{◌≡◌, ◌+◌, ◌-◌, suc, filter, nat_lt, sym, ap, ◌∙◌, subst, arith}
 use Rattle.yard_model.specs.World.{drain}
 use Rattle.world_sim.specs.Mail.{Heads}
-use Rattle.world_sim.specs.Yard.{Yard, IsSound}
-use Rattle.world_sim.proofs.DeliveryLaws.{drain_ends, drain_stops, drain_goes_on, drain_done, drain_cut}
+use Rattle.world_sim.specs.Yard.{Yard, IsSoundTo, Drains}
+use Rattle.world_sim.proofs.DeliveryLaws.{drain_next, drain_ends, drain_stops, drain_goes_on, drain_done, drain_cut}
 use Rattle.world_sim.proofs.StepLaws.{step_err}
 use Rattle.world_sim.proofs.yard.Yard.drain.Goals as goal
 
@@ -14,7 +14,11 @@ returns-in_default g c =
 pub deliver-requires : goal.deliver-requires
 deliver-requires g c =
     let i = c.loop.invariant.draining.goes_on c.requires.world.0 c.requires.world.1 in
-    (i.now, i.sound)
+    let one : c.args.n - c.loop.counter ≡ suc (c.args.n - (c.loop.counter + 1)) = omega (arith, c.loop-test.true) in (
+      i.now,
+      drain_next c.loop.self c.args.from c.args.n (c.args.n - c.loop.counter) (c.args.n - (c.loop.counter + 1)) c.in-Some.number c.requires.world.0 c.args.facts.now c.loop.facts one i
+          (subst (λ (v : Yard). Heads c.in-Some.number (filter (nat_lt c.args.from) v.mail.fresh)) c.self.view_is c.in-Some.ensures),
+    )
 
 pub returns-then-is_full : goal.returns-then-is_full
 returns-then-is_full g c =
@@ -39,7 +43,7 @@ returns g c = drain_done c.args.self.now c.loop.self c.args.facts.now c.loop.fac
 pub returns-in_err-deliver : goal.returns-in_err-deliver
 returns-in_err-deliver g c =
     let one : c.args.n - c.loop.counter ≡ suc (c.args.n - (c.loop.counter + 1)) = omega (arith, c.loop-test.true) in
-    step_err IsSound 0 (drain c.args.from c.args.n) c.from_residual.result _ _ _ _ c.from_residual.ensures.0
+    step_err (IsSoundTo (Drains c.args.from c.args.n)) 0 (drain c.args.from c.args.n) c.from_residual.result _ _ _ _ c.from_residual.ensures.0
     (drain_cut c.args.self.now c.loop.self c.deliver.new.self c.args.facts.now c.loop.facts c.deliver.new.facts c.args.from c.args.n (c.args.n - c.loop.counter) (c.args.n - (c.loop.counter + 1)) c.in-Some.number one c.loop.invariant.draining
     (subst (λ (v : Yard). Heads c.in-Some.number (filter (nat_lt c.args.from) v.mail.fresh)) c.self.view_is c.in-Some.ensures)
     c.in_err-deliver.ensures)

@@ -8,7 +8,7 @@ use Rattle.yard_model.specs.Words.{at}
 use Rattle.shard_lease.specs.Book.{Book}
 use Rattle.shard_store.specs.Stores.{place_of}
 use Rattle.world_sim.specs.Steps.{resharded}
-use Rattle.world_sim.specs.Yard.{Yard, IsSound}
+use Rattle.world_sim.specs.Yard.{Yard, IsBacked}
 use Rattle.world_sim.proofs.ReshardLaws.{nobody_holds, relisted, played_as, reshaped_played}
 use Rattle.world_sim.proofs.StepLaws.{cut_none, plays_err}
 use Rattle.world_sim.proofs.UpLaws.{node_within}
@@ -26,22 +26,22 @@ new-requires-2 g c = λ k h. ap is_held (c.in_ok-stores.ensures.empty k)
 pub reshape-requires-clause-free : goal.reshape-requires-clause-free
 reshape-requires-clause-free g c =
     subst (λ (b : Book). (t : Slot) → is_slot_of b.script t ≡ true → at b.holders (place_of b.script.config t) ≡ None) (sym c.replace-book.ensures.value)
-    (subst (λ (v : Yard). (t : Slot) → is_slot_of v.book.script t ≡ true → at v.book.holders (place_of v.book.script.config t) ≡ None) (sym c.self.view_is) (nobody_holds c.args.self.now c.requires.world.0 c.requires.world.1 c.requires.quiet))
+    (subst (λ (v : Yard). (t : Slot) → is_slot_of v.book.script t ≡ true → at v.book.holders (place_of v.book.script.config t) ≡ None) (sym c.self.view_is) (nobody_holds c.args.self.now c.requires.world.0 c.requires.world.1.sound c.requires.quiet))
 
 pub returns-in_err-charter : goal.returns-in_err-charter
-returns-in_err-charter g c = plays_err 0 (resharded c.args.shards) c.from_residual.result _ _ _ _ c.from_residual.ensures.0 (cut_none IsSound (resharded c.args.shards) _ _ _ _ refl refl)
+returns-in_err-charter g c = plays_err 0 (resharded c.args.shards) c.from_residual.result _ _ _ _ c.from_residual.ensures.0 (cut_none IsBacked (resharded c.args.shards) _ _ _ _ refl refl)
 
 pub returns-in_err-stores : goal.returns-in_err-stores
-returns-in_err-stores g c = plays_err 0 (resharded c.args.shards) c.from_residual-in_err-stores.result _ _ _ _ c.from_residual-in_err-stores.ensures.0 (cut_none IsSound (resharded c.args.shards) _ _ _ _ refl refl)
+returns-in_err-stores g c = plays_err 0 (resharded c.args.shards) c.from_residual-in_err-stores.result _ _ _ _ c.from_residual-in_err-stores.ensures.0 (cut_none IsBacked (resharded c.args.shards) _ _ _ _ refl refl)
 
 pub returns-in_err-empty : goal.returns-in_err-empty
-returns-in_err-empty g c = plays_err 0 (resharded c.args.shards) c.from_residual-in_err-empty.result _ _ _ _ c.from_residual-in_err-empty.ensures.0 (cut_none IsSound (resharded c.args.shards) _ _ _ _ refl refl)
+returns-in_err-empty g c = plays_err 0 (resharded c.args.shards) c.from_residual-in_err-empty.result _ _ _ _ c.from_residual-in_err-empty.ensures.0 (cut_none IsBacked (resharded c.args.shards) _ _ _ _ refl refl)
 
 pub returns-in_err-self-inside : goal.returns-in_err-self-inside
-returns-in_err-self-inside g c = plays_err 0 (resharded c.args.shards) c.from_residual-in_err-self-inside.result _ _ _ _ c.from_residual-in_err-self-inside.ensures.0 (cut_none IsSound (resharded c.args.shards) _ _ _ _ (ap (λ (v : Yard). v.script) c.self.view_is) refl)
+returns-in_err-self-inside g c = plays_err 0 (resharded c.args.shards) c.from_residual-in_err-self-inside.result _ _ _ _ c.from_residual-in_err-self-inside.ensures.0 (cut_none IsBacked (resharded c.args.shards) _ _ _ _ (ap (λ (v : Yard). v.script) c.self.view_is) refl)
 
 pub returns-in_err-push : goal.returns-in_err-push
-returns-in_err-push g c = plays_err 0 (resharded c.args.shards) c.from_residual-in_err-push.result _ _ _ _ c.from_residual-in_err-push.ensures.0 (cut_none IsSound (resharded c.args.shards) _ _ _ _ (ap (λ (v : Yard). v.script) c.self.view_is) c.in_err-push.ensures.err)
+returns-in_err-push g c = plays_err 0 (resharded c.args.shards) c.from_residual-in_err-push.result _ _ _ _ c.from_residual-in_err-push.ensures.0 (cut_none IsBacked (resharded c.args.shards) _ _ _ _ (ap (λ (v : Yard). v.script) c.self.view_is) c.in_err-push.ensures.err)
 
 pub returns : goal.returns
 returns g c =

@@ -1,7 +1,7 @@
 use Rattle.std.proofs.Common.{◌≡◌, ap, sym, ◌∙◌, subst, arith}
 use Rattle.yard_model.specs.declared.charter.Config.{Config}
 use Rattle.yard_model.specs.Script.{Script}
-use Rattle.world_sim.specs.Stopped.{IsStopped}
+use Rattle.world_sim.specs.Stopped.{IsQuiet, IsStopped}
 use Rattle.world_sim.specs.Yard.{Yard}
 use Rattle.world_sim.proofs.StoresLaws.{stopping_first, stopping_next, node_in}
 use Rattle.world_sim.proofs.yard.Yard.stop.Goals as goal
@@ -20,7 +20,7 @@ returns-clause-stopped g c = λ w f.
     let r = c.loop-i.invariant.stopping.goes_on w f in
     let count : c.config.result.now.nodes ≡ c.args.self.now.script.config.nodes = ap (λ (x : Config). x.nodes) c.config.ensures.value ∙ ap (λ (v : Yard). v.script.config.nodes) c.self.view_is in
     let all : c.loop-i.i ≡ c.args.self.now.script.config.nodes = omega (arith, count, c.loop-i.auto.i-end, c.loop-i-test.false) in
-    (r.0, subst (λ k. IsStopped k w.lists c.loop-i.self r.0) all r.1)
+    (r.0, subst (λ k. IsStopped (IsQuiet w) k w.lists c.loop-i.self r.0) all r.1)
 
 pub loop-i-init : goal.loop-i-init
 loop-i-init g c = record { stopping = stopping_first c.args.self.now }

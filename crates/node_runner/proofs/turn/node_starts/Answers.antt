@@ -1,0 +1,14 @@
+use Rattle.std.proofs.Common.{◌≡◌, true, ap, ◌∙◌, subst}
+use Rattle.yard_model.specs.Genuine.{is_node}
+use Rattle.yard_model.specs.Node.{new_node}
+use Rattle.yard_model.specs.Script.{Script, setting}
+use Rattle.lease_table.specs.Belongs.{id_of, charter_of}
+use Rattle.node_runner.proofs.Fresh.{new_node_rests}
+use Rattle.node_runner.proofs.Stepping.{if_ok_both}
+use Rattle.node_runner.proofs.turn.node_starts.Goals as goal
+
+pub returns-clause-rested : goal.returns-clause-rested
+returns-clause-rested g c =
+    let node : is_node (charter_of c.args.table.now) c.args.who ≡ true = subst (λ (y : Script). is_node y c.args.who ≡ true) c.requires.charter c.requires.who in
+    if_ok_both c.new.result (λ n script state. new_node_rests (id_of c.args.table.now) (charter_of c.args.table.now) (g.B.Behaviour.version_of c.args.behaviour) c.args.who c.args.pass.now n c.requires.idle node c.requires.within (script ∙ c.requires.charter)
+    (state ∙ ap (λ (y : Script). new_node (setting y) (g.B.Behaviour.version_of c.args.behaviour) c.args.who) c.requires.charter)) c.new.ensures.script c.new.ensures.state

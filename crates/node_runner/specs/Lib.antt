@@ -1,0 +1,13 @@
+pub mod Alone
+pub mod Rested
+pub mod Shown
+pub mod Ordered
+pub mod Progress
+pub mod Drawn
+pub mod Parcels
+pub mod Entered
+pub mod OnWay
+pub mod Posts
+pub mod Mailed
+pub mod Ran
+pub mod Jobs

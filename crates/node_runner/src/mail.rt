@@ -1,0 +1,212 @@
+//! How a worker posts and takes.
+ghost use Rattle.std.specs.Prelude.{◌≡◌, ◌≤◌, true, false, length, IfOk};
+ghost use Rattle.yard_model.specs.Genuine.{is_genuine_packet};
+ghost use Rattle.lease_table.specs.Belongs.{id_of, charter_of};
+ghost use Rattle.rand_pcg.specs.Pcg.{pcg32};
+ghost use Rattle.node_runner.specs.Rested.{Rested, ArePublished};
+ghost use Rattle.node_runner.specs.Parcels.{is_confirming, is_within_packet};
+ghost use Rattle.node_runner.specs.Mailed.{IsSameHolder};
+
+use crate::draws::{Draws, Fate};
+use crate::parcel::{Parcel, Run};
+use crate::record::parcel_of;
+use behaviour_core::Behaviour;
+use lease_table::{LeasePass, LeaseTable};
+use node_core::Node;
+use post_box::{BoxPass, PostBox};
+use std::alloc::{AllocError, Global};
+use std::sync::Wait;
+use yard_model::{Charter, NodeNo, Packet};
+
+/// The pass of a worker at the boxes, its draws, and the parcels that it is to post after the next turn.
+#[derive(Drop)]
+pub struct Mail<J: Run> {
+    pub(crate) pass: BoxPass<Parcel<J>>,
+    pub(crate) draws: Draws,
+    held: Vec<Parcel<J>>,
+}
+
+impl<J: Run> Mail<J> {
+    /// Nothing is held yet.
+    pub fn new(alloc: Global, pass: BoxPass<Parcel<J>>, draws: Draws) -> Mail<J>
+        ensures pass { result.pass ≡ pass }
+        ensures draws { result.draws ≡ draws }
+    {
+        Mail {
+            pass,
+            draws,
+            held: Vec::new(alloc),
+        }
+    }
+
+    /// The next word.
+    pub fn draw(&mut self) -> u32
+        ensures word { (result, self.new.draws.words) ≡ pcg32 self.old.draws.words }
+        ensures pass { self.new.pass ≡ self.old.pass }
+    {
+        self.draws.next()
+    }
+
+    /// The oldest parcel of the worker's own box, if there is one. It may wait.
+    pub fn take<R: Wait>(&mut self, rt: &R, boxes: &PostBox<Parcel<J>>) -> Option<Parcel<J>>
+        requires belongs { self.old.pass.tables ≡ boxes.now.tables }
+        ensures kept { IsSameHolder self.old.pass self.new.pass }
+    {
+        let own = self.pass.node();
+        boxes.take(rt, &mut self.pass, own)
+    }
+
+    /// Posts what is held, in the order in which it was kept back. It may wait.
+    pub fn release<R: Wait>(&mut self, rt: &R, boxes: &PostBox<Parcel<J>>)
+        requires belongs { self.old.pass.tables ≡ boxes.now.tables }
+        requires nodes { length boxes.now.tables ≡ J.script.config.nodes }
+        ensures kept { IsSameHolder self.old.pass self.new.pass }
+    {
+        self.held.reverse();
+        while let Some(parcel) = self.held.pop() {
+            post_one(rt, boxes, &mut self.pass, parcel);
+        }
+    }
+
+    /// Draws what becomes of a packet that confirms nothing, as a view, and posts it so. It may wait. The
+    /// only error is want of memory.
+    pub fn send_plain<R: Wait>(
+        &mut self,
+        rt: &R,
+        boxes: &PostBox<Parcel<J>>,
+        packet: &Packet,
+    ) -> Result<(), AllocError>
+        requires belongs { self.old.pass.tables ≡ boxes.now.tables }
+        requires nodes { length boxes.now.tables ≡ J.script.config.nodes }
+        requires genuine { is_genuine_packet J.script packet.now ≡ true }
+        requires within { is_within_packet packet.now ≡ true }
+        requires plain { is_confirming packet.now.body ≡ false }
+        ensures kept { IsSameHolder self.old.pass self.new.pass }
+    {
+        let fate = self.draws.fate();
+        let again = Parcel::plain(*packet);
+        self.dispatch(rt, boxes, fate, Parcel::plain(*packet), Some(again))
+    }
+
+    /// Draws what becomes of a packet that the node posted in a turn, and posts it so, with a note where it
+    /// confirms a record; it is lost where the record can't be shown. It may wait. The only error is want
+    /// of memory.
+    pub fn send<R: Wait, B: Behaviour + Drop>(
+        &mut self,
+        rt: &R,
+        boxes: &PostBox<Parcel<J>>,
+        table: &LeaseTable,
+        pass: LeasePass,
+        node: &Node<B>,
+        charter: &Charter,
+        packet: &Packet,
+    ) -> Result<LeasePass, AllocError>
+        requires belongs { self.old.pass.tables ≡ boxes.now.tables }
+        requires nodes { length boxes.now.tables ≡ J.script.config.nodes }
+        requires run { (J.script ≡ charter_of table.now) × (J.table ≡ id_of table.now) }
+        requires charter { charter.now ≡ charter_of table.now }
+        requires rested { Rested (id_of table.now) (charter_of table.now) self.old.pass.node pass node.now }
+        requires published { ArePublished (charter_of table.now) pass node.now.state }
+        requires genuine { is_genuine_packet (charter_of table.now) packet.now ≡ true }
+        ensures kept { IsSameHolder self.old.pass self.new.pass }
+        ensures pass { IfOk result (λ p. p ≡ pass) }
+    {
+        let me = self.pass.node();
+        let fate = self.draws.fate();
+        if matches!(fate, Fate::Lost) {
+            return Ok(pass);
+        }
+        let (pass, parcel) = parcel_of::<J, B>(table, pass, me, node, charter, packet);
+        let (pass, again) = again_of::<J, B>(fate, table, pass, me, node, charter, packet);
+        if let Some(parcel) = parcel {
+            self.dispatch(rt, boxes, fate, parcel, again)?;
+        }
+        Ok(pass)
+    }
+
+    /// Posts a parcel as was drawn; a second one is at hand.
+    fn dispatch<R: Wait>(
+        &mut self,
+        rt: &R,
+        boxes: &PostBox<Parcel<J>>,
+        fate: Fate,
+        parcel: Parcel<J>,
+        again: Option<Parcel<J>>,
+    ) -> Result<(), AllocError>
+        requires belongs { self.old.pass.tables ≡ boxes.now.tables }
+        requires nodes { length boxes.now.tables ≡ J.script.config.nodes }
+        ensures kept { IsSameHolder self.old.pass self.new.pass }
+    {
+        match fate {
+            Fate::Lost => Ok(()),
+            Fate::Later => {
+                self.held.push(parcel)?;
+                Ok(())
+            }
+            Fate::Once => {
+                post_one(rt, boxes, &mut self.pass, parcel);
+                Ok(())
+            }
+            Fate::Twice => {
+                post_one(rt, boxes, &mut self.pass, parcel);
+                post_if(rt, boxes, &mut self.pass, again);
+                Ok(())
+            }
+        }
+    }
+}
+
+/// A second parcel of the packet, where it is to be posted twice.
+fn again_of<J: Run, B: Behaviour + Drop>(
+    fate: Fate,
+    table: &LeaseTable,
+    pass: LeasePass,
+    me: NodeNo,
+    node: &Node<B>,
+    charter: &Charter,
+    packet: &Packet,
+) -> (LeasePass, Option<Parcel<J>>)
+    requires run { (J.script ≡ charter_of table.now) × (J.table ≡ id_of table.now) }
+    requires charter { charter.now ≡ charter_of table.now }
+    requires rested { Rested (id_of table.now) (charter_of table.now) me pass node.now }
+    requires published { ArePublished (charter_of table.now) pass node.now.state }
+    requires genuine { is_genuine_packet (charter_of table.now) packet.now ≡ true }
+    ensures pass { result.0 ≡ pass }
+{
+    if matches!(fate, Fate::Twice) {
+        parcel_of(table, pass, me, node, charter, packet)
+    } else {
+        (pass, None)
+    }
+}
+
+/// Posts a parcel; one that is handed back is lost.
+fn post_one<J: Run, R: Wait>(
+    rt: &R,
+    boxes: &PostBox<Parcel<J>>,
+    pass: &mut BoxPass<Parcel<J>>,
+    parcel: Parcel<J>,
+)
+    requires belongs { pass.old.tables ≡ boxes.now.tables }
+    requires nodes { length boxes.now.tables ≡ J.script.config.nodes }
+    ensures kept { IsSameHolder pass.old pass.new }
+{
+    let to = parcel.to();
+    let _ = boxes.post(rt, pass, to, parcel);
+}
+
+/// Posts a parcel, if there is one.
+fn post_if<J: Run, R: Wait>(
+    rt: &R,
+    boxes: &PostBox<Parcel<J>>,
+    pass: &mut BoxPass<Parcel<J>>,
+    parcel: Option<Parcel<J>>,
+)
+    requires belongs { pass.old.tables ≡ boxes.now.tables }
+    requires nodes { length boxes.now.tables ≡ J.script.config.nodes }
+    ensures kept { IsSameHolder pass.old pass.new }
+{
+    if let Some(parcel) = parcel {
+        post_one(rt, boxes, pass, parcel);
+    }
+}

@@ -1,0 +1,136 @@
+//! What a worker makes of a packet that its node posted. Where a record that it confirms can't be
+//! shown, the packet is lost.
+ghost use Rattle.std.specs.Prelude.{◌≡◌, true, false, IfSome, Some, IsTrue};
+ghost use Rattle.yard_model.specs.declared.incarnation.Slot.TheVariants as slot;
+ghost use Rattle.yard_model.specs.Genuine.{is_genuine_packet, is_shard};
+ghost use Rattle.yard_model.specs.Lawful.{is_of_shard};
+ghost use Rattle.actor_laws.specs.Hands.{held_list};
+ghost use Rattle.shard_store.specs.Stores.{slot_of_ref, script_of_ref, entries_of_ref};
+ghost use Rattle.lease_table.specs.Belongs.{id_of, charter_of};
+ghost use Rattle.lease_table.specs.Fits.{recorded, home_of};
+ghost use Rattle.node_runner.specs.Rested.{Rested, ArePublished};
+ghost use Rattle.node_runner.specs.Parcels.{is_within_packet};
+ghost use Rattle.node_runner.specs.Shown.{confirmed_of, IsRecordedIn};
+
+use crate::offer::{Confirmed, PAST_SLOTS, confirmed_of};
+use crate::parcel::{Parcel, Run, is_within_limit};
+use behaviour_core::Behaviour;
+use lease_table::{LeasePass, LeaseTable};
+use node_core::Node;
+use shard_extract::shard_of;
+use shard_store::{ShardStore, StoreRef};
+use yard_model::{Charter, EntityName, NodeNo, Packet, ShardNo, Slot};
+
+/// The parcel of a packet that the node posted in a turn, after which what it holds was published; for a
+/// packet that confirms a record, with a note of the pass, which has seen it. None where an incarnation
+/// in it has a number above 4,000,000,000, or where the node hosts no shard with that record.
+pub fn parcel_of<J: Run, B: Behaviour + Drop>(
+    table: &LeaseTable,
+    pass: LeasePass,
+    me: NodeNo,
+    node: &Node<B>,
+    charter: &Charter,
+    packet: &Packet,
+) -> (LeasePass, Option<Parcel<J>>)
+    requires run { (J.script ≡ charter_of table.now) × (J.table ≡ id_of table.now) }
+    requires charter { charter.now ≡ charter_of table.now }
+    requires rested { Rested (id_of table.now) (charter_of table.now) me pass node.now }
+    requires published { ArePublished (charter_of table.now) pass node.now.state }
+    requires genuine { is_genuine_packet (charter_of table.now) packet.now ≡ true }
+    ensures pass { result.0 ≡ pass }
+{
+    let _ = me;
+    if !is_within_limit(packet) {
+        return (pass, None);
+    }
+    match confirmed_of(&packet.body) {
+        None => (pass, Some(Parcel::plain(*packet))),
+        Some(confirmed) => with_note(table, pass, node, charter, packet, &confirmed),
+    }
+}
+
+/// The same for a packet that confirms this record.
+fn with_note<J: Run, B: Behaviour + Drop>(
+    table: &LeaseTable,
+    pass: LeasePass,
+    node: &Node<B>,
+    charter: &Charter,
+    packet: &Packet,
+    confirmed: &Confirmed,
+) -> (LeasePass, Option<Parcel<J>>)
+    requires run { (J.script ≡ charter_of table.now) × (J.table ≡ id_of table.now) }
+    requires charter { charter.now ≡ charter_of table.now }
+    requires script { node.now.script ≡ charter_of table.now }
+    requires table { pass.table ≡ id_of table.now }
+    requires published { ArePublished (charter_of table.now) pass node.now.state }
+    requires genuine { is_genuine_packet (charter_of table.now) packet.now ≡ true }
+    requires within { is_within_packet packet.now ≡ true }
+    requires confirms { confirmed_of packet.now.body ≡ Some confirmed.now }
+    ensures pass { result.0 ≡ pass }
+{
+    let shard = home(charter, &confirmed.entity);
+    if !is_recorded(node, shard, confirmed) {
+        return (pass, None);
+    }
+    let (pass, note) = table.note(pass);
+    (pass, Some(Parcel::new(*packet, Some(note))))
+}
+
+/// The shard of a name.
+fn home(charter: &Charter, entity: &EntityName) -> ShardNo
+    ensures home { result ≡ home_of charter.now entity.now }
+    ensures shard { is_shard charter.now result ≡ true }
+{
+    shard_of(entity, charter.config().shards)
+}
+
+/// Whether the node hosts this shard, which is the entity's, and the record stands in its list.
+fn is_recorded<B: Behaviour + Drop>(node: &Node<B>, shard: ShardNo, confirmed: &Confirmed) -> bool
+    requires name { IsTrue (is_of_shard node.now.script shard confirmed.now.entity) }
+    ensures { result ≡ true → IsRecordedIn shard confirmed.now node.now.state }
+{
+    for at in 0..PAST_SLOTS {
+        if let Some(store) = shard_in(node, at, shard) {
+            return is_in_journal(store, confirmed);
+        }
+    }
+    false
+}
+
+/// Whether the record stands in the journal of its entity, which is of this shard.
+fn is_in_journal(store: &ShardStore, confirmed: &Confirmed) -> bool
+    requires name { IsTrue (is_of_shard store.now.script store.now.shard confirmed.now.entity) }
+    ensures { result ≡ recorded confirmed.now.entity confirmed.now.producer confirmed.now.number store.now.entries }
+{
+    let journal = store.journal(&confirmed.entity);
+    confirmed.number <= journal.position(confirmed.producer)
+}
+
+/// The shard's store, where the held slot at this place is it.
+fn shard_in<B: Behaviour + Drop>(node: &Node<B>, at: u16, shard: ShardNo) -> Option<&ShardStore>
+    ensures shard { IfSome result (λ q. (q.now.script ≡ node.now.script) × (q.now.shard ≡ shard)) }
+    ensures held { IfSome result (λ q. held_list (slot.Shard shard) node.now.state ≡ Some q.now.entries) }
+{
+    match node.for_each_held(at) {
+        Some((slot, store)) => {
+            if slot == Slot::Shard(shard) {
+                Some(shard_ref(store, shard))
+            } else {
+                None
+            }
+        }
+        None => None,
+    }
+}
+
+/// The store of this shard.
+fn shard_ref<'a>(store: StoreRef<'a>, shard: ShardNo) -> &'a ShardStore
+    requires { slot_of_ref store ≡ slot.Shard shard }
+    ensures shard { (result.now.script ≡ script_of_ref store.entry) × (result.now.shard ≡ shard) }
+    ensures entries { result.now.entries ≡ entries_of_ref store.entry }
+{
+    match store {
+        StoreRef::Shard(store) => store,
+        _ => unreachable!(),
+    }
+}

@@ -1,0 +1,147 @@
+//! Who is up, between threads.
+ghost use Rattle.std.specs.Prelude.{◌≡◌, ◌≤◌, true, false, [], length, map, slice_get, Some, IfSome, MatchOption};
+ghost use Rattle.yard_model.specs.Genuine.{is_genuine_packet};
+ghost use Rattle.yard_model.specs.Members.{has_node};
+ghost use Rattle.node_runner.specs.Entered.{is_member, are_members, entered, next_version, view_to};
+ghost use Rattle.node_runner.specs.Parcels.{is_confirming, is_within_packet};
+ghost use Rattle.yard_model.specs.Words.{without};
+
+use crate::parcel::Run;
+use std::marker::PhantomData;
+use std::sync::{Mutex, Wait};
+use yard_model::{Body, Incarnation, Members, NodeNo, Packet};
+
+/// The incarnations that are up, oldest first, and how often one has come up or gone. The type keeps
+/// that each is of the run's script, with a number of at most 4,000,000,000.
+#[derive(Drop)]
+pub struct Roster<J: Run> {
+    members: Members,
+    version: u32,
+    run: PhantomData<J>,
+    ghost fit: { are_members J.script members ≡ true },
+}
+
+/// The members and the version, as they were at one moment: what each member is to be told.
+#[derive(Drop)]
+pub struct Views<J: Run> {
+    members: Members,
+    version: u32,
+    run: PhantomData<J>,
+    ghost fit: { are_members J.script members ≡ true },
+}
+
+impl<J: Run> Roster<J> {
+    /// Nobody is up.
+    pub fn new() -> Roster<J>
+        ensures { (result.members ≡ []) × (result.version ≡ 0) }
+    {
+        Roster {
+            members: Members::empty(),
+            version: 0,
+            run: PhantomData,
+        }
+    }
+
+    /// One comes up, and is the youngest member, unless one of its node is there, or there is no room; what
+    /// each is to be told then. The version stands still at its type's end.
+    pub fn enter(&mut self, who: Incarnation) -> Views<J>
+        requires member { is_member J.script who ≡ true }
+        ensures members { self.new.members ≡ entered self.old.members who }
+        ensures version { self.new.version ≡ next_version self.old.version }
+        ensures views { (result.members ≡ self.new.members) × (result.version ≡ self.new.version) }
+    {
+        self.members = with(&self.members, who);
+        self.version = self.version.saturating_add(1);
+        self.views()
+    }
+
+    /// One is gone; what each is to be told then.
+    pub fn leave(&mut self, who: Incarnation) -> Views<J>
+        ensures members { self.new.members ≡ without who self.old.members }
+        ensures version { self.new.version ≡ next_version self.old.version }
+        ensures views { (result.members ≡ self.new.members) × (result.version ≡ self.new.version) }
+    {
+        self.members = but(&self.members, &who);
+        self.version = self.version.saturating_add(1);
+        self.views()
+    }
+
+    /// What each is to be told now.
+    fn views(&self) -> Views<J>
+        ensures { (result.members ≡ self.now.members) × (result.version ≡ self.now.version) }
+    {
+        Views {
+            members: self.members,
+            version: self.version,
+            run: PhantomData,
+        }
+    }
+}
+
+impl<J: Run> Views<J> {
+    /// The view for the member at this place, oldest first. None exactly past the last.
+    pub fn packet(&self, place: usize) -> Option<Packet>
+        ensures packet { MatchOption result (length self.now.members ≤ place) (λ p. slice_get (map (view_to self.now.version self.now.members) self.now.members) place ≡ Some p) }
+        ensures genuine { IfSome result (λ p. is_genuine_packet J.script p ≡ true) }
+        ensures within { IfSome result (λ p. is_within_packet p ≡ true) }
+        ensures plain { IfSome result (λ p. is_confirming p.body ≡ false) }
+    {
+        let members = self.members.as_slice();
+        if place >= members.len() {
+            return None;
+        }
+        let from = members[place];
+        let to = members[place];
+        Some(Packet {
+            from,
+            to,
+            body: Body::View {
+                version: self.version,
+                members: self.members,
+            },
+        })
+    }
+}
+
+/// One comes up in the shared roster. It may wait.
+pub fn enter<J: Run, R: Wait>(rt: &R, roster: &Mutex<Roster<J>>, who: Incarnation) -> Views<J>
+    requires member { is_member J.script who ≡ true }
+{
+    roster.lock(rt).enter(who)
+}
+
+/// One is gone from the shared roster. It may wait.
+pub fn leave<J: Run, R: Wait>(rt: &R, roster: &Mutex<Roster<J>>, who: Incarnation) -> Views<J> {
+    roster.lock(rt).leave(who)
+}
+
+/// Whether a member is of this node.
+fn is_there(members: &[Incarnation], node: NodeNo) -> bool
+    ensures { result ≡ has_node node members.now }
+{
+    members.iter().any(|member| member.node == node)
+}
+
+/// These members and a younger one, where none is of its node and there is room.
+fn with(members: &Members, who: Incarnation) -> Members
+    ensures { result ≡ entered members.now who }
+{
+    let there = members.as_slice();
+    if is_there(there, who.node) || there.len() >= 16 {
+        return *members;
+    }
+    (*members).with(who)
+}
+
+/// The members but this one.
+fn but(members: &Members, who: &Incarnation) -> Members
+    ensures { result ≡ without who.now members.now }
+{
+    let mut rest = Members::empty();
+    for member in members.as_slice() {
+        if *who != *member {
+            rest = rest.with(*member);
+        }
+    }
+    rest
+}

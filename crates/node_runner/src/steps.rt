@@ -1,0 +1,286 @@
+//! What a worker does in a turn: its node is given an input, comes up, or goes.
+ghost use Rattle.std.specs.Prelude.{◌≡◌, ℕ, true, false, [], Some, None, IfOk, IfSome, OnOk};
+ghost use Rattle.yard_model.specs.declared.charter.Order.{Order};
+ghost use Rattle.yard_model.specs.Behaviour.{is_in};
+ghost use Rattle.yard_model.specs.Genuine.{is_brought, is_genuine_packet};
+ghost use Rattle.yard_model.specs.Script.{is_version};
+ghost use Rattle.yard_model.specs.Workers.{is_up};
+ghost use Rattle.lease_table.specs.Belongs.{id_of, charter_of};
+ghost use Rattle.lease_table.specs.Fits.{is_within};
+ghost use Rattle.lease_table.specs.Leasing.{Idle};
+ghost use Rattle.worker_orders.specs.Waiting.{IsDue};
+ghost use Rattle.node_runner.specs.Ordered.{input_of, IsGiven, IfPassivate};
+ghost use Rattle.node_runner.specs.Progress.{StandsAt, AreQueuesShown, GoesOn, Takes, Progressed, SawAll, is_passivation, is_rest};
+ghost use Rattle.node_runner.specs.Posts.{StayGenuine};
+ghost use Rattle.node_runner.specs.Rested.{Rested, ArePublished, SeesOn, means};
+ghost use Rattle.node_runner.specs.Parcels.{is_shown};
+
+use crate::inputs::input_of;
+use crate::laws::{dues_are_given, queues_are_shown};
+use crate::offer::handed;
+use crate::turn::{node_ends, node_starts, publish_all, take_turn};
+use behaviour_core::Behaviour;
+use lease_table::{LeasePass, LeaseTable, Note};
+use node_core::Node;
+use std::alloc::{AllocError, Global};
+use yard_model::{Charter, Incarnation, Input, NodeNo, Order, Out, Packet};
+
+/// What the worker of a node has at the table: its pass, and its node where that is up.
+#[derive(Drop)]
+pub struct Place<B: Behaviour> {
+    /// The pass.
+    pub pass: LeasePass,
+    /// The node.
+    pub node: Option<Node<B>>,
+}
+
+/// The node, which is up, is given an input. The only error is want of memory.
+pub fn give<B: Behaviour + Drop>(
+    table: &LeaseTable,
+    charter: &Charter,
+    me: NodeNo,
+    pass: LeasePass,
+    node: Node<B>,
+    input: Input,
+    out: &mut Out,
+) -> Result<Place<B>, AllocError>
+    requires charter { charter.now ≡ charter_of table.now }
+    requires rested { Rested (id_of table.now) (charter_of table.now) me pass node }
+    requires queues { AreQueuesShown (charter_of table.now) pass node.state }
+    requires given { IsGiven (charter_of table.now) me (means me pass) node.state input }
+    ensures stands { IfOk result (λ r. StandsAt (id_of table.now) (charter_of table.now) me r.pass r.node) }
+    ensures goes_on { IfOk result (λ r. is_rest input ≡ false → GoesOn (charter_of table.now) me pass (Some node) r.pass r.node) }
+    ensures takes { IfOk result (λ r. (o : Order) → input_of o ≡ Some input → Takes (charter_of table.now) me o pass (Some node) r.pass r.node) }
+    ensures posts { OnOk result (StayGenuine (charter_of table.now) out.old.items out.new.items) }
+{
+    let mut node = node;
+    node.stands();
+    node.reserve(out)?;
+    let pass = take_turn(table, pass, me, &mut node, charter, input, out);
+    Ok(Place {
+        pass,
+        node: Some(node),
+    })
+}
+
+/// The node, which is up, takes a packet, with what its note shows; or the packet is lost, where that
+/// can't be shown. The only error is want of memory.
+pub fn take_packet<B: Behaviour + Drop>(
+    table: &LeaseTable,
+    charter: &Charter,
+    me: NodeNo,
+    pass: LeasePass,
+    node: Node<B>,
+    packet: &Packet,
+    note: Option<Note>,
+    out: &mut Out,
+) -> Result<Place<B>, AllocError>
+    requires charter { charter.now ≡ charter_of table.now }
+    requires rested { Rested (id_of table.now) (charter_of table.now) me pass node }
+    requires published { ArePublished (charter_of table.now) pass node.state }
+    requires genuine { is_genuine_packet (charter_of table.now) packet.now ≡ true }
+    requires within { is_within packet.now.from.number ≡ true }
+    requires note { IfSome note (λ w. w.table ≡ id_of table.now) }
+    requires shown { is_shown (charter_of table.now) packet.now.body note ≡ true }
+    ensures stands { IfOk result (λ r. StandsAt (id_of table.now) (charter_of table.now) me r.pass r.node) }
+    ensures goes_on { IfOk result (λ r. GoesOn (charter_of table.now) me pass (Some node) r.pass r.node) }
+    ensures posts { OnOk result (StayGenuine (charter_of table.now) out.old.items out.new.items) }
+{
+    queues_are_shown();
+    let (mut pass, may) = handed(table, pass, me, &node, charter, packet, note);
+    if !may {
+        publish_all(table, &mut pass, &node, charter, me);
+        return Ok(Place {
+            pass,
+            node: Some(node),
+        });
+    }
+    give(table, charter, me, pass, node, Input::Packet(*packet), out)
+}
+
+/// The worker takes an order: where the node is down, only an `up` does something, which starts it with
+/// this number. The only error is want of memory.
+pub fn take_order<B: Behaviour + Copy + Drop>(
+    alloc: Global,
+    table: &LeaseTable,
+    charter: &Charter,
+    me: NodeNo,
+    place: Place<B>,
+    order: &Order,
+    number: u32,
+    behaviour: B,
+    out: &mut Out,
+) -> Result<Place<B>, AllocError>
+    requires charter { charter.now ≡ charter_of table.now }
+    requires node { is_in 1 charter.now.config.nodes me ≡ true }
+    requires stands { StandsAt (id_of table.now) (charter_of table.now) me place.pass place.node }
+    requires due { IsDue (charter_of table.now) me order.now }
+    requires within { is_within number ≡ true }
+    requires kind { B.kind_of behaviour ≡ charter.now.config.kind }
+    requires version { is_version charter.now (B.version_of behaviour) ≡ true }
+    ensures stands { IfOk result (λ r. StandsAt (id_of table.now) (charter_of table.now) me r.pass r.node) }
+    ensures takes { IfOk result (λ r. Takes (charter_of table.now) me order.now place.pass place.node r.pass r.node) }
+    ensures posts { OnOk result (StayGenuine (charter_of table.now) out.old.items out.new.items) }
+{
+    let Place { pass, node } = place;
+    match node {
+        None => down_order(alloc, table, charter, me, pass, order, number, behaviour),
+        Some(node) => up_order(table, charter, me, pass, node, order, out),
+    }
+}
+
+/// An order where the node is down.
+#[tactic(auto, using(crate::proofs::Stepping::down_takes, crate::proofs::Stepping::up_takes))]
+fn down_order<B: Behaviour + Copy + Drop>(
+    alloc: Global,
+    table: &LeaseTable,
+    charter: &Charter,
+    me: NodeNo,
+    pass: LeasePass,
+    order: &Order,
+    number: u32,
+    behaviour: B,
+) -> Result<Place<B>, AllocError>
+    requires charter { charter.now ≡ charter_of table.now }
+    requires node { is_in 1 charter.now.config.nodes me ≡ true }
+    requires idle { Idle (id_of table.now) (charter_of table.now) me pass }
+    requires within { is_within number ≡ true }
+    requires kind { B.kind_of behaviour ≡ charter.now.config.kind }
+    requires version { is_version charter.now (B.version_of behaviour) ≡ true }
+    ensures stands { IfOk result (λ r. StandsAt (id_of table.now) (charter_of table.now) me r.pass r.node) }
+    ensures takes { IfOk result (λ r. IsDue (charter_of table.now) me order.now → Takes (charter_of table.now) me order.now pass None r.pass r.node) }
+{
+    if is_up(order, me) {
+        let who = Incarnation { node: me, number };
+        let node = node_starts(alloc, table, &pass, who, charter, behaviour)?;
+        return Ok(Place {
+            pass,
+            node: Some(node),
+        });
+    }
+    Ok(Place { pass, node: None })
+}
+
+/// Whether the order is an `up` of this node.
+fn is_up(order: &Order, me: NodeNo) -> bool
+    ensures { result ≡ is_up me order.now }
+{
+    match *order {
+        Order::Up(node) => node == me,
+        _ => false,
+    }
+}
+
+/// An order where the node is up.
+#[tactic(auto, using(crate::proofs::Stepping::crash_takes))]
+fn up_order<B: Behaviour + Drop>(
+    table: &LeaseTable,
+    charter: &Charter,
+    me: NodeNo,
+    pass: LeasePass,
+    node: Node<B>,
+    order: &Order,
+    out: &mut Out,
+) -> Result<Place<B>, AllocError>
+    requires charter { charter.now ≡ charter_of table.now }
+    requires node { is_in 1 charter.now.config.nodes me ≡ true }
+    requires rested { Rested (id_of table.now) (charter_of table.now) me pass node }
+    requires published { ArePublished (charter_of table.now) pass node.state }
+    requires due { IsDue (charter_of table.now) me order.now }
+    ensures stands { IfOk result (λ r. StandsAt (id_of table.now) (charter_of table.now) me r.pass r.node) }
+    ensures takes { IfOk result (λ r. Takes (charter_of table.now) me order.now pass (Some node) r.pass r.node) }
+    ensures posts { OnOk result (StayGenuine (charter_of table.now) out.old.items out.new.items) }
+{
+    if let Order::Crash(_) = *order {
+        let pass = crash(table, me, pass, node, out)?;
+        return Ok(Place { pass, node: None });
+    }
+    act(table, charter, me, pass, node, order, out)
+}
+
+/// An order that is no `crash` where the node is up.
+#[tactic(auto, using(crate::proofs::Stepping::none_takes, crate::proofs::Stepping::passive_takes))]
+fn act<B: Behaviour + Drop>(
+    table: &LeaseTable,
+    charter: &Charter,
+    me: NodeNo,
+    pass: LeasePass,
+    node: Node<B>,
+    order: &Order,
+    out: &mut Out,
+) -> Result<Place<B>, AllocError>
+    requires charter { charter.now ≡ charter_of table.now }
+    requires node { is_in 1 charter.now.config.nodes me ≡ true }
+    requires rested { Rested (id_of table.now) (charter_of table.now) me pass node }
+    requires published { ArePublished (charter_of table.now) pass node.state }
+    requires due { IsDue (charter_of table.now) me order.now }
+    ensures stands { IfOk result (λ r. StandsAt (id_of table.now) (charter_of table.now) me r.pass r.node) }
+    ensures takes { IfOk result (λ r. Takes (charter_of table.now) me order.now pass (Some node) r.pass r.node) }
+    ensures posts { OnOk result (StayGenuine (charter_of table.now) out.old.items out.new.items) }
+{
+    let Some(input) = input_of(order) else {
+        return Ok(Place {
+            pass,
+            node: Some(node),
+        });
+    };
+    charter.config();
+    queues_are_shown();
+    dues_are_given();
+    if !is_acting(&node, &input) {
+        return Ok(Place {
+            pass,
+            node: Some(node),
+        });
+    }
+    give(table, charter, me, pass, node, input, out)
+}
+
+/// Whether the input has something to do: a passivation only where its entity is active.
+fn is_acting<B: Behaviour + Drop>(node: &Node<B>, input: &Input) -> bool
+    requires { IfPassivate input.now (λ e. is_brought node.now.script e ≡ true) }
+    ensures { result ≡ false → is_passivation input.now ≡ true }
+{
+    match input {
+        Input::Passivate(entity) => node.is_active(entity),
+        _ => true,
+    }
+}
+
+/// The node, which is up, goes. The only error is want of memory.
+fn crash<B: Behaviour + Drop>(
+    table: &LeaseTable,
+    me: NodeNo,
+    pass: LeasePass,
+    node: Node<B>,
+    out: &mut Out,
+) -> Result<LeasePass, AllocError>
+    requires rested { Rested (id_of table.now) (charter_of table.now) me pass node }
+    ensures idle { IfOk result (Idle (id_of table.now) (charter_of table.now) me) }
+    ensures sees { IfOk result (SeesOn me pass) }
+    ensures posts { OnOk result (StayGenuine (charter_of table.now) out.old.items out.new.items) }
+{
+    let mut node = node;
+    node.reserve(out)?;
+    Ok(node_ends(table, pass, me, node, out))
+}
+
+/// The worker's end: a node that is up goes. Where no order is left, all sends of its steady producers
+/// are queued, as the pass has seen. The only error is want of memory.
+pub fn finish<B: Behaviour + Drop>(
+    table: &LeaseTable,
+    me: NodeNo,
+    place: Place<B>,
+    out: &mut Out,
+) -> Result<LeasePass, AllocError>
+    requires stands { StandsAt (id_of table.now) (charter_of table.now) me place.pass place.node }
+    ensures idle { IfOk result (Idle (id_of table.now) (charter_of table.now) me) }
+    ensures saw { IfOk result (λ r. (turns : ℕ) → Progressed (charter_of table.now) turns me [] place.pass place.node → SawAll (charter_of table.now) turns me r) }
+    ensures posts { OnOk result (StayGenuine (charter_of table.now) out.old.items out.new.items) }
+{
+    let Place { pass, node } = place;
+    match node {
+        None => Ok(pass),
+        Some(node) => crash(table, me, pass, node, out),
+    }
+}

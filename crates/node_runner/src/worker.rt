@@ -1,0 +1,449 @@
+//! The worker of a node: so many turns, and the end.
+ghost use Rattle.std.specs.Prelude.{◌≡◌, ◌+◌, ◌<◌, ◌≤◌, ◌⊎◌, true, [], length, is_some, nat_lt, Some, None, IfOk, OnOk, MatchOption, if◌then◌else◌};
+ghost use Rattle.yard_model.specs.Behaviour.{is_in};
+ghost use Rattle.yard_model.specs.Script.{is_version};
+ghost use Rattle.lease_table.specs.Belongs.{id_of, charter_of};
+ghost use Rattle.lease_table.specs.Fits.{is_within};
+ghost use Rattle.lease_table.specs.Leasing.{Idle};
+ghost use Rattle.node_runner.specs.Mailed.{IsSameHolder};
+ghost use Rattle.node_runner.specs.OnWay.{OnWay, IsDone};
+ghost use Rattle.node_runner.specs.Posts.{AreGenuine, StayGenuine};
+ghost use Rattle.node_runner.specs.Progress.{StandsAt, GoesOn, SawAll};
+ghost use Rattle.node_runner.specs.Rested.{Rested, ArePublished};
+
+use crate::draws::Draws;
+use crate::laws::queues_are_shown;
+use crate::mail::Mail;
+use crate::parcel::{Parcel, Run};
+use crate::roster::Roster;
+use crate::sending::{member, post_place, tell_roster};
+use crate::steps::{Place, finish, give, take_order, take_packet};
+use behaviour_core::Behaviour;
+use lease_table::{LeasePass, LeaseTable};
+use node_core::Node;
+use post_box::{BoxPass, PostBox};
+use std::alloc::{AllocError, Global};
+use std::sync::{Mutex, Wait};
+use worker_orders::Orders;
+use yard_io::Gate;
+use yard_model::{Charter, Incarnation, Input, NodeNo, Order, Out};
+
+/// No incarnation of a live run has a greater number.
+const LIMIT: u32 = 4_000_000_000;
+
+/// How far a worker is: what it has at the table, its next order and those after it, how many of its
+/// last turns took none, and how often its node came up.
+#[derive(Drop)]
+pub struct Course<'c, B: Behaviour> {
+    pub(crate) place: Place<B>,
+    pub(crate) next: Option<Order>,
+    pub(crate) orders: Orders<'c>,
+    pub(crate) idle: u8,
+    pub(crate) ups: u32,
+}
+
+/// A worker begins, with its pass.
+#[tactic(auto, using(crate::proofs::Ways::first_way))]
+fn begin<'c, B: Behaviour + Drop>(
+    table: &LeaseTable,
+    charter: &'c Charter,
+    me: NodeNo,
+    pass: LeasePass,
+) -> Course<'c, B>
+    requires charter { charter.now ≡ charter_of table.now }
+    requires idle { Idle (id_of table.now) (charter_of table.now) me pass }
+    ensures { OnWay (id_of table.now) (charter_of table.now) me 0 result.place.pass result.place.node result.next result.orders result.idle }
+{
+    let _ = table;
+    let mut orders = Orders::new(charter, me);
+    let next = orders.next();
+    Course {
+        place: Place { pass, node: None },
+        next,
+        orders,
+        idle: 0,
+        ups: 0,
+    }
+}
+
+/// The next order, where it is due: where the node isn't up, by the draw, or after three turns without.
+fn due_order(next: &Option<Order>, is_up: bool, idle: u8, draw: u32) -> Option<Order>
+    ensures { MatchOption result ((next.now ≡ None) ⊎ ((is_up ≡ true) × (idle < 3))) (λ o. next.now ≡ Some o) }
+{
+    if !is_up || draw % 4 == 0 || idle >= 3 {
+        *next
+    } else {
+        None
+    }
+}
+
+/// A worker's turn, by itself. It may wait.
+fn one_turn<'c, J: Run, R: Wait, B: Behaviour + Copy + Drop>(
+    rt: &R,
+    alloc: Global,
+    table: &LeaseTable,
+    boxes: &PostBox<Parcel<J>>,
+    charter: &'c Charter,
+    me: NodeNo,
+    mail: &mut Mail<J>,
+    course: Course<'c, B>,
+    draw: u32,
+    turn: u32,
+    behaviour: B,
+    out: &mut Out,
+) -> Result<Course<'c, B>, AllocError>
+    requires charter { charter.now ≡ charter_of table.now }
+    requires node { is_in 1 charter.now.config.nodes me ≡ true }
+    requires kind { B.kind_of behaviour ≡ charter.now.config.kind }
+    requires version { is_version charter.now (B.version_of behaviour) ≡ true }
+    requires run { (J.script ≡ charter_of table.now) × (J.table ≡ id_of table.now) }
+    requires belongs { mail.old.pass.tables ≡ boxes.now.tables }
+    requires on_way { OnWay (id_of table.now) (charter_of table.now) me turn course.place.pass course.place.node course.next course.orders course.idle }
+    ensures on_way { IfOk result (λ x. OnWay (id_of table.now) (charter_of table.now) me (turn + 1) x.place.pass x.place.node x.next x.orders x.idle) }
+    ensures posts { OnOk result (StayGenuine (charter_of table.now) out.old.items out.new.items) }
+    ensures kept { IsSameHolder mail.old.pass mail.new.pass }
+{
+    match due_order(&course.next, course.place.node.is_some(), course.idle, draw) {
+        Some(order) => order_turn(
+            alloc, table, charter, me, course, &order, turn, behaviour, out,
+        ),
+        None => other_turn(rt, table, boxes, charter, me, mail, course, turn, out),
+    }
+}
+
+/// A worker's turn that takes an order.
+fn order_turn<'c, B: Behaviour + Copy + Drop>(
+    alloc: Global,
+    table: &LeaseTable,
+    charter: &'c Charter,
+    me: NodeNo,
+    course: Course<'c, B>,
+    order: &Order,
+    turn: u32,
+    behaviour: B,
+    out: &mut Out,
+) -> Result<Course<'c, B>, AllocError>
+    requires charter { charter.now ≡ charter_of table.now }
+    requires node { is_in 1 charter.now.config.nodes me ≡ true }
+    requires kind { B.kind_of behaviour ≡ charter.now.config.kind }
+    requires version { is_version charter.now (B.version_of behaviour) ≡ true }
+    requires on_way { OnWay (id_of table.now) (charter_of table.now) me turn course.place.pass course.place.node course.next course.orders course.idle }
+    requires next { course.next ≡ Some order.now }
+    ensures on_way { IfOk result (λ x. OnWay (id_of table.now) (charter_of table.now) me (turn + 1) x.place.pass x.place.node x.next x.orders x.idle) }
+    ensures posts { OnOk result (StayGenuine (charter_of table.now) out.old.items out.new.items) }
+{
+    let _ = turn;
+    let Course {
+        place,
+        next: _,
+        mut orders,
+        idle: _,
+        ups,
+    } = course;
+    let number = next_number(ups);
+    let was_up = place.node.is_some();
+    let place = take_order(
+        alloc, table, charter, me, place, order, number, behaviour, out,
+    )?;
+    let comes_up = !was_up && place.node.is_some();
+    let next = orders.next();
+    Ok(Course {
+        place,
+        next,
+        orders,
+        idle: 0,
+        ups: if comes_up { number } else { ups },
+    })
+}
+
+/// A worker's turn that takes no order. It may wait.
+fn other_turn<'c, J: Run, R: Wait, B: Behaviour + Drop>(
+    rt: &R,
+    table: &LeaseTable,
+    boxes: &PostBox<Parcel<J>>,
+    charter: &'c Charter,
+    me: NodeNo,
+    mail: &mut Mail<J>,
+    course: Course<'c, B>,
+    turn: u32,
+    out: &mut Out,
+) -> Result<Course<'c, B>, AllocError>
+    requires charter { charter.now ≡ charter_of table.now }
+    requires run { (J.script ≡ charter_of table.now) × (J.table ≡ id_of table.now) }
+    requires belongs { mail.old.pass.tables ≡ boxes.now.tables }
+    requires on_way { OnWay (id_of table.now) (charter_of table.now) me turn course.place.pass course.place.node course.next course.orders course.idle }
+    requires none { (course.next ≡ None) ⊎ ((is_some course.place.node ≡ true) × (course.idle < 3)) }
+    ensures on_way { IfOk result (λ x. OnWay (id_of table.now) (charter_of table.now) me (turn + 1) x.place.pass x.place.node x.next x.orders x.idle) }
+    ensures posts { OnOk result (StayGenuine (charter_of table.now) out.old.items out.new.items) }
+    ensures kept { IsSameHolder mail.old.pass mail.new.pass }
+{
+    let _ = turn;
+    let Course {
+        place,
+        next,
+        orders,
+        idle,
+        ups,
+    } = course;
+    let parcel = mail.take(rt, boxes);
+    let place = tick(table, charter, me, place, parcel, out)?;
+    Ok(Course {
+        place,
+        next,
+        orders,
+        idle: more_idle(idle),
+        ups,
+    })
+}
+
+/// A node that is up takes the parcel, or gets its timer where there is none.
+fn tick<J: Run, B: Behaviour + Drop>(
+    table: &LeaseTable,
+    charter: &Charter,
+    me: NodeNo,
+    place: Place<B>,
+    parcel: Option<Parcel<J>>,
+    out: &mut Out,
+) -> Result<Place<B>, AllocError>
+    requires charter { charter.now ≡ charter_of table.now }
+    requires run { (J.script ≡ charter_of table.now) × (J.table ≡ id_of table.now) }
+    requires stands { StandsAt (id_of table.now) (charter_of table.now) me place.pass place.node }
+    ensures stands { IfOk result (λ r. StandsAt (id_of table.now) (charter_of table.now) me r.pass r.node) }
+    ensures goes_on { IfOk result (λ r. GoesOn (charter_of table.now) me place.pass place.node r.pass r.node) }
+    ensures posts { OnOk result (StayGenuine (charter_of table.now) out.old.items out.new.items) }
+{
+    let Place { pass, node } = place;
+    match node {
+        None => Ok(Place { pass, node: None }),
+        Some(node) => wake(table, charter, me, pass, node, parcel, out),
+    }
+}
+
+/// The node, which is up, takes the parcel, or gets its timer where there is none.
+fn wake<J: Run, B: Behaviour + Drop>(
+    table: &LeaseTable,
+    charter: &Charter,
+    me: NodeNo,
+    pass: LeasePass,
+    node: Node<B>,
+    parcel: Option<Parcel<J>>,
+    out: &mut Out,
+) -> Result<Place<B>, AllocError>
+    requires charter { charter.now ≡ charter_of table.now }
+    requires run { (J.script ≡ charter_of table.now) × (J.table ≡ id_of table.now) }
+    requires rested { Rested (id_of table.now) (charter_of table.now) me pass node }
+    requires published { ArePublished (charter_of table.now) pass node.state }
+    ensures stands { IfOk result (λ r. StandsAt (id_of table.now) (charter_of table.now) me r.pass r.node) }
+    ensures goes_on { IfOk result (λ r. GoesOn (charter_of table.now) me pass (Some node) r.pass r.node) }
+    ensures posts { OnOk result (StayGenuine (charter_of table.now) out.old.items out.new.items) }
+{
+    let Some(parcel) = parcel else {
+        queues_are_shown();
+        return give(table, charter, me, pass, node, Input::Tick, out);
+    };
+    let (packet, note) = parcel.into_parts();
+    take_packet(table, charter, me, pass, node, &packet, note, out)
+}
+
+/// One more turn without an order, of which three are counted.
+fn more_idle(idle: u8) -> u8
+    requires { idle ≤ 3 }
+    ensures { result ≡ (if nat_lt idle 3 then idle + 1 else idle) }
+{
+    if idle < 3 { idle + 1 } else { idle }
+}
+
+/// The number of the node's next incarnation.
+fn next_number(ups: u32) -> u32
+    ensures { is_within result ≡ true }
+{
+    if ups < LIMIT { ups + 1 } else { LIMIT }
+}
+
+/// Whether nothing is left to do: no order, and no node that is up.
+fn is_over<B: Behaviour>(course: &Course<'_, B>) -> bool
+    ensures { result ≡ true → course.now.next ≡ None }
+{
+    course.next.is_none() && course.place.node.is_none()
+}
+
+/// A worker's turn, and what is posted after it. It may wait. The only error is want of memory.
+fn whole_turn<'c, J: Run, R: Wait, B: Behaviour + Copy + Drop>(
+    rt: &R,
+    alloc: Global,
+    table: &LeaseTable,
+    boxes: &PostBox<Parcel<J>>,
+    roster: &Mutex<Roster<J>>,
+    charter: &'c Charter,
+    me: NodeNo,
+    mail: &mut Mail<J>,
+    course: Course<'c, B>,
+    draw: u32,
+    turn: u32,
+    behaviour: B,
+    out: &mut Out,
+) -> Result<Course<'c, B>, AllocError>
+    requires charter { charter.now ≡ charter_of table.now }
+    requires node { is_in 1 charter.now.config.nodes me ≡ true }
+    requires kind { B.kind_of behaviour ≡ charter.now.config.kind }
+    requires version { is_version charter.now (B.version_of behaviour) ≡ true }
+    requires run { (J.script ≡ charter_of table.now) × (J.table ≡ id_of table.now) }
+    requires belongs { mail.old.pass.tables ≡ boxes.now.tables }
+    requires nodes { length boxes.now.tables ≡ J.script.config.nodes }
+    requires own { mail.old.pass.node ≡ me }
+    requires on_way { OnWay (id_of table.now) (charter_of table.now) me turn course.place.pass course.place.node course.next course.orders course.idle }
+    requires empty { out.old.items ≡ [] }
+    ensures on_way { IfOk result (λ x. OnWay (id_of table.now) (charter_of table.now) me (turn + 1) x.place.pass x.place.node x.next x.orders x.idle) }
+    ensures kept { IsSameHolder mail.old.pass mail.new.pass }
+    ensures emptied { OnOk result (out.new.items ≡ []) }
+{
+    let before = member(table, me, &course.place);
+    let course = one_turn(
+        rt, alloc, table, boxes, charter, me, mail, course, draw, turn, behaviour, out,
+    )?;
+    post_turn(
+        rt, table, boxes, roster, charter, me, mail, course, before, turn, out,
+    )
+}
+
+/// After a turn: what was held is posted, then the views where the node came up or went, then what the
+/// node posted. It may wait. The only error is want of memory.
+fn post_turn<'c, J: Run, R: Wait, B: Behaviour + Drop>(
+    rt: &R,
+    table: &LeaseTable,
+    boxes: &PostBox<Parcel<J>>,
+    roster: &Mutex<Roster<J>>,
+    charter: &'c Charter,
+    me: NodeNo,
+    mail: &mut Mail<J>,
+    course: Course<'c, B>,
+    before: Option<Incarnation>,
+    turn: u32,
+    out: &mut Out,
+) -> Result<Course<'c, B>, AllocError>
+    requires charter { charter.now ≡ charter_of table.now }
+    requires node { is_in 1 charter.now.config.nodes me ≡ true }
+    requires run { (J.script ≡ charter_of table.now) × (J.table ≡ id_of table.now) }
+    requires belongs { mail.old.pass.tables ≡ boxes.now.tables }
+    requires nodes { length boxes.now.tables ≡ J.script.config.nodes }
+    requires own { mail.old.pass.node ≡ me }
+    requires on_way { OnWay (id_of table.now) (charter_of table.now) me (turn + 1) course.place.pass course.place.node course.next course.orders course.idle }
+    requires genuine { AreGenuine (charter_of table.now) out.old.items }
+    ensures on_way { IfOk result (λ x. OnWay (id_of table.now) (charter_of table.now) me (turn + 1) x.place.pass x.place.node x.next x.orders x.idle) }
+    ensures kept { IsSameHolder mail.old.pass mail.new.pass }
+    ensures emptied { OnOk result (out.new.items ≡ []) }
+{
+    let _ = turn;
+    mail.release(rt, boxes);
+    let Course {
+        place,
+        next,
+        orders,
+        idle,
+        ups,
+    } = course;
+    let after = member(table, me, &place);
+    tell_roster(rt, boxes, roster, mail, before, after)?;
+    let place = post_place(rt, table, boxes, charter, mail, place, out)?;
+    Ok(Course {
+        place,
+        next,
+        orders,
+        idle,
+        ups,
+    })
+}
+
+/// All turns of a worker, or those until nothing is left to do. It may wait. The only error is want of
+/// memory.
+fn run_turns<'c, J: Run, R: Wait, B: Behaviour + Copy + Drop, G: Gate>(
+    rt: &R,
+    alloc: Global,
+    table: &LeaseTable,
+    boxes: &PostBox<Parcel<J>>,
+    roster: &Mutex<Roster<J>>,
+    charter: &'c Charter,
+    me: NodeNo,
+    mail: &mut Mail<J>,
+    course: Course<'c, B>,
+    turns: u32,
+    gate: &G,
+    behaviour: B,
+    out: &mut Out,
+) -> Result<Course<'c, B>, AllocError>
+    requires charter { charter.now ≡ charter_of table.now }
+    requires node { is_in 1 charter.now.config.nodes me ≡ true }
+    requires kind { B.kind_of behaviour ≡ charter.now.config.kind }
+    requires version { is_version charter.now (B.version_of behaviour) ≡ true }
+    requires run { (J.script ≡ charter_of table.now) × (J.table ≡ id_of table.now) }
+    requires belongs { mail.old.pass.tables ≡ boxes.now.tables }
+    requires nodes { length boxes.now.tables ≡ J.script.config.nodes }
+    requires own { mail.old.pass.node ≡ me }
+    requires on_way { OnWay (id_of table.now) (charter_of table.now) me 0 course.place.pass course.place.node course.next course.orders course.idle }
+    requires empty { out.old.items ≡ [] }
+    ensures done { IfOk result (λ x. IsDone (id_of table.now) (charter_of table.now) turns me x.place.pass x.place.node) }
+    ensures kept { IsSameHolder mail.old.pass mail.new.pass }
+{
+    let mut course = course;
+    for turn in 0..turns {
+        gate.pass(me, turn + 1);
+        let draw = mail.draw();
+        if is_over(&course) {
+            return Ok(course);
+        }
+        course = whole_turn(
+            rt, alloc, table, boxes, roster, charter, me, mail, course, draw, turn, behaviour, out,
+        )?;
+    }
+    Ok(course)
+}
+
+/// The worker of a node, from its passes at the table and at the boxes to the end of its turns; then its
+/// node goes. It holds nothing then, and its pass has seen all sends of its steady producers queued. It
+/// may wait. The only error is want of memory.
+pub fn work<J: Run, R: Wait, B: Behaviour + Copy + Drop, G: Gate>(
+    rt: &R,
+    alloc: Global,
+    table: &LeaseTable,
+    boxes: &PostBox<Parcel<J>>,
+    roster: &Mutex<Roster<J>>,
+    charter: &Charter,
+    me: NodeNo,
+    pass: LeasePass,
+    box_pass: BoxPass<Parcel<J>>,
+    turns: u32,
+    seed: u32,
+    gate: &G,
+    behaviour: B,
+) -> Result<LeasePass, AllocError>
+    requires charter { charter.now ≡ charter_of table.now }
+    requires node { is_in 1 charter.now.config.nodes me ≡ true }
+    requires kind { B.kind_of behaviour ≡ charter.now.config.kind }
+    requires version { is_version charter.now (B.version_of behaviour) ≡ true }
+    requires run { (J.script ≡ charter_of table.now) × (J.table ≡ id_of table.now) }
+    requires belongs { box_pass.tables ≡ boxes.now.tables }
+    requires nodes { length boxes.now.tables ≡ J.script.config.nodes }
+    requires own { box_pass.node ≡ me }
+    requires idle { Idle (id_of table.now) (charter_of table.now) me pass }
+    ensures idle { IfOk result (Idle (id_of table.now) (charter_of table.now) me) }
+    ensures saw { IfOk result (SawAll (charter_of table.now) turns me) }
+{
+    let mut out = Out::new(alloc);
+    let mut mail = Mail::new(alloc, box_pass, Draws::new(seed, me));
+    let course = begin(table, charter, me, pass);
+    let course = run_turns(
+        rt, alloc, table, boxes, roster, charter, me, &mut mail, course, turns, gate, behaviour,
+        &mut out,
+    )?;
+    let Course {
+        place,
+        next: _,
+        orders: _,
+        idle: _,
+        ups: _,
+    } = course;
+    let before = member(table, me, &place);
+    let pass = finish(table, me, place, &mut out)?;
+    tell_roster(rt, boxes, roster, &mut mail, before, None)?;
+    Ok(pass)
+}

@@ -1,0 +1,8 @@
+use Rattle.std.proofs.Common.{◌≡◌, ◌≤◌, ℕ, fold}
+use Rattle.std.specs.Prelude.{drop}
+use Rattle.yard_model.specs.World.{number_step}
+use Rattle.world_sim.proofs.NumberLaws.{joined}
+use Rattle.world_sim.proofs.numbers.in_queues.Given as goal
+
+abbrev pub invariant-loop-i : goal.invariant-loop-i
+invariant-loop-i g l = fold number_step l.greatest (joined (drop l.i (g.L.Lists.lists l.lists).queues)) ≡ fold number_step l.fn.greatest (joined (g.L.Lists.lists l.lists).queues)

@@ -1,5 +1,5 @@
 -- What a pass that holds one slot may do, and what it has then.
-use Rattle.std.proofs.Common.{◌≡◌, ◌≢◌, ℕ, zero, suc, ◌+◌, ◌<◌, ◌≤◌, ◌⊎◌, inl, inr, ⊎_elim, Bool, true, false, ◌&&◌, ◌||◌, List, [], ◌∷◌, ◌++◌, length, refl, sym, ap, ◌∙◌, subst, arith, length-append}
+use Rattle.std.proofs.Common.{◌≡◌, ◌≢◌, ℕ, zero, suc, ◌+◌, ◌<◌, ◌≤◌, ◌⊎◌, inl, inr, ⊎_elim, Bool, true, false, ◌&&◌, ◌||◌, List, [], ◌∷◌, ◌++◌, length, refl, sym, ap, ◌∙◌, subst, arith}
 use Rattle.std.proofs.lemmas.List.{get_or-set_same, get_or-set_other}
 use Rattle.std.proofs.lemmas.List.Sums.{fold-append}
 use Rattle.std.proofs.lemmas.List.Folds.{list_any-append, list_all-append}
@@ -24,10 +24,10 @@ use Rattle.shard_lease.specs.declared.leases.Acquire.TheVariants as answer
 use Rattle.shard_lease.specs.Meaning.{Begins, confirms, is_confirmed}
 use Rattle.lease_table.specs.declared.View.{View}
 use Rattle.lease_table.specs.Fits.{slot_count, admits, is_fit, is_within}
-use Rattle.lease_table.specs.Leasing.{Pass, Idle, Spans, MayAct, Answers, MayPublish, MayRelease, Met, Closes}
+use Rattle.lease_table.specs.Leasing.{Pass, Idle, Spans, MayAct, Answers, MayPublish, MayRelease}
 use Rattle.lease_table.specs.Lists.{seen_at, Has}
-use Rattle.lease_table.specs.Tells.{published, freed, united}
-use Rattle.lease_table.proofs.Places.{same_or_not, begins_on, begins_length}
+use Rattle.lease_table.specs.Tells.{published, freed}
+use Rattle.lease_table.proofs.Places.{same_or_not, begins_here, begins_on}
 use Rattle.lease_table.proofs.Records.{confirms_before}
 use Rattle.lease_tests.specs.Holding.{two_nodes, MayAsk, Holding, Asked, is_of_region, Wrote}
 
@@ -187,25 +187,29 @@ same_holds z n s x y p h script slot entries = record {
   slot = slot ∙ h.slot;
 }
 
--- what is seen of a slot once its list is published
+-- a list that was published is held and seen
+pub published_holds : (z : TableId) (n : ℕ) (s : Slot) (x : Store) (p q : Pass) → is_slot_of two_nodes s ≡ true → Spans p.view → Holding z n s x p → q.table ≡ p.table → q.view ≡ published p.view (place s) (entries_of x) → Holding z n s x q
+published_holds z n s x p q here wide h same now = record {
+  table = same ∙ h.table;
+  charter = ap (λ (u : View). u.charter) now ∙ h.charter;
+  numbers = ap (λ (u : View). u.numbers) now ∙ h.numbers;
+  list = entries_of x;
+  held = ap (λ (u : View). at u.held (place s)) now ∙ get_or-set_same p.view.held (place s) (Some (entries_of x)) None (subst (λ (m : ℕ). place s < m) (sym (wide.helds ∙ ap slot_count h.charter)) (place_within two_nodes s here));
+  others = λ k ne. ap (λ (u : View). at u.held k) now ∙ get_or-set_other p.view.held (place s) k (Some (entries_of x)) None ne ∙ h.others k ne;
+  extends = begins_here (entries_of x);
+  confirmed = λ e i m k. k;
+  fit = h.fit;
+  leased = h.leased;
+  script = h.script;
+  slot = h.slot;
+}
+
 pub seen_then : (v w : View) (s : Slot) (l : List Fact) → Spans v → v.charter ≡ two_nodes → is_slot_of two_nodes s ≡ true → w ≡ published v (place s) l → seen_at w.seen (place s) ≡ l
 seen_then v w s l wide charter here now =
     ap (λ (u : View). seen_at u.seen (place s)) now
-    ∙ get_or-set_same v.seen (place s) l [] (subst (λ (n : ℕ). place s < n) (sym (wide.seens ∙ ap slot_count charter)) (place_within two_nodes s here))
+    ∙ get_or-set_same v.seen (place s) l [] (subst (λ (m : ℕ). place s < m) (sym (wide.seens ∙ ap slot_count charter)) (place_within two_nodes s here))
 
 -- what is seen is neither more nor less
 pub just_so : (a b l n : ℕ) → n ≤ a → a ≤ b → b ≤ l → l ≡ n → b ≡ n
 just_so a b l n low up most is = omega arith
 
--- the passes of both nodes
-pub closes_both : (z y : TableId) (p q r : Pass) → Idle z two_nodes 1 p → Idle y two_nodes 2 q → r.view ≡ united p.view q.view → Closes two_nodes r.view
-closes_both z y p q r one two now = record {
-  numbers = λ n some most. subst (Has n) (sym (ap (λ (u : View). u.numbers) now ∙ ap (λ l. l ++ q.view.numbers) one.numbers ∙ ap (λ l. 1 ∷ l) two.numbers)) (each n some most);
-  nothing = λ k. ap (λ (u : View). at u.held k) now ∙ one.nothing k;
-}
-  where
-    each : (n : ℕ) → n ≢ 0 → n ≤ 2 → Has n (1 ∷ 2 ∷ [])
-    each zero some most = absurd (some refl)
-    each (suc zero) some most = inl refl
-    each (suc (suc zero)) some most = inr (inl refl)
-    each (suc (suc (suc n))) some most = absurd (omega (arith, most))

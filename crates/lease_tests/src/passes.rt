@@ -204,10 +204,31 @@ pub fn count(
     (pass, published)
 }
 
-/// Publishes the store's list, and a note that has seen it.
-pub fn show(
+/// Publishes the store's list, which the pass has seen then.
+pub fn publish(
     table: &LeaseTable,
     mut pass: LeasePass,
+    who: Incarnation,
+    slot: Slot,
+    store: &Store,
+) -> LeasePass
+    requires script { charter_of table.now ≡ two_nodes }
+    requires slot { is_slot_of two_nodes slot ≡ true }
+    requires holding { Holding (id_of table.now) who.node slot store.now pass }
+    ensures holding { Holding (id_of table.now) who.node slot store.now result }
+    ensures seen { seen_at result.view.seen (place_of two_nodes.config slot) ≡ entries_of store.now }
+{
+    let _ = who;
+    pass.stands();
+    let _leased = store.is_leased();
+    table.publish(&mut pass, slot, store.as_ref());
+    pass
+}
+
+/// Publishes the store's list, and makes a note that has seen it.
+pub fn show(
+    table: &LeaseTable,
+    pass: LeasePass,
     who: Incarnation,
     slot: Slot,
     store: &Store,
@@ -218,10 +239,7 @@ pub fn show(
     ensures table { result.table ≡ id_of table.now }
     ensures seen { length (seen_at result.view.seen (place_of two_nodes.config slot)) ≡ length (entries_of store.now) }
 {
-    let _ = who;
-    pass.stands();
-    let _leased = store.is_leased();
-    table.publish(&mut pass, slot, store.as_ref());
+    let pass = publish(table, pass, who, slot, store);
     let (_, note) = table.note(pass);
     note
 }

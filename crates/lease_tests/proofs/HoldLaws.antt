@@ -212,4 +212,3 @@ seen_then v w s l wide charter here now =
 -- what is seen is neither more nor less
 pub just_so : (a b l n : ℕ) → n ≤ a → a ≤ b → b ≤ l → l ≡ n → b ≡ n
 just_so a b l n low up most is = omega arith
-

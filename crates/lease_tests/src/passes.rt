@@ -26,11 +26,24 @@ pub fn second() -> NodeNo
     node
 }
 
-/// The first incarnation of a node.
-pub fn first_of(node: NodeNo) -> Incarnation
-    ensures { result ≡ record { node = node; number = 1 } }
+/// The first incarnation of node 1.
+pub fn one() -> Incarnation
+    ensures { result ≡ record { node = 1; number = 1 } }
 {
-    Incarnation { node, number: 1 }
+    Incarnation {
+        node: NodeNo::FIRST,
+        number: 1,
+    }
+}
+
+/// The first incarnation of node 2.
+pub fn two() -> Incarnation
+    ensures { result ≡ record { node = 2; number = 1 } }
+{
+    Incarnation {
+        node: second(),
+        number: 1,
+    }
 }
 
 /// The first producer.
@@ -262,8 +275,9 @@ pub fn meet(
     ensures { result.1 ≡ true → length (seen_at result.0.view.seen (place_of two_nodes.config slot)) ≡ count }
 {
     let _ = who;
-    let mut pass = table.meet(pass, note, slot);
-    let published = table.check(&mut pass, slot);
+    let slot = &slot;
+    let mut pass = table.meet(pass, note, *slot);
+    let published = table.check(&mut pass, *slot);
     (pass, published == count)
 }
 

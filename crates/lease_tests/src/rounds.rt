@@ -1,6 +1,6 @@
 //! What no clause says: that two threads that take the same slot in turn, as it comes, leave one list with
 //! each entry once, in rising epochs.
-ghost use Rattle.std.specs.Prelude.{◌≡◌, ◌≤◌, ◌+◌, IfOk, IfSome, true, length};
+ghost use Rattle.std.specs.Prelude.{◌≡◌, ◌≤◌, ◌+◌, IfSome, true, length};
 ghost use Rattle.yard_model.specs.declared.incarnation.Slot.TheVariants as slot;
 ghost use Rattle.yard_model.specs.Behaviour.{is_in};
 ghost use Rattle.yard_model.specs.Genuine.{is_node};
@@ -16,7 +16,6 @@ use coordinator_state::CoordStore;
 use lease_table::{LeasePass, LeaseTable};
 use shard_lease::Acquire;
 use shard_store::Store;
-use std::alloc::AllocError;
 use std::test::Fail;
 use std::thread;
 use std::thread::Threads;
@@ -28,105 +27,101 @@ const ROUNDS: u32 = 1000;
 /// How many entries a round leaves: a grant, a region that comes and goes, and the grant's end.
 const ENTRIES: usize = 4;
 
-/// The coordinator's store, with this region registered and terminated.
-fn append(store: Store, who: Incarnation) -> Result<Store, AllocError>
+/// The coordinator's store, with this region registered and terminated; None where memory ran out, or the
+/// region is registered.
+fn append(store: Store, who: Incarnation) -> Option<Store>
     requires slot { slot_of store ≡ slot.Coordinator }
     requires leased { is_held (entries_of store) ≡ true }
     requires node { is_node (script_of store) who ≡ true }
     requires limit { is_within who.number ≡ true }
-    ensures { IfOk result (Wrote store) }
+    ensures { IfSome result (Wrote store) }
 {
     let Store::Coordinator(mut store) = store else {
         unreachable!()
     };
-    store.reserve(103)?;
-    if !store.is_registered(who) && store.loads().as_slice().len() < 16 {
-        store.registered(who);
-        if store.is_registered(who) {
-            store.terminated(who);
-        }
+    let who = &who;
+    if store.reserve(103).is_err() {
+        return None;
     }
-    Ok(Store::Coordinator(store))
+    if store.is_registered(*who) || store.loads().as_slice().len() >= 16 {
+        return None;
+    }
+    store.registered(*who);
+    if !store.is_registered(*who) {
+        return None;
+    }
+    store.terminated(*who);
+    Some(Store::Coordinator(store))
 }
 
-/// One round of an incarnation: whether the slot was its own.
-fn round(
-    table: &LeaseTable,
-    mut pass: LeasePass,
-    who: Incarnation,
-) -> Result<(LeasePass, bool), AllocError>
+/// One round of an incarnation: whether the slot was its own. None where memory ran out.
+fn round(table: &LeaseTable, mut pass: LeasePass, who: Incarnation) -> Option<(LeasePass, bool)>
     requires script { charter_of table.now ≡ two_nodes }
     requires may { MayAsk who slot.Coordinator }
     requires idle { Idle (id_of table.now) two_nodes who.node pass }
-    ensures { IfOk result (λ r. Idle (id_of table.now) two_nodes who.node r.0) }
+    ensures { IfSome result (λ r. Idle (id_of table.now) two_nodes who.node r.0) }
 {
-    match ask(table, &mut pass, who, Slot::Coordinator) {
+    let who = &who;
+    match ask(table, &mut pass, *who, Slot::Coordinator) {
         Acquire::Granted(store) => {
-            let store = append(store, who)?;
-            give_back(table, &mut pass, who, Slot::Coordinator, store);
-            Ok((pass, true))
+            let store = append(store, *who)?;
+            give_back(table, &mut pass, *who, Slot::Coordinator, store);
+            Some((pass, true))
         }
-        Acquire::Held(_) => Ok((pass, false)),
+        Acquire::Held(_) => Some((pass, false)),
     }
 }
 
-/// All rounds of a node, each of an incarnation of its own: in how many the slot was the node's.
-fn rounds(
-    table: &LeaseTable,
-    mut pass: LeasePass,
-    node: NodeNo,
-) -> Result<(LeasePass, u32), AllocError>
+/// All rounds of a node, each of an incarnation of its own: in how many the slot was the node's. None
+/// where memory ran out.
+fn rounds(table: &LeaseTable, mut pass: LeasePass, node: NodeNo) -> Option<(LeasePass, u32)>
     requires script { charter_of table.now ≡ two_nodes }
     requires node { is_in 1 2 node ≡ true }
     requires idle { Idle (id_of table.now) two_nodes node pass }
-    ensures { IfOk result (λ r. Idle (id_of table.now) two_nodes node r.0) }
+    ensures { IfSome result (λ r. Idle (id_of table.now) two_nodes node r.0) }
 {
-    let mut won = 0;
+    let this = &node;
+    let mut won = 0u32;
     for done in 0..ROUNDS {
-        let (back, granted) = round(
-            table,
-            pass,
-            Incarnation {
-                node,
-                number: done + 1,
-            },
-        )?;
+        let who = Incarnation {
+            node: *this,
+            number: done + 1,
+        };
+        let (back, granted) = round(table, pass, who)?;
         pass = back;
-        if granted {
-            won += 1;
-        }
+        won = won.wrapping_add(u32::from(granted));
     }
-    Ok((pass, won))
+    Some((pass, won))
 }
 
 /// The rounds of both nodes, each in a thread of its own: one pass for both, and in how many rounds the
-/// slot was either's.
+/// slot was either's. None where memory ran out.
 fn all_rounds<R: Threads + Sync>(
     rt: &R,
     table: &LeaseTable,
     one: LeasePass,
     two: LeasePass,
-) -> Result<(LeasePass, u32, u32), AllocError>
+) -> Option<(LeasePass, u32, u32)>
     requires script { charter_of table.now ≡ two_nodes }
     requires first { Idle (id_of table.now) two_nodes 1 one }
     requires second { Idle (id_of table.now) two_nodes 2 two }
-    ensures table { IfOk result (λ r. r.0.table ≡ id_of table.now) }
-    ensures closes { IfOk result (λ r. Closes two_nodes r.0.view) }
+    ensures table { IfSome result (λ r. r.0.table ≡ id_of table.now) }
+    ensures closes { IfSome result (λ r. Closes two_nodes r.0.view) }
 {
     let (one, two) = thread::join(
         rt,
         move ||
             requires { (charter_of table.now ≡ two_nodes) × Idle (id_of table.now) two_nodes 1 one }
-            ensures { IfOk result (λ r. Idle (id_of table.entry.now) two_nodes 1 r.0) }
+            ensures { IfSome result (λ r. Idle (id_of table.entry.now) two_nodes 1 r.0) }
         { rounds(table, one, NodeNo::FIRST) },
         move ||
             requires { (charter_of table.now ≡ two_nodes) × Idle (id_of table.now) two_nodes 2 two }
-            ensures { IfOk result (λ r. Idle (id_of table.entry.now) two_nodes 2 r.0) }
+            ensures { IfSome result (λ r. Idle (id_of table.entry.now) two_nodes 2 r.0) }
         { rounds(table, two, second()) },
     );
     let (one, first) = one?;
     let (two, second) = two?;
-    Ok((table.unite(one, two), first, second))
+    Some((table.unite(one, two), first, second))
 }
 
 /// Whose lease of this epoch these entries are, where they are what a round leaves.
@@ -151,17 +146,17 @@ fn leased(entries: &[CoordEntry], epoch: u32) -> Option<Incarnation> {
 /// rounds stand in order, and so each entry once. None where it isn't.
 fn leases(entries: &[CoordEntry]) -> Option<(u32, u32)> {
     let mut last = (0, 0);
-    let mut count = (0, 0);
-    let mut epoch = 0;
+    let mut count = (0u32, 0u32);
+    let mut epoch = 0u32;
     for part in entries.chunks(ENTRIES) {
-        epoch += 1;
+        epoch = epoch.wrapping_add(1);
         let who = leased(part, epoch)?;
         if who.node == NodeNo::FIRST && who.number > last.0 {
             last.0 = who.number;
-            count.0 += 1;
+            count.0 = count.0.wrapping_add(1);
         } else if who.node == second() && who.number > last.1 {
             last.1 = who.number;
-            count.1 += 1;
+            count.1 = count.1.wrapping_add(1);
         } else {
             return None;
         }
@@ -172,7 +167,7 @@ fn leases(entries: &[CoordEntry]) -> Option<(u32, u32)> {
 #[test]
 fn each_entry_stands_once(rt: HostRuntime) -> Result<(), Fail> {
     let (table, one, two) = opened(rt.alloc())?;
-    let (pass, first, second) = all_rounds(&rt, &table, one, two)?;
+    let (pass, first, second) = all_rounds(&rt, &table, one, two).ok_or("there is memory")?;
     let stores = table.close(pass);
     assert!(rt; leases(stores.coordinator()) == Some((first, second)));
     assert!(rt; first > 0 || second > 0);

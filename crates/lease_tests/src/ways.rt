@@ -8,29 +8,31 @@ ghost use Rattle.lease_table.specs.Leasing.{Idle};
 ghost use Rattle.lease_table.specs.Lists.{seen_at};
 ghost use Rattle.lease_tests.specs.Holding.{two_nodes};
 
-use crate::passes::{count, entries, find, first_of, give, meet, opened, queue, second, show, take};
+use crate::passes::{
+    count, entries, find, give, meet, one, opened, queue, second, show, take, two,
+};
 use lease_table::{LeasePass, LeaseTable, Note};
 use shard_store::Store;
 use std::sync::atomic::{AtomicU64, Ordering};
 use std::test::Fail;
 use std::thread;
 use std::thread::Threads;
-use yard_model::{Cause, NodeNo, QueueEntry};
+use yard_model::{Cause, QueueEntry};
 
 /// How often a thread looks for a sign of the other.
 const LOOKS: u64 = 10_000_000;
 
 /// Whether the list is one grant, to the second node.
 fn is_granted(store: &Store) -> bool {
-    entries(store) == [QueueEntry::Granted(1, first_of(second()))].as_slice()
+    entries(store) == [QueueEntry::Granted(1, two())].as_slice()
 }
 
 /// Whether the list is a grant to the second node, its end, and a grant to the first.
 fn is_granted_again(store: &Store) -> bool {
     let wanted = [
-        QueueEntry::Granted(1, first_of(second())),
+        QueueEntry::Granted(1, two()),
         QueueEntry::Freed(1, Cause::Released),
-        QueueEntry::Granted(2, first_of(NodeNo::FIRST)),
+        QueueEntry::Granted(2, one()),
     ];
     entries(store) == wanted.as_slice()
 }
@@ -38,23 +40,21 @@ fn is_granted_again(store: &Store) -> bool {
 #[test]
 fn a_queue_goes_from_pass_to_pass(rt: HostRuntime) -> Result<(), Fail> {
     let (table, a, b) = opened(rt.alloc())?;
-    let one = first_of(NodeNo::FIRST);
-    let two = first_of(second());
-    let (b, store) = take(&table, b, two, queue()).ok_or("the queue is free")?;
+    let (b, store) = take(&table, b, two(), queue()).ok_or("the queue is free")?;
     assert!(rt; is_granted(&store));
-    let (a, holder) = find(&table, a, one, queue()).ok_or("the queue is held")?;
-    assert!(rt; holder == two.node);
-    let b = give(&table, b, two, queue(), store).ok_or("there is memory")?;
-    let (a, store) = take(&table, a, one, queue()).ok_or("the queue is free again")?;
+    let (a, holder) = find(&table, a, one(), queue()).ok_or("the queue is held")?;
+    assert!(rt; holder == second());
+    let b = give(&table, b, two(), queue(), store).ok_or("there is memory")?;
+    let (a, store) = take(&table, a, one(), queue()).ok_or("the queue is free again")?;
     assert!(rt; is_granted_again(&store));
-    let (b, published) = count(&table, b, two, queue());
+    let (b, published) = count(&table, b, two(), queue());
     assert!(rt; published == 2);
     let written = store.len();
     assert!(rt; written == 3);
-    let note = show(&table, a, one, queue(), &store);
-    let (b, published) = count(&table, b, two, queue());
+    let note = show(&table, a, one(), queue(), &store);
+    let (b, published) = count(&table, b, two(), queue());
     assert!(rt; published == 3);
-    let (_, seen) = meet(&table, b, two, note, queue(), written);
+    let (_, seen) = meet(&table, b, two(), note, queue(), written);
     assert!(rt; seen);
     Ok(())
 }
@@ -77,24 +77,23 @@ fn second_way(table: &LeaseTable, sign: &AtomicU64, pass: LeasePass) -> Option<L
     requires idle { Idle (id_of table.now) two_nodes 2 pass }
     ensures { IfSome result (Idle (id_of table.now) two_nodes 2) }
 {
-    let who = first_of(second());
-    let (pass, store) = take(table, pass, who, queue())?;
+    let (pass, store) = take(table, pass, two(), queue())?;
     let granted = is_granted(&store);
     sign.store(1, Ordering::SeqCst);
     if !granted || !comes(sign, 2) {
         return None;
     }
-    let pass = give(table, pass, who, queue(), store)?;
+    let pass = give(table, pass, two(), queue(), store)?;
     sign.store(3, Ordering::SeqCst);
     if !comes(sign, 4) {
         return None;
     }
-    let (pass, before) = count(table, pass, who, queue());
+    let (pass, before) = count(table, pass, two(), queue());
     sign.store(5, Ordering::SeqCst);
     if !comes(sign, 6) {
         return None;
     }
-    let (pass, after) = count(table, pass, who, queue());
+    let (pass, after) = count(table, pass, two(), queue());
     if before == 2 && after == 3 {
         Some(pass)
     } else {
@@ -110,22 +109,21 @@ fn first_way(table: &LeaseTable, sign: &AtomicU64, pass: LeasePass) -> Option<(N
     ensures table { IfSome result (λ r. r.0.table ≡ id_of table.now) }
     ensures seen { IfSome result (λ r. r.1 ≤ length (seen_at r.0.view.seen (place_of two_nodes.config (slot.Queue 1)))) }
 {
-    let who = first_of(NodeNo::FIRST);
     if !comes(sign, 1) {
         return None;
     }
-    let (pass, holder) = find(table, pass, who, queue())?;
+    let (pass, holder) = find(table, pass, one(), queue())?;
     sign.store(2, Ordering::SeqCst);
     if holder != second() || !comes(sign, 3) {
         return None;
     }
-    let (pass, store) = take(table, pass, who, queue())?;
+    let (pass, store) = take(table, pass, one(), queue())?;
     sign.store(4, Ordering::SeqCst);
     if !is_granted_again(&store) || !comes(sign, 5) {
         return None;
     }
     let written = store.len();
-    let note = show(table, pass, who, queue(), &store);
+    let note = show(table, pass, one(), queue(), &store);
     sign.store(6, Ordering::SeqCst);
     Some((note, written))
 }
@@ -156,7 +154,7 @@ fn both_ways<R: Threads + Sync>(
         { second_way(table, steps, b) },
     );
     let (note, written) = shown?;
-    let (_, seen) = meet(table, b?, first_of(second()), note, queue(), written);
+    let (_, seen) = meet(table, b?, two(), note, queue(), written);
     Some((written, seen))
 }
 

@@ -10,8 +10,8 @@ use Rattle.lease_tests.specs.Holding.{two_nodes}
 use Rattle.lease_tests.proofs.HoldLaws.{just_so}
 use Rattle.lease_tests.proofs.passes.meet.Goals as goal
 
-pub meet-requires-clause-slot : goal.meet-requires-clause-slot
-meet-requires-clause-slot c = ap (λ (y : Script). is_slot_of y c.args.slot) c.requires.script ∙ c.requires.slot
+pub meet-pass-requires-clause-slot : goal.meet-pass-requires-clause-slot
+meet-pass-requires-clause-slot c = ap (λ (y : Script). is_slot_of y c.args.slot) c.requires.script ∙ c.requires.slot
 
-pub check-requires-clause-slot : goal.check-requires-clause-slot
-check-requires-clause-slot c = ap (λ (y : Script). is_slot_of y c.args.slot) c.requires.script ∙ c.requires.slot
+pub check-published-requires-clause-slot : goal.check-published-requires-clause-slot
+check-published-requires-clause-slot c = ap (λ (y : Script). is_slot_of y c.args.slot) c.requires.script ∙ c.requires.slot

@@ -17,7 +17,206 @@ sed -i '/CloseLaws/d' "$crate/proofs/Lib.antt"
 sed -i 's/nodes = 2;/nodes = 4;/' "$crate/specs/Holding.antt"
 sed -i 's/nodes: 2,/nodes: 4,/; s/^fn script/pub fn script/; s/^fn producer/pub fn producer/' "$crate/src/passes.rt"
 cat >"$crate/src/main.rt" <<'RATTLE'
+//! Rounds at a table of leases, timed.
+#![tactic(auto)]
+
+mod passes;
+
+ghost use Rattle.std.specs.Prelude.{◌≡◌, ◌<◌, ◌≤◌, IfOk};
+ghost use Rattle.yard_model.specs.declared.incarnation.Slot.TheVariants as slot;
+ghost use Rattle.lease_table.specs.Belongs.{id_of, charter_of};
+ghost use Rattle.lease_table.specs.Leasing.{Idle};
+ghost use Rattle.lease_tests.specs.Holding.{two_nodes, MayAsk};
+
+use crate::passes::{give, producer, publish, script, second, take};
+use lease_table::{LeasePass, LeaseTable, empty_stores_are_ready};
+use shard_store::Stores;
+use std::alloc::{AllocError, Global};
+use std::io;
+use std::thread::{Threads, join};
+use std::time::Instant;
+use yard_model::{Incarnation, NodeNo, ShardNo, Slot};
+
+const ROUNDS: u32 = 100_000;
+
+fn node(n: u8) -> NodeNo
+    requires some { 0 < n }
+    requires few { n ≤ 4 }
+    ensures { result ≡ n }
+{
+    let Some(node) = NodeNo::new(n) else {
+        unreachable!()
+    };
+    node
+}
+
+fn first(n: u8) -> Incarnation
+    requires some { 0 < n }
+    requires few { n ≤ 4 }
+    ensures { result ≡ record { node = n; number = 1 } }
+{
+    Incarnation {
+        node: node(n),
+        number: 1,
+    }
+}
+
+fn shard(n: u8) -> Slot
+    requires { n < 10 }
+    ensures { result ≡ slot.Shard n }
+{
+    let Some(s) = ShardNo::new(n, 10) else {
+        unreachable!()
+    };
+    Slot::Shard(s)
+}
+
+/// A table, and the passes of its four nodes.
+fn open_all(
+    alloc: Global,
+) -> Result<(LeaseTable, LeasePass, LeasePass, LeasePass, LeasePass), AllocError>
+    ensures script { IfOk result (λ r. charter_of r.0 ≡ two_nodes) }
+    ensures first { IfOk result (λ r. Idle (id_of r.0) two_nodes 1 r.1) }
+    ensures second { IfOk result (λ r. Idle (id_of r.0) two_nodes 2 r.2) }
+    ensures third { IfOk result (λ r. Idle (id_of r.0) two_nodes 3 r.3) }
+    ensures fourth { IfOk result (λ r. Idle (id_of r.0) two_nodes 4 r.4) }
+{
+    empty_stores_are_ready();
+    let charter = script(alloc, producer(), NodeNo::FIRST, second())?;
+    let (table, mut passes) = LeaseTable::make(alloc, &charter, Stores::new(alloc, &charter)?)?;
+    let Some(a) = passes.next() else {
+        unreachable!()
+    };
+    let Some(b) = passes.next() else {
+        unreachable!()
+    };
+    let Some(c) = passes.next() else {
+        unreachable!()
+    };
+    let Some(d) = passes.next() else {
+        unreachable!()
+    };
+    Ok((table, a, b, c, d))
+}
+
+/// All rounds of a node at a slot; whether each was granted.
+fn rounds(table: &LeaseTable, mut pass: LeasePass, n: u8) -> bool
+    requires script { charter_of table.now ≡ two_nodes }
+    requires some { 0 < n }
+    requires few { n ≤ 4 }
+    requires may { MayAsk (record { node = n; number = 1 }) (slot.Shard n) }
+    requires idle { Idle (id_of table.now) two_nodes n pass }
+{
+    for _ in 0..ROUNDS {
+        let Some((taken, store)) = take(table, pass, first(n), shard(n)) else {
+            return false;
+        };
+        let taken = publish(table, taken, first(n), shard(n), &store);
+        let Some(back) = give(table, taken, first(n), shard(n), store) else {
+            return false;
+        };
+        pass = back;
+    }
+    true
+}
+
+/// The rounds of two nodes, each in a thread of its own.
+fn first_two<R: Threads + Sync>(rt: &R, table: &LeaseTable, a: LeasePass, b: LeasePass) -> bool
+    requires script { charter_of table.now ≡ two_nodes }
+    requires first { Idle (id_of table.now) two_nodes 1 a }
+    requires second { Idle (id_of table.now) two_nodes 2 b }
+{
+    let (one, other) = join(
+        rt,
+        move ||
+            requires { (charter_of table.now ≡ two_nodes) × Idle (id_of table.now) two_nodes 1 a }
+        { rounds(table, a, 1) },
+        move ||
+            requires { (charter_of table.now ≡ two_nodes) × Idle (id_of table.now) two_nodes 2 b }
+        { rounds(table, b, 2) },
+    );
+    one && other
+}
+
+/// The same of the other two nodes.
+fn last_two<R: Threads + Sync>(rt: &R, table: &LeaseTable, a: LeasePass, b: LeasePass) -> bool
+    requires script { charter_of table.now ≡ two_nodes }
+    requires first { Idle (id_of table.now) two_nodes 3 a }
+    requires second { Idle (id_of table.now) two_nodes 4 b }
+{
+    let (one, other) = join(
+        rt,
+        move ||
+            requires { (charter_of table.now ≡ two_nodes) × Idle (id_of table.now) two_nodes 3 a }
+        { rounds(table, a, 3) },
+        move ||
+            requires { (charter_of table.now ≡ two_nodes) × Idle (id_of table.now) two_nodes 4 b }
+        { rounds(table, b, 4) },
+    );
+    one && other
+}
+
+/// The rounds of all nodes, each in a thread of its own.
+fn all_four<R: Threads + Sync>(
+    rt: &R,
+    table: &LeaseTable,
+    a: LeasePass,
+    b: LeasePass,
+    c: LeasePass,
+    d: LeasePass,
+) -> bool
+    requires script { charter_of table.now ≡ two_nodes }
+    requires first { Idle (id_of table.now) two_nodes 1 a }
+    requires second { Idle (id_of table.now) two_nodes 2 b }
+    requires third { Idle (id_of table.now) two_nodes 3 c }
+    requires fourth { Idle (id_of table.now) two_nodes 4 d }
+{
+    let (one, other) = join(
+        rt,
+        move ||
+            requires { (charter_of table.now ≡ two_nodes) × Idle (id_of table.now) two_nodes 1 a × Idle (id_of table.now) two_nodes 2 b }
+        { first_two(rt, table, a, b) },
+        move ||
+            requires { (charter_of table.now ≡ two_nodes) × Idle (id_of table.now) two_nodes 3 c × Idle (id_of table.now) two_nodes 4 d }
+        { last_two(rt, table, c, d) },
+    );
+    one && other
+}
+
+fn main(rt: HostRuntime) -> io::Result<()> {
+    let mut best = [0u64; 2];
+    for _ in 0..5 {
+        let Ok((table, a, _, _, _)) = open_all(rt.alloc()) else {
+            return Ok(());
+        };
+        let start = Instant::now(&rt)?;
+        let went = rounds(&table, a, 1);
+        let time = start.elapsed(&rt)?.as_micros() as u64;
+        if went && time > 0 {
+            best[0] = best[0].max(u64::from(ROUNDS) * 1_000_000 / time);
+        }
+        let Ok((table, a, b, c, d)) = open_all(rt.alloc()) else {
+            return Ok(());
+        };
+        let start = Instant::now(&rt)?;
+        let went = all_four(&rt, &table, a, b, c, d);
+        let time = start.elapsed(&rt)?.as_micros() as u64;
+        if went && time > 0 {
+            best[1] = best[1].max(4 * u64::from(ROUNDS) * 1_000_000 / time);
+        }
+    }
+    println!(rt; "one thread: {} rounds a second", best[0])?;
+    println!(rt; "four threads: {} rounds a second in all", best[1])?;
+    Ok(())
+}
 RATTLE
+mkdir -p "$crate/proofs/main/rounds" "$crate/proofs/main/open_all"
+cat >"$crate/proofs/main/rounds/Invariants.antt" <<'ANTT'
+use Rattle.lease_table.specs.Belongs.{id_of}
+use Rattle.lease_table.specs.Leasing.{Idle}
+use Rattle.lease_tests.specs.Holding.{two_nodes}
+use Rattle.lease_tests.proofs.main.rounds.Given as goal
+ANTT
 log=$work/log
 if ! (cd "$crate" && rt run) >"$log" 2>&1; then
     tail -n 40 "$log" >&2

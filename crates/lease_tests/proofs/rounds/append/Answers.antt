@@ -1,3 +1,4 @@
+use Rattle.std.proofs.Common.{rules}
 use Rattle.lease_tests.proofs.RoundLaws.{came}
 use Rattle.lease_tests.proofs.rounds.append.Goals as goal
 

@@ -5,4 +5,4 @@ use Rattle.lease_tests.specs.Holding.{two_nodes}
 use Rattle.lease_tests.proofs.rounds.rounds.Given as goal
 
 abbrev pub invariant-loop-done : goal.invariant-loop-done
-invariant-loop-done l = Idle (id_of l.table) two_nodes l.fn.node l.pass × (l.this.now ≡ l.fn.node)
+invariant-loop-done l = Idle (id_of l.table) two_nodes l.fn.node l.pass × (l.this ≡ l.fn.node)

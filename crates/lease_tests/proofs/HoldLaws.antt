@@ -1,5 +1,5 @@
 -- What a pass that holds one slot may do, and what it has then.
-use Rattle.std.proofs.Common.{◌≡◌, ◌≢◌, ℕ, zero, suc, ◌+◌, ◌<◌, ◌≤◌, ◌⊎◌, inl, inr, ⊎_elim, Bool, true, false, ◌&&◌, ◌||◌, List, [], ◌∷◌, ◌++◌, length, refl, sym, ap, ◌∙◌, subst, arith}
+use Rattle.std.proofs.Common.{◌≡◌, ◌≢◌, ℕ, zero, suc, ◌+◌, ◌<◌, ◌≤◌, inl, ⊎_elim, Bool, true, false, ◌||◌, List, [], ◌∷◌, ◌++◌, refl, sym, ap, ◌∙◌, subst, arith}
 use Rattle.std.proofs.lemmas.List.{get_or-set_same, get_or-set_other}
 use Rattle.std.proofs.lemmas.List.Sums.{fold-append}
 use Rattle.std.proofs.lemmas.List.Folds.{list_any-append, list_all-append}
@@ -23,7 +23,7 @@ use Rattle.shard_lease.specs.declared.leases.Acquire.{Acquire}
 use Rattle.shard_lease.specs.declared.leases.Acquire.TheVariants as answer
 use Rattle.shard_lease.specs.Meaning.{Begins, confirms, is_confirmed}
 use Rattle.lease_table.specs.declared.View.{View}
-use Rattle.lease_table.specs.Fits.{slot_count, admits, is_fit, is_within}
+use Rattle.lease_table.specs.Fits.{slot_count, admits, is_fit}
 use Rattle.lease_table.specs.Leasing.{Pass, Idle, Spans, MayAct, Answers, MayPublish, MayRelease}
 use Rattle.lease_table.specs.Lists.{seen_at, Has}
 use Rattle.lease_table.specs.Tells.{published, freed}

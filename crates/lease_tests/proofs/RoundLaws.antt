@@ -1,12 +1,10 @@
 -- What a round leaves in the coordinator's store.
-use Rattle.std.proofs.Common.{◌≡◌, ◌+◌, ◌≤◌, true, ◌&&◌, List, [], ◌∷◌, ◌++◌, refl, sym, ap, ◌∙◌, subst, arith, append_assoc}
-use Rattle.yard_model.specs.declared.fact.Fact.{Fact}
+use Rattle.std.proofs.Common.{◌≡◌, ◌+◌, ◌≤◌, true, ◌&&◌, [], ◌∷◌, ◌++◌, refl, sym, ap, ◌∙◌, subst, arith, append_assoc}
 use Rattle.yard_model.specs.declared.fact.Fact.TheVariants as fact
 use Rattle.yard_model.specs.declared.incarnation.Incarnation.{Incarnation}
 use Rattle.coordinator_state.specs.Coord.{Coord}
 use Rattle.shard_store.specs.declared.store.Store.{Store}
 use Rattle.shard_store.specs.declared.store.Store.TheVariants as store
-use Rattle.shard_store.specs.Stores.{script_of, entries_of}
 use Rattle.lease_table.specs.Fits.{is_within}
 use Rattle.lease_tests.specs.Holding.{Wrote}
 

@@ -1,7 +1,6 @@
 use Rattle.std.proofs.Common.{sym, ap, ◌∙◌, subst}
 use Rattle.yard_model.specs.Genuine.{is_slot_of}
 use Rattle.yard_model.specs.Script.{Script}
-use Rattle.yard_model.specs.Words.{at}
 use Rattle.shard_store.specs.Stores.{place_of}
 use Rattle.lease_table.specs.Belongs.{id_of}
 use Rattle.lease_table.specs.Leasing.{MayAct, Answers}

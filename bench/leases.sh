@@ -210,13 +210,36 @@ fn main(rt: HostRuntime) -> io::Result<()> {
     Ok(())
 }
 RATTLE
-mkdir -p "$crate/proofs/main/rounds" "$crate/proofs/main/open_all"
+mkdir -p "$crate/proofs/main/rounds"
 cat >"$crate/proofs/main/rounds/Invariants.antt" <<'ANTT'
 use Rattle.lease_table.specs.Belongs.{id_of}
 use Rattle.lease_table.specs.Leasing.{Idle}
 use Rattle.lease_tests.specs.Holding.{two_nodes}
 use Rattle.lease_tests.proofs.main.rounds.Given as goal
+
+abbrev pub invariant-loop-_ : goal.invariant-loop-_
+invariant-loop-_ l = Idle (id_of l.table) two_nodes l.n l.pass
 ANTT
+for f in first_two last_two all_four; do
+    mkdir -p "$crate/proofs/main/$f"
+    cat >"$crate/proofs/main/$f/Answers.antt" <<ANTT
+use denote.Param.{param}
+use denote.Param.Send.{IsSend, IsSync, sendable}
+use Rattle.std.proofs.Crossing as heap
+use Rattle.std.proofs.MapsCrossing as maps
+use Rattle.lease_table.specs.contracts.pass.LeasePass as pass
+use Rattle.lease_table.specs.contracts.table.LeaseTable as table
+use Rattle.lease_table.proofs.SendLaws.{pass_send, table_sync}
+use Rattle.lease_tests.proofs.main.$f.Goals as goal
+
+pub join-one-requires-send-F : goal.join-one-requires-send-F
+join-one-requires-send-F g c κs within =
+    let r : IsSync (param 0 g.row.R) = c.type_bounds.sync-R in
+    let p : IsSend pass.the_row = pass_send in
+    let t : IsSync table.the_row = table_sync in
+    search (heap.crosses, maps.crosses, sendable) depth 100 fits 100000
+ANTT
+done
 log=$work/log
 if ! (cd "$crate" && rt run) >"$log" 2>&1; then
     tail -n 40 "$log" >&2

@@ -1,0 +1,10 @@
+//! Tests of the table of leases: one way through it, on one thread and on two, and many rounds of two
+//! threads for one slot.
+#![tactic(auto)]
+
+#[cfg(test)]
+mod passes;
+#[cfg(test)]
+mod rounds;
+#[cfg(test)]
+mod ways;

@@ -28,6 +28,7 @@ const TURNS: u32 = 400;
 
 /// A gate for two nodes: before its fifth turn, and each one after that, a node waits until the other has
 /// come so far, for a bounded number of looks.
+#[derive(Drop)]
 struct Meeting {
     first: AtomicU64,
     second: AtomicU64,

@@ -27,7 +27,6 @@ use Rattle.node_runner.specs.declared.run.Job.{Job}
 use Rattle.post_box.specs.Holding as boxes
 use Rattle.post_box.specs.Holding.{Holder, new_holder}
 use Rattle.node_runner.specs.Jobs.{AreIdle, IsDealt, AreHolders, IsJob, AreJobs, IsLeft, AreLeft}
-use Rattle.node_runner.specs.Progress.{SawAll}
 use Rattle.node_runner.specs.Ran.{Ran, IsRun}
 use Rattle.node_runner.proofs.Joins.{last_ran, one_ran}
 
@@ -59,11 +58,11 @@ one_longer : {A : Type 0} (xs ys : List A) (x : A) → ys ≡ xs ++ x ∷ [] →
 one_longer xs ys x is = ap length is ∙ length-append xs (x ∷ [])
 
 -- a pass of each node at the boxes
-on_holders : {P : Type 0} (ts : List TableId) (k n : ℕ) → AreHolders {P} ts k (map (new_holder ts) (numbers k n))
+on_holders : {P : Type 0} (ts : List TableId) (k n : ℕ) → AreHolders {P = P} ts k (map (new_holder ts) (numbers k n))
 on_holders ts k zero = tt
-on_holders ts k (suc n) = (refl, (refl, on_holders ts (k + 1) n))
+on_holders ts k (suc n) = (refl, refl, on_holders ts (k + 1) n)
 
-holders_long : {P : Type 0} (ts : List TableId) (k n : ℕ) → length (map (new_holder {P} ts) (numbers k n)) ≡ n
+holders_long : {P : Type 0} (ts : List TableId) (k n : ℕ) → length (map (new_holder {P = P} ts) (numbers k n)) ≡ n
 holders_long ts k zero = refl
 holders_long ts k (suc n) = ap suc (holders_long ts (k + 1) n)
 
@@ -100,12 +99,12 @@ deals_one {P} z c ts done left rest p others after h js more j d is has node own
       inside = ap (is_in 1 c.config.nodes) node ∙ both (nat_le 1 (done + 1)) (nat_le (done + 1) c.config.nodes) (within 1 (done + 1) (omega arith)) (within (done + 1) c.config.nodes (omega (arith, all)));
       idle = subst (λ n. Idle z c n j.pass) (sym node) (subst (Idle z c (done + 1)) (sym own) idle.0);
       boxes = ap (λ (x : Holder P). x.tables) mine ∙ holder.0;
-      own = ap (λ (x : Holder P). x.node) mine ∙ holder.1.0 ∙ sym node;
+      own = ap (λ (x : Holder P). x.node) mine ∙ holder.1 ∙ sym node;
     } in record {
       all = omega (arith, all);
       idle = idle.1;
       rest = omega (arith, long);
-      holders = holder.1.1;
+      holders = holder.2;
       count = one_longer js more j pushed ∙ ap (λ k. k + 1) d.count;
       jobs = λ i x less at. by_place ((x.node ≡ i + 1) × IsJob z c ts x) i (length js)
           (λ same. let x_is : x ≡ j = at ∙ ap (λ k. get_or more k x) same ∙ at_end js more j x pushed in subst (λ (y : Job P). (y.node ≡ i + 1) × IsJob z c ts y) (sym x_is) (node ∙ ap (λ k. k + 1) (sym (same ∙ d.count)), job))
@@ -120,25 +119,6 @@ deals_on z c ts done nodes left others js d is less none = let all : done + 0 �
 
 pub boxes_on : {P : Type 0} (z : TableId) (c : Script) (ts : List TableId) (done nodes : ℕ) (left : List Pass) (others : List (Holder P)) (js : List (Job P)) → Dealing z c ts done left others js → nodes ≡ c.config.nodes → done < nodes → others ≡ [] → ⊥
 boxes_on {P} z c ts done nodes left others js d is less none = let all : done + 0 ≡ c.config.nodes = ap (λ (l : List (Holder P)). done + length l) (sym none) ∙ d.rest in omega (arith, all, is, less)
-
--- What a worker leaves.
-
-pub left_if : {E : Type 0} (z : TableId) (c : Script) (turns n : ℕ) (r : Result Pass E) → IfOk r (Idle z c n) → IfOk r (SawAll c turns n) → IfOk r (IsLeft z c turns n)
-left_if z c turns n (Ok p) idle saw = record { idle = idle; saw = saw }
-left_if z c turns n (Err e) idle saw = tt
-
--- one of these jobs, whose worker left this
-pub record Done {P E : Type 0} (z : TableId) (c : Script) (turns i : ℕ) (js : List (Job P)) (r : Result Pass E) : Type 0 where
-  pub job : Job P
-  pub there : job ≡ slice_index_or js i job
-  pub left : IfOk r (IsLeft z c turns job.node)
-
-pub all_left : {P E : Type 0} (z : TableId) (c : Script) (ts : List TableId) (turns : ℕ) (js : List (Job P)) (rs : List (Result Pass E)) → AreJobs z c ts js → length rs ≡ length js
-    → ((i : ℕ) (r : Result Pass E) → i < length js → Done z c turns i js (slice_index_or rs i r)) → AreLeft z c turns rs
-all_left {P} {E} z c ts turns js rs jobs long each i r less is =
-    let low : i < length js = subst (λ n. i < n) long less in
-    let d : Done z c turns i js (slice_index_or rs i r) = each i r low in
-    subst (λ (x : Result Pass E). IfOk x (IsLeft z c turns (i + 1))) (sym is) (subst (λ n. IfOk (slice_index_or rs i r) (IsLeft z c turns n)) (jobs i d.job low d.there).0 d.left)
 
 -- What the workers left.
 

@@ -58,13 +58,13 @@ one_longer : {A : Type 0} (xs ys : List A) (x : A) → ys ≡ xs ++ x ∷ [] →
 one_longer xs ys x is = ap length is ∙ length-append xs (x ∷ [])
 
 -- a pass of each node at the boxes
-on_holders : {P : Type 0} (ts : List TableId) (k n : ℕ) → AreHolders {P = P} ts k (map (new_holder ts) (numbers k n))
-on_holders ts k zero = tt
-on_holders ts k (suc n) = (refl, refl, on_holders ts (k + 1) n)
+on_holders : (P : Type 0) (ts : List TableId) (k n : ℕ) → AreHolders {P = P} ts k (map (new_holder ts) (numbers k n))
+on_holders P ts k zero = tt
+on_holders P ts k (suc n) = (refl, refl, on_holders P ts (k + 1) n)
 
-holders_long : {P : Type 0} (ts : List TableId) (k n : ℕ) → length (map (new_holder {P = P} ts) (numbers k n)) ≡ n
-holders_long ts k zero = refl
-holders_long ts k (suc n) = ap suc (holders_long ts (k + 1) n)
+holders_long : (P : Type 0) (ts : List TableId) (k n : ℕ) → length (map (new_holder {P = P} ts) (numbers k n)) ≡ n
+holders_long P ts k zero = refl
+holders_long P ts k (suc n) = ap suc (holders_long P ts (k + 1) n)
 
 -- so many jobs are made, and these passes are left
 pub record Dealing {P : Type 0} (z : TableId) (c : Script) (ts : List TableId) (done : ℕ) (left : List Pass) (others : List (Holder P)) (js : List (Job P)) : Type 0 where
@@ -79,8 +79,8 @@ pub deals_none : {P : Type 0} (z : TableId) (c : Script) (ts : List TableId) (le
 deals_none {P} z c ts left others js d nodes is none = record {
   all = let all : length left ≡ c.config.nodes = d.all in omega (arith, all);
   idle = d.idle;
-  rest = let long : length others ≡ length ts = ap (λ (l : List (Holder P)). length l) is ∙ holders_long ts 1 (length ts) in omega (arith, long, nodes);
-  holders = subst (AreHolders ts 1) (sym is) (on_holders ts 1 (length ts));
+  rest = let long : length others ≡ length ts = ap (λ (l : List (Holder P)). length l) is ∙ holders_long P ts 1 (length ts) in omega (arith, long, nodes);
+  holders = subst (AreHolders ts 1) (sym is) (on_holders P ts 1 (length ts));
   count = ap (λ (l : List (Job P)). length l) none;
   jobs = λ i x less at. absurd (never i (subst (λ (l : List (Job P)). i < length l) none less));
 }

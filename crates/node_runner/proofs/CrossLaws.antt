@@ -1,4 +1,5 @@
 -- A table of leases may be shared by threads, and a job may go to another.
+use denote.RattleType.{RattleType}
 use denote.Enum.Declared as enum
 use denote.Param.Send.{IsSend, IsSync, enum_sync, recorded_sync, sendable}
 use Rattle.std.proofs.Crossing as heap
@@ -13,6 +14,8 @@ use Rattle.shard_store.proofs.SendLaws.{store_send}
 use Rattle.lease_table.specs.contracts.table.LeaseTable as table
 use Rattle.lease_table.specs.contracts.pass.LeasePass as pass
 use Rattle.lease_table.proofs.SendLaws.{pass_send}
+use Rattle.post_box.specs.contracts.pass.BoxPass as box_pass
+use Rattle.post_box.proofs.SendLaws as holders
 use Rattle.node_runner.specs.contracts.run.Job as job
 
 shelf_sync : IsSync shelf.the_field.row
@@ -33,5 +36,8 @@ table_sync =
     let y : IsSync store.the_row = store_sync in
     search (heap.crosses, maps.crosses, sendable, shared.the_sync, lease.the_sync) depth 100 fits 100000
 
-pub job_send : IsSend job.the_row
-job_send = let p : IsSend pass.the_row = pass_send in search (heap.crosses, maps.crosses, sendable) depth 100 fits 100000
+pub job_send : (T : RattleType) → IsSend T → IsSend (job.the_row T)
+job_send T s =
+    let p : IsSend pass.the_row = pass_send in
+    let b : IsSend (box_pass.the_row T) = holders.pass_send T s in
+    search (heap.crosses, maps.crosses, sendable) depth 100 fits 100000

@@ -54,10 +54,10 @@ pub plain_handed : (c : Script) (me : ℕ) (p : Pass) (v : Standing) (x : Packet
 plain_handed c me p v x genuine within to apart none = handed_of c me p v x genuine within to apart (subst (MayConfirmIt (means me p).vouches v.state) (sym none) tt)
 
 -- where it confirms a record, its note has seen that
-shown_of : (c : Script) (b : Body) (r : Confirmed) (note : Option Pass) → confirmed_of b ≡ Some r → is_shown c b note ≡ true → has_seen c r.entity r.producer r.number note ≡ true
-shown_of c (body.Ack p e n) r note is h = ap (λ (x : Confirmed). has_seen c x.entity x.producer x.number note) (sym (some_is (record { producer = p; entity = e; number = n }) r is)) ∙ h
-shown_of c (body.Request p e n u) r note is h = ap (λ (x : Confirmed). has_seen c x.entity x.producer x.number note) (sym (some_is (record { producer = p; entity = e; number = n }) r is)) ∙ h
-shown_of c b r note is h = absurd (none_is_not_some r is)
+shown_of : (c : Script) (b : Body) (r : Confirmed) (seer : Option Pass) → confirmed_of b ≡ Some r → is_shown c b seer ≡ true → has_seen c r.entity r.producer r.number seer ≡ true
+shown_of c (body.Ack p e n) r seer is h = ap (λ (x : Confirmed). has_seen c x.entity x.producer x.number seer) (sym (some_is (record { producer = p; entity = e; number = n }) r is)) ∙ h
+shown_of c (body.Request p e n u) r seer is h = ap (λ (x : Confirmed). has_seen c x.entity x.producer x.number seer) (sym (some_is (record { producer = p; entity = e; number = n }) r is)) ∙ h
+shown_of c b r seer is h = absurd (none_is_not_some r is)
 
 -- it confirms a record that its note has seen
 pub shown_handed : (z : TableId) (c : Script) (me : ℕ) (p note q : Pass) (v : Standing) (x : Packet) (r : Confirmed) → Rested z c me p v → is_genuine_packet c x ≡ true → is_within x.from.number ≡ true → x.to ≡ v.state.who → AreApart x.body

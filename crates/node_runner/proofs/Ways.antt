@@ -54,7 +54,7 @@ first_way z c n p next before now idle script node all same_script same_node h d
 -- one that takes an order
 pub order_way : (z : TableId) (c : Script) (n t : ℕ) (p r : Pass) (node after : Option Standing) (o : Order) (waits now : Waiting) (next : Option Order) (idle : ℕ) → OnWay z c n t p node (Some o) waits idle → StandsAt z c n r after → Takes c n o p node r after
     → now.script ≡ waits.script → now.node ≡ waits.node → IsNextOf next waits now → IfSome next (IsDue waits.script waits.node) → OnWay z c n (t + 1) r after next now 0
-order_way z c n t p r node after o waits now next idle w stands takes same_script same_node h due = record {
+order_way z c n t p r _ after o waits now next idle w stands takes same_script same_node h due = record {
   stands = stands;
   ahead = ahead_of c n next waits now w.ahead.script_is w.ahead.node_is same_script same_node h due;
   few = omega arith;
@@ -71,7 +71,7 @@ order_way z c n t p r node after o waits now next idle w stands takes same_scrip
 -- one that takes none
 pub other_way : (z : TableId) (c : Script) (n t : ℕ) (p r : Pass) (node after : Option Standing) (next : Option Order) (waits : Waiting) (idle : ℕ) → OnWay z c n t p node next waits idle → (next ≡ None) ⊎ ((is_some node ≡ true) × (idle < 3)) → StandsAt z c n r after → GoesOn c n p node r after
     → OnWay z c n (t + 1) r after next waits (if nat_lt idle 3 then idle + 1 else idle)
-other_way z c n t p r node after next waits idle w none stands goes = record {
+other_way z c n t p r _ after next waits idle w none stands goes = record {
   stands = stands;
   ahead = w.ahead;
   few = few (nat_lt idle 3) refl;
@@ -123,4 +123,4 @@ turns_enough : (c : Script) (turns q n : ℕ) → is_steady c turns q n ≡ true
 turns_enough c turns q n h = at_most (4 * length (worker_orders c n)) turns (and_both (option_map_or (λ m. m == n) (produced q (orders c)) false && each_follows (is_steady_after q n) [] (orders c)) (nat_le (4 * length (worker_orders c n)) turns) h).1
 
 pub done_saw : (z : TableId) (c : Script) (turns n : ℕ) (p r : Pass) (node : Option Standing) → IsDone z c turns n p node → (Progressed c turns n [] p node → SawAll c turns n r) → SawAll c turns n r
-done_saw z c turns n p r node done saw q here steady = saw (done.progressed (turns_enough c turns q n steady)) q here steady
+done_saw z c turns n p r _ done saw q here steady = saw (done.progressed (turns_enough c turns q n steady)) q here steady

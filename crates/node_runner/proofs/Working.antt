@@ -24,7 +24,9 @@ use Rattle.lease_table.specs.Leasing.{Pass, pass, Idle, Spans, Closed, ClosedAt,
 use Rattle.lease_table.specs.Tells.{united}
 use Rattle.live_laws.specs.Live.{SawQueued, ClosedIsLawful, ClosedIsWorked}
 use Rattle.node_runner.specs.declared.run.Job.{Job}
-use Rattle.node_runner.specs.Jobs.{AreIdle, IsDealt, IsJob, AreJobs, IsLeft, AreLeft}
+use Rattle.post_box.specs.Holding as boxes
+use Rattle.post_box.specs.Holding.{Holder, new_holder}
+use Rattle.node_runner.specs.Jobs.{AreIdle, IsDealt, AreHolders, IsJob, AreJobs, IsLeft, AreLeft}
 use Rattle.node_runner.specs.Ran.{Ran, IsRun}
 use Rattle.node_runner.proofs.Joins.{last_ran, one_ran}
 
@@ -55,46 +57,68 @@ at_before xs ys x d i is less = ap (λ l. get_or l i d) is ∙ get_or_append_lef
 one_longer : {A : Type 0} (xs ys : List A) (x : A) → ys ≡ xs ++ x ∷ [] → length ys ≡ length xs + 1
 one_longer xs ys x is = ap length is ∙ length-append xs (x ∷ [])
 
+-- a pass of each node at the boxes
+on_holders : (P : Type 0) (ts : List TableId) (k n : ℕ) → AreHolders {P = P} ts k (map (new_holder ts) (numbers k n))
+on_holders P ts k zero = tt
+on_holders P ts k (suc n) = (refl, refl, on_holders P ts (k + 1) n)
+
+holders_long : (P : Type 0) (ts : List TableId) (k n : ℕ) → length (map (new_holder {P = P} ts) (numbers k n)) ≡ n
+holders_long P ts k zero = refl
+holders_long P ts k (suc n) = ap suc (holders_long P ts (k + 1) n)
+
 -- so many jobs are made, and these passes are left
-pub record Dealing (z : TableId) (c : Script) (done : ℕ) (left : List Pass) (js : List Job) : Type 0 where
+pub record Dealing {P : Type 0} (z : TableId) (c : Script) (ts : List TableId) (done : ℕ) (left : List Pass) (others : List (Holder P)) (js : List (Job P)) : Type 0 where
   pub all : done + length left ≡ c.config.nodes
   pub idle : AreIdle z c (done + 1) left
+  pub rest : done + length others ≡ c.config.nodes
+  pub holders : AreHolders ts (done + 1) others
   pub count : length js ≡ done
-  pub jobs : AreJobs z c js
+  pub jobs : AreJobs z c ts js
 
-pub deals_none : (z : TableId) (c : Script) (left : List Pass) (js : List Job) → IsDealt z c left → js ≡ [] → Dealing z c 0 left js
-deals_none z c left js d none = record {
+pub deals_none : {P : Type 0} (z : TableId) (c : Script) (ts : List TableId) (left : List Pass) (others : List (Holder P)) (js : List (Job P)) → IsDealt z c left → length ts ≡ c.config.nodes → others ≡ boxes.dealt ts → js ≡ [] → Dealing z c ts 0 left others js
+deals_none {P} z c ts left others js d nodes is none = record {
   all = let all : length left ≡ c.config.nodes = d.all in omega (arith, all);
   idle = d.idle;
-  count = ap length none;
-  jobs = λ i x less is. absurd (never i (subst (λ l. i < length l) none less));
+  rest = let long : length others ≡ length ts = ap (λ (l : List (Holder P)). length l) is ∙ holders_long P ts 1 (length ts) in omega (arith, long, nodes);
+  holders = subst (AreHolders ts 1) (sym is) (on_holders P ts 1 (length ts));
+  count = ap (λ (l : List (Job P)). length l) none;
+  jobs = λ i x less at. absurd (never i (subst (λ (l : List (Job P)). i < length l) none less));
 }
   where
     never : (i : ℕ) → i < 0 → ⊥
     never i h = omega (arith, h)
 
-pub deals_one : (z : TableId) (c : Script) (done : ℕ) (left rest : List Pass) (p : Pass) (js more : List Job) (j : Job) → Dealing z c done left js → left ≡ p ∷ rest → j.node ≡ done + 1 → j.pass ≡ p → more ≡ js ++ j ∷ [] → Dealing z c (done + 1) rest more
-deals_one z c done left rest p js more j d is node own pushed =
+pub deals_one : {P : Type 0} (z : TableId) (c : Script) (ts : List TableId) (done : ℕ) (left rest : List Pass) (p : Pass) (others after : List (Holder P)) (h : Holder P) (js more : List (Job P)) (j : Job P) → Dealing z c ts done left others js
+    → left ≡ p ∷ rest → others ≡ h ∷ after → j.node ≡ done + 1 → j.pass ≡ p → j.box_pass ≡ h → more ≡ js ++ j ∷ [] → Dealing z c ts (done + 1) rest after more
+deals_one {P} z c ts done left rest p others after h js more j d is has node own mine pushed =
     let idle : Idle z c (done + 1) p × AreIdle z c (done + 1 + 1) rest = subst (AreIdle z c (done + 1)) is d.idle in
-    let all : done + suc (length rest) ≡ c.config.nodes = ap (λ l. done + length l) (sym is) ∙ d.all in
-    let job : IsJob z c (done + 1) j = record {
-      node = node;
-      inside = both (nat_le 1 (done + 1)) (nat_le (done + 1) c.config.nodes) (within 1 (done + 1) (omega arith)) (within (done + 1) c.config.nodes (omega (arith, all)));
-      idle = subst (Idle z c (done + 1)) (sym own) idle.0;
+    let holder : (h.tables ≡ ts) × (h.node ≡ done + 1) × AreHolders ts (done + 1 + 1) after = subst (AreHolders ts (done + 1)) has d.holders in
+    let all : done + suc (length rest) ≡ c.config.nodes = ap (λ (l : List Pass). done + length l) (sym is) ∙ d.all in
+    let long : done + suc (length after) ≡ c.config.nodes = ap (λ (l : List (Holder P)). done + length l) (sym has) ∙ d.rest in
+    let job : IsJob z c ts j = record {
+      inside = ap (is_in 1 c.config.nodes) node ∙ both (nat_le 1 (done + 1)) (nat_le (done + 1) c.config.nodes) (within 1 (done + 1) (omega arith)) (within (done + 1) c.config.nodes (omega (arith, all)));
+      idle = subst (λ n. Idle z c n j.pass) (sym node) (subst (Idle z c (done + 1)) (sym own) idle.0);
+      boxes = ap (λ (x : Holder P). x.tables) mine ∙ holder.0;
+      own = ap (λ (x : Holder P). x.node) mine ∙ holder.1 ∙ sym node;
     } in record {
       all = omega (arith, all);
       idle = idle.1;
+      rest = omega (arith, long);
+      holders = holder.2;
       count = one_longer js more j pushed ∙ ap (λ k. k + 1) d.count;
-      jobs = λ i x less at. by_place (IsJob z c (i + 1) x) i (length js)
-          (λ same. let x_is : x ≡ j = at ∙ ap (λ k. get_or more k x) same ∙ at_end js more j x pushed in subst (IsJob z c (i + 1)) (sym x_is) (subst (λ k. IsJob z c (k + 1) j) (sym (same ∙ d.count)) job))
+      jobs = λ i x less at. by_place ((x.node ≡ i + 1) × IsJob z c ts x) i (length js)
+          (λ same. let x_is : x ≡ j = at ∙ ap (λ k. get_or more k x) same ∙ at_end js more j x pushed in subst (λ (y : Job P). (y.node ≡ i + 1) × IsJob z c ts y) (sym x_is) (node ∙ ap (λ k. k + 1) (sym (same ∙ d.count)), job))
           (λ other. let low : i < length js = below_end i (length js) (length more) less (one_longer js more j pushed) other in d.jobs i x low (at ∙ at_before js more j x i pushed low));
     }
   where
     below_end : (i n m : ℕ) → i < m → m ≡ n + 1 → (i ≡ n → ⊥) → i < n
     below_end i n m less is other = grind arith
 
-pub deals_on : (z : TableId) (c : Script) (done nodes : ℕ) (left : List Pass) (js : List Job) → Dealing z c done left js → nodes ≡ c.config.nodes → done < nodes → left ≡ [] → ⊥
-deals_on z c done nodes left js d is less none = let all : done + 0 ≡ c.config.nodes = ap (λ (l : List Pass). done + length l) (sym none) ∙ d.all in omega (arith, all, is, less)
+pub deals_on : {P : Type 0} (z : TableId) (c : Script) (ts : List TableId) (done nodes : ℕ) (left : List Pass) (others : List (Holder P)) (js : List (Job P)) → Dealing z c ts done left others js → nodes ≡ c.config.nodes → done < nodes → left ≡ [] → ⊥
+deals_on z c ts done nodes left others js d is less none = let all : done + 0 ≡ c.config.nodes = ap (λ (l : List Pass). done + length l) (sym none) ∙ d.all in omega (arith, all, is, less)
+
+pub boxes_on : {P : Type 0} (z : TableId) (c : Script) (ts : List TableId) (done nodes : ℕ) (left : List Pass) (others : List (Holder P)) (js : List (Job P)) → Dealing z c ts done left others js → nodes ≡ c.config.nodes → done < nodes → others ≡ [] → ⊥
+boxes_on {P} z c ts done nodes left others js d is less none = let all : done + 0 ≡ c.config.nodes = ap (λ (l : List (Holder P)). done + length l) (sym none) ∙ d.rest in omega (arith, all, is, less)
 
 -- What the workers left.
 

@@ -4,6 +4,7 @@ use Rattle.atomic_table.specs.Seated.{TableId}
 use Rattle.yard_model.specs.Behaviour.{is_in}
 use Rattle.yard_model.specs.Script.{Script}
 use Rattle.lease_table.specs.Leasing.{Pass, Idle}
+use Rattle.post_box.specs.Holding.{Holder}
 use Rattle.node_runner.specs.declared.run.Job.{Job}
 use Rattle.node_runner.specs.Progress.{SawAll}
 
@@ -17,15 +18,22 @@ pub record IsDealt (z : TableId) (c : Script) (ps : List Pass) : Type 0 where
   pub all : length ps ≡ c.config.nodes
   pub idle : AreIdle z c 1 ps
 
--- the job of node n, whose pass holds nothing
-pub record IsJob (z : TableId) (c : Script) (n : ℕ) (j : Job) : Type 0 where
-  pub node : j.node ≡ n
-  pub inside : is_in 1 c.config.nodes n ≡ true
-  pub idle : Idle z c n j.pass
+module _ {P : Type 0} where
+  -- passes at these boxes, of the nodes from this one on, in order
+  abbrev pub AreHolders : List TableId → ℕ → List (Holder P) → Type 0
+  AreHolders ts n [] = ⊤
+  AreHolders ts n (h ∷ hs) = (h.tables ≡ ts) × (h.node ≡ n) × AreHolders ts (n + 1) hs
 
--- the job at place i is of node i + 1
-abbrev pub AreJobs : TableId → Script → List Job → Type 0
-AreJobs z c js = (i : ℕ) (x : Job) → i < length js → x ≡ slice_index_or js i x → IsJob z c (i + 1) x
+  -- a job of one of the script's nodes: its pass holds nothing, and the other is that node's at these boxes
+  pub record IsJob (z : TableId) (c : Script) (ts : List TableId) (j : Job P) : Type 0 where
+    pub inside : is_in 1 c.config.nodes j.node ≡ true
+    pub idle : Idle z c j.node j.pass
+    pub boxes : j.box_pass.tables ≡ ts
+    pub own : j.box_pass.node ≡ j.node
+
+  -- the job at place i is of node i + 1
+  abbrev pub AreJobs : TableId → Script → List TableId → List (Job P) → Type 0
+  AreJobs z c ts js = (i : ℕ) (x : Job P) → i < length js → x ≡ slice_index_or js i x → (x.node ≡ i + 1) × IsJob z c ts x
 
 -- the pass that the worker of node n left
 pub record IsLeft (z : TableId) (c : Script) (turns n : ℕ) (p : Pass) : Type 0 where

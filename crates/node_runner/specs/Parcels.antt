@@ -26,9 +26,9 @@ has_seen c e p n (Some w) = recorded e p n (seen_at w.view.seen (home_of c e))
 
 -- the note has seen what the body confirms
 abbrev pub is_shown : Script → Body → Option Pass → Bool
-is_shown c (body.Request p e n u) note = has_seen c e p n note
-is_shown c (body.Ack p e n) note = has_seen c e p n note
-is_shown c b note = true
+is_shown c (body.Request p e n u) seer = has_seen c e p n seer
+is_shown c (body.Ack p e n) seer = has_seen c e p n seer
+is_shown c b seer = true
 
 -- it confirms something
 abbrev pub is_confirming : Body → Bool

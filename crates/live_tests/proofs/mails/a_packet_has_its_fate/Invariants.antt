@@ -1,0 +1,10 @@
+use Rattle.std.specs.Prelude.{[], false}
+use Rattle.yard_model.specs.declared.event.Kind.TheVariants as kind
+use Rattle.node_runner.specs.Parcels.{no_table}
+use Rattle.live_tests.proofs.mails.a_packet_has_its_fate.Given as goal
+
+abbrev pub ghosts-came : goal.ghosts-came
+ghosts-came a = record {
+  script = record { config = record { nodes = 2; shards = 2; producers = 1; buffer = 10; window = 4; snapshot = 100; keep = 1; remember = false; kind = kind.Counter }; orders = [] };
+  table = no_table;
+}

@@ -1,0 +1,98 @@
+//! What no clause says: what becomes of a packet for each draw.
+ghost use Rattle.std.specs.Prelude.{◌≡◌, ◌≤◌, true, false, length};
+ghost use Rattle.yard_model.specs.declared.packet.Body.TheVariants as body;
+ghost use Rattle.yard_model.specs.Genuine.{is_genuine_packet};
+ghost use Rattle.node_runner.specs.Parcels.{is_confirming, is_within_packet};
+
+use node_runner::{Draws, Mail, Parcel, Run};
+use post_box::{BoxPass, PostBox};
+use std::alloc::{AllocError, Global};
+use std::marker::Brand;
+use std::sync::Wait;
+use std::test::Fail;
+use yard_model::{Body, Incarnation, NodeNo, Packet};
+
+/// A seed of the first node's worker whose first word is this one, modulo 16.
+fn seed_of(word: u32) -> Option<u32> {
+    for seed in 0..1_000 {
+        if Draws::new(seed, NodeNo::FIRST).next() % 16 == word {
+            return Some(seed);
+        }
+    }
+    None
+}
+
+/// How many parcels lie in a node's box, of at most eight; they are taken.
+fn taken<J: Run, R: Wait>(
+    rt: &R,
+    boxes: &PostBox<Parcel<J>>,
+    pass: &mut BoxPass<Parcel<J>>,
+) -> u8
+    requires belongs { pass.old.tables ≡ boxes.now.tables }
+    ensures belongs { pass.new.tables ≡ boxes.now.tables }
+{
+    let own = pass.node();
+    for count in 0..8 {
+        if boxes.take(rt, pass, own).is_none() {
+            return count;
+        }
+    }
+    8
+}
+
+/// A packet is sent by the first node: how many parcels of it come to the second at once, and how many
+/// after the next turn.
+fn came<J: Run, R: Wait>(
+    rt: &R,
+    alloc: Global,
+    packet: &Packet,
+    seed: u32,
+) -> Result<(u8, u8), AllocError>
+    requires genuine { is_genuine_packet J.script packet.now ≡ true }
+    requires within { is_within_packet packet.now ≡ true }
+    requires plain { is_confirming packet.now.body ≡ false }
+    requires nodes { J.script.config.nodes ≡ 2 }
+{
+    let (boxes, mut passes) = PostBox::<Parcel<J>>::make(alloc, 2, 4)?;
+    let Some(one) = passes.next() else {
+        unreachable!()
+    };
+    let Some(mut two) = passes.next() else {
+        unreachable!()
+    };
+    let mut mail = Mail::new(alloc, one, Draws::new(seed, NodeNo::FIRST));
+    mail.send_plain(rt, &boxes, packet)?;
+    let soon = taken(rt, &boxes, &mut two);
+    mail.release(rt, &boxes);
+    let later = taken(rt, &boxes, &mut two);
+    Ok((soon, later))
+}
+
+/// A packet of the first node to the second.
+fn packet_to(second: NodeNo) -> Packet
+    requires { second ≡ 2 }
+    ensures { result ≡ record { from = record { node = 1; number = 1 }; to = record { node = 2; number = 1 }; body = body.Register } }
+{
+    Packet {
+        from: Incarnation {
+            node: NodeNo::FIRST,
+            number: 1,
+        },
+        to: Incarnation {
+            node: second,
+            number: 1,
+        },
+        body: Body::Register,
+    }
+}
+
+#[test]
+fn a_packet_has_its_fate(rt: HostRuntime) -> Result<(), Fail> {
+    let second = NodeNo::new(2).ok_or("2 is a node")?;
+    let packet = packet_to(second);
+    for (word, fate) in [(0, (0, 0)), (1, (2, 0)), (2, (0, 1)), (3, (1, 0))] {
+        let seed = seed_of(word).ok_or("a seed with that word")?;
+        assert_eq!(rt; came::<Brand, _>(&rt, rt.alloc(), &packet, seed), Ok(fate));
+    }
+    Ok(())
+}

@@ -1,6 +1,6 @@
 //! What no clause says: that memory is there where there is plenty, and the texts of known scripts.
 use crate::status::Status;
-use crate::top::sharder;
+use crate::top::sharder_alone;
 use script_text::Why;
 use std::alloc::{AllocError, Global};
 use std::process::Abort;
@@ -212,7 +212,7 @@ fn expect(
     let words = words_of(alloc, &["solo"])?;
     let mut source = MemSource::new(alloc, script, failing_reads)?;
     let mut sink = MemSink::new(alloc, failing_writes)?;
-    let end = sharder(alloc, words.as_slice(), &mut source, &mut sink);
+    let end = sharder_alone(alloc, words.as_slice(), &mut source, &mut sink);
     assert_eq!(rt; end, status);
     assert!(rt; sink.bytes() == text);
     Ok(())
@@ -286,7 +286,7 @@ fn expect_form(
     let words = words_of(alloc, form)?;
     let mut source = WholeSource::new(alloc, input)?;
     let mut sink = MemSink::new(alloc, &[])?;
-    let end = sharder(alloc, words.as_slice(), &mut source, &mut sink);
+    let end = sharder_alone(alloc, words.as_slice(), &mut source, &mut sink);
     assert_eq!(rt; end, status);
     assert!(rt; sink.bytes() == text);
     Ok(())
@@ -385,7 +385,7 @@ fn other_words(rt: HostRuntime) -> Result<(), Fail> {
     let mut words = Vec::new(alloc);
     for word in ["solo", "solo"] {
         assert_eq!(rt;
-            sharder(alloc, words.as_slice(), &mut source, &mut sink),
+            sharder_alone(alloc, words.as_slice(), &mut source, &mut sink),
             Status::Usage
         );
         words.push(String::from_str(alloc, "replay")?)?;
@@ -436,7 +436,7 @@ fn one_byte_a_call(rt: HostRuntime) -> Result<(), Fail> {
     let mut source = WholeSource::new(alloc, ONE_COMMAND)?;
     let mut sink = Drip(MemSink::new(alloc, &[])?);
     assert_eq!(rt;
-        sharder(alloc, words.as_slice(), &mut source, &mut sink),
+        sharder_alone(alloc, words.as_slice(), &mut source, &mut sink),
         Status::Ok
     );
     assert!(rt; sink.0.bytes() == ONE_RECORD);

@@ -25,6 +25,3 @@ pub use forms::{Form, ScriptFrom, alone_form_of, form_of};
 pub use status::Status;
 pub use top::{sharder, sharder_alone};
 pub use words::{status_without_words, without_name};
-
-#[cfg(test)]
-mod tests;

@@ -63,11 +63,7 @@ const OUTCOMES: [(usize, Outcome); 25] = [
 ];
 
 /// Replays the front of a script of so many bytes, and compares what comes of it.
-fn expect_cut(
-    rt: &(impl Abort + AllocGlobal),
-    cut: usize,
-    outcome: Outcome,
-) -> Result<(), Fail> {
+fn expect_cut(rt: &(impl Abort + AllocGlobal), cut: usize, outcome: Outcome) -> Result<(), Fail> {
     let alloc = rt.alloc();
     assert!(rt; cut <= FIRST_COMMAND.len());
     let mut source = WholeSource::new(alloc, &FIRST_COMMAND[..cut])?;
@@ -80,7 +76,11 @@ fn expect_cut(
             let text = sink.bytes();
             assert!(rt; text.starts_with(&FIRST_TEXT[..trace]), "cut at {cut}");
             assert!(rt; text.ends_with(report.as_bytes()), "cut at {cut}");
-            assert_eq!(rt; text.len(), trace.saturating_add(report.len()), "cut at {cut}");
+            assert_eq!(rt;
+                text.len(),
+                trace.saturating_add(report.len()),
+                "cut at {cut}"
+            );
         }
         Outcome::Refused(line, why) => {
             assert_eq!(rt; end, Status::Refused { line, why }, "cut at {cut}");

@@ -1,13 +1,13 @@
 //! Known scripts, each with the text that it must give: `index` names them, a line each with the
 //! exit status and the words of the program; `NAME.in` is the script and `NAME.out` the text. Every
-//! script is run by the program's own top call, and a line says what came of it.
+//! script is run by the program's own top call (the part of it that needs no threads), and a line says what came of it.
 #![tactic(auto)]
 
 use std::alloc::{AllocError, Global};
 use std::rt::Files;
 use std::{fs, io};
 use yard_io::{MemSink, WholeSource};
-use yard_top::{Status, sharder};
+use yard_top::{Status, sharder_alone};
 
 /// What came of a script.
 #[derive(Clone, Copy, PartialEq, Eq)]
@@ -53,7 +53,7 @@ fn judged(
 ) -> Result<Verdict, AllocError> {
     let mut source = WholeSource::new(alloc, script)?;
     let mut sink = MemSink::new(alloc, &[])?;
-    let status: Status = sharder(alloc, words, &mut source, &mut sink);
+    let status: Status = sharder_alone(alloc, words, &mut source, &mut sink);
     if status.code() != code {
         return Ok(Verdict::OtherStatus(status.code()));
     }

@@ -35,7 +35,7 @@ got_number f a (suc n) zero h = ap f (omega arith)
 got_number f a (suc n) (suc i) h = got_number f (a + 1) n i (omega arith) ∙ ap f (omega arith)
 
 -- the list of a slot is that of its place
-list_there : (c : Script) (places : List (Option Store)) (s : Slot) → is_slot_of c s ≡ true → list_at (lists_at c.config places) s ≡ entries_at places (place_of c.config s)
+pub list_there : (c : Script) (places : List (Option Store)) (s : Slot) → is_slot_of c s ≡ true → list_at (lists_at c.config places) s ≡ entries_at places (place_of c.config s)
 list_there c places (slot.Shard k) h = got_number (entries_at places) 0 c.config.shards k (below k c.config.shards h) ∙ ap (entries_at places) (let same : 0 + k ≡ k = omega arith in same)
 list_there c places slot.Coordinator h = refl
 list_there c places (slot.Queue p) h =

@@ -143,3 +143,9 @@ pub record SawQueued (c : Script) (v : View) (p : ℕ) : Type 0 where
 -- and worked, where the pass that closed it has seen all sends of each steady producer queued
 abbrev pub ClosedIsWorked : Type 0
 ClosedIsWorked = (c : Script) (turns : ℕ) (v : View) (places : List (Option Store)) → Closed c v places → ((p n : ℕ) → is_producer c p ≡ true → is_steady c turns p n ≡ true → SawQueued c v p) → worked c turns (lists_at c.config places) ≡ true
+
+-- What goes on from worked lists.
+
+-- lawful lists whose queues go on from those of worked ones are worked
+abbrev pub WorkedGoesOn : Type 0
+WorkedGoesOn = (c : Script) (turns : ℕ) (old new : SlotLists) → lawful c new ≡ true → ((p : ℕ) → Begins (queue_list old p) (queue_list new p)) → worked c turns old ≡ true → worked c turns new ≡ true

@@ -5,8 +5,6 @@ use Rattle.std.specs.List.{list_all}
 use Rattle.std.specs.Str.Lines.{lines}
 use Rattle.yard_model.specs.declared.charter.Order.{Order}
 use Rattle.yard_model.specs.declared.charter.Order.TheVariants as order
-use Rattle.yard_model.specs.declared.event.Kind.{Kind}
-use Rattle.yard_model.specs.declared.event.Kind.TheVariants as kind
 use Rattle.yard_model.specs.Script.{Script, names_in, pairs_in}
 use Rattle.script_text.specs.declared.fault.Mode.{Mode}
 use Rattle.script_text.specs.declared.fault.Mode.TheVariants as mode
@@ -41,18 +39,6 @@ takes mode.Live order.Upgrade = false
 takes mode.Live (order.Ping p) = false
 takes mode.Live o = true
 
--- whether the command does this order yet
-abbrev pub is_built : Mode → Order → Bool
-is_built mode.Solo o = true
-is_built mode.Replay o = true
-is_built mode.Live o = false
-
--- whether the command does this kind yet
-abbrev pub is_kind_built : Mode → Kind → Bool
-is_kind_built mode.Live kind.Counter = true
-is_kind_built mode.Live k = false
-is_kind_built m k = true
-
 -- a script with one order more, on this line
 abbrev pub with_line : Script → ℕ → Order → Script
 with_line s n o = record { config = s.config; orders = s.orders ++ record { number = n; order = o } ∷ [] }
@@ -72,13 +58,12 @@ plain line = do
   refuse (nat_lt 256 (length line)) why.LongLine
 
 -- the words of the first line that isn't blank, with the tests in the order of their reasons
-unfoldable pub first_line : Mode → ℕ → List (List ℕ) → Result Script Why
-first_line m n [] = Err why.NoConfig
-first_line m n (w ∷ ws) = do
+unfoldable pub first_line : ℕ → List (List ℕ) → Result Script Why
+first_line n [] = Err why.NoConfig
+first_line n (w ∷ ws) = do
   first ← refuse (not (is_text w (codes "config"))) why.NoConfig
   c ← settings ws
   early ← refuse (is_late n) why.TooManyLines
-  built ← refuse (not (is_kind_built m c.kind)) why.NotBuilt
   Ok (record { config = c; orders = [] })
 
 -- a `config`
@@ -94,12 +79,11 @@ next_line m s n ws = do
   within ← refuse (is_over (with_line s n o)) why.OutOfRange
   early ← refuse (is_late n) why.TooManyLines
   taken ← refuse (not (takes m o)) why.WrongMode
-  built ← refuse (not (is_built m o)) why.NotBuilt
   Ok (with_line s n o)
 
 -- what was read, with these words
 abbrev pub with_words : Mode → Option Script → ℕ → List (List ℕ) → Result Script Why
-with_words m None n ws = first_line m n ws
+with_words m None n ws = first_line n ws
 with_words m (Some s) n ws = next_line m s n ws
 
 -- what was read, with this line, or the reason for which it is refused; a blank line adds nothing

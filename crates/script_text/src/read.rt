@@ -3,7 +3,7 @@ ghost use Rattle.std.specs.Prelude.{◌≡◌, ℕ, ◌+◌, ◌≤◌, ◌≢�
 ghost use Rattle.script_text.specs.declared.fault.Mode.TheVariants as mode;
 ghost use Rattle.script_text.specs.Faults.{Gives};
 ghost use Rattle.script_text.specs.Words.{words};
-ghost use Rattle.script_text.specs.Reading.{Reading, Spelled, Refused, reading, line_read, first_line, next_line, is_over, is_built, takes, is_kind_built, is_config_line, plain, ended, TellsFault, IsWithin, stopped_at};
+ghost use Rattle.script_text.specs.Reading.{Reading, Spelled, Refused, reading, line_read, first_line, next_line, is_over, takes, is_config_line, plain, ended, TellsFault, IsWithin, stopped_at};
 
 use crate::cut::{next_line, next_word};
 use crate::draft::Draft;
@@ -12,7 +12,7 @@ use crate::orders::order;
 use crate::settings::settings;
 use crate::words::{is, is_blank, is_comment, is_plain_text};
 use std::alloc::{AllocError, Global};
-use yard_model::{Charter, Kind, Order};
+use yard_model::{Charter, Order};
 
 /// The most bytes of a script.
 const MOST_BYTES: usize = 4_194_304;
@@ -20,10 +20,11 @@ const MOST_BYTES: usize = 4_194_304;
 /// The first line too many.
 const LATE_LINE: u32 = 20_001;
 
-/// The charter that the bytes spell under this command, or the first fault. `OutOfMemory` says
-/// only that memory ran out.
+/// The charter that the bytes spell under this command, with at most 20,000 orders, or the first fault.
+/// `OutOfMemory` says only that memory ran out.
 pub fn read_script(alloc: Global, bytes: &[u8], mode: Mode) -> Result<Charter, ScriptFault>
     ensures ok { IfOk result (λ c. reading mode bytes.now ≡ Spelled c) }
+    ensures few { IfOk result (λ c. length c.orders ≤ 20000) }
     ensures at { IfErr result (λ e. TellsFault e (reading mode bytes.now)) }
 {
     if bytes.len() > MOST_BYTES {
@@ -58,8 +59,9 @@ fn stopped_at(line: u32, stop: Stop) -> ScriptFault
 
 /// The charter, once all lines are read.
 fn finish(alloc: Global, draft: Option<Draft>) -> Result<Charter, ScriptFault>
-    requires { IsWithin 200000 draft }
+    requires { IsWithin 20000 draft }
     ensures ok { IfOk result (λ c. ended draft ≡ Spelled c) }
+    ensures few { IfOk result (λ c. length c.orders ≤ 20000) }
     ensures at { IfErr result (λ e. TellsFault e (ended draft)) }
 {
     let Some(draft) = draft else {
@@ -95,15 +97,15 @@ fn read_line(
         return Ok(draft);
     }
     match draft {
-        None => Ok(Some(read_first(alloc, mode, number, line)?)),
+        None => Ok(Some(read_first(alloc, number, line)?)),
         Some(draft) => Ok(Some(read_next(mode, draft, number, line)?)),
     }
 }
 
 /// The first line that isn't blank.
 #[tactic(auto, unfolding(crate::specs::Reading::first_line))]
-fn read_first(alloc: Global, mode: Mode, number: u32, line: &[u8]) -> Result<Draft, Stop>
-    ensures value { Gives result (first_line mode number (words line.now)) }
+fn read_first(alloc: Global, number: u32, line: &[u8]) -> Result<Draft, Stop>
+    ensures value { Gives result (first_line number (words line.now)) }
     ensures within { (n : ℕ) → IfOk result (λ d. IsWithin n (Some d)) }
     ensures early { IfOk result (λ _. number ≢ 20001) }
 {
@@ -116,9 +118,6 @@ fn read_first(alloc: Global, mode: Mode, number: u32, line: &[u8]) -> Result<Dra
     let config = settings(rest)?;
     if number == LATE_LINE {
         return Err(Stop::Refused(Why::TooManyLines));
-    }
-    if !is_kind_built(mode, config.kind) {
-        return Err(Stop::Refused(Why::NotBuilt));
     }
     Ok(Draft::new(alloc, config))
 }
@@ -143,9 +142,6 @@ fn read_next(mode: Mode, draft: Draft, number: u32, line: &[u8]) -> Result<Draft
     }
     if !takes(mode, &order) {
         return Err(Stop::Refused(Why::WrongMode));
-    }
-    if !is_built(mode, &order) {
-        return Err(Stop::Refused(Why::NotBuilt));
     }
     Ok(longer)
 }
@@ -198,26 +194,4 @@ fn is_taken_live(order: &Order) -> bool
             | Order::Upgrade
             | Order::Ping(_)
     )
-}
-
-/// Whether the command does this order yet.
-fn is_built(mode: Mode, order: &Order) -> bool
-    ensures { result ≡ is_built mode order.now }
-{
-    let _ = order;
-    match mode {
-        Mode::Solo | Mode::Replay => true,
-        Mode::Live => false,
-    }
-}
-
-/// Whether the command does this kind yet.
-fn is_kind_built(mode: Mode, kind: Kind) -> bool
-    ensures { result ≡ is_kind_built mode kind }
-{
-    match (mode, kind) {
-        (Mode::Live, Kind::Counter) => true,
-        (Mode::Live, _) => false,
-        _ => true,
-    }
 }

@@ -118,8 +118,8 @@ const REFUSED: [(&str, Mode, u32, Why); 43] = [
     ("config\nupgrade", Mode::Live, 2, Why::WrongMode),
     ("config\nping 3", Mode::Replay, 2, Why::OutOfRange),
     ("config\nping 1", Mode::Replay, 2, Why::WrongMode),
-    ("config\nup 1", Mode::Live, 2, Why::NotBuilt),
-    ("\nconfig kind=cart", Mode::Live, 2, Why::NotBuilt),
+    ("config\npump 1", Mode::Live, 2, Why::WrongMode),
+    ("\nconfig kind=cart\nfailwrite a kept", Mode::Live, 3, Why::WrongMode),
     (
         "config kind=account\nsend 1 a deposit x 7 7",
         Mode::Replay,

@@ -3,9 +3,11 @@ mod FactsLaws
 mod FoldableLaws
 mod FreedLaws
 mod KnownLaws
+mod LiveLaws
 mod PlayLaws
 mod ResultLaws
 mod SafelyLaws
 mod SoloLaws
+mod TextLaws
 mod TraceLaws
 mod WritingLaws

@@ -3,8 +3,8 @@ use Rattle.std.proofs.Common.{◌≡◌, ℕ, List, sym, subst}
 use Rattle.std.specs.Prelude.{Option, Some, None, IfSome}
 use Rattle.script_text.specs.Reading.{Spelled, reading}
 use Rattle.script_text.specs.declared.fault.Mode.TheVariants as mode
-use Rattle.yard_model.specs.Replay.{replay_text}
 use Rattle.yard_model.specs.Script.{Script}
+use Rattle.play_laws.specs.SafeText.{SafeText}
 use Rattle.yard_top.specs.declared.forms.Form.{Form}
 use Rattle.yard_top.specs.declared.forms.Form.TheVariants as form
 use Rattle.yard_top.specs.declared.status.Status.{Status}
@@ -20,9 +20,9 @@ wrote_safely : (stop : Option ℕ) (had has : Option (List ℕ)) (before after :
 wrote_safely stop had has before after w = record {
   script = w.script;
   spelled = spelled_whole had w.came.input w.script w.came.all w.came.spelled;
-  text = replay_text w.script;
+  text = w.text;
   written = w.written;
-  safe = w.holds.0;
+  safe = subst (SafeText w.script) (sym w.is_text) w.holds.0;
 }
 
 of_form : (f : Form) (stop : Option ℕ) (had has : Option (List ℕ)) (before after : Taken) → Wrote f stop had has before after → IfReplay f (WroteSafely had before.bytes after.bytes)
@@ -30,6 +30,7 @@ of_form form.Replay stop had has before after w = wrote_safely stop had has befo
 of_form form.Solo stop had has before after w = tt
 of_form form.ReplayJson stop had has before after w = tt
 of_form (form.Bulk n) stop had has before after w = tt
+of_form (form.Live n s) stop had has before after w = tt
 
 pub safely : (f : Form) (s : Status) (had has : Option (List ℕ)) (before after : Taken) → IfWhole s (Wrote f None had has before after) → IfWireFull s (λ line. Wrote f (Some line) had has before after) → IfWritten s (IfReplay f (WroteSafely had before.bytes after.bytes))
 safely f status.Ok had has before after whole full = of_form f None had has before after whole

@@ -15,6 +15,7 @@ use Rattle.yard_model.specs.World.{trace_of}
 use Rattle.play_laws.specs.SafeText.{SafeText}
 use Rattle.bulk_gen.specs.Bulk.{bulk_script}
 use Rattle.bulk_gen.specs.SummaryText.{summary}
+use Rattle.yard_top.specs.LiveText.{LiveText}
 use Rattle.yard_top.specs.Replays.{replay_json}
 use Rattle.yard_top.specs.Sound.{IsSound, solo_journal}
 use Rattle.yard_top.specs.Stops.{stop_in}
@@ -43,25 +44,28 @@ from_of form.Solo = script_from.Input mode.Solo
 from_of form.Replay = script_from.Input mode.Replay
 from_of form.ReplayJson = script_from.Input mode.Replay
 from_of (form.Bulk n) = script_from.Number n
+from_of (form.Live n s) = script_from.Input mode.Live
 
 -- the numbers that have a script are 1 to 1,000
 abbrev pub is_there : ScriptFrom → Bool
 is_there (script_from.Input m) = true
 is_there (script_from.Number n) = is_in 1 1000 n
 
--- the text that it writes of a script
-abbrev pub text_of : Form → Script → Bytes
-text_of form.Solo c = solo_text c
-text_of form.Replay c = replay_text c
-text_of form.ReplayJson c = replay_json c
-text_of (form.Bulk n) c = summary n (trace_of c)
+-- this is the text that it writes of a script; of `live`, one of the texts
+abbrev pub IsText : Form → Script → Bytes → Type 0
+IsText form.Solo c text = text ≡ solo_text c
+IsText form.Replay c text = text ≡ replay_text c
+IsText form.ReplayJson c text = text ≡ replay_json c
+IsText (form.Bulk n) c text = text ≡ summary n (trace_of c)
+IsText (form.Live n s) c text = LiveText c n text
 
--- what is so of what it writes: each journal is sound; the trace is safe, and what is printed is the text of a safe trace
+-- what is so of what it writes: each journal is sound; the trace is safe, and what is printed is the text of a safe trace; of `live` its text says all
 abbrev pub Holds : Form → Script → Type 0
 Holds form.Solo c = (e : List ℕ) → IsSound c e (solo_journal c e)
 Holds form.Replay c = SafeText c (replay_text c) × IsTrue (safe c (trace_of c))
 Holds form.ReplayJson c = IsTrue (safe c (trace_of c))
 Holds (form.Bulk n) c = IsTrue (safe c (trace_of c))
+Holds (form.Live n s) c = Unit {0}
 
 -- the line with which it stops, where a packet too many would be posted
 abbrev pub stops_at : Form → Script → Option ℕ
@@ -69,6 +73,7 @@ stops_at form.Solo c = None
 stops_at form.Replay c = stop_in (trace_of c)
 stops_at form.ReplayJson c = stop_in (trace_of c)
 stops_at (form.Bulk n) c = stop_in (trace_of c)
+stops_at (form.Live n s) c = None
 
 -- the words are a form, and this holds of it
 abbrev pub Asked : Option Form → (Form → Type 0) → Type 0
@@ -158,7 +163,9 @@ pub record Wrote (f : Form) (stop : Option ℕ) (had has : Option (List ℕ)) (b
   pub script : Script
   pub came : HasScript (from_of f) had has script
   pub stops : stops_at f script ≡ stop
-  pub written : after.bytes ≡ followed_by before.bytes (text_of f script)
+  pub text : Bytes
+  pub is_text : IsText f script text
+  pub written : after.bytes ≡ followed_by before.bytes text
   pub flushed : after.flushed ≡ count_of after.bytes
   pub holds : Holds f script
 
@@ -166,10 +173,13 @@ pub record Wrote (f : Form) (stop : Option ℕ) (had has : Option (List ℕ)) (b
 pub record Began (f : Form) (had has : Option (List ℕ)) (before after : Taken) : Type 0 where
   pub script : Script
   pub came : HasScript (from_of f) had has script
-  pub begun : TakesFront before.bytes after.bytes (text_of f script)
+  pub text : Bytes
+  pub is_text : IsText f script text
+  pub begun : TakesFront before.bytes after.bytes text
 
--- nothing was written, or a front of the text of a script
+-- nothing was written, or a front of the text of a script; of `live` nothing
 abbrev pub WroteFront : Form → Option (List ℕ) → Option (List ℕ) → Taken → Taken → Type 0
+WroteFront (form.Live n s) had has before after = after.bytes ≡ before.bytes
 WroteFront f had has before after = (after.bytes ≡ before.bytes) ⊎ Began f had has before after
 
 -- a run that ends before anything is written

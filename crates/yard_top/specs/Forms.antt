@@ -1,5 +1,5 @@
 -- The forms of the command line: the words after the program's name.
-use Rattle.std.specs.Prelude.{ℕ, nat_eq, ◌&&◌, List, [], ◌∷◌, String, string_bytes, Option, Some, None, codes, if◌then◌else◌}
+use Rattle.std.specs.Prelude.{ℕ, Bool, true, false, nat_eq, ◌&&◌, List, [], ◌∷◌, String, string_bytes, Option, Some, None, codes, if◌then◌else◌}
 use Rattle.std.specs.Cmp.Lexicographic.{pointwise}
 use Rattle.std.specs.declared.alloc.Global.{Global}
 use Rattle.yard_model.specs.Behaviour.{is_in}
@@ -23,9 +23,33 @@ form_of_words w v =
     else if pointwise nat_eq w (codes "bulk") then bulk_form v
     else None
 
--- the form of these words: `solo` or `replay` alone, `replay json`, or `bulk` and a number
+-- a seed below 2^32
+abbrev pub live_seed : ℕ → List ℕ → Option Form
+live_seed n u = if is_number u && is_in 0 4294967295 (value_of u) then Some (form.Live n (value_of u)) else None
+
+-- a number of turns from 1 to 100,000, and a seed
+abbrev pub live_form : List ℕ → List ℕ → Option Form
+live_form v u = if is_number v && is_in 1 100000 (value_of v) then live_seed (value_of v) u else None
+
+abbrev pub form_of_three : List ℕ → List ℕ → List ℕ → Option Form
+form_of_three w v u = if pointwise nat_eq w (codes "live") then live_form v u else None
+
+-- the form of these words: `solo` or `replay` alone, `replay json`, `bulk` and a number, or `live`, turns and a seed
 abbrev pub form_in : List (String Global) → Option Form
 form_in [] = None
 form_in (w ∷ []) = form_of_word (string_bytes w)
 form_in (w ∷ v ∷ []) = form_of_words (string_bytes w) (string_bytes v)
-form_in (w ∷ v ∷ u ∷ ws) = None
+form_in (w ∷ v ∷ u ∷ []) = form_of_three (string_bytes w) (string_bytes v) (string_bytes u)
+form_in (w ∷ v ∷ u ∷ t ∷ ws) = None
+
+-- those of one thread
+abbrev pub alone_in : List (String Global) → Option Form
+alone_in [] = None
+alone_in (w ∷ []) = form_of_word (string_bytes w)
+alone_in (w ∷ v ∷ []) = form_of_words (string_bytes w) (string_bytes v)
+alone_in (w ∷ v ∷ u ∷ ws) = None
+
+-- whether a form is one of one thread
+abbrev pub is_alone : Form → Bool
+is_alone (form.Live n s) = false
+is_alone f = true

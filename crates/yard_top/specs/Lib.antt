@@ -3,8 +3,10 @@ pub mod Ends
 pub mod Facts
 pub mod Forms
 pub mod Known
+pub mod LiveText
 pub mod Replays
 pub mod Safely
 pub mod Sound
 pub mod Stops
+pub mod Texts
 pub mod Writing

@@ -1,7 +1,7 @@
 //! The forms of the command line.
-ghost use Rattle.std.specs.Prelude.{◌≡◌, IfSome, IsTrue};
+ghost use Rattle.std.specs.Prelude.{◌≡◌, true, IfSome, IsTrue};
 ghost use Rattle.yard_top.specs.Ends.{from_of, is_there};
-ghost use Rattle.yard_top.specs.Forms.{form_in, form_of_word, form_of_words, bulk_form};
+ghost use Rattle.yard_top.specs.Forms.{form_in, alone_in, is_alone, form_of_word, form_of_words, form_of_three, bulk_form, live_form, live_seed};
 
 use script_text::{Mode, number_of};
 
@@ -16,6 +16,13 @@ pub enum Form {
     ReplayJson,
     /// `bulk` and a number, 1 to 1,000.
     Bulk(u32),
+    /// `live`, the turns of each node and a seed: nodes as threads.
+    Live {
+        /// How many turns each node has at most, 1 to 100,000.
+        turns: u32,
+        /// What losses, repeats and delays are drawn from.
+        seed: u32,
+    },
 }
 
 /// Where the script of a form is from.
@@ -36,6 +43,7 @@ impl Form {
             Form::Solo => ScriptFrom::Input(Mode::Solo),
             Form::Replay | Form::ReplayJson => ScriptFrom::Input(Mode::Replay),
             Form::Bulk(number) => ScriptFrom::Number(number),
+            Form::Live { .. } => ScriptFrom::Input(Mode::Live),
         }
     }
 }
@@ -48,6 +56,20 @@ pub fn form_of(words: &[String]) -> Option<Form>
     match words {
         [word] => form_of_word(word.as_str()),
         [first, second] => form_of_words(first.as_str(), second.as_str()),
+        [first, second, third] => form_of_three(first.as_str(), second.as_str(), third.as_str()),
+        _ => None,
+    }
+}
+
+/// The form of one thread of the words after the program's name, if they are one.
+pub fn alone_form_of(words: &[String]) -> Option<Form>
+    ensures form { result ≡ alone_in words.now }
+    ensures number { IfSome result (λ f. IsTrue (is_there (from_of f))) }
+    ensures alone { IfSome result (λ f. is_alone f ≡ true) }
+{
+    match words {
+        [word] => form_of_word(word.as_str()),
+        [first, second] => form_of_words(first.as_str(), second.as_str()),
         _ => None,
     }
 }
@@ -55,6 +77,7 @@ pub fn form_of(words: &[String]) -> Option<Form>
 fn form_of_word(word: &str) -> Option<Form>
     ensures form { result ≡ form_of_word word.now }
     ensures number { IfSome result (λ f. IsTrue (is_there (from_of f))) }
+    ensures alone { IfSome result (λ f. is_alone f ≡ true) }
 {
     if word == "solo" {
         Some(Form::Solo)
@@ -68,6 +91,7 @@ fn form_of_word(word: &str) -> Option<Form>
 fn form_of_words(first: &str, second: &str) -> Option<Form>
     ensures form { result ≡ form_of_words first.now second.now }
     ensures number { IfSome result (λ f. IsTrue (is_there (from_of f))) }
+    ensures alone { IfSome result (λ f. is_alone f ≡ true) }
 {
     if first == "replay" && second == "json" {
         Some(Form::ReplayJson)
@@ -83,9 +107,45 @@ fn form_of_words(first: &str, second: &str) -> Option<Form>
 fn bulk_form(word: &[u8]) -> Option<Form>
     ensures form { result ≡ bulk_form word.now }
     ensures number { IfSome result (λ f. IsTrue (is_there (from_of f))) }
+    ensures alone { IfSome result (λ f. is_alone f ≡ true) }
 {
     match number_of(word, 1, 1_000) {
         Ok(number) => Some(Form::Bulk(number)),
+        Err(_) => None,
+    }
+}
+
+fn form_of_three(first: &str, second: &str, third: &str) -> Option<Form>
+    ensures form { result ≡ form_of_three first.now second.now third.now }
+    ensures number { IfSome result (λ f. IsTrue (is_there (from_of f))) }
+{
+    if first == "live" {
+        live_form(second.as_bytes(), third.as_bytes())
+    } else {
+        None
+    }
+}
+
+/// The form of `live`, this number of turns, and this seed.
+#[tactic(auto, unfolding(script_text::specs::Orders::number))]
+fn live_form(turns: &[u8], seed: &[u8]) -> Option<Form>
+    ensures form { result ≡ live_form turns.now seed.now }
+    ensures number { IfSome result (λ f. IsTrue (is_there (from_of f))) }
+{
+    match number_of(turns, 1, 100_000) {
+        Ok(turns) => live_seed(turns, seed),
+        Err(_) => None,
+    }
+}
+
+/// The form of `live`, so many turns, and this seed.
+#[tactic(auto, unfolding(script_text::specs::Orders::number))]
+fn live_seed(turns: u32, seed: &[u8]) -> Option<Form>
+    ensures form { result ≡ live_seed turns seed.now }
+    ensures number { IfSome result (λ f. IsTrue (is_there (from_of f))) }
+{
+    match number_of(seed, 0, u32::MAX) {
+        Ok(seed) => Some(Form::Live { turns, seed }),
         Err(_) => None,
     }
 }

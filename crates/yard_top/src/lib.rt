@@ -9,6 +9,7 @@ mod entity;
 mod following;
 mod forms;
 mod json;
+mod live;
 mod played;
 mod posts;
 mod replay;
@@ -20,10 +21,7 @@ mod top;
 mod words;
 mod writing;
 
-pub use forms::{Form, ScriptFrom, form_of};
+pub use forms::{Form, ScriptFrom, alone_form_of, form_of};
 pub use status::Status;
-pub use top::sharder;
+pub use top::{sharder, sharder_alone};
 pub use words::{status_without_words, without_name};
-
-#[cfg(test)]
-mod tests;

@@ -1,6 +1,9 @@
 //! What a form writes of a script.
-ghost use Rattle.std.specs.Prelude.{◌≡◌, IfOk};
-ghost use Rattle.yard_top.specs.Ends.{Holds, IsOf, from_of, text_of, stops_at};
+ghost use Rattle.std.specs.Prelude.{◌≡◌, true, IfOk};
+ghost use Rattle.yard_model.specs.Solo.{solo_text};
+ghost use Rattle.yard_top.specs.Ends.{Holds, IsOf, from_of, stops_at};
+ghost use Rattle.yard_top.specs.Forms.{is_alone};
+ghost use Rattle.yard_top.specs.Texts.{Gives};
 ghost use Rattle.yard_top.specs.Writing.{Writes};
 
 use crate::bulk::write_bulk;
@@ -13,16 +16,17 @@ use std::alloc::Global;
 use yard_io::Sink;
 use yard_model::Charter;
 
-/// Writes what a form writes of this script. The line with which its trace stops, where it does.
-/// Nothing is flushed.
+/// Writes what a form of one thread writes of this script. The line with which its trace stops, where it
+/// does. Nothing is flushed.
 pub fn write_form<K: Sink>(
     alloc: Global,
     form: Form,
     charter: &Charter,
     sink: &mut K,
 ) -> Result<Option<u32>, WriteError>
-    requires { IsOf (from_of form) charter.now }
-    ensures wrote { Writes (text_of form charter.now) result
+    requires of { IsOf (from_of form) charter.now }
+    requires alone { is_alone form ≡ true }
+    ensures wrote { Gives form charter.now result
         (record { taken = K.taken sink.old; flushed = K.flushed sink.old; faults = K.faults sink.old })
         (record { taken = K.taken sink.new; flushed = K.flushed sink.new; faults = K.faults sink.new }) }
     ensures stop { IfOk result (λ stop. stop ≡ stops_at form charter.now) }
@@ -33,6 +37,7 @@ pub fn write_form<K: Sink>(
         Form::Replay => write_replay(alloc, charter, sink),
         Form::ReplayJson => write_json(alloc, charter, sink),
         Form::Bulk(number) => write_bulk(alloc, charter, number, sink),
+        Form::Live { .. } => unreachable!(),
     }
 }
 
@@ -42,7 +47,7 @@ fn write_solo<K: Sink>(
     charter: &Charter,
     sink: &mut K,
 ) -> Result<Option<u32>, WriteError>
-    ensures wrote { Writes (text_of Form.Solo charter.now) result
+    ensures wrote { Writes (solo_text charter.now) result
         (record { taken = K.taken sink.old; flushed = K.flushed sink.old; faults = K.faults sink.old })
         (record { taken = K.taken sink.new; flushed = K.flushed sink.new; faults = K.faults sink.new }) }
     ensures stop { IfOk result (λ stop. stop ≡ stops_at Form.Solo charter.now) }

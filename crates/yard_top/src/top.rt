@@ -1,19 +1,22 @@
 //! The top call.
-ghost use Rattle.std.specs.Prelude.{◌≡◌, ◌<◌, ◌≤◌, ◌↔◌, Some, None, IfOk, IfErr, IfSome, IsTrue};
+ghost use Rattle.std.specs.Prelude.{◌≡◌, ◌<◌, ◌≤◌, ◌↔◌, true, length, Some, None, IfOk, IfErr, IfSome, IsTrue};
 ghost use Rattle.yard_model.specs.Behaviour.{is_in};
 ghost use Rattle.bulk_gen.specs.Bulk.{bulk_script};
 ghost use Rattle.yard_top.specs.Ends.{IfWhole, IfUsage, IfRefused, IfReadFault, IfWriteFault, IfNoMemory, IfWireFull, IfNumber, Asked, Taken, Wrote, Began, WroteFront, CameRefused, CameScript, HasNone, HasScript, IsOf, IsEarly, IsComplete, from_of, is_there, end_of};
-ghost use Rattle.yard_top.specs.Forms.{form_in};
+ghost use Rattle.yard_top.specs.Forms.{form_in, alone_in, is_alone};
 ghost use Rattle.yard_top.specs.Safely.{IfWritten, IfReplay, WroteSafely};
 
-use crate::forms::{Form, ScriptFrom, form_of};
+use crate::forms::{Form, ScriptFrom, alone_form_of, form_of};
+use crate::live::write_live;
 use crate::status::Status;
 use crate::text::write_form;
 use crate::writing::WriteError;
 use bulk_gen::script_of;
 use script_text::{Mode, ScriptFault, read_script};
 use std::alloc::Global;
-use yard_io::{ReadError, Sink, Source, read_up_to};
+use std::sync::Wait;
+use std::thread::Threads;
+use yard_io::{Gate, ReadError, Sink, Source, read_up_to};
 use yard_model::Charter;
 
 /// How many bytes are read of an input: one more than a script may have.
@@ -26,13 +29,20 @@ const MOST_READ: usize = 4_194_305;
 /// `replay` reads a script of all orders, plays it on all nodes, one step after the other, and writes
 /// the trace as it arises, and then the report of what the slots' lists come to; `replay json` writes
 /// that report alone, as JSON. `bulk` plays the script of a number in the same way, and writes counts
-/// of its trace.
+/// of its trace. `live` reads a script of orders, runs each node as a thread of its own for so many
+/// turns, where parcels between them are lost, repeated and delayed as they are drawn from the seed,
+/// settles what they leave, and writes the lists of all slots and their report. It may wait, and no
+/// other form does.
+///
+/// A gate is passed by each node before each of its turns.
 #[tactic(auto, using(crate::proofs::SafelyLaws::safely))]
-pub fn sharder<S: Source, K: Sink>(
+pub fn sharder<R: Threads + Wait + Sync, S: Source, K: Sink, G: Gate + Sync>(
+    rt: &R,
     alloc: Global,
     words: &[String],
     source: &mut S,
     sink: &mut K,
+    gate: &G,
 ) -> Status
     // The words are not a form that the program knows, and exactly then.
     ensures usage { (result ≡ Status.Usage) ↔ (form_in words.now ≡ None) }
@@ -61,7 +71,7 @@ pub fn sharder<S: Source, K: Sink>(
     ensures write_fault_front { IfWriteFault result (Asked (form_in words.now) (λ f. Began f (S.left source.old) (S.left source.new)
         (record { bytes = K.taken sink.old; flushed = K.flushed sink.old })
         (record { bytes = K.taken sink.new; flushed = K.flushed sink.new }))) }
-    // There was no memory; nothing was written but a front of the script's text, and nothing was flushed.
+    // There was no memory; nothing was written but a front of the script's text (of `live` nothing), and nothing was flushed.
     ensures no_memory { IfNoMemory result (Asked (form_in words.now) (λ f. WroteFront f (S.left source.old) (S.left source.new)
         (record { bytes = K.taken sink.old; flushed = K.flushed sink.old })
         (record { bytes = K.taken sink.new; flushed = K.flushed sink.new }))) }
@@ -74,13 +84,68 @@ pub fn sharder<S: Source, K: Sink>(
 {
     match form_of(words) {
         None => Status::Usage,
+        Some(Form::Live { turns, seed }) => run_threads(rt, alloc, turns, seed, source, sink, gate),
         Some(form) => run(alloc, form, source, sink),
     }
 }
 
-/// Carries a form out: gets its script, and writes its text.
+/// Runs the program on these words where they ask for one thread alone: `live` is no form here. It never
+/// waits.
+#[tactic(auto, using(crate::proofs::SafelyLaws::safely))]
+pub fn sharder_alone<S: Source, K: Sink>(
+    alloc: Global,
+    words: &[String],
+    source: &mut S,
+    sink: &mut K,
+) -> Status
+    // The words are not a form that the program knows, and exactly then.
+    ensures usage { (result ≡ Status.Usage) ↔ (alone_in words.now ≡ None) }
+    ensures usage_reads_nothing { IfUsage result (S.left source.new ≡ S.left source.old) }
+    ensures usage_writes_nothing { IfUsage result ((K.taken sink.new ≡ K.taken sink.old) × (K.flushed sink.new ≡ K.flushed sink.old)) }
+    // Of a number nothing is read.
+    ensures number_reads_nothing { IfSome (alone_in words.now) (λ f. IfNumber (from_of f) ((S.left source.new ≡ S.left source.old) × (S.faults source.new ≡ S.faults source.old))) }
+    // There is a script, its trace goes to the end, and exactly its text was written and flushed.
+    ensures whole { IfWhole result (Asked (alone_in words.now) (λ f. Wrote f None (S.left source.old) (S.left source.new)
+        (record { bytes = K.taken sink.old; flushed = K.flushed sink.old })
+        (record { bytes = K.taken sink.new; flushed = K.flushed sink.new }))) }
+    // There is a script, its trace stops at this line, and exactly its text was written and flushed.
+    ensures wire_full { IfWireFull result (λ line. Asked (alone_in words.now) (λ f. Wrote f (Some line) (S.left source.old) (S.left source.new)
+        (record { bytes = K.taken sink.old; flushed = K.flushed sink.old })
+        (record { bytes = K.taken sink.new; flushed = K.flushed sink.new }))) }
+    // What `replay` wrote is the lines of a safe trace, and the report of that trace's lists, which are lawful.
+    ensures safely { IfWritten result (Asked (alone_in words.now) (λ f. IfReplay f (WroteSafely (S.left source.old) (K.taken sink.old) (K.taken sink.new)))) }
+    // What came is no script, or is more than 4 MiB; nothing was written.
+    ensures refused { IfRefused result (λ line why. Asked (alone_in words.now) (λ f. HasNone (from_of f) (S.left source.old) (S.left source.new) line why)) }
+    ensures refused_writes_nothing { IfRefused result (λ line why. (K.taken sink.new ≡ K.taken sink.old) × (K.flushed sink.new ≡ K.flushed sink.old)) }
+    // The source's faults rose in this call; nothing was written.
+    ensures read_fault { IfReadFault result (S.faults source.old < S.faults source.new) }
+    ensures read_fault_writes_nothing { IfReadFault result ((K.taken sink.new ≡ K.taken sink.old) × (K.flushed sink.new ≡ K.flushed sink.old)) }
+    // The sink's faults rose in this call; a front of the script's text was written.
+    ensures write_fault { IfWriteFault result (K.faults sink.old < K.faults sink.new) }
+    ensures write_fault_front { IfWriteFault result (Asked (alone_in words.now) (λ f. Began f (S.left source.old) (S.left source.new)
+        (record { bytes = K.taken sink.old; flushed = K.flushed sink.old })
+        (record { bytes = K.taken sink.new; flushed = K.flushed sink.new }))) }
+    // There was no memory; nothing was written but a front of the script's text, and nothing was flushed.
+    ensures no_memory { IfNoMemory result (Asked (alone_in words.now) (λ f. WroteFront f (S.left source.old) (S.left source.new)
+        (record { bytes = K.taken sink.old; flushed = K.flushed sink.old })
+        (record { bytes = K.taken sink.new; flushed = K.flushed sink.new }))) }
+    ensures no_memory_flushes_nothing { IfNoMemory result (K.flushed sink.new ≡ K.flushed sink.old) }
+    // Where no fault rose, a form of the program is carried out, or there is no memory.
+    ensures complete { S.faults source.new ≡ S.faults source.old → K.faults sink.new ≡ K.faults sink.old →
+        IfSome (alone_in words.now) (λ f. IsComplete f (S.left source.old) result) }
+    ensures source_faults { S.faults source.old ≤ S.faults source.new }
+    ensures sink_faults { K.faults sink.old ≤ K.faults sink.new }
+{
+    match alone_form_of(words) {
+        None => Status::Usage,
+        Some(form) => run(alloc, form, source, sink),
+    }
+}
+
+/// Carries a form of one thread out: gets its script, and writes its text.
 fn run<S: Source, K: Sink>(alloc: Global, form: Form, source: &mut S, sink: &mut K) -> Status
-    requires { IsTrue (is_there (from_of form)) }
+    requires there { IsTrue (is_there (from_of form)) }
+    requires alone { is_alone form ≡ true }
     ensures usage { IfUsage result ⊥ }
     ensures number_reads_nothing { IfNumber (from_of form) ((S.left source.new ≡ S.left source.old) × (S.faults source.new ≡ S.faults source.old)) }
     ensures whole { IfWhole result (Wrote form None (S.left source.old) (S.left source.new)
@@ -112,6 +177,49 @@ fn run<S: Source, K: Sink>(alloc: Global, form: Form, source: &mut S, sink: &mut
     match write_form(alloc, form, &charter, sink) {
         Ok(stop) => match sink.flush() {
             Ok(()) => end_of(stop),
+            Err(_) => Status::WriteFault,
+        },
+        Err(WriteError::Failed) => Status::WriteFault,
+        Err(WriteError::OutOfMemory) => Status::OutOfMemory,
+    }
+}
+
+/// Carries `live` out: gets its script, and writes a text of it. It may wait.
+fn run_threads<R: Threads + Wait + Sync, S: Source, K: Sink, G: Gate + Sync>(
+    rt: &R,
+    alloc: Global,
+    turns: u32,
+    seed: u32,
+    source: &mut S,
+    sink: &mut K,
+    gate: &G,
+) -> Status
+    ensures usage { IfUsage result ⊥ }
+    ensures whole { IfWhole result (Wrote (Form.Live turns seed) None (S.left source.old) (S.left source.new)
+        (record { bytes = K.taken sink.old; flushed = K.flushed sink.old })
+        (record { bytes = K.taken sink.new; flushed = K.flushed sink.new })) }
+    ensures wire_full { IfWireFull result (λ line. ⊥) }
+    ensures refused { IfRefused result (λ line why. HasNone (from_of (Form.Live turns seed)) (S.left source.old) (S.left source.new) line why) }
+    ensures refused_writes_nothing { IfRefused result (λ line why. (K.taken sink.new ≡ K.taken sink.old) × (K.flushed sink.new ≡ K.flushed sink.old)) }
+    ensures read_fault { IfReadFault result (S.faults source.old < S.faults source.new) }
+    ensures read_fault_writes_nothing { IfReadFault result ((K.taken sink.new ≡ K.taken sink.old) × (K.flushed sink.new ≡ K.flushed sink.old)) }
+    ensures write_fault { IfWriteFault result (K.faults sink.old < K.faults sink.new) }
+    ensures write_fault_front { IfWriteFault result (Began (Form.Live turns seed) (S.left source.old) (S.left source.new)
+        (record { bytes = K.taken sink.old; flushed = K.flushed sink.old })
+        (record { bytes = K.taken sink.new; flushed = K.flushed sink.new })) }
+    ensures no_memory { IfNoMemory result (K.taken sink.new ≡ K.taken sink.old) }
+    ensures no_memory_flushes_nothing { IfNoMemory result (K.flushed sink.new ≡ K.flushed sink.old) }
+    ensures complete { S.faults source.new ≡ S.faults source.old → K.faults sink.new ≡ K.faults sink.old → IsComplete (Form.Live turns seed) (S.left source.old) result }
+    ensures source_faults { S.faults source.old ≤ S.faults source.new }
+    ensures sink_faults { K.faults sink.old ≤ K.faults sink.new }
+{
+    let charter = match read_charter(alloc, Mode::Live, source) {
+        Ok(charter) => charter,
+        Err(status) => return status,
+    };
+    match write_live(rt, alloc, &charter, turns, seed, gate, sink) {
+        Ok(()) => match sink.flush() {
+            Ok(()) => Status::Ok,
             Err(_) => Status::WriteFault,
         },
         Err(WriteError::Failed) => Status::WriteFault,
@@ -161,6 +269,7 @@ fn number_charter(alloc: Global, number: u32) -> Result<Charter, Status>
 /// Reads the whole input as a script of this command.
 fn read_charter<S: Source>(alloc: Global, mode: Mode, source: &mut S) -> Result<Charter, Status>
     ensures script { IfOk result (λ c. CameScript mode (S.left source.old) (S.left source.new) c) }
+    ensures few { IfOk result (λ c. length c.orders ≤ 20000) }
     ensures refused { IfErr result (λ s. IfRefused s (λ line why. CameRefused mode (S.left source.old) (S.left source.new) line why)) }
     ensures read_fault { IfErr result (λ s. IfReadFault s (S.faults source.old < S.faults source.new)) }
     ensures others { IfErr result (λ s. IsEarly s) }

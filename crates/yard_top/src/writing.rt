@@ -1,7 +1,7 @@
 //! Writing a text in parts.
 ghost use Rattle.yard_top.specs.Writing.{Writes};
 ghost use Rattle.yard_top.specs.declared.writing.WriteError.TheVariants as write_error;
-ghost use Rattle.std.specs.Prelude.{◌≡◌};
+ghost use Rattle.std.specs.Prelude.{◌≡◌, IfErr};
 
 use std::alloc::AllocError;
 use yard_io::{Failed, Sink, write_all};
@@ -31,11 +31,12 @@ impl From<AllocError> for WriteError {
     }
 }
 
-/// Writes a part of a text. Nothing is flushed.
+/// Writes a part of a text, for which no memory is needed. Nothing is flushed.
 pub fn write_part<K: Sink>(sink: &mut K, part: &[u8]) -> Result<(), WriteError>
-    ensures { Writes part.now result
+    ensures wrote { Writes part.now result
         (record { taken = K.taken sink.old; flushed = K.flushed sink.old; faults = K.faults sink.old })
         (record { taken = K.taken sink.new; flushed = K.flushed sink.new; faults = K.faults sink.new }) }
+    ensures failed { IfErr result (λ e. e ≡ write_error.Failed) }
 {
     match write_all(sink, part) {
         Ok(()) => Ok(()),

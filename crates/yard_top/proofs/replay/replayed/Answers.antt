@@ -12,7 +12,7 @@ pub returns-in_err-write_part-clause-wrote : goal.returns-in_err-write_part-clau
 returns-in_err-write_part-clause-wrote g c =
     let p = err_from_is_err_and c.from_residual-in_err-write_part.result c.from_residual-in_err-write_part.ensures.1 in
     rw (p.1, p.2) (front_both _ _ _ _ _ _ c.in_ok-play.ensures.wrote
-    (front_same _ _ _ _ _ (c.as_slice.ensures.value ∙ after_nothing _ _ _ c.in_ok-push_end.ensures c.clear.ensures.items) c.in_err-write_part.ensures))
+    (front_same _ _ _ _ _ (c.as_slice.ensures.value ∙ after_nothing _ _ _ c.in_ok-push_end.ensures c.clear.ensures.items) c.in_err-write_part.ensures.wrote))
 
 pub returns-in_err-play-clause-wrote : goal.returns-in_err-play-clause-wrote
 returns-in_err-play-clause-wrote g c =
@@ -22,4 +22,4 @@ returns-in_err-play-clause-wrote g c =
 pub returns-clause-wrote : goal.returns-clause-wrote
 returns-clause-wrote g c =
     took_both _ _ _ _ _ c.in_ok-play.ensures.wrote
-    (took_same _ _ _ _ (c.as_slice.ensures.value ∙ after_nothing _ _ _ c.in_ok-push_end.ensures c.clear.ensures.items) c.in_ok-write_part.ensures)
+    (took_same _ _ _ _ (c.as_slice.ensures.value ∙ after_nothing _ _ _ c.in_ok-push_end.ensures c.clear.ensures.items) c.in_ok-write_part.ensures.wrote)

@@ -1,19 +1,12 @@
 //! What no clause says: that memory is there where there is plenty, and the texts of known scripts.
-use crate::status::Status;
-use crate::top::sharder;
+use crate::fixtures::run_alone;
+use crate::stored::{FIRST_COMMAND, ONE_COMMAND, ONE_RECORD};
 use script_text::Why;
 use std::alloc::{AllocError, Global};
 use std::process::Abort;
 use std::test::Fail;
-use yard_io::{Failed, MemSink, MemSource, Sink, WholeSource};
-
-const ONE_COMMAND: &[u8] = b"config shards=1\nsend 1 c1 add 5\ndeliver 1\n";
-
-const ONE_RECORD: &[u8] = b"report
-entity c1 shard 0 records 1 state 5
-record 1 epoch 1 by 1:1 add 5 / added 5 / ok 5
-end
-";
+use yard_io::{MemSink, WholeSource};
+use yard_top::{Status, sharder_alone};
 
 const COLLISION_GAP_REPEAT: &[u8] = b"config shards=10
 send 1 Aa add 1
@@ -169,14 +162,6 @@ report
 end
 ";
 
-const FIRST_COMMAND: &[u8] = b"config shards=1 window=2
-up 1
-pump 9
-produce 1 1
-send 1 c1 add 5
-pump 9
-";
-
 const FIRST_RECORD: &[u8] =
     b"{\"entities\":[{\"name\":\"c1\",\"records\":[{\"by\":[1,1],\"command\":\"add 5\",\"epoch\":1,\"events\":[\"added 5\"],\"number\":1,\"reply\":\"ok 5\"}],\"shard\":0,\"state\":\"5\"}],\"queues\":[{\"confirmed\":1,\"entity\":\"c1\",\"producer\":1,\"queued\":1}]}
 ";
@@ -190,90 +175,6 @@ confirmed 8
 rounds 0
 ";
 
-/// These words.
-fn words_of(alloc: Global, form: &[&str]) -> Result<Vec<String>, AllocError> {
-    let mut words = Vec::new(alloc);
-    for word in form {
-        words.push(String::from_str(alloc, word)?)?;
-    }
-    Ok(words)
-}
-
-/// Runs `solo` on a script, where these reads and writes fail, and compares what comes of it.
-fn expect(
-    rt: &(impl Abort + AllocGlobal),
-    script: &[u8],
-    failing_reads: &[u32],
-    failing_writes: &[u32],
-    status: Status,
-    text: &[u8],
-) -> Result<(), Fail> {
-    let alloc = rt.alloc();
-    let words = words_of(alloc, &["solo"])?;
-    let mut source = MemSource::new(alloc, script, failing_reads)?;
-    let mut sink = MemSink::new(alloc, failing_writes)?;
-    let end = sharder(alloc, words.as_slice(), &mut source, &mut sink);
-    assert_eq!(rt; end, status);
-    assert!(rt; sink.bytes() == text);
-    Ok(())
-}
-
-#[test]
-fn known_scripts(rt: HostRuntime) -> Result<(), Fail> {
-    for (script, text) in [
-        (ONE_COMMAND, ONE_RECORD),
-        (COLLISION_GAP_REPEAT, TWO_NAMES_OF_ONE_SHARD),
-        (ACCOUNT, CLOSED_ACCOUNT),
-    ] {
-        expect(&rt, script, &[], &[], Status::Ok, text)?;
-    }
-    let none = Status::Refused {
-        line: 1,
-        why: Why::NoConfig,
-    };
-    expect(&rt, b"", &[], &[], none, b"")
-}
-
-/// A comment of so many bytes, and settings.
-fn after_comment(alloc: Global, bytes: usize) -> Result<Vec<u8>, AllocError> {
-    let mut script = vec![in alloc; b'#'; bytes]?;
-    script.extend_from_slice(b"\nconfig shards=1\n")?;
-    Ok(script)
-}
-
-#[test]
-fn odd_scripts(rt: HostRuntime) -> Result<(), Fail> {
-    let cases: [(&[u8], u32, Why); 8] = [
-        (b"# a\n# b\n", 1, Why::NoConfig),
-        (b"config\n\0\n", 2, Why::NotText),
-        (b"config\ndeliver 999999999999999999\n", 2, Why::OutOfRange),
-        (b"config\ndeliver 1000000000000000000\n", 2, Why::BadNumber),
-        (b"config keep=1 keep=1\n", 1, Why::ExtraWord),
-        (b"config shards=0\n", 1, Why::OutOfRange),
-        (b"config kind=tree\n", 1, Why::UnknownWord),
-        (b"config\nup 1\n", 2, Why::WrongMode),
-    ];
-    for (script, line, why) in cases {
-        expect(&rt, script, &[], &[], Status::Refused { line, why }, b"")?;
-    }
-    for script in [b"# \0\nconfig\n".as_slice(), b"config\r\n".as_slice()] {
-        expect(&rt, script, &[], &[], Status::Ok, b"report\nend\n")?;
-    }
-    Ok(())
-}
-
-#[test]
-fn long_lines(rt: HostRuntime) -> Result<(), Fail> {
-    let fits = after_comment(rt.alloc(), 256)?;
-    expect(&rt, fits.as_slice(), &[], &[], Status::Ok, b"report\nend\n")?;
-    let long = after_comment(rt.alloc(), 257)?;
-    let refused = Status::Refused {
-        line: 1,
-        why: Why::LongLine,
-    };
-    expect(&rt, long.as_slice(), &[], &[], refused, b"")
-}
-
 /// Runs a form on an input, and compares what comes of it.
 fn expect_form(
     rt: &(impl Abort + AllocGlobal),
@@ -283,13 +184,85 @@ fn expect_form(
     text: &[u8],
 ) -> Result<(), Fail> {
     let alloc = rt.alloc();
-    let words = words_of(alloc, form)?;
     let mut source = WholeSource::new(alloc, input)?;
     let mut sink = MemSink::new(alloc, &[])?;
-    let end = sharder(alloc, words.as_slice(), &mut source, &mut sink);
+    let end = run_alone(alloc, form, &mut source, &mut sink)?;
     assert_eq!(rt; end, status);
     assert!(rt; sink.bytes() == text);
     Ok(())
+}
+
+/// Runs `solo` on a script, and compares what comes of it.
+fn expect_solo(
+    rt: &(impl Abort + AllocGlobal),
+    script: &[u8],
+    status: Status,
+    text: &[u8],
+) -> Result<(), Fail> {
+    expect_form(rt, &["solo"], script, status, text)
+}
+
+#[test]
+fn known_scripts(rt: HostRuntime) -> Result<(), Fail> {
+    for (script, text) in [
+        (ONE_COMMAND, ONE_RECORD),
+        (COLLISION_GAP_REPEAT, TWO_NAMES_OF_ONE_SHARD),
+        (ACCOUNT, CLOSED_ACCOUNT),
+    ] {
+        expect_solo(&rt, script, Status::Ok, text)?;
+    }
+    let none = Status::Refused {
+        line: 1,
+        why: Why::NoConfig,
+    };
+    expect_solo(&rt, b"", none, b"")
+}
+
+/// A comment of so many bytes, without its CR and LF, and settings.
+fn after_comment(alloc: Global, bytes: usize) -> Result<Vec<u8>, AllocError> {
+    let mut script = vec![in alloc; b'#'; bytes]?;
+    script.extend_from_slice(b"\r\nconfig shards=1\n")?;
+    Ok(script)
+}
+
+#[test]
+fn odd_scripts(rt: HostRuntime) -> Result<(), Fail> {
+    let cases: [(&[u8], u32, Why); 11] = [
+        (b"# a\n# b\n", 1, Why::NoConfig),
+        (b"config\n\0\n", 2, Why::NotText),
+        (b"config\nsend 1 \xff read\n", 2, Why::NotText),
+        (b"\xef\xbb\xbfconfig\n", 1, Why::NotText),
+        (b"config\r \n", 1, Why::NotText),
+        (b"config\ndeliver 999999999999999999\n", 2, Why::OutOfRange),
+        (b"config\ndeliver 1000000000000000000\n", 2, Why::BadNumber),
+        (b"config keep=1 keep=1\n", 1, Why::ExtraWord),
+        (b"config shards=0\n", 1, Why::OutOfRange),
+        (b"config kind=tree\n", 1, Why::UnknownWord),
+        (b"config\nup 1\n", 2, Why::WrongMode),
+    ];
+    for (script, line, why) in cases {
+        expect_solo(&rt, script, Status::Refused { line, why }, b"")?;
+    }
+    for script in [
+        b"# \0\nconfig\n".as_slice(),
+        b"config\r\n".as_slice(),
+        b"\tconfig \t\r\n".as_slice(),
+    ] {
+        expect_solo(&rt, script, Status::Ok, b"report\nend\n")?;
+    }
+    Ok(())
+}
+
+#[test]
+fn long_lines(rt: HostRuntime) -> Result<(), Fail> {
+    let fits = after_comment(rt.alloc(), 256)?;
+    expect_solo(&rt, fits.as_slice(), Status::Ok, b"report\nend\n")?;
+    let long = after_comment(rt.alloc(), 257)?;
+    let refused = Status::Refused {
+        line: 1,
+        why: Why::LongLine,
+    };
+    expect_solo(&rt, long.as_slice(), refused, b"")
 }
 
 /// Runs `replay` on a script, and compares what comes of it.
@@ -372,12 +345,6 @@ fn long_replays(rt: HostRuntime) -> Result<(), Fail> {
 }
 
 #[test]
-fn faults(rt: HostRuntime) -> Result<(), Fail> {
-    expect(&rt, ONE_COMMAND, &[1], &[], Status::ReadFault, b"")?;
-    expect(&rt, ONE_COMMAND, &[], &[1], Status::WriteFault, b"")
-}
-
-#[test]
 fn other_words(rt: HostRuntime) -> Result<(), Fail> {
     let alloc = rt.alloc();
     let mut source = WholeSource::new(alloc, ONE_COMMAND)?;
@@ -385,7 +352,7 @@ fn other_words(rt: HostRuntime) -> Result<(), Fail> {
     let mut words = Vec::new(alloc);
     for word in ["solo", "solo"] {
         assert_eq!(rt;
-            sharder(alloc, words.as_slice(), &mut source, &mut sink),
+            sharder_alone(alloc, words.as_slice(), &mut source, &mut sink),
             Status::Usage
         );
         words.push(String::from_str(alloc, "replay")?)?;
@@ -402,43 +369,6 @@ fn too_much(rt: HostRuntime) -> Result<(), Fail> {
         line: 0,
         why: Why::TooLong,
     };
-    expect(&rt, bytes.as_slice(), &[], &[], long, b"")?;
+    expect_solo(&rt, bytes.as_slice(), long, b"")?;
     expect_replay(&rt, bytes.as_slice(), long, b"")
-}
-
-/// A sink that takes one byte a call.
-#[derive(Drop)]
-struct Drip(MemSink);
-
-impl Sink for Drip {
-    ghost taken = { λ d. ⟦<MemSink as Sink>⟧.taken d.0 };
-
-    ghost flushed = { λ d. ⟦<MemSink as Sink>⟧.flushed d.0 };
-
-    ghost faults = { λ d. ⟦<MemSink as Sink>⟧.faults d.0 };
-
-    fn write(&mut self, piece: &[u8]) -> Result<usize, Failed> {
-        match piece {
-            [] => Ok(0),
-            [first, ..] => self.0.write(&[*first]),
-        }
-    }
-
-    fn flush(&mut self) -> Result<(), Failed> {
-        self.0.flush()
-    }
-}
-
-#[test]
-fn one_byte_a_call(rt: HostRuntime) -> Result<(), Fail> {
-    let alloc = rt.alloc();
-    let words = words_of(alloc, &["solo"])?;
-    let mut source = WholeSource::new(alloc, ONE_COMMAND)?;
-    let mut sink = Drip(MemSink::new(alloc, &[])?);
-    assert_eq!(rt;
-        sharder(alloc, words.as_slice(), &mut source, &mut sink),
-        Status::Ok
-    );
-    assert!(rt; sink.0.bytes() == ONE_RECORD);
-    Ok(())
 }

@@ -1,0 +1,207 @@
+//! Nodes as threads: what every run of a script comes to, and runs whose reads and writes fail.
+use crate::fixtures::{Counted, Drip, run_alone, words_of};
+use script_text::Why;
+use std::alloc::{AllocError, Global};
+use std::process::Abort;
+use std::sync::Wait;
+use std::test::Fail;
+use std::thread::Threads;
+use yard_io::{FreeGate, MemSink, MemSource, Sink, Source, WholeSource};
+use yard_top::{Status, sharder};
+
+/// Two nodes; a producer on each sends ten commands.
+const TWO_PRODUCERS: &[u8] = b"config nodes=2 shards=4
+up 1
+up 2
+produce 1 1
+produce 2 2
+send 1 a add 1
+send 1 a add 1
+send 1 a add 1
+send 1 a add 1
+send 1 a add 1
+send 1 a add 1
+send 1 a add 1
+send 1 a add 1
+send 1 a add 1
+send 1 a add 1
+send 2 b add 2
+send 2 b add 2
+send 2 b add 2
+send 2 b add 2
+send 2 b add 2
+send 2 b add 2
+send 2 b add 2
+send 2 b add 2
+send 2 b add 2
+send 2 b add 2
+";
+
+/// What the report says of it at every run.
+const REPORTED: [&str; 4] = [
+    "entity a shard 1 records 10 state 10",
+    "entity b shard 2 records 10 state 20",
+    "queue 1 a queued 10 confirmed 10",
+    "queue 2 b queued 10 confirmed 10",
+];
+
+/// How many runs have a call that fails.
+const RUNS: u32 = 200;
+
+/// Runs the program on these words, and holds no thread.
+fn run<R: Threads + Wait + Sync, S: Source, K: Sink>(
+    rt: &R,
+    alloc: Global,
+    form: &[&str],
+    source: &mut S,
+    sink: &mut K,
+) -> Result<Status, AllocError> {
+    let words = words_of(alloc, form)?;
+    Ok(sharder(rt, alloc, words.as_slice(), source, sink, &FreeGate))
+}
+
+/// Whether this is a line of the text.
+fn has_line(text: &str, line: &str) -> bool {
+    text.lines().any(|one| one == line)
+}
+
+/// The line after the first that begins so.
+fn line_after<'a>(text: &'a str, start: &str) -> Option<&'a str> {
+    let mut is_next = false;
+    for line in text.lines() {
+        if is_next {
+            return Some(line);
+        }
+        is_next = line.starts_with(start);
+    }
+    None
+}
+
+#[test]
+fn each_run_comes_to_this(rt: HostRuntime) -> Result<(), Fail> {
+    let alloc = rt.alloc();
+    let mut source = WholeSource::new(alloc, TWO_PRODUCERS)?;
+    let mut sink = MemSink::new(alloc, &[])?;
+    let form = ["live", "2000", "7"];
+    let end = run(&rt, alloc, &form, &mut source, &mut sink)?;
+    assert_eq!(rt; end, Status::Ok);
+    let text = str::from_utf8(sink.bytes())?;
+    for line in REPORTED {
+        assert!(rt; has_line(text, line), "no line {line} in\n{text}");
+    }
+    // Producer 2 is on node 2 alone.
+    let first = line_after(text, "slot queue:2 ").ok_or("a list")?;
+    assert_eq!(rt; first, "granted queue:2 1 2.1");
+    Ok(())
+}
+
+/// Runs a script whose sink takes one byte a call, and this call fails.
+fn fail_a_byte<R: Threads + Wait + Sync + Abort>(
+    rt: &R,
+    alloc: Global,
+    call: u32,
+) -> Result<(), Fail> {
+    let mut source = WholeSource::new(alloc, TWO_PRODUCERS)?;
+    let mut sink = Drip(MemSink::new(alloc, &[call])?);
+    let end = run(rt, alloc, &["live", "50", "1"], &mut source, &mut sink)?;
+    assert_eq!(rt; end, Status::WriteFault, "call {call}");
+    assert_eq!(rt; sink.0.bytes().len().saturating_add(1), call as usize);
+    Ok(())
+}
+
+/// Runs a script whose sink takes whole pieces, and this call fails, if it comes.
+fn fail_a_piece<R: Threads + Wait + Sync + Abort>(
+    rt: &R,
+    alloc: Global,
+    call: u32,
+) -> Result<(), Fail> {
+    let mut source = WholeSource::new(alloc, TWO_PRODUCERS)?;
+    let mut sink = Counted {
+        sink: MemSink::new(alloc, &[call])?,
+        calls: 0,
+    };
+    let end = run(rt, alloc, &["live", "50", "1"], &mut source, &mut sink)?;
+    let wanted = if call <= sink.calls {
+        Status::WriteFault
+    } else {
+        Status::Ok
+    };
+    assert_eq!(rt; end, wanted, "call {call} of {}", sink.calls);
+    if end == Status::Ok {
+        assert!(rt; sink.sink.bytes().ends_with(b"\nend\n"));
+    }
+    Ok(())
+}
+
+#[test]
+fn a_write_fails(rt: HostRuntime) -> Result<(), Fail> {
+    for done in 0..RUNS {
+        fail_a_byte(&rt, rt.alloc(), done + 1)?;
+        fail_a_piece(&rt, rt.alloc(), done + 1)?;
+    }
+    Ok(())
+}
+
+#[test]
+fn a_read_fails(rt: HostRuntime) -> Result<(), Fail> {
+    let alloc = rt.alloc();
+    for call in [1, 2] {
+        let mut source = MemSource::new(alloc, TWO_PRODUCERS, &[call])?;
+        let mut sink = MemSink::new(alloc, &[])?;
+        let end = run(&rt, alloc, &["live", "50", "1"], &mut source, &mut sink)?;
+        assert_eq!(rt; end, Status::ReadFault, "call {call}");
+        assert!(rt; sink.bytes().is_empty(), "call {call}");
+    }
+    Ok(())
+}
+
+#[test]
+fn words_that_are_no_run(rt: HostRuntime) -> Result<(), Fail> {
+    let alloc = rt.alloc();
+    let mut source = WholeSource::new(alloc, b"config\n")?;
+    let mut sink = MemSink::new(alloc, &[])?;
+    let forms: [&[&str]; 8] = [
+        &["live"],
+        &["live", "1"],
+        &["live", "0", "1"],
+        &["live", "100001", "1"],
+        &["live", "1", "4294967296"],
+        &["live", "1", "-1"],
+        &["live", "", "1"],
+        &["live", "1", "1", "1"],
+    ];
+    for form in forms {
+        let end = run(&rt, alloc, form, &mut source, &mut sink)?;
+        assert_eq!(rt; end, Status::Usage, "{form:?}");
+    }
+    // Where one thread alone is asked for, `live` is no form.
+    let end = run_alone(alloc, &["live", "1", "1"], &mut source, &mut sink)?;
+    assert_eq!(rt; end, Status::Usage);
+    assert!(rt; sink.bytes().is_empty());
+    // Nothing was read: the script is there yet.
+    let end = run(&rt, alloc, &["live", "1", "1"], &mut source, &mut sink)?;
+    assert_eq!(rt; end, Status::Ok);
+    Ok(())
+}
+
+#[test]
+fn orders_that_no_thread_takes(rt: HostRuntime) -> Result<(), Fail> {
+    let alloc = rt.alloc();
+    let scripts: [&[u8]; 3] = [
+        b"config nodes=2\nup 1\ndeliver 1\n",
+        b"config\n\npump 1\n",
+        b"# No write of a store fails.\nconfig\nfailwrite a kept\n",
+    ];
+    for script in scripts {
+        let mut source = WholeSource::new(alloc, script)?;
+        let mut sink = MemSink::new(alloc, &[])?;
+        let end = run(&rt, alloc, &["live", "2000", "7"], &mut source, &mut sink)?;
+        let refused = Status::Refused {
+            line: 3,
+            why: Why::WrongMode,
+        };
+        assert_eq!(rt; end, refused);
+        assert!(rt; sink.bytes().is_empty());
+    }
+    Ok(())
+}

@@ -1,0 +1,68 @@
+//! Scripts of one command, and their whole texts.
+
+/// A command that is delivered once.
+pub(crate) const ONE_COMMAND: &[u8] = b"config shards=1\nsend 1 c1 add 5\ndeliver 1\n";
+
+/// What `solo` writes of it.
+pub(crate) const ONE_RECORD: &[u8] = b"report
+entity c1 shard 0 records 1 state 5
+record 1 epoch 1 by 1:1 add 5 / added 5 / ok 5
+end
+";
+
+/// The first command of one node.
+pub(crate) const FIRST_COMMAND: &[u8] = b"config shards=1 window=2
+up 1
+pump 9
+produce 1 1
+send 1 c1 add 5
+pump 9
+";
+
+/// What `replay` writes of it.
+pub(crate) const FIRST_TEXT: &[u8] = b"at 2
+up 1.1
+sent 1 1.1 1.1 view 1 1.1
+at 3
+got 1
+view 1.1 1
+granted coordinator 1 1.1
+sent 2 1.1 1.1 register
+got 2
+registered 1.1
+sent 3 1.1 1.1 registerack
+got 3
+at 4
+granted queue:1 1 1.1
+at 5
+queued 1 c1 1 add 5
+kept 1.1 1 c1 1
+sent 4 1.1 1.1 getshardhome 0
+at 6
+got 4
+allocated 0 1.1
+sent 5 1.1 1.1 hostshard 0 1/0
+sent 6 1.1 1.1 shardhome 0 1.1 1/0
+got 5
+home 1.1 0 1.1
+granted shard:0 1 1.1
+sent 7 1.1 1.1 shardstarted 0
+start 1.1 c1
+sent 8 1.1 1.1 recovered c1
+stashed 1.1 1 c1 1
+got 6
+got 7
+got 8
+active 1.1 c1 0 0
+wrote c1 1 epoch 1 by 1:1 add 5 / added 5 / ok 5
+sent 9 1.1 1.1 ack 1 c1 1
+sent 10 1.1 1.1 request 1 c1 1 3
+got 9
+confirmed 1 c1 1
+got 10
+report
+entity c1 shard 0 records 1 state 5
+record 1 epoch 1 by 1:1 add 5 / added 5 / ok 5
+queue 1 c1 queued 1 confirmed 1
+end
+";

@@ -1,6 +1,6 @@
 -- From what threads leave to the text of `live`.
 use Rattle.std.proofs.Common.{◌≡◌, ◌≤◌, ℕ, sym, ap, ◌∙◌, refl, subst, length, arith}
-use Rattle.std.specs.Prelude.{Bool, true, false, nat_le, ◌&&◌, [], ◌++◌, List, is_some, Option, Some, None, Result, Ok, Err, IfErr}
+use Rattle.std.specs.Prelude.{true, false, nat_le, [], ◌++◌, is_some, Option, Some, None, Result, Ok, Err, IfErr}
 use Rattle.std.specs.List.{list_all}
 use Rattle.plain_laws.proofs.Booleans.{and_both, at_most, all_map}
 use Rattle.yard_model.specs.declared.fact.Fact.{Fact}
@@ -9,7 +9,7 @@ use Rattle.yard_model.specs.declared.incarnation.Incarnation.{Incarnation}
 use Rattle.yard_model.specs.declared.incarnation.Slot.{Slot}
 use Rattle.yard_model.specs.declared.incarnation.Slot.TheVariants as slot
 use Rattle.yard_model.specs.Genuine.{is_slot_of}
-use Rattle.yard_model.specs.Lawful.{own, is_held}
+use Rattle.yard_model.specs.Lawful.{own}
 use Rattle.yard_model.specs.Script.{Script, IsScript, setting, is_version}
 use Rattle.yard_model.specs.SlotLists.{SlotLists, queue_list}
 use Rattle.yard_model.specs.SlotReads.{holder}

@@ -1,4 +1,3 @@
-use Rattle.std.specs.Prelude.{ℕ}
 use Rattle.yard_model.specs.Script.{Script}
 use Rattle.shard_store.specs.Stores.{lists_at}
 use Rattle.yard_top.proofs.LiveLaws.{may_settle, are_live}

@@ -1,4 +1,3 @@
-use Rattle.yard_model.specs.Script.{Script}
 use Rattle.yard_top.proofs.LiveLaws.{live_folds, live_text}
 use Rattle.yard_top.proofs.live.text_of_run.Goals as goal
 

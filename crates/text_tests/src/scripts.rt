@@ -119,7 +119,12 @@ const REFUSED: [(&str, Mode, u32, Why); 43] = [
     ("config\nping 3", Mode::Replay, 2, Why::OutOfRange),
     ("config\nping 1", Mode::Replay, 2, Why::WrongMode),
     ("config\npump 1", Mode::Live, 2, Why::WrongMode),
-    ("\nconfig kind=cart\nfailwrite a kept", Mode::Live, 3, Why::WrongMode),
+    (
+        "\nconfig kind=cart\nfailwrite a kept",
+        Mode::Live,
+        3,
+        Why::WrongMode,
+    ),
     (
         "config kind=account\nsend 1 a deposit x 7 7",
         Mode::Replay,

@@ -55,9 +55,9 @@ may_settle c version turns s admitted few run = record {
   lawful_is = run.lawful;
   unheld = λ t h. ap holder (list_there c s.places t h) ∙ none_holds (holder (entries_at s.places (place_of c.config t))) (run.free (place_of c.config t) (place_within c t h));
   numbered = λ t h.
-    let k : ℕ = place_of c.config t in
-    subst (λ l. list_all is_numbered l ≡ true) (sym (list_there c s.places t h))
-    (all_map (is_fit c (slot_at c.config k)) is_numbered (fit_is_numbered c (slot_at c.config k)) (entries_at s.places k) (run.fits k (place_within c t h)).fit);
+      let k : ℕ = place_of c.config t in
+      subst (λ l. list_all is_numbered l ≡ true) (sym (list_there c s.places t h))
+      (all_map (is_fit c (slot_at c.config k)) is_numbered (fit_is_numbered c (slot_at c.config k)) (entries_at s.places k) (run.fits k (place_within c t h)).fit);
 }
 
 -- What it is settled to.

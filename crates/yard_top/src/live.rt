@@ -64,11 +64,7 @@ fn live_text<R: Threads + Wait + Sync, G: Gate + Sync>(
 }
 
 /// The text of a run of nodes whose entities behave so. It may wait. The only error is want of memory.
-fn text_of_run<
-    R: Threads + Wait + Sync,
-    B: Behaviour + Copy + Drop + Send + Sync,
-    G: Gate + Sync,
->(
+fn text_of_run<R: Threads + Wait + Sync, B: Behaviour + Copy + Drop + Send + Sync, G: Gate + Sync>(
     rt: &R,
     alloc: Global,
     charter: &Charter,

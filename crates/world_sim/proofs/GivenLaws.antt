@@ -1,11 +1,9 @@
 -- A world of given stores.
 use Rattle.std.proofs.Common.{◌≡◌, ◌<◌, ◌≤◌, ℕ, zero, suc, ◌+◌, ◌-◌, ◌*◌, true, List, [], ◌∷◌, ◌++◌, length, refl, ap, sym, ◌∙◌, subst, arith}
 use Rattle.std.specs.Prelude.{Bool, false, max, ◌==◌, ◌&&◌, nat_lt, nat_le, map, fold, replicate, Option, Some, None, IfSome, IsSome, slice_index_or, slice_set, if◌then◌else◌}
-use Rattle.std.specs.List.{list_all, flat_map}
+use Rattle.std.specs.List.{list_all}
 use Rattle.std.proofs.lemmas.Bool.Decides.{nat_tests}
-use Rattle.std.proofs.lemmas.List.{length-replicate}
 use Rattle.std.proofs.lemmas.List.Folds.{list_all-append}
-use Rattle.yard_model.specs.declared.charter.Sending.{Sending}
 use Rattle.yard_model.specs.declared.fact.Fact.{Fact}
 use Rattle.yard_model.specs.declared.fact.Fact.TheVariants as fact
 use Rattle.yard_model.specs.declared.incarnation.Incarnation.{Incarnation}
@@ -13,18 +11,15 @@ use Rattle.yard_model.specs.declared.incarnation.Slot.{Slot}
 use Rattle.yard_model.specs.declared.incarnation.Slot.TheVariants as slot
 use Rattle.yard_model.specs.Era.{opening_of}
 use Rattle.yard_model.specs.Genuine.{is_slot_of}
-use Rattle.yard_model.specs.Lawful.{lawful, is_held}
+use Rattle.yard_model.specs.Lawful.{is_held}
 use Rattle.yard_model.specs.Script.{Script, IsScript, setting, sends}
-use Rattle.yard_model.specs.SlotLists.{SlotLists, shard_list, queue_list}
-use Rattle.yard_model.specs.SlotReads.{holder}
-use Rattle.yard_model.specs.Trace.{list_at}
+use Rattle.yard_model.specs.SlotLists.{SlotLists}
 use Rattle.yard_model.specs.Words.{at, numbers}
-use Rattle.yard_model.specs.World.{World, Made, all_sends, given_world, number_step, is_any_up, settle, settle_bound, settled_from}
+use Rattle.yard_model.specs.World.{World, all_sends, given_world, number_step, is_any_up, settle, settled_from}
 use Rattle.plain_laws.proofs.Booleans.{true_is_not_false, and_both, both, below, not_below, same_number, at_most, get_replicate}
-use Rattle.plain_laws.proofs.Lists.{by_place}
 use Rattle.shard_lease.specs.Book.{Book, meaning_of}
 use Rattle.shard_store.specs.declared.store.Store.{Store}
-use Rattle.shard_store.specs.Stores.{Shelves, entries_at, lists_at, place_of, slot_at}
+use Rattle.shard_store.specs.Stores.{Shelves, entries_at, lists_at, place_of}
 use Rattle.node_core.specs.Leased.{Tells}
 use Rattle.node_core.specs.Standing.{Standing}
 use Rattle.settle_laws.specs.Settles.{IsUnheld, StoresEnd, StoresSettle, FewOrdersFit, GivenMaySettle}
@@ -37,7 +32,7 @@ use Rattle.world_sim.specs.Stands.{Stands}
 use Rattle.world_sim.specs.Stepped.{IsWhole, IsCut}
 use Rattle.world_sim.specs.declared.world.Origin.{Origin}
 use Rattle.world_sim.specs.World.{IsWorld, IsOf, IsHeld, IsFromStores, given_in}
-use Rattle.world_sim.specs.Yard.{Yard, IsSeen, IsSound, IsSoundTo, Settles, Goes, state_in}
+use Rattle.world_sim.specs.Yard.{Yard, IsSeen, IsSoundTo, Settles, state_in}
 use Rattle.world_sim.proofs.NumberLaws.{joined}
 use Rattle.world_sim.proofs.ReshardLaws.{entries_are, tells_free}
 use Rattle.world_sim.proofs.SentLaws.{sent_few}

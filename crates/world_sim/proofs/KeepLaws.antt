@@ -6,7 +6,6 @@ use Rattle.yard_model.specs.declared.fact.Fact.TheVariants as fact
 use Rattle.yard_model.specs.declared.charter.Line.{Line}
 use Rattle.yard_model.specs.declared.charter.Order.{Order}
 use Rattle.yard_model.specs.declared.charter.Order.TheVariants as order
-use Rattle.yard_model.specs.declared.input.Input.{Input}
 use Rattle.yard_model.specs.declared.input.Input.TheVariants as input
 use Rattle.yard_model.specs.Behaviour.{is_in}
 use Rattle.yard_model.specs.Era.{Era, era_step, era_of, first_era, opening_of}

@@ -33,7 +33,7 @@ use Rattle.plain_laws.proofs.Lists.{none_is_not_some, inside, placed_beside, by_
 use Rattle.plain_laws.proofs.Booleans.{true_is_not_false, and_both, both}
 use Rattle.world_sim.specs.declared.fault.StepFault.{StepFault}
 use Rattle.world_sim.specs.declared.fault.StepFault.TheVariants as fault
-use Rattle.world_sim.specs.Played.{FreesSome, AreFreed, is_freed, made_of, made_by}
+use Rattle.world_sim.specs.Played.{FreesSome, AreFreed, is_freed, made_by}
 use Rattle.world_sim.specs.Stopped.{IsQuiet, IsStopped}
 use Rattle.world_sim.specs.Given.{Given}
 use Rattle.world_sim.specs.World.{IsAt, IsCounted, IsKept, IsPlaying, IsOf, IsHeld, IsFromStores, IsWorld}

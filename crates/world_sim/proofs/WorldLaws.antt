@@ -1,5 +1,5 @@
 -- A world, order by order.
-use Rattle.std.proofs.Common.{◌⊎◌, inl, inr, ◌≡◌, ℕ, zero, suc, ◌+◌, ◌-◌, ◌*◌, ◌<◌, ◌≤◌, Bool, true, false, List, [], ◌∷◌, length, refl, ap, sym, ◌∙◌, subst, arith}
+use Rattle.std.proofs.Common.{inl, inr, ◌≡◌, ℕ, zero, suc, ◌+◌, ◌-◌, ◌*◌, ◌<◌, ◌≤◌, Bool, true, false, List, [], ◌∷◌, length, refl, ap, sym, ◌∙◌, subst, arith}
 use Rattle.std.specs.Prelude.{slice_get, slice_index_or, Option, Some, None, IsTrue, Result, Ok, Err, OnOk}
 use Rattle.yard_model.specs.declared.fact.Fact.{Fact}
 use Rattle.yard_model.specs.declared.charter.Line.{Line}
@@ -18,7 +18,7 @@ use Rattle.plain_laws.proofs.Lists.{none_is_not_some}
 use Rattle.world_sim.specs.declared.fault.StepFault.{StepFault}
 use Rattle.world_sim.specs.declared.fault.StepFault.TheVariants as fault
 use Rattle.world_sim.specs.Mail.{ToldSome}
-use Rattle.world_sim.specs.Played.{Played, made_of, next_of, Told, Went, Filled, CutShort, Answers, LineSettles, MadeSafe}
+use Rattle.world_sim.specs.Played.{Played, made_of, Told, Went, Filled, CutShort, Answers, LineSettles, MadeSafe}
 use Rattle.world_sim.specs.Given.{Given}
 use Rattle.world_sim.specs.Stepped.{IsPlayed}
 use Rattle.world_sim.specs.World.{IsWorld, IsPlaying, IsAt, IsCounted, IsKept}

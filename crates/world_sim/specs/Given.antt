@@ -1,5 +1,5 @@
 -- A world that begins with given stores.
-use Rattle.std.specs.Prelude.{◌≡◌, ◌≤◌, ℕ, nat_le, Bool, true, length, IsTrue}
+use Rattle.std.specs.Prelude.{◌≤◌, ℕ, nat_le, Bool, true, length, IsTrue}
 use Rattle.std.specs.List.{list_all}
 use Rattle.yard_model.specs.declared.fact.Fact.{Fact}
 use Rattle.yard_model.specs.declared.fact.Fact.TheVariants as fact

@@ -1,8 +1,7 @@
 -- What the type of a world keeps.
-use Rattle.std.specs.Prelude.{◌≡◌, ℕ, zero, suc, ◌*◌, ◌≤◌, Bool, true, false, length, slice_index_or, Option, Some, None}
+use Rattle.std.specs.Prelude.{◌≡◌, ℕ, ◌*◌, ◌≤◌, Bool, true, false, length, slice_index_or, Option, Some, None}
 use Rattle.shard_store.specs.Stores.{lists_at}
 use Rattle.yard_model.specs.Script.{Script, IsScript, with_shards}
-use Rattle.yard_model.specs.World.{World}
 use Rattle.world_sim.specs.declared.fault.StepFault.{StepFault}
 use Rattle.world_sim.specs.declared.fault.StepFault.TheVariants as fault
 use Rattle.world_sim.specs.declared.world.Origin.{Origin}

@@ -1,14 +1,22 @@
 //! What no clause says: that memory is there where there is plenty.
-ghost use Rattle.std.specs.Prelude.{◌≡◌, [], ◌∷◌, IfOk};
+ghost use Rattle.std.specs.Prelude.{◌≡◌, ◌≤◌, false, [], ◌∷◌, length, IfOk, IsTrue};
 ghost use Rattle.yard_model.specs.declared.charter.Order.TheVariants as order;
+ghost use Rattle.yard_model.specs.declared.event.Command.TheVariants as command;
 ghost use Rattle.yard_model.specs.declared.event.Kind.TheVariants as kind;
+ghost use Rattle.yard_model.specs.Lawful.{lawful};
+ghost use Rattle.yard_model.specs.Script.{setting};
+ghost use Rattle.yard_model.specs.Trace.{no_lists};
+ghost use Rattle.shard_store.specs.Stores.{lists_at};
+ghost use Rattle.world_sim.specs.Given.{IsGiven};
 
 use crate::{Mail, World};
 use behaviour_kinds::Counter;
+use shard_store::Stores;
 use std::alloc::{AllocError, Global};
 use std::test::Fail;
 use yard_model::{
-    Body, Charter, Config, Fact, Facts, Incarnation, Item, Kind, Line, NodeNo, Order, Packet,
+    Body, Charter, Command, Config, EntityName, Fact, Facts, Incarnation, Item, Kind, Line, NodeNo,
+    Order, Packet, ProducerNo,
 };
 
 const SETTINGS: Config = Config {
@@ -79,6 +87,53 @@ fn a_node_comes_up(rt: HostRuntime) -> Result<(), Fail> {
     let mut facts = Facts::new(rt.alloc());
     assert!(rt; world.step(&UP, &mut facts).is_ok());
     assert_eq!(rt; facts.as_slice().len(), 3);
+    world.into_stores()?;
+    Ok(())
+}
+
+/// A script of one send.
+fn one_send(alloc: Global, p: ProducerNo, entity: EntityName) -> Result<Charter, AllocError>
+    requires producer { p ≡ 1 }
+    requires name { entity ≡ 97 ∷ [] }
+    ensures { IfOk result (λ c. c ≡ record {
+      config = record { nodes = 1; shards = 2; producers = 1; buffer = 1; window = 4; snapshot = 100; keep = 2; remember = false; kind = kind.Counter };
+      orders = record { number = 2; order = order.Send 1 (97 ∷ []) (command.Add 7) } ∷ [];
+    }) }
+{
+    let mut orders = Vec::new(alloc);
+    orders.push(Line {
+        number: 2,
+        order: Order::Send(p, entity, Command::Add(7)),
+    })?;
+    Charter::new(alloc, SETTINGS, orders)
+}
+
+/// The stores that a world leaves which plays none of its orders.
+fn left(alloc: Global, charter: &Charter) -> Result<Stores, AllocError>
+    requires kind { charter.now.config.kind ≡ kind.Counter }
+    requires few { length charter.now.orders ≤ 20000 }
+    requires lawful { IsTrue (lawful charter.now (no_lists (setting charter.now))) }
+    ensures script { IfOk result (λ s. s.script ≡ charter.now) }
+    ensures given { IfOk result (λ s. IsGiven charter.now 1 (lists_at charter.now.config s.places)) }
+{
+    let world = World::new(alloc, charter, Counter::new())?;
+    let (last, stores) = world.into_stores()?;
+    let _ = &last;
+    Ok(stores)
+}
+
+#[test]
+fn given_stores_are_settled(rt: HostRuntime) -> Result<(), Fail> {
+    let alloc = rt.alloc();
+    let p = ProducerNo::new(1).ok_or("1 is a producer")?;
+    let a = EntityName::new(b"a").ok_or("a is a name")?;
+    let charter = one_send(alloc, p, a)?;
+    let stores = left(alloc, &charter)?;
+    let mut world = World::from_stores(alloc, &charter, Counter::new(), stores)?;
+    let mut facts = Facts::new(alloc);
+    assert!(rt; world.settle(&mut facts).is_ok());
+    assert_eq!(rt; facts.as_slice().len(), 40);
+    assert_eq!(rt; facts.as_slice()[39], Fact::Settled);
     world.into_stores()?;
     Ok(())
 }

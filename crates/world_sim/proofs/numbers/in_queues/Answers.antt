@@ -1,4 +1,4 @@
-use Rattle.std.proofs.Common.{◌≡◌, ◌≤◌, ◌<◌, ◌+◌, ◌-◌, length, sym, ap, ◌∙◌, refl, arith}
+use Rattle.std.proofs.Common.{◌≡◌, ◌<◌, ◌+◌, ◌-◌, length, ap, ◌∙◌, refl, arith}
 use Rattle.std.specs.Prelude.{[], fold, slice_index_or}
 use Rattle.yard_model.specs.World.{number_step}
 use Rattle.world_sim.proofs.NumberLaws.{number_more, number_done}

@@ -1,4 +1,4 @@
-use Rattle.std.proofs.Common.{◌≡◌, ◌≤◌, ℕ, fold}
+use Rattle.std.proofs.Common.{◌≡◌, fold}
 use Rattle.std.specs.Prelude.{drop}
 use Rattle.yard_model.specs.World.{number_step}
 use Rattle.world_sim.proofs.NumberLaws.{joined}

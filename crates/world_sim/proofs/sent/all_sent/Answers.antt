@@ -1,4 +1,4 @@
-use Rattle.std.proofs.Common.{◌≡◌, ap, refl, ◌∙◌, arith}
+use Rattle.std.proofs.Common.{◌≡◌, ap, refl, arith}
 use Rattle.yard_model.specs.declared.charter.Config.{Config}
 use Rattle.world_sim.proofs.SentLaws.{sent_more, sent_all}
 use Rattle.world_sim.proofs.sent.all_sent.Goals as goal

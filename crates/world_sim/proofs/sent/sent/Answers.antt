@@ -1,4 +1,4 @@
-use Rattle.std.proofs.Common.{◌≡◌, ◌≤◌, ◌<◌, length, ap, arith}
+use Rattle.std.proofs.Common.{◌≡◌, ◌≤◌, length, ap, arith}
 use Rattle.yard_model.specs.Script.{sends}
 use Rattle.world_sim.proofs.SentLaws.{sent_few}
 use Rattle.world_sim.proofs.sent.sent.Goals as goal

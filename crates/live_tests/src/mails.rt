@@ -23,11 +23,7 @@ fn seed_of(word: u32) -> Option<u32> {
 }
 
 /// How many parcels lie in a node's box, of at most eight; they are taken.
-fn taken<J: Run, R: Wait>(
-    rt: &R,
-    boxes: &PostBox<Parcel<J>>,
-    pass: &mut BoxPass<Parcel<J>>,
-) -> u8
+fn taken<J: Run, R: Wait>(rt: &R, boxes: &PostBox<Parcel<J>>, pass: &mut BoxPass<Parcel<J>>) -> u8
     requires belongs { pass.old.tables ≡ boxes.now.tables }
     ensures belongs { pass.new.tables ≡ boxes.now.tables }
 {

@@ -143,9 +143,7 @@ fn has_hosted(stores: &Stores, node: NodeNo) -> bool {
 
 /// Whether it was leased to this node.
 fn is_granted(entries: &[ShardEntry], node: NodeNo) -> bool {
-    entries
-        .iter()
-        .any(|entry| matches!(entry, ShardEntry::Granted(_, who) if who.node == node))
+    entries.iter().any(|entry| matches!(entry, ShardEntry::Granted(_, who) if who.node == node))
 }
 
 #[test]
@@ -157,7 +155,15 @@ fn two_nodes_run_at_once(rt: HostRuntime) -> Result<(), Fail> {
     let b = EntityName::new(b"b").ok_or("b is a name")?;
     let charter = two_nodes(rt.alloc(), p, second, a, b)?;
     let gate = Meeting::new();
-    let stores = run_live(&rt, rt.alloc(), &charter, Counter::new(), TURNS, SEED, &gate)?;
+    let stores = run_live(
+        &rt,
+        rt.alloc(),
+        &charter,
+        Counter::new(),
+        TURNS,
+        SEED,
+        &gate,
+    )?;
     assert!(rt; gate.first.load(Ordering::SeqCst) >= 5);
     assert!(rt; gate.second.load(Ordering::SeqCst) >= 5);
     assert!(rt; gate.longest_first.load(Ordering::SeqCst) < LOOKS);

@@ -124,7 +124,8 @@ fn run_job<J: Run, R: Wait, B: Behaviour + Copy + Drop, G: Gate>(
         box_pass,
     } = job;
     work(
-        rt, alloc, table, boxes, roster, charter, node, pass, box_pass, turns, seed, gate, behaviour,
+        rt, alloc, table, boxes, roster, charter, node, pass, box_pass, turns, seed, gate,
+        behaviour,
     )
 }
 
@@ -236,11 +237,7 @@ fn run_all<
 /// at most so many turns, and draws by this seed what becomes of each packet. The stores that it leaves:
 /// no slot is held, the lists are lawful, no incarnation in them has a number above 4,000,000,000, and all
 /// sends of each steady producer are queued. The only error is want of memory. It may wait.
-pub fn run_live<
-    R: Threads + Wait + Sync,
-    B: Behaviour + Copy + Drop + Send + Sync,
-    G: Gate + Sync,
->(
+pub fn run_live<R: Threads + Wait + Sync, B: Behaviour + Copy + Drop + Send + Sync, G: Gate + Sync>(
     rt: &R,
     alloc: Global,
     charter: &Charter,

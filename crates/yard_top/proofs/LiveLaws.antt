@@ -1,6 +1,6 @@
 -- From what threads leave to the text of `live`.
 use Rattle.std.proofs.Common.{◌≡◌, ◌≤◌, ℕ, sym, ap, ◌∙◌, refl, subst, length, arith}
-use Rattle.std.specs.Prelude.{Bool, true, false, nat_le, ◌&&◌, [], ◌++◌, List, is_some, Option, Some, None, Result, Ok, Err, IfErr}
+use Rattle.std.specs.Prelude.{true, false, nat_le, [], ◌++◌, is_some, Option, Some, None, Result, Ok, Err, IfErr}
 use Rattle.std.specs.List.{list_all}
 use Rattle.plain_laws.proofs.Booleans.{and_both, at_most, all_map}
 use Rattle.yard_model.specs.declared.fact.Fact.{Fact}
@@ -9,7 +9,7 @@ use Rattle.yard_model.specs.declared.incarnation.Incarnation.{Incarnation}
 use Rattle.yard_model.specs.declared.incarnation.Slot.{Slot}
 use Rattle.yard_model.specs.declared.incarnation.Slot.TheVariants as slot
 use Rattle.yard_model.specs.Genuine.{is_slot_of}
-use Rattle.yard_model.specs.Lawful.{own, is_held}
+use Rattle.yard_model.specs.Lawful.{own}
 use Rattle.yard_model.specs.Script.{Script, IsScript, setting, is_version}
 use Rattle.yard_model.specs.SlotLists.{SlotLists, queue_list}
 use Rattle.yard_model.specs.SlotReads.{holder}
@@ -82,11 +82,20 @@ each_own c lists o (slot.Queue p) h =
     o.queue p (omega arith)
 
 -- each journal in them leads to a state
-pub live_folds : (c : Script) (turns : ℕ) (lists : SlotLists) → Rules → IsScript c → AreLive c turns lists → is_foldable_in_all (setting c) lists ≡ true
-live_folds c turns lists rules ok live = lists_fold c lists rules ok (each_own c lists (owns_of c lists live.lawful_is).0)
+pub live_folds : (c : Script) (turns : ℕ) (s : Shelves) → s.script ≡ c → Rules → IsScript c → AreLive c turns (lists_at c.config s.places) → is_foldable_in_all (setting c) (lists_at s.script.config s.places) ≡ true
+live_folds c turns s is rules ok live =
+    let lists : SlotLists = lists_at c.config s.places in
+    subst (λ (d : Script). is_foldable_in_all (setting c) (lists_at d.config s.places) ≡ true) (sym is) (lists_fold c lists rules ok (each_own c lists (owns_of c lists live.lawful_is).0))
 
-pub text_of_lists : (c : Script) (turns : ℕ) (lists : SlotLists) (a b : Bytes) → AreLive c turns lists → a ≡ [] ++ slots_text (setting c) lists → b ≡ a ++ report (setting c) lists → LiveText c turns b
-text_of_lists c turns lists a b live first second = record { lists = lists; are_live = live; text_is = second ∙ ap (λ x. x ++ report (setting c) lists) first }
+pub live_text : (c : Script) (turns : ℕ) (s : Shelves) (none a b : Bytes) → s.script ≡ c → AreLive c turns (lists_at c.config s.places)
+    → none ≡ [] → a ≡ none ++ slots_text (setting c) (lists_at s.script.config s.places) → b ≡ a ++ report (setting c) (lists_at s.script.config s.places) → LiveText c turns b
+live_text c turns s none a b is live empty first second =
+    let lists : SlotLists = lists_at s.script.config s.places in
+    record {
+      lists = lists;
+      are_live = subst (λ (d : Script). AreLive c turns (lists_at d.config s.places)) (sym is) live;
+      text_is = second ∙ ap (λ x. x ++ report (setting c) lists) (first ∙ ap (λ x. x ++ slots_text (setting c) lists) empty);
+    }
 
 pub live_gives : {A : Type 0} (c : Script) (turns seed : ℕ) (text : Bytes) (r : Result A WriteError) (old new : Sunk) → LiveText c turns text → IfErr r (λ e. e ≡ error.Failed) → Writes text r old new → Gives (form.Live turns seed) c r old new
 live_gives c turns seed text (Ok x) old new is failed w = record { text = text; is_text = is; took = w }

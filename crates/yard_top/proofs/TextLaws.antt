@@ -1,13 +1,13 @@
 -- What an answer says of the text of a form of one thread, from what it says of the text.
-use Rattle.std.proofs.Common.{◌≡◌}
-use Rattle.std.specs.Prelude.{true, Result, Ok, Err}
+use Rattle.std.proofs.Common.{◌≡◌, ℕ, List, inr}
+use Rattle.std.specs.Prelude.{true, Option, Result, Ok, Err}
 use Rattle.yard_model.specs.Script.{Script}
 use Rattle.yard_model.specs.Text.{Bytes}
 use Rattle.yard_top.specs.declared.forms.Form.{Form}
 use Rattle.yard_top.specs.declared.forms.Form.TheVariants as form
 use Rattle.yard_top.specs.declared.writing.WriteError.{WriteError}
 use Rattle.yard_top.specs.declared.writing.WriteError.TheVariants as error
-use Rattle.yard_top.specs.Ends.{IsText}
+use Rattle.yard_top.specs.Ends.{IsText, HasScript, WroteFront, from_of}
 use Rattle.yard_top.specs.Forms.{is_alone}
 use Rattle.yard_top.specs.Texts.{Gives, RanOut, TookSome}
 use Rattle.yard_top.specs.Writing.{Sunk, Writes}
@@ -23,3 +23,12 @@ pub gives : {A : Type 0} (f : Form) (c : Script) (text : Bytes) (r : Result A Wr
 gives f c text (Ok x) old new alone is w = record { text = text; is_text = is; took = w }
 gives f c text (Err error.Failed) old new alone is w = record { text = text; is_text = is; front = w }
 gives f c text (Err error.OutOfMemory) old new alone is w = ran_out f c old new alone (record { text = text; is_text = is; front = w })
+
+-- there was no memory, and a front of the text was taken, or nothing
+pub wrote_front : (f : Form) (c : Script) (had has : Option (List ℕ)) (old new : Sunk) → HasScript (from_of f) had has c → RanOut f c old new
+    → WroteFront f had has (record { bytes = old.taken; flushed = old.flushed }) (record { bytes = new.taken; flushed = new.flushed })
+wrote_front form.Solo c had has old new came some = inr (record { script = c; came = came; text = some.text; is_text = some.is_text; begun = some.front.front })
+wrote_front form.Replay c had has old new came some = inr (record { script = c; came = came; text = some.text; is_text = some.is_text; begun = some.front.front })
+wrote_front form.ReplayJson c had has old new came some = inr (record { script = c; came = came; text = some.text; is_text = some.is_text; begun = some.front.front })
+wrote_front (form.Bulk n) c had has old new came some = inr (record { script = c; came = came; text = some.text; is_text = some.is_text; begun = some.front.front })
+wrote_front (form.Live n s) c had has old new came none = none.taken_is

@@ -68,9 +68,17 @@ def flow():
     return lines + ['settle']
 
 
+def settle(sends=19_997):
+    """A packet that is never delivered, so many sends to 100 names that wait for their queue, and the
+    settle that queues, delivers and confirms them all."""
+    lines = ['config nodes=1 shards=8 producers=1', 'up 1']
+    return lines + [f'send 1 e{i % 100} add 1' for i in range(sends)] + ['settle']
+
+
 CASES = [('solo', 'solo', solo), ('views', 'replay', views), ('full', 'replay', full),
          ('carts', 'replay', carts), ('carts/10', 'replay', lambda: carts(2_000)),
-         ('flow', 'replay', flow)]
+         ('flow', 'replay', flow),
+         ('settle', 'replay', settle), ('settle/10', 'replay', lambda: settle(2_000))]
 
 
 def run(program, word, source, sink):

@@ -1,8 +1,7 @@
 -- Where all that is recorded is queued, a settling may hand over each of its packets.
-use Rattle.std.proofs.Common.{◌≡◌, ◌≤◌, ℕ, zero, suc, ◌+◌, List, [], ◌∷◌, ◌++◌, length, map, filter, nat_lt, false, true, sym, subst}
-use Rattle.std.specs.Prelude.{◌&&◌, nat_le, None}
+use Rattle.std.proofs.Common.{◌≡◌, ℕ, zero, suc, List, [], ◌∷◌, ◌++◌, length, map, filter, nat_lt, sym, subst}
+use Rattle.std.specs.Prelude.{nat_le, None}
 use Rattle.yard_model.specs.declared.fact.Fact.{Fact}
-use Rattle.yard_model.specs.Node.{Node}
 use Rattle.yard_model.specs.Script.{Script, Setting, setting}
 use Rattle.yard_model.specs.Setting.{producers}
 use Rattle.yard_model.specs.Words.{numbers, at}

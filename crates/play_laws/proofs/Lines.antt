@@ -402,7 +402,7 @@ orders_played c script =
 begun : {T : Type 0} → Laws → (c : Script) (version limit : ℕ) (lists : SlotLists) (ups ordered : List ℕ) (trace : List Fact) → IsScript c → is_version c version ≡ true → length ups ≡ c.config.nodes
     → guarded c trace ≡ true → lists_of (setting c) trace ≡ lists → version_in trace ≡ version → ((e : List ℕ) → live_at e trace ≡ []) → ((s : Slot) → is_slot_of c s ≡ true → holder (list_at lists s) ≡ None) → (T → AreQueued c lists)
     → SoundIf T c trace (world.world_of c version limit lists ups ordered)
-begun laws c version limit lists ups ordered trace script admits long g gives is_version quiet free queued = record {
+begun laws c version limit given ups ordered trace script admits long g gives is_version quiet free queued = record {
   script_is = script;
   set_is = refl;
   behaviour_is = sym is_version;

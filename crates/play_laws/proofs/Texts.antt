@@ -1,14 +1,13 @@
 -- What a replay prints is the text of a safe trace.
-use Rattle.std.proofs.Common.{ap₂, ◌≡◌, ℕ, ◌++◌, sym, ap, ◌∙◌, refl}
+use Rattle.std.proofs.Common.{ap₂, ◌≡◌, ℕ, ◌++◌, sym, ap, ◌∙◌}
 use Rattle.std.specs.List.{flat_map}
-use Rattle.yard_model.specs.Era.{era_of, lists_in}
+use Rattle.yard_model.specs.Era.{era_of}
 use Rattle.yard_model.specs.Lawful.{lawful}
-use Rattle.yard_model.specs.Replay.{replay_within}
-use Rattle.yard_model.specs.Script.{Script, IsScript, setting}
+use Rattle.yard_model.specs.Script.{Script, IsScript}
 use Rattle.yard_model.specs.Text.{fact_line, report}
 use Rattle.yard_model.specs.World.{played}
 use Rattle.play_laws.specs.Played.{PlayedIsSafe, PlayedLists}
-use Rattle.play_laws.specs.SafeText.{ReplayIsSafe, SafeText, report_in}
+use Rattle.play_laws.specs.SafeText.{ReplayIsSafe, report_in}
 
 -- the report at the end is that of the trace's lists
 report_is : PlayedLists → (c : Script) (limit : ℕ) → IsScript c → report (played c limit).world.set (played c limit).world.lists ≡ report_in (era_of c (played c limit).facts)

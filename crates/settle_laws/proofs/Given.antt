@@ -1,8 +1,7 @@
 -- Given lists: a settling of them hands over nothing that confirms until every queue is taken.
 use Rattle.std.proofs.Common.{◌≡◌, ◌<◌, ◌≤◌, ◌⊎◌, inl, inr, ℕ, zero, suc, ◌+◌, ◌-◌, ◌*◌, List, [], ◌∷◌, length, map, sym, ap, subst, ◌∙◌, refl, true, false, true≢false, arith}
-use Rattle.std.specs.Prelude.{Bool, ◌||◌, ◌&&◌, nat_lt, sum_by, filter, fold, take, Some, None, is_none, slice_index_or}
+use Rattle.std.specs.Prelude.{Bool, ◌||◌, ◌&&◌, sum_by, filter, fold, take, Some, None, is_none, slice_index_or}
 use Rattle.std.specs.List.{list_any, slice_get}
-use Rattle.std.proofs.lemmas.Bool.Decides.{nat_tests}
 use Rattle.yard_model.specs.declared.charter.Sending.{Sending}
 use Rattle.yard_model.specs.declared.incarnation.Slot.TheVariants as slot
 use Rattle.yard_model.specs.declared.input.Input.TheVariants as input
@@ -10,14 +9,14 @@ use Rattle.yard_model.specs.declared.packet.Body.TheVariants as body
 use Rattle.yard_model.specs.declared.packet.Packet.{Packet}
 use Rattle.yard_model.specs.declared.incarnation.Incarnation.{Incarnation}
 use Rattle.yard_model.specs.Genuine.{is_node, is_producer}
-use Rattle.yard_model.specs.Lawful.{own, lawful}
+use Rattle.yard_model.specs.Lawful.{own}
 use Rattle.yard_model.specs.Node.{Node, after, new_node, items_of, packet, turn}
-use Rattle.yard_model.specs.Script.{Script, IsScript, setting, is_version, is_name, count_to, plan, sends}
-use Rattle.yard_model.specs.Setting.{shard_of, producers}
-use Rattle.yard_model.specs.SlotLists.{SlotLists, shard_list, queue_list}
+use Rattle.yard_model.specs.Script.{Script, IsScript, setting, is_name, count_to, plan, sends}
+use Rattle.yard_model.specs.Setting.{shard_of}
+use Rattle.yard_model.specs.SlotLists.{shard_list, queue_list}
 use Rattle.yard_model.specs.SlotReads.{journal, position, queued, queued_in_all, confirmed}
 use Rattle.yard_model.specs.Trace.{lists_step}
-use Rattle.yard_model.specs.Words.{numbers, at}
+use Rattle.yard_model.specs.Words.{numbers}
 use Rattle.yard_model.specs.World as world
 use Rattle.yard_model.specs.World.{World, Made, world_after, handle, deliver, drain, come_up, go_down, in_order, ordered_of, settle_bound, given_world, tell}
 use Rattle.yard_model.specs.declared.fact.Fact.TheVariants as fact
@@ -32,20 +31,20 @@ use Rattle.play_laws.proofs.Handled.{lawful_lists}
 use Rattle.play_laws.proofs.Orders.{first_node}
 use Rattle.play_laws.specs.Confirming.{is_confirming, MayDeliver, MayNext, MayDrain, MayTakeAll, MayBegin, MayComeUp}
 use Rattle.play_laws.specs.Sound.{AreQueued}
-use Rattle.settle_laws.specs.Alone.{Base, Alone, node_with, wire_after, queued_by, producer_at, none_later, Stands}
+use Rattle.settle_laws.specs.Alone.{Base, node_with, wire_after, producer_at}
 use Rattle.settle_laws.specs.Begun.{beginning, own_packet, Begins}
 use Rattle.settle_laws.specs.Inputs.{posts_in}
-use Rattle.settle_laws.specs.Lonely.{ArePosted, IsBy, Known, IsLonely, IsFull, Comes, Outcome}
-use Rattle.settle_laws.specs.Settles.{IsUnheld, GivenMaySettle}
+use Rattle.settle_laws.specs.Lonely.{ArePosted, IsBy, Known, IsFull, Outcome}
+use Rattle.settle_laws.specs.Settles.{GivenMaySettle}
 use Rattle.settle_laws.proofs.Begin.{node_begins}
-use Rattle.settle_laws.proofs.Beginning.{IsEmpty, Early, Goes, ComesUp, IsBegun, base_of, next_one, waits_one, own_may, can_begin, comes_up, drain_begins}
-use Rattle.settle_laws.proofs.Counts.{JournalReads, journal_reads, QueueReads, queue_reads}
+use Rattle.settle_laws.proofs.Beginning.{IsEmpty, Early, Goes, ComesUp, IsBegun, base_of, waits_one, own_may, can_begin, comes_up, drain_begins}
+use Rattle.settle_laws.proofs.Counts.{JournalReads, journal_reads, queue_reads}
 use Rattle.settle_laws.proofs.Lonely.{got_by, handed, deliver_is, none_waits}
 use Rattle.settle_laws.proofs.One.{Rests, HandsOn, input_goes}
 use Rattle.settle_laws.proofs.Producing.{Waits, TakenAll, takes_all, known_queue, queued_reads}
 use Rattle.settle_laws.proofs.Sent.{sent_to, is_to}
 use Rattle.settle_laws.proofs.Tops.{Opens, each_at, downs_none, given_empty, given_is_ordered, given_sends}
-use Rattle.settle_laws.proofs.Whole.{IsOrdered, out_of, outs_of, producer_in, three_less}
+use Rattle.settle_laws.proofs.Whole.{IsOrdered, out_of, producer_in, three_less}
 
 -- The first drain.
 

@@ -17,6 +17,7 @@ use Rattle.bulk_gen.specs.Bulk.{bulk_script}
 use Rattle.bulk_gen.specs.SummaryText.{summary}
 use Rattle.yard_top.specs.LiveText.{LiveText}
 use Rattle.yard_top.specs.Replays.{replay_json}
+use Rattle.yard_top.specs.Settling.{EachSettles}
 use Rattle.yard_top.specs.Sound.{IsSound, solo_journal}
 use Rattle.yard_top.specs.Stops.{stop_in}
 use Rattle.yard_top.specs.declared.forms.Form.{Form}
@@ -59,10 +60,10 @@ IsText form.ReplayJson c text = text ≡ replay_json c
 IsText (form.Bulk n) c text = text ≡ summary n (trace_of c)
 IsText (form.Live n s) c text = LiveText c n text
 
--- what is so of what it writes: each journal is sound; the trace is safe, and what is printed is the text of a safe trace; of `live` its text says all
+-- what is so of what it writes: each journal is sound; the trace is safe, what is printed is the text of a safe trace, and each settle comes to its end; of `live` its text says all
 abbrev pub Holds : Form → Script → Type 0
 Holds form.Solo c = (e : List ℕ) → IsSound c e (solo_journal c e)
-Holds form.Replay c = SafeText c (replay_text c) × IsTrue (safe c (trace_of c))
+Holds form.Replay c = SafeText c (replay_text c) × IsTrue (safe c (trace_of c)) × EachSettles c
 Holds form.ReplayJson c = IsTrue (safe c (trace_of c))
 Holds (form.Bulk n) c = IsTrue (safe c (trace_of c))
 Holds (form.Live n s) c = Unit {0}

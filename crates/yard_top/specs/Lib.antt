@@ -6,6 +6,7 @@ pub mod Known
 pub mod LiveText
 pub mod Replays
 pub mod Safely
+pub mod Settling
 pub mod Sound
 pub mod Stops
 pub mod Texts

@@ -12,6 +12,7 @@ ghost use Rattle.trace_text.specs.Foldable.{is_foldable_in_all};
 ghost use Rattle.trace_text.specs.Json.{json_text};
 ghost use Rattle.world_sim.specs.Played.{next_of};
 ghost use Rattle.yard_top.specs.Replays.{IsOn, IsDone, IsNext, replay_json, trace_text};
+ghost use Rattle.yard_top.specs.Settling.{EachSettles};
 ghost use Rattle.yard_top.specs.Stops.{start, course, course_step, stop_in};
 ghost use Rattle.yard_top.specs.Writing.{Writes};
 
@@ -22,6 +23,7 @@ use behaviour_core::Behaviour;
 use behaviour_core::laws::decided_law;
 use behaviour_kinds::{Account, Cart, Counter};
 use play_laws::play::{replay_is_safe, trace_is_safe};
+use settle_laws::worlds::settle_line_settles;
 use shard_store::Stores;
 use std::alloc::{AllocError, Global};
 use trace_text::{push_fact, push_report};
@@ -44,9 +46,12 @@ pub fn write_replay<K: Sink>(
     ensures stop { IfOk result (λ stop. stop ≡ stop_in (trace_of charter.now)) }
     ensures safe { IsTrue (safe charter.now (trace_of charter.now)) }
     ensures safely { SafeText charter.now (replay_text charter.now) }
+    ensures settles { EachSettles charter.now }
 {
     is_safe(charter);
     replay_is_safe();
+    charter.config();
+    settle_line_settles();
     match charter.config().kind {
         Kind::Counter => replayed(alloc, charter, Counter::new(), sink),
         Kind::Account => replayed(alloc, charter, Account::new(), sink),

@@ -1,6 +1,6 @@
 //! What no clause says: that a run gives stores where there is memory, that two nodes run at the same
 //! time, and that what one posts comes to the other.
-ghost use Rattle.std.specs.Prelude.{◌≡◌, ◌++◌, [], ◌∷◌, replicate, true, IfOk};
+ghost use Rattle.std.specs.Prelude.{◌≡◌, ◌++◌, [], ◌∷◌, replicate, true, false, IfOk};
 ghost use Rattle.yard_model.specs.declared.charter.Order.TheVariants as order;
 ghost use Rattle.yard_model.specs.declared.event.Command.TheVariants as command;
 ghost use Rattle.yard_model.specs.declared.event.Kind.TheVariants as kind;

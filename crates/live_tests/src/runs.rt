@@ -1,6 +1,6 @@
 //! What no clause says: that a run gives stores where there is memory, that two nodes run at the same
 //! time, and that what one posts comes to the other.
-ghost use Rattle.std.specs.Prelude.{◌≡◌, ◌++◌, [], ◌∷◌, replicate, true, IfOk};
+ghost use Rattle.std.specs.Prelude.{◌≡◌, ◌++◌, [], ◌∷◌, replicate, true, false, IfOk};
 ghost use Rattle.yard_model.specs.declared.charter.Order.TheVariants as order;
 ghost use Rattle.yard_model.specs.declared.event.Command.TheVariants as command;
 ghost use Rattle.yard_model.specs.declared.event.Kind.TheVariants as kind;
@@ -94,6 +94,13 @@ const SMALL: Config = Config {
     kind: Kind::Counter,
 };
 
+/// An order, in the second line.
+fn line(order: Order) -> Line
+    ensures { result ≡ record { number = 2; order = order } }
+{
+    Line { number: 2, order }
+}
+
 /// A script of two nodes, where the first sends to a name of each shard once it was told sixteen times to
 /// come up.
 fn two_nodes(
@@ -113,19 +120,11 @@ fn two_nodes(
     }) }
 {
     let first = NodeNo::FIRST;
-    let up = Line {
-        number: 2,
-        order: Order::Up(first),
-    };
-    let mut orders = Vec::from_elem(alloc, up, 16)?;
-    for order in [
-        Order::Up(second),
-        Order::Produce(p, first),
-        Order::Send(p, a, Command::Add(7)),
-        Order::Send(p, b, Command::Add(7)),
-    ] {
-        orders.push(Line { number: 2, order })?;
-    }
+    let mut orders = Vec::from_elem(alloc, line(Order::Up(first)), 16)?;
+    orders.push(line(Order::Up(second)))?;
+    orders.push(line(Order::Produce(p, first)))?;
+    orders.push(line(Order::Send(p, a, Command::Add(7))))?;
+    orders.push(line(Order::Send(p, b, Command::Add(7))))?;
     Charter::new(alloc, SMALL, orders)
 }
 

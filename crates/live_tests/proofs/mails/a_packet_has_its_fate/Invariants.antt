@@ -4,7 +4,7 @@ use Rattle.node_runner.specs.Parcels.{no_table}
 use Rattle.live_tests.proofs.mails.a_packet_has_its_fate.Given as goal
 
 abbrev pub ghosts-came : goal.ghosts-came
-ghosts-came a = record {
+ghosts-came g a = record {
   script = record { config = record { nodes = 2; shards = 2; producers = 1; buffer = 10; window = 4; snapshot = 100; keep = 1; remember = false; kind = kind.Counter }; orders = [] };
   table = no_table;
 }

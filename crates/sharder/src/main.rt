@@ -4,6 +4,8 @@
 
 use std::env::{self, Env};
 use std::process::ExitCode;
+use std::sync::Wait;
+use std::thread::Threads;
 use yard_io::{FreeGate, StdSink, StdSource};
 use yard_top::{Status, sharder, status_without_words, without_name};
 
@@ -67,7 +69,8 @@ fn told(words: &[String]) -> Option<&'static str> {
     }
 }
 
-fn run(rt: &HostRuntime) -> Status {
+/// Does what the words ask for; `live` with these threads.
+fn run(rt: &HostRuntime, threads: &(impl Threads + Wait + Sync)) -> Status {
     let words = match words_of(rt) {
         Ok(words) => words,
         Err(status) => return status,
@@ -81,7 +84,7 @@ fn run(rt: &HostRuntime) -> Status {
     let mut source = StdSource::new(rt.stdin());
     match StdSink::new(rt.alloc(), rt.stdout()) {
         Ok(mut sink) => sharder(
-            rt,
+            threads,
             rt.alloc(),
             words.as_slice(),
             &mut source,
@@ -93,7 +96,7 @@ fn run(rt: &HostRuntime) -> Status {
 }
 
 fn main(rt: HostRuntime) -> ExitCode {
-    let status = run(&rt);
+    let status = run(&rt, &rt);
     complain(&rt, status);
     ExitCode::from(status.code())
 }

@@ -3,8 +3,8 @@
 
     bench/live.py [PROGRAM] [TURNS] [RUNS]
 
-Each node produces one producer, which sends 500 commands to four names of its own; every node stays up, so that
-each makes all of its turns. A line for each number of nodes: the best of RUNS runs, in turns of all nodes a second
+Each node produces one producer; 2,000 commands are sent in all, to 16 names in 16 shards, whatever the number of
+nodes, since a timer's turn goes over all names. Every node stays up, so that each makes all of its turns. A line for each number of nodes: the best of RUNS runs, in turns of all nodes a second
 of the clock, and how many times those of one node. The settling and the text are within the time.
 """
 import subprocess
@@ -16,11 +16,10 @@ TOP = Path(__file__).resolve().parent.parent
 
 
 def script(nodes):
-    lines = [f"config nodes={nodes} shards={4 * nodes} producers={nodes}"]
+    lines = [f"config nodes={nodes} shards=16 producers={nodes}"]
     lines += [f"up {n}" for n in range(1, nodes + 1)]
     lines += [f"produce {n} {n}" for n in range(1, nodes + 1)]
-    for k in range(500):
-        lines += [f"send {n} e{n}-{k % 4} add 1" for n in range(1, nodes + 1)]
+    lines += [f"send {k % nodes + 1} e{k % 16} add 1" for k in range(2000)]
     return "".join(line + "\n" for line in lines).encode()
 
 

@@ -95,6 +95,79 @@ fn each_run_comes_to_this(rt: HostRuntime) -> Result<(), Fail> {
     Ok(())
 }
 
+/// How many seeds are tried.
+const SEEDS: u32 = 32;
+
+/// What a run of so many turns with this seed writes.
+fn written<R: Threads + Wait + Sync + Abort>(
+    rt: &R,
+    alloc: Global,
+    seed: u32,
+) -> Result<MemSink, Fail> {
+    let word = format!(in alloc; "{seed}")?;
+    let mut source = WholeSource::new(alloc, TWO_PRODUCERS)?;
+    let mut sink = MemSink::new(alloc, &[])?;
+    let form = ["live", "500", word.as_str()];
+    let end = run(rt, alloc, &form, &mut source, &mut sink)?;
+    assert_eq!(rt; end, Status::Ok, "seed {seed}");
+    Ok(sink)
+}
+
+/// The lines from `report` on.
+fn report_of<'a>(alloc: Global, text: &'a str) -> Result<Vec<&'a str>, AllocError> {
+    let mut lines = Vec::new(alloc);
+    let mut is_there = false;
+    for line in text.lines() {
+        is_there = is_there || line == "report";
+        if is_there {
+            lines.push(line)?;
+        }
+    }
+    Ok(lines)
+}
+
+/// Whether two lines are the same, but for the word behind `epoch`.
+fn is_same_line(one: &str, other: &str) -> bool {
+    let mut others = other.split(' ');
+    let mut is_epoch = false;
+    for word in one.split(' ') {
+        let Some(next) = others.next() else {
+            return false;
+        };
+        if !is_epoch && word != next {
+            return false;
+        }
+        is_epoch = word == "epoch";
+    }
+    others.next().is_none()
+}
+
+/// Whether two reports are the same, but for the epochs.
+fn is_same_report(one: &[&str], other: &[&str]) -> bool {
+    if one.len() != other.len() {
+        return false;
+    }
+    one.iter()
+        .zip(other.iter())
+        .all(|(x, y)| is_same_line(x, y))
+}
+
+#[test]
+fn each_seed_reports_the_same(rt: HostRuntime) -> Result<(), Fail> {
+    let alloc = rt.alloc();
+    let first = written(&rt, alloc, 1)?;
+    let report = report_of(alloc, str::from_utf8(first.bytes())?)?;
+    for seed in 2..SEEDS + 1 {
+        let next = written(&rt, alloc, seed)?;
+        let other = report_of(alloc, str::from_utf8(next.bytes())?)?;
+        assert!(rt;
+            is_same_report(report.as_slice(), other.as_slice()),
+            "seed {seed}"
+        );
+    }
+    Ok(())
+}
+
 /// Runs a script whose sink takes one byte a call, and this call fails.
 fn fail_a_byte<R: Threads + Wait + Sync + Abort>(
     rt: &R,

@@ -13,9 +13,11 @@ use Rattle.yard_model.specs.Script.{Script, IsScript, setting}
 use Rattle.yard_model.specs.Settled.{settled}
 use Rattle.yard_model.specs.SlotLists.{SlotLists}
 use Rattle.yard_model.specs.Genuine.{is_slot_of}
+use Rattle.yard_model.specs.Queries.{known}
 use Rattle.yard_model.specs.Lawful.{own, is_held, lawful}
 use Rattle.yard_model.specs.Trace.{list_at, lists_step}
-use Rattle.yard_model.specs.World.{Made, all_sends, given_world, new_world, play_line, played, settled_from, in_order, tell, wire_limit}
+use Rattle.yard_model.specs.World.{World, Made, all_sends, given_world, new_world, play_line, played, settled_from, in_order, tell, wire_limit}
+use Rattle.query_laws.specs.Known.{are_numbered, AreAlike}
 use Rattle.settle_laws.specs.Lonely.{IsLonger}
 use Rattle.settle_laws.specs.Settles.{EndsSettled, IsUnheld, StoresEnd}
 use Rattle.world_sim.specs.Given.{Given}
@@ -151,3 +153,15 @@ MadeAll = (c : Script) → made_of c (length c.orders) ≡ played c wire_limit
 -- what any number of orders told is safe at each prefix
 abbrev pub MadeSafe : Type 0
 MadeSafe = (c : Script) (n : ℕ) → IsScript c → IsTrue (safe c (made_of c n).facts)
+
+-- the world that the queries answer of the facts of the first orders
+abbrev pub known_of : Script → ℕ → World
+known_of c n = (known c.orders (new_world c wire_limit) (made_of c n).facts).world
+
+-- after so many orders of lines with different numbers every word of the world but those of nodes is what the queries answer of the facts told so far; and every word of each node too, where the wire isn't full then
+abbrev pub IsKnown : Script → ℕ → Type 0
+IsKnown c n = are_numbered c ≡ true → AreAlike (known_of c n) (made_of c n).world × ((made_of c n).world.full ≡ false → known_of c n ≡ (made_of c n).world)
+
+-- so it is after any number of orders
+abbrev pub MadeKnown : Type 0
+MadeKnown = (c : Script) (n : ℕ) → IsScript c → IsKnown c n

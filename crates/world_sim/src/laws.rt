@@ -1,7 +1,7 @@
 //! Laws of what mail tells, and of what steps of the world keep. Each is a function that does nothing, whose contract is the law; a proof
 //! that needs it calls the function.
 ghost use Rattle.world_sim.specs.Keeps.{Keeps};
-ghost use Rattle.world_sim.specs.Played.{MadeNone, MadeNext, MadeFull, MadeAll, MadeSafe};
+ghost use Rattle.world_sim.specs.Played.{MadeNone, MadeNext, MadeFull, MadeAll, MadeSafe, MadeKnown};
 ghost use Rattle.world_sim.specs.Told.{FactsLaw, PostsAreOwn, ToldLaw, TurnIsOwn};
 
 use actor_laws::region::shards_are_there;
@@ -14,6 +14,7 @@ use node_laws::cluster::{
 };
 use node_laws::hand::{recorded_stays, turn_is_guarded};
 use play_laws::play::played_is_sound;
+use query_laws::known::orders_are_known;
 
 /// What is told of a turn's items is what the world's definition gives for them, and leads to the
 /// packets, the fresh numbers and the flag that the mail has: for items whose facts speak of no
@@ -47,6 +48,14 @@ pub fn made_is_safe()
     ensures { MadeSafe }
 {
     played_is_sound();
+}
+
+/// The world after any number of a script's orders, whose lines have different numbers, is what the
+/// queries answer of the facts that they told.
+pub fn made_is_known()
+    ensures { MadeKnown }
+{
+    orders_are_known();
 }
 
 /// The world after any orders is sound, and each step keeps it so.

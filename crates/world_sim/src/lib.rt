@@ -8,6 +8,7 @@ mod fault;
 mod gives;
 pub mod laws;
 mod left;
+mod look;
 mod mail;
 mod members;
 mod numbers;

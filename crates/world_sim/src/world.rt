@@ -6,11 +6,11 @@ ghost use Rattle.yard_model.specs.World.{given_world, new_world, wire_limit};
 ghost use Rattle.shard_store.specs.Stores.{lists_at};
 ghost use Rattle.world_sim.specs.declared.fault.StepFault.TheVariants as fault;
 ghost use Rattle.world_sim.specs.Given.{IsGiven};
-ghost use Rattle.world_sim.specs.Played.{Answers, Steps, LineSettles, Settling, made_of};
+ghost use Rattle.world_sim.specs.Played.{Answers, IsKnown, LineSettles, Settling, Steps, made_of};
 ghost use Rattle.world_sim.specs.Yard.{IsSeen};
 
 use crate::fault::StepFault;
-use crate::laws::{made_is_safe, standing_is_kept};
+use crate::laws::{made_is_known, made_is_safe, standing_is_kept};
 use crate::mail::Mail;
 use crate::numbers::greatest_number;
 use crate::places::{no_nodes, set_number, zeros};
@@ -132,15 +132,19 @@ impl<B: Behaviour + Copy + Drop> World<B> {
     /// Plays the next order, and tells its facts; where memory runs out, a beginning of them. A world
     /// that is spent answers what ended it. What the orders told so far is safe at each prefix: at most
     /// one incarnation of an entity is live, which holds its shard's lease, each state that is shown is
-    /// its journal's, and the lists are lawful. A line that settles leaves every send so far settled.
+    /// its journal's, and the lists are lawful; and what the world is then, its wire, the lists of its
+    /// stores and the state of each node, is what the queries answer of that trace. A line that settles
+    /// leaves every send so far settled.
     pub fn step(&mut self, line: &Line, out: &mut Facts) -> Result<(), StepFault>
         requires new { self.old.given ≡ None }
         requires next { IfNone self.old.fault (slice_get self.old.script.orders self.old.count ≡ Some line.now) }
         ensures steps { Steps self.old line.now out.old result self.new out.new }
         ensures safe { IsTrue (safe self.new.script (made_of self.new.script self.new.count).facts) }
+        ensures known { IsKnown self.new.script self.new.count }
         ensures settles { OnOk result (LineSettles self.old line.now) }
     {
         made_is_safe();
+        made_is_known();
         if let Some(fault) = self.fault {
             return Err(fault);
         }

@@ -1,5 +1,5 @@
 //! Records in the order of writing, and how many each producer has among them.
-ghost use Rattle.std.specs.Prelude.{◌≡◌, ℕ, ◌+◌, ◌-◌, ◌<◌, ◌≤◌, [], ◌∷◌, ◌++◌, length, drop, OnOk, OnErr};
+ghost use Rattle.std.specs.Prelude.{◌≡◌, ℕ, ◌+◌, ◌-◌, ◌<◌, ◌≤◌, ◌^◌, [], ◌∷◌, ◌++◌, length, drop, OnOk, OnErr, vec_len, vec_capacity};
 ghost use Rattle.entity_journal.specs.Journal.{AreNumbered, of_producer};
 
 use std::alloc::{AllocError, Global};
@@ -53,7 +53,7 @@ impl Journal {
     {
         let wanted = n as usize;
         if wanted > self.free {
-            self.records.reserve(wanted)?;
+            make_room(&mut self.records, wanted)?;
             self.free = wanted;
         }
         Ok(())
@@ -97,4 +97,21 @@ impl Journal {
     {
         self.counts[(producer.get() - 1) as usize]
     }
+}
+
+/// Room for so many records more. Where there are few yet they move to new room: a list that grows
+/// where it stands takes all of its room along, used or not, and so has memory for what isn't there.
+fn make_room(records: &mut Vec<Record>, wanted: usize) -> Result<(), AllocError>
+    requires { wanted < 2 ^ 32 }
+    ensures items { records.new.items ≡ records.old.items }
+    ensures ok { OnOk result (vec_len records.new + wanted ≤ vec_capacity records.new) }
+    ensures capacity { vec_capacity records.old ≤ vec_capacity records.new }
+{
+    if records.len() >= wanted || records.capacity() - records.len() >= wanted {
+        return records.reserve(wanted);
+    }
+    let mut roomier = Vec::with_capacity(*records.allocator(), records.len() + wanted)?;
+    roomier.append(records)?;
+    *records = roomier;
+    Ok(())
 }

@@ -1,5 +1,5 @@
 //! The list of a shard's slot, with the lease that it tells of.
-ghost use Rattle.std.specs.Prelude.{◌≡◌, ◌+◌, ◌-◌, ◌<◌, ◌≤◌, [], ◌∷◌, ◌++◌, length, map, true, false, IfOk, OnOk, OnErr, max};
+ghost use Rattle.std.specs.Prelude.{◌≡◌, ◌+◌, ◌-◌, ◌<◌, ◌≤◌, ◌^◌, [], ◌∷◌, ◌++◌, length, map, true, false, IfOk, OnOk, OnErr, max, vec_len, vec_capacity};
 ghost use Rattle.yard_model.specs.declared.fact.Fact.TheVariants as fact;
 ghost use Rattle.yard_model.specs.declared.incarnation.Slot.TheVariants as slot;
 ghost use Rattle.yard_model.specs.Entry.{shard_fact};
@@ -92,7 +92,7 @@ impl SlotList {
         if n > u32::MAX - len || n > u32::MAX - self.epoch {
             return Err(AllocError);
         }
-        self.entries.reserve(n as usize)?;
+        make_room(&mut self.entries, n as usize)?;
         self.spare = n;
         Ok(())
     }
@@ -169,4 +169,21 @@ impl SlotList {
     {
         self.entries.as_slice()
     }
+}
+
+/// Room for so many entries more. Where there are few yet they move to new room: a list that grows
+/// where it stands takes all of its room along, used or not, and so has memory for what isn't there.
+fn make_room(entries: &mut Vec<ShardEntry>, wanted: usize) -> Result<(), AllocError>
+    requires { wanted < 2 ^ 32 }
+    ensures items { entries.new.items ≡ entries.old.items }
+    ensures ok { OnOk result (vec_len entries.new + wanted ≤ vec_capacity entries.new) }
+    ensures capacity { vec_capacity entries.old ≤ vec_capacity entries.new }
+{
+    if entries.len() >= wanted || entries.capacity() - entries.len() >= wanted {
+        return entries.reserve(wanted);
+    }
+    let mut roomier = Vec::with_capacity(*entries.allocator(), entries.len() + wanted)?;
+    roomier.append(entries)?;
+    *entries = roomier;
+    Ok(())
 }

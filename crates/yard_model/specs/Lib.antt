@@ -8,6 +8,7 @@ pub mod Equal
 pub mod Era
 pub mod Events
 pub mod Follow
+pub mod Front
 pub mod Genuine
 pub mod Guards
 pub mod Items

@@ -1,3 +1,6 @@
+pub mod NameLaws
+pub mod PlaceLaws
+pub mod NamedLaws
 pub mod SendsLaws
 pub mod ListLaws
 pub mod KeptLaws

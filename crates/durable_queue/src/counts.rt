@@ -1,45 +1,52 @@
-//! A number for each name that a producer sends to. The names are entered at the beginning, so
-//! that a later change takes no memory.
-ghost use Rattle.std.specs.Prelude.{◌≡◌, ℕ, List, true, is_some, Some, IfOk};
-ghost use Rattle.std.specs.Ordering.{nat_cmp};
-ghost use Rattle.std.specs.Cmp.Lexicographic.{slice_cmp};
-ghost use Rattle.std.specs.BTreeMap.{get, Updates};
-ghost use Rattle.durable_queue.specs.Kept.{counted};
-ghost use Rattle.durable_queue.specs.Kept.{HasCounts};
+//! A number for each name, at the name's place.
+ghost use Rattle.std.specs.Prelude.{◌≡◌, ◌<◌, true, length, replicate, slice_index_or, slice_set, IfOk};
+ghost use Rattle.std.specs.List.{list_any};
+ghost use Rattle.yard_model.specs.Script.{is_name};
+ghost use Rattle.durable_queue.specs.Kept.{counted, place_of};
 
+use crate::names::Names;
 use std::alloc::{AllocError, Global};
-use std::collections::BTreeMap;
-use yard_model::{EntityName, Sending};
+use yard_model::EntityName;
 
-/// 0 for each name that is sent to. The only error is want of memory.
-pub(crate) fn zeros_of(
-    alloc: Global,
-    sends: &[Sending],
-) -> Result<BTreeMap<EntityName, u32>, AllocError>
-    ensures there { IfOk result (λ counts. HasCounts counts sends.now) }
-    ensures zero { IfOk result (λ counts. (e : List ℕ) → counted counts e ≡ 0) }
+/// 0 for each of so many names. The only error is want of memory.
+pub(crate) fn zeros_of(alloc: Global, count: usize) -> Result<Vec<u32>, AllocError>
+    ensures { IfOk result (λ counts. counts.items ≡ replicate count 0) }
 {
-    let mut counts = BTreeMap::new(alloc);
-    for sending in sends {
-        counts.insert(sending.entity, 0)?;
-    }
-    Ok(counts)
+    vec![in alloc; 0u32; count]
 }
 
-/// The number of a name; 0 of another one.
-pub(crate) fn count_of(counts: &BTreeMap<EntityName, u32>, entity: &EntityName) -> u32
-    ensures { result ≡ counted counts.now entity.now }
+/// The number of a name; 0 of one that has no place.
+pub(crate) fn count_of(names: &Names, counts: &[u32], entity: &EntityName) -> u32
+    requires { length counts.now ≡ length names.now }
+    ensures { result ≡ counted names.now counts.now entity.now }
 {
-    counts.get(entity).copied().unwrap_or(0)
+    match names.find(entity) {
+        Some(place) => count_at(counts, place),
+        None => 0,
+    }
 }
 
-/// Another number for a name that has one.
-pub(crate) fn put(counts: &mut BTreeMap<EntityName, u32>, entity: &EntityName, number: u32)
-    requires { is_some (get (slice_cmp nat_cmp) counts.old entity.now) ≡ true }
-    ensures { Updates (slice_cmp nat_cmp) counts.old counts.new entity.now (Some number) }
+/// Another number for a name that has a place.
+pub(crate) fn put(names: &Names, counts: &mut Vec<u32>, entity: &EntityName, number: u32)
+    requires sized { length counts.old.items ≡ length names.now }
+    requires named { list_any (is_name entity.now) names.now ≡ true }
+    ensures { counts.new.items ≡ slice_set counts.old.items (place_of names.now entity.now) number }
 {
-    match counts.insert(*entity, number) {
-        Ok(_) => {}
-        Err(_) => unreachable!(),
-    }
+    put_at(counts, names.place(entity), number);
+}
+
+/// The number at a place.
+pub(crate) fn count_at(counts: &[u32], place: usize) -> u32
+    requires { place < length counts.now }
+    ensures { result ≡ slice_index_or counts.now place 0 }
+{
+    counts[place]
+}
+
+/// Another number at a place.
+pub(crate) fn put_at(counts: &mut Vec<u32>, place: usize, number: u32)
+    requires { place < length counts.old.items }
+    ensures { counts.new.items ≡ slice_set counts.old.items place number }
+{
+    counts[place] = number;
 }

@@ -1,37 +1,73 @@
-//! The commands to each name that a producer sends to, in the order of its sends.
-ghost use Rattle.std.specs.Prelude.{◌≡◌, slice_get, IfOk};
-ghost use Rattle.durable_queue.specs.Kept.{planned, ArePlans};
+//! The commands to each name, in the order of the sends, at the name's place.
+ghost use Rattle.std.specs.Prelude.{◌≡◌, ◌<◌, ◌++◌, ◌∷◌, [], true, length, map, replicate, slice_get, slice_set, slice_index_or, IfOk, OnOk};
+ghost use Rattle.std.specs.List.{list_any};
+ghost use Rattle.yard_model.specs.Script.{is_name};
+ghost use Rattle.durable_queue.specs.Kept.{planned, place_of, ArePlans, AreNamed};
 
+use crate::names::Names;
 use std::alloc::{AllocError, Global};
-use std::collections::BTreeMap;
 use yard_model::{Command, EntityName, Sending};
 
 /// The commands of these sends. The only error is want of memory.
 pub(crate) fn plans_of(
     alloc: Global,
+    names: &Names,
     sends: &[Sending],
-) -> Result<BTreeMap<EntityName, Vec<Command>>, AllocError>
-    ensures { IfOk result (λ plans. ArePlans plans sends.now) }
+) -> Result<Vec<Vec<Command>>, AllocError>
+    requires { AreNamed names.now sends.now }
+    ensures sized { IfOk result (λ plans. length plans.items ≡ length names.now) }
+    ensures plans { IfOk result (λ plans. ArePlans names.now (map (λ v. v.items) plans.items) sends.now) }
 {
-    let mut plans = BTreeMap::new(alloc);
+    let mut plans = no_plans(alloc, names.len())?;
     for sending in sends {
-        let mut plan = plans.remove(&sending.entity).unwrap_or(Vec::new(alloc));
-        plan.push(sending.command)?;
-        plans.insert(sending.entity, plan)?;
+        add(&mut plans, names, sending)?;
     }
     Ok(plans)
 }
 
-/// The command at a place, from 0, of those to a name; None exactly where there is none.
-pub(crate) fn command_at(
-    plans: &BTreeMap<EntityName, Vec<Command>>,
-    entity: &EntityName,
-    place: usize,
-) -> Option<Command>
-    ensures { result ≡ slice_get (planned plans.now entity.now) place }
+/// So many empty plans. The only error is want of memory.
+fn no_plans(alloc: Global, count: usize) -> Result<Vec<Vec<Command>>, AllocError>
+    ensures { IfOk result (λ plans. map (λ v. v.items) plans.items ≡ replicate count []) }
 {
-    match plans.get(entity) {
-        Some(plan) => plan.as_slice().get(place).copied(),
+    let mut plans = Vec::new(alloc);
+    for _ in 0..count {
+        plans.push(Vec::new(alloc))?;
+    }
+    Ok(plans)
+}
+
+/// The command of a send, behind the others to its name. The only error is want of memory.
+fn add(plans: &mut Vec<Vec<Command>>, names: &Names, sending: &Sending) -> Result<(), AllocError>
+    requires sized { length plans.old.items ≡ length names.now }
+    requires named { list_any (is_name sending.now.entity) names.now ≡ true }
+    ensures sized { length plans.new.items ≡ length plans.old.items }
+    ensures plan { OnOk result (map (λ v. v.items) plans.new.items ≡ slice_set (map (λ v. v.items) plans.old.items) (place_of names.now sending.now.entity) (planned names.now (map (λ v. v.items) plans.old.items) sending.now.entity ++ sending.now.command ∷ [])) }
+{
+    let place = names.place(&sending.entity);
+    plans[place].push(sending.command)?;
+    Ok(())
+}
+
+/// The command of a number, from 0, of those to a name; None exactly where there is none.
+pub(crate) fn command_to(
+    names: &Names,
+    plans: &[Vec<Command>],
+    entity: &EntityName,
+    number: usize,
+) -> Option<Command>
+    requires { length plans.now ≡ length names.now }
+    ensures { result ≡ slice_get (planned names.now (map (λ v. v.items) plans.now) entity.now) number }
+{
+    match names.find(entity) {
+        Some(place) => command_at(plans, place, number),
         None => None,
     }
+}
+
+/// The command of a number, from 0, of those at a place; None exactly where there is none.
+pub(crate) fn command_at(plans: &[Vec<Command>], place: usize, number: usize) -> Option<Command>
+    requires { place < length plans.now }
+    ensures { result ≡ slice_get (slice_index_or (map (λ v. v.items) plans.now) place []) number }
+{
+    plans[place].as_slice().get(number).copied()
 }

@@ -5,13 +5,14 @@ ghost use Rattle.yard_model.specs.declared.incarnation.Slot.TheVariants as slot;
 ghost use Rattle.yard_model.specs.Entry.{queue_fact};
 ghost use Rattle.yard_model.specs.Genuine.{is_node, is_producer};
 ghost use Rattle.yard_model.specs.Lawful.{is_held, own};
-ghost use Rattle.yard_model.specs.Script.{sends, plan, with_shards};
+ghost use Rattle.yard_model.specs.Script.{names_in, sends, plan, with_shards};
 ghost use Rattle.yard_model.specs.SlotReads as reads;
+ghost use Rattle.durable_queue.specs.Queue.{name_at};
 
-use crate::counts::{count_of, put, zeros_of};
-use crate::plans::{command_at, plans_of};
+use crate::counts::{count_at, count_of, put, put_at, zeros_of};
+use crate::names::Names;
+use crate::plans::{command_at, command_to, plans_of};
 use std::alloc::{AllocError, Global};
-use std::collections::BTreeMap;
 use std::marker::{Model, PhantomData};
 use std::snapshot::Snapshot as Ghost;
 use yard_model::laws::sending_law;
@@ -31,9 +32,10 @@ pub struct QueueStore {
     script: Ghost<Charter>,
     producer: ProducerNo,
     entries: Vec<QueueEntry>,
-    plans: BTreeMap<EntityName, Vec<Command>>,
-    queued: BTreeMap<EntityName, u32>,
-    confirmed: BTreeMap<EntityName, u32>,
+    names: Names,
+    plans: Vec<Vec<Command>>,
+    queued: Vec<u32>,
+    confirmed: Vec<u32>,
     total: u32,
     epoch: u32,
     leased: bool,
@@ -51,7 +53,7 @@ impl Model for QueueStore {
 
     ghost view = { λ q. record { script = q.script.value; producer = q.producer; entries = map (queue_fact q.producer) q.entries.items; spare = q.free } };
 
-    ghost invariant = { λ q. IsKept q.script.value q.producer q.entries.items q.plans q.queued q.confirmed q.total q.epoch q.leased q.free (vec_capacity q.entries) };
+    ghost invariant = { λ q. IsKept q.script.value q.producer q.entries.items q.names (map (λ v. v.items) q.plans.items) q.queued.items q.confirmed.items q.total q.epoch q.leased q.free (vec_capacity q.entries) };
 }
 
 impl QueueStore {
@@ -69,13 +71,15 @@ impl QueueStore {
         ensures spare { IfOk result (λ q. q.spare ≡ 0) }
     {
         let sends = charter.sends(producer);
-        let plans = plans_of(alloc, sends)?;
-        let queued = zeros_of(alloc, sends)?;
-        let confirmed = zeros_of(alloc, sends)?;
+        let names = Names::new(alloc, charter)?;
+        let plans = plans_of(alloc, &names, sends)?;
+        let queued = zeros_of(alloc, names.len())?;
+        let confirmed = zeros_of(alloc, names.len())?;
         Ok(QueueStore {
             script: Ghost::of(charter),
             producer,
             entries: Vec::new(alloc),
+            names,
             plans,
             queued,
             confirmed,
@@ -135,14 +139,30 @@ impl QueueStore {
     pub fn queued(&self, entity: &EntityName) -> u32
         ensures { result ≡ reads.queued entity.now self.now.entries }
     {
-        count_of(&self.queued, entity)
+        count_of(&self.names, self.queued.as_slice(), entity)
     }
 
     /// The last confirmed number to this entity; 0 before.
     pub fn confirmed(&self, entity: &EntityName) -> u32
         ensures { result ≡ reads.confirmed entity.now self.now.entries }
     {
-        count_of(&self.confirmed, entity)
+        count_of(&self.names, self.confirmed.as_slice(), entity)
+    }
+
+    /// How many commands are queued to the name at this place among the script's.
+    pub fn queued_at(&self, place: usize) -> u32
+        requires { place < length (names_in self.now.script.orders) }
+        ensures { result ≡ reads.queued (name_at self.now.script place) self.now.entries }
+    {
+        count_at(self.queued.as_slice(), place)
+    }
+
+    /// The last confirmed number to the name at this place among the script's; 0 before.
+    pub fn confirmed_at(&self, place: usize) -> u32
+        requires { place < length (names_in self.now.script.orders) }
+        ensures { result ≡ reads.confirmed (name_at self.now.script place) self.now.entries }
+    {
+        count_at(self.confirmed.as_slice(), place)
     }
 
     /// The command of this number to this entity; None exactly where none of that number is queued.
@@ -155,7 +175,27 @@ impl QueueStore {
         if number == 0 || number > self.queued(entity) {
             return None;
         }
-        command_at(&self.plans, entity, number as usize - 1)
+        command_to(
+            &self.names,
+            self.plans.as_slice(),
+            entity,
+            number as usize - 1,
+        )
+    }
+
+    /// The command of this number to the name at this place among the script's; None exactly where none
+    /// of that number is queued.
+    pub fn command_at(&self, place: usize, number: u32) -> Option<Command>
+        requires { place < length (names_in self.now.script.orders) }
+        ensures first { number ≡ 0 → result ≡ None }
+        ensures value { 0 < number → result ≡ slice_get (reads.commands (name_at self.now.script place) self.now.entries) (number - 1) }
+        ensures planned { IfSome result (λ k. slice_get (plan self.now.script self.now.producer (name_at self.now.script place)) (number - 1) ≡ Some k) }
+        ensures queued { IsSome result ↔ ((0 < number) × (number ≤ reads.queued (name_at self.now.script place) self.now.entries)) }
+    {
+        if number == 0 || number > self.queued_at(place) {
+            return None;
+        }
+        command_at(self.plans.as_slice(), place, number as usize - 1)
     }
 
     /// Makes the spare at least `n`. The only error is want of memory, which comes too where the
@@ -240,7 +280,12 @@ impl QueueStore {
     {
         sending_law();
         let sending = charter.sends(self.producer)[self.total as usize];
-        put(&mut self.queued, &sending.entity, sending.number);
+        put(
+            &self.names,
+            &mut self.queued,
+            &sending.entity,
+            sending.number,
+        );
         push(
             &mut self.entries,
             QueueEntry::Queued(sending.entity, sending.number, sending.command),
@@ -261,7 +306,25 @@ impl QueueStore {
         ensures producer { self.new.producer ≡ self.old.producer }
         ensures spare { self.new.spare + 1 ≡ self.old.spare }
     {
-        put(&mut self.confirmed, entity, number);
+        let place = self.names.place(entity);
+        self.confirm_at(place, entity, number);
+    }
+
+    /// All numbers up to this one are recorded, to the entity whose name stands at this place among the
+    /// script's.
+    pub fn confirm_at(&mut self, place: usize, entity: &EntityName, number: u32)
+        requires within { place < length (names_in self.old.script.orders) }
+        requires it { name_at self.old.script place ≡ entity.now }
+        requires spare { 0 < self.old.spare }
+        requires leased { is_held self.old.entries ≡ true }
+        requires queued { number ≤ reads.queued entity.now self.old.entries }
+        requires above { reads.confirmed entity.now self.old.entries < number }
+        ensures entries { self.new.entries ≡ self.old.entries ++ fact.Confirmed self.old.producer entity.now number ∷ [] }
+        ensures script { self.new.script ≡ self.old.script }
+        ensures producer { self.new.producer ≡ self.old.producer }
+        ensures spare { self.new.spare + 1 ≡ self.old.spare }
+    {
+        put_at(&mut self.confirmed, place, number);
         push(&mut self.entries, QueueEntry::Confirmed(*entity, number));
         self.free -= 1;
     }

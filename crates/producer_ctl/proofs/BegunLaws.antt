@@ -1,10 +1,10 @@
 -- A producer begins.
-use Rattle.std.proofs.Common.{◌≡◌, ℕ, ◌<◌, ◌+◌, List, length, map, replicate, sym, ap, subst, ◌∙◌, refl, arith, get_or-set_same, get_or-set_other, []}
+use Rattle.std.proofs.Common.{◌≡◌, ℕ, ◌<◌, ◌+◌, List, length, map, replicate, sym, ap, subst, ◌∙◌, refl, arith, get_or-set_same, get_or-set_other}
 use Rattle.std.specs.Prelude.{Some, slice_set, slice_index_or}
 use Rattle.std.specs.List.Sorted.{IsStrictlySortedBy}
 use Rattle.std.specs.Ordering.{nat_cmp}
 use Rattle.std.specs.Cmp.Lexicographic.{slice_cmp}
-use Rattle.std.proofs.lemmas.List.{length-map, length-replicate, get_or-map, get_or-replicate, get_or_default, ext_get_or}
+use Rattle.std.proofs.lemmas.List.{length-map, length-replicate, get_or-map, get_or-replicate, ext_get_or}
 use Rattle.yard_model.specs.declared.fact.Fact.{Fact}
 use Rattle.yard_model.specs.declared.incarnation.Incarnation.{Incarnation}
 use Rattle.yard_model.specs.Producer.{no_progress, new_producer}
@@ -20,52 +20,43 @@ use Rattle.producer_ctl.specs.Produced.{IsProduced, produced}
 abbrev pub AreRead : List (List ℕ) → List Fact → ℕ → List Pair → Type 0
 AreRead names entries k pairs = (i : ℕ) → i < k → slice_index_or pairs i no_pair ≡ new_pair (name_at names i) entries
 
-pub read_more : (names : List (List ℕ)) (entries : List Fact) (pairs : List Pair) (k q r : ℕ) (x y : List ℕ) → k < length names → length pairs ≡ length names → x ≡ slice_index_or names k x → y ≡ slice_index_or names k y → q ≡ queued x entries → r ≡ confirmed y entries
+pub read_more : (names : List (List ℕ)) (entries : List Fact) (pairs : List Pair) (k q r : ℕ) → k < length pairs → q ≡ queued (name_at names k) entries → r ≡ confirmed (name_at names k) entries
     → AreRead names entries k pairs → AreRead names entries (k + 1) (slice_set pairs k (record { demand = 0; sent = 0; queued = q; confirmed = r }))
-read_more names entries pairs k q r x y within there x_is y_is q_is r_is old i below = by_place (slice_index_or (slice_set pairs k now) i no_pair ≡ new_pair (name_at names i) entries) i k
+read_more names entries pairs k q r inside q_is r_is old i below = by_place (slice_index_or (slice_set pairs k now) i no_pair ≡ new_pair (name_at names i) entries) i k
     (λ same. ap (λ n. slice_index_or (slice_set pairs k now) n no_pair) same ∙ (get_or-set_same pairs k now no_pair inside ∙ (made ∙ ap (λ n. new_pair (name_at names n) entries) (sym same))))
     (λ apart. get_or-set_other pairs k i now no_pair apart ∙ old i (less i k below apart))
   where
     now : Pair
     now = record { demand = 0; sent = 0; queued = q; confirmed = r }
 
-    inside : k < length pairs
-    inside = subst (λ n. k < n) (sym there) within
-
     less : (i k : ℕ) → i < k + 1 → (i ≡ k → ⊥) → i < k
     less i k a b = omega (arith, a, b)
 
-    name : (z : List ℕ) → z ≡ slice_index_or names k z → z ≡ name_at names k
-    name z is = is ∙ get_or_default names k z [] within
-
     made : now ≡ new_pair (name_at names k) entries
-    made = ap (λ n. record { demand = 0; sent = 0; queued = n; confirmed = r }) (q_is ∙ ap (λ e. queued e entries) (name x x_is))
-        ∙ ap (λ n. record { demand = 0; sent = 0; queued = queued (name_at names k) entries; confirmed = n }) (r_is ∙ ap (λ e. confirmed e entries) (name y y_is))
+    made = ap (λ n. record { demand = 0; sent = 0; queued = n; confirmed = r }) q_is
+        ∙ ap (λ n. record { demand = 0; sent = 0; queued = queued (name_at names k) entries; confirmed = n }) r_is
 
-pub begun_stands : {who : Incarnation} {number : ℕ} {store : Queue} {pairs : List Pair} {names : List (List ℕ)} → store.producer ≡ number → holder store.entries ≡ Some who → names ≡ (setting store.script).names → IsStrictlySortedBy (slice_cmp nat_cmp) names
-    → length pairs ≡ length names → AreRead names store.entries (length names) pairs → IsProduced who number store pairs
-begun_stands {who} {number} {store} {pairs} {names} its leased are sorted there read = record {
+pub begun_stands : {who : Incarnation} {number : ℕ} {store : Queue} {pairs : List Pair} → store.producer ≡ number → holder store.entries ≡ Some who → IsStrictlySortedBy (slice_cmp nat_cmp) (setting store.script).names
+    → length pairs ≡ length (setting store.script).names → AreRead (setting store.script).names store.entries (length (setting store.script).names) pairs → IsProduced who number store pairs
+begun_stands {who} {number} {store} {pairs} its leased sorted there read = record {
   number_is = its;
   leased = leased;
-  sorted = subst (IsStrictlySortedBy (slice_cmp nat_cmp)) are sorted;
-  there = there ∙ ap length are;
-  each = subst (λ (l : List (List ℕ)). (i : ℕ) → i < length l → IsPair store.script.config.window (name_at l i) store.entries (slice_index_or pairs i no_pair)) are
-      (λ i inside. subst (IsPair store.script.config.window (name_at names i) store.entries) (sym (read i inside)) (record { queued_is = refl; confirmed_is = refl; bounded = omega arith }));
+  sorted = sorted;
+  there = there;
+  each = λ i inside. subst (IsPair store.script.config.window (name_at (setting store.script).names i) store.entries) (sym (read i inside)) (record { queued_is = refl; confirmed_is = refl; bounded = omega arith });
 }
 
-pub begun_seen : (who : Incarnation) (number : ℕ) (store : Queue) (pairs : List Pair) {names : List (List ℕ)} → names ≡ (setting store.script).names → length pairs ≡ length names → AreRead names store.entries (length names) pairs
+pub begun_seen : (who : Incarnation) (number : ℕ) (store : Queue) (pairs : List Pair) → length pairs ≡ length (setting store.script).names → AreRead (setting store.script).names store.entries (length (setting store.script).names) pairs
     → produced who number store pairs ≡ record { script = store.script; state = new_producer (setting store.script) who number store.entries; room = store.spare }
-begun_seen who number store pairs {names} are there read =
-    ap (λ l. record { script = store.script; state = record { who = who; set = setting store.script; number = number; entries = store.entries; pairs = l }; room = store.spare })
-    (same ∙ ap (λ (l : List (List ℕ)). replicate (length l) no_progress) are)
+begun_seen who number store pairs there read = ap (λ l. record { script = store.script; state = record { who = who; set = setting store.script; number = number; entries = store.entries; pairs = l }; room = store.spare }) same
   where
-    size : length (map progress_of pairs) ≡ length names
+    size : length (map progress_of pairs) ≡ length (setting store.script).names
     size = length-map pairs progress_of ∙ there
 
-    one : (i : ℕ) → i < length (map progress_of pairs) → slice_index_or (map progress_of pairs) i no_progress ≡ slice_index_or (replicate (length names) no_progress) i no_progress
+    one : (i : ℕ) → i < length (map progress_of pairs) → slice_index_or (map progress_of pairs) i no_progress ≡ slice_index_or (replicate (length (setting store.script).names) no_progress) i no_progress
     one i below =
-        let inside : i < length names = subst (λ n. i < n) size below in
-        get_or-map progress_of pairs i no_pair no_progress (subst (λ n. i < n) (sym there) inside) ∙ (ap progress_of (read i inside) ∙ sym (get_or-replicate (length names) i no_progress no_progress inside))
+        let inside : i < length (setting store.script).names = subst (λ n. i < n) size below in
+        get_or-map progress_of pairs i no_pair no_progress (subst (λ n. i < n) (sym there) inside) ∙ (ap progress_of (read i inside) ∙ sym (get_or-replicate (length (setting store.script).names) i no_progress no_progress inside))
 
-    same : map progress_of pairs ≡ replicate (length names) no_progress
-    same = ext_get_or no_progress (map progress_of pairs) (replicate (length names) no_progress) (size ∙ sym (length-replicate (length names) no_progress)) one
+    same : map progress_of pairs ≡ replicate (length (setting store.script).names) no_progress
+    same = ext_get_or no_progress (map progress_of pairs) (replicate (length (setting store.script).names) no_progress) (size ∙ sym (length-replicate (length (setting store.script).names) no_progress)) one

@@ -1,4 +1,3 @@
-mod NameLaws
 mod PairLaws
 mod RuleLaws
 mod BegunLaws

@@ -19,7 +19,7 @@ use Rattle.durable_queue.specs.Queue.{Queue}
 use Rattle.producer_ctl.specs.declared.pair.Pair.{Pair}
 use Rattle.producer_ctl.specs.declared.pair.Sends.{Sends}
 use Rattle.producer_ctl.specs.declared.producers.Pending.{Pending}
-use Rattle.producer_ctl.specs.Paired.{name_at, numbers_of}
+use Rattle.producer_ctl.specs.Paired.{IsPlace, name_at, numbers_of}
 use Rattle.producer_ctl.specs.Produced.{Produced, Gives, moved, room_step, queueing}
 
 -- the numbers to an entity that a producer is still to route
@@ -123,7 +123,7 @@ room_of (Some k) = k.room
 
 abbrev pub routing_of : Option Pending → Routing
 routing_of None = no_routing
-routing_of (Some x) = record { producer = x.producer; entity = x.entity; numbers = numbers_of x.sends }
+routing_of (Some x) = record { producer = x.producer; entity = x.place.entity; numbers = numbers_of x.sends }
 
 abbrev pub producing : Script → Incarnation → List (Option Produced) → Option Pending → Producing
 producing c who items pending = record { script = c; who = who; producers = map (option_map state_of) items; rooms = map room_of items; pending = routing_of pending }
@@ -145,9 +145,10 @@ abbrev pub IsQueued : List ℕ → ℕ → Option Produced → Type 0
 IsQueued e n None = ⊥
 IsQueued e n (Some k) = n ≤ queued e k.state.entries
 
--- what is to be routed is queued
-pub record IsPending (items : List (Option Produced)) (x : Pending) : Type 0 where
-  pub there : x.sends.after < x.sends.last → IsQueued x.entity x.sends.last (at items (x.producer - 1))
+-- what is to be routed is queued, to a name of the script
+pub record IsPending (c : Script) (items : List (Option Produced)) (x : Pending) : Type 0 where
+  pub stands : IsPlace c x.place
+  pub there : x.sends.after < x.sends.last → IsQueued x.place.entity x.sends.last (at items (x.producer - 1))
 
 pub record IsProducing (c : Script) (who : Incarnation) (names : List (List ℕ)) (items : List (Option Produced)) (tables : List (Option (Vec Pair Global))) (pending : Option Pending) : Type 0 where
   pub names_are : names ≡ (setting c).names
@@ -156,7 +157,7 @@ pub record IsProducing (c : Script) (who : Incarnation) (names : List (List ℕ)
   pub tables_there : length tables ≡ c.config.producers
   pub each : (i : ℕ) → IfSome (at items i) (IsHeld c who (i + 1))
   pub free : (i : ℕ) → i < c.config.producers → at items i ≡ None → HasPlaces (length names) (at tables i)
-  pub pending_is : IfSome pending (IsPending items)
+  pub pending_is : IfSome pending (IsPending c items)
 
 -- the store of the queue that is held
 pub record IsStore (v : Producing) (p : ℕ) (x : Queue) : Type 0 where

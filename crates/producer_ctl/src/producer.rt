@@ -16,9 +16,7 @@ use crate::place::Place;
 use durable_queue::QueueStore;
 use std::alloc::AllocError;
 use std::marker::{Model, PhantomData};
-use yard_model::{
-    Charter, Command, EntityName, Fact, Incarnation, Item, Message, Out, ProducerNo, Sending,
-};
+use yard_model::{Charter, Command, Fact, Incarnation, Item, Message, Out, ProducerNo, Sending};
 
 /// A producer whose queue the node holds: the queue and, of each name of the script, what was
 /// demanded and sent, with what is queued and confirmed at hand. Contracts see it as the definition's
@@ -66,17 +64,15 @@ impl Producer {
         number: ProducerNo,
         store: QueueStore,
         table: Vec<Pair>,
-        names: &[EntityName],
     ) -> Producer
         requires number { store.producer ≡ number }
         requires leased { holder store.entries ≡ Some who }
-        requires names { names.now ≡ (setting store.script).names }
-        requires sorted { IsStrictlySortedBy (slice_cmp nat_cmp) names.now }
-        requires table { length table.items ≡ length names.now }
+        requires sorted { IsStrictlySortedBy (slice_cmp nat_cmp) (setting store.script).names }
+        requires table { length table.items ≡ length (setting store.script).names }
         ensures { result ≡ record { script = store.script; state = new_producer (setting store.script) who number store.entries; room = store.spare } }
     {
         let mut pairs = table;
-        read_all(&mut pairs, names, &store);
+        read_all(&mut pairs, &store);
         Producer {
             who,
             number,
@@ -146,15 +142,16 @@ impl Producer {
     }
 
     /// The message of a queued number.
-    pub(crate) fn message(&self, entity: &EntityName, number: u32) -> Message
+    pub(crate) fn message(&self, place: &Place, number: u32) -> Message
+        requires place { IsPlace self.now.script place.now }
         requires some { 0 < number }
-        requires queued { number ≤ queued entity.now self.now.state.entries }
-        ensures { result ≡ message_of entity.now self.now.state number }
+        requires queued { number ≤ queued place.now.entity self.now.state.entries }
+        ensures { result ≡ message_of place.now.entity self.now.state number }
     {
-        match self.store.command(entity, number) {
+        match self.store.command_at(place.at, number) {
             Some(command) => Message {
                 producer: self.number,
-                entity: *entity,
+                entity: place.entity,
                 number,
                 command,
                 origin: self.who,
@@ -192,7 +189,7 @@ impl Producer {
         ensures state { self.new ≡ moved self.old (told (fact.Confirmed self.old.state.number place.now.entity number) ∷ []) }
         ensures out { out.new ≡ given out.old (told (fact.Confirmed self.old.state.number place.now.entity number) ∷ []) }
     {
-        self.store.confirm(&place.entity, number);
+        self.store.confirm_at(place.at, &place.entity, number);
         self.pairs[place.at].confirm(number);
         push(
             out,
@@ -333,17 +330,17 @@ impl Producer {
 }
 
 /// Of each name, what is queued and confirmed in this queue is read, and nothing was sent.
-fn read_all(pairs: &mut Vec<Pair>, names: &[EntityName], store: &QueueStore)
-    requires { length pairs.old.items ≡ length names.now }
-    ensures there { length pairs.new.items ≡ length names.now }
-    ensures each { (i : ℕ) → i < length names.now → slice_index_or pairs.new.items i no_pair ≡ new_pair (name_at names.now i) store.now.entries }
+fn read_all(pairs: &mut Vec<Pair>, store: &QueueStore)
+    requires { length pairs.old.items ≡ length (setting store.now.script).names }
+    ensures there { length pairs.new.items ≡ length (setting store.now.script).names }
+    ensures each { (i : ℕ) → i < length (setting store.now.script).names → slice_index_or pairs.new.items i no_pair ≡ new_pair (name_at (setting store.now.script).names i) store.now.entries }
 {
-    for at in 0..names.len() {
+    for at in 0..pairs.len() {
         pairs[at] = Pair {
             demand: 0,
             sent: 0,
-            queued: store.queued(&names[at]),
-            confirmed: store.confirmed(&names[at]),
+            queued: store.queued_at(at),
+            confirmed: store.confirmed_at(at),
         };
     }
 }

@@ -44,7 +44,7 @@ pub(crate) struct Pending {
     /// The producer.
     pub producer: ProducerNo,
     /// To whom.
-    pub entity: EntityName,
+    pub place: Place,
     /// The numbers.
     pub sends: Sends,
 }
@@ -153,7 +153,7 @@ impl Producers {
     {
         let place = place_of(p);
         let table = take_table(&mut self.tables, place);
-        let producer = Producer::begun(self.who, p, store, table, self.names.as_slice());
+        let producer = Producer::begun(self.who, p, store, table);
         self.held[place] = Some(producer);
         self.pending = None;
     }
@@ -229,7 +229,7 @@ impl Producers {
     {
         let at = self.find(&sending.entity);
         let sends = queue_in(&mut self.held[place_of(p)], &at, charter, sending, out);
-        self.pending = pending_of(p, &at.entity, sends);
+        self.pending = pending_of(p, &at, sends);
     }
 
     /// Request: what is confirmed is noted; the entity asks for more, up to a number; what may be sent
@@ -253,7 +253,7 @@ impl Producers {
     {
         let at = self.find(entity);
         let sends = demand_in(&mut self.held[place_of(p)], &at, confirmed, up_to, out);
-        self.pending = pending_of(p, &at.entity, sends);
+        self.pending = pending_of(p, &at, sends);
     }
 
     /// Ack: what is confirmed is noted; what may be sent to the entity and wasn't yet is to be routed.
@@ -268,7 +268,7 @@ impl Producers {
     {
         let at = self.find(entity);
         let sends = ack_in(&mut self.held[place_of(p)], &at, confirmed, out);
-        self.pending = pending_of(p, &at.entity, sends);
+        self.pending = pending_of(p, &at, sends);
     }
 
     /// Resend: what may be sent to the entity from this number on, and isn't confirmed, is to be routed
@@ -280,7 +280,7 @@ impl Producers {
     {
         let at = self.find(entity);
         let sends = resend_in(&self.held[place_of(p)], &at, from);
-        self.pending = pending_of(p, &at.entity, sends);
+        self.pending = pending_of(p, &at, sends);
     }
 
     /// The tick of one producer and the name at a place: the first queued number that isn't confirmed
@@ -292,7 +292,7 @@ impl Producers {
     {
         let at = self.nth(at);
         let sends = tick_in(&mut self.held[place_of(p)], &at);
-        self.pending = pending_of(p, &at.entity, sends);
+        self.pending = pending_of(p, &at, sends);
     }
 
     /// The next message that is to be routed; None exactly where none is left.
@@ -307,10 +307,10 @@ impl Producers {
                 }
                 let number = pending.sends.after + 1;
                 let place = place_of(pending.producer);
-                let message = message_in(&self.held[place], &pending.entity, number);
+                let message = message_in(&self.held[place], &pending.place, number);
                 self.pending = Some(Pending {
                     producer: pending.producer,
-                    entity: pending.entity,
+                    place: pending.place,
                     sends: Sends {
                         after: number,
                         last: pending.sends.last,
@@ -421,13 +421,13 @@ fn tell_freed(p: ProducerNo, store: &Option<QueueStore>, out: &mut Out)
 }
 
 /// What is to be routed, if anything.
-fn pending_of(p: ProducerNo, entity: &EntityName, sends: Option<Sends>) -> Option<Pending>
-    ensures { result ≡ option_map (λ (s : Sends). record { producer = p; entity = entity.now; sends = s }) sends }
+fn pending_of(p: ProducerNo, place: &Place, sends: Option<Sends>) -> Option<Pending>
+    ensures { result ≡ option_map (λ (s : Sends). record { producer = p; place = place.now; sends = s }) sends }
 {
     match sends {
         Some(sends) => Some(Pending {
             producer: p,
-            entity: *entity,
+            place: *place,
             sends,
         }),
         None => None,

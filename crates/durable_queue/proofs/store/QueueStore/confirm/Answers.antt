@@ -1,41 +1,30 @@
-use Rattle.std.proofs.Common.{◌≡◌, ◌≤◌, List, ap, ◌∙◌, arith, true}
-use Rattle.std.specs.Prelude.{map, length}
-use Rattle.yard_model.specs.declared.entry.QueueEntry.TheVariants as entry
+use Rattle.std.proofs.Common.{◌≡◌, ◌≤◌, ◌<◌, List, ℕ, [], ap, sym, subst, ◌∙◌, arith}
+use Rattle.std.specs.Prelude.{map, length, slice_index_or}
 use Rattle.yard_model.specs.declared.fact.Fact.{Fact}
 use Rattle.yard_model.specs.Entry.{queue_fact}
-use Rattle.yard_model.specs.Lawful.{is_held}
-use Rattle.yard_model.specs.Script.{sends}
+use Rattle.yard_model.specs.Script.{names_in, sends}
 use Rattle.yard_model.specs.SlotReads as reads
 use Rattle.durable_queue.specs.Kept.{commands_to}
+use Rattle.durable_queue.specs.Queue.{Queue, name_at}
 use Rattle.durable_queue.proofs.FirstLaws.{queued_fits}
-use Rattle.durable_queue.proofs.ListLaws.{list_confirmed, sums_confirmed}
-use Rattle.durable_queue.proofs.KeptLaws.{kept_more, queued_confirmed, confirmed_confirmed, has_put}
 use Rattle.durable_queue.proofs.store.QueueStore.confirm.Goals as goal
 
-pub put-requires : goal.put-requires
-put-requires c =
+pub place-place-requires : goal.place-place-requires
+place-place-requires c =
     let q = c.self.inside in
     let k = c.self.invariant in
     let e = c.args.entity.now in
     let xs : List Fact = map (queue_fact q.producer) q.entries.items in
     let there : reads.queued e xs ≡ reads.queued e c.args.self.now.entries = ap (λ v. reads.queued e v.entries) c.self.view_is in
     let sent : reads.queued e xs ≤ length (commands_to e (sends q.script.value q.producer)) = queued_fits q.script.value q.producer xs e k.list.first in
-    k.confirmed_there.each e (omega arith)
+    k.named.each e (omega arith)
 
-pub invariant_of-self : goal.invariant_of-self
-invariant_of-self c =
-    let q = c.self.inside in
-    let k = c.self.invariant in
-    let xs : List Fact = map (queue_fact q.producer) q.entries.items in
-    let some : q.free ≡ c.args.self.now.spare = ap (λ v. v.spare) c.self.view_is in
-    let e = c.args.entity.now in
-    let held : is_held xs ≡ true = ap (λ v. is_held v.entries) c.self.view_is ∙ c.requires.leased in
-    let there : reads.queued e xs ≡ reads.queued e c.args.self.now.entries = ap (λ v. reads.queued e v.entries) c.self.view_is in
-    let last : reads.confirmed e xs ≡ reads.confirmed e c.args.self.now.entries = ap (λ v. reads.confirmed e v.entries) c.self.view_is in
-    kept_more q.script.value q.producer q.entries.items c.push.new.entries.items (entry.Confirmed e c.args.number) q.plans q.queued q.confirmed q.queued c.put.new.counts
-    q.total q.epoch q.total q.epoch q.leased _ q.free _ _ k c.push.ensures.items (omega arith) c.push.ensures.capacity (omega arith) (omega arith) k.queued_there
-    (has_put q.confirmed c.put.new.counts (sends q.script.value q.producer) e c.args.number c.put.ensures k.confirmed_there)
-    (list_confirmed q.script.value q.producer c.args.number xs e held (omega arith) (omega arith) k.list)
-    (queued_confirmed q.queued xs q.producer e c.args.number k.queued)
-    (confirmed_confirmed q.confirmed c.put.new.counts xs q.producer e c.args.number c.put.ensures k.confirmed)
-    (sums_confirmed q.total q.epoch c.args.number q.leased xs q.producer e k.sums)
+pub confirm_at-requires-clause-within : goal.confirm_at-requires-clause-within
+confirm_at-requires-clause-within c =
+    let i = c.place-place.result in
+    subst (λ (v : Queue). i < length (names_in v.script.orders)) c.self.view_is (subst (λ (l : List (List ℕ)). i < length l) c.self.invariant.ordered.are c.place-place.ensures.within)
+
+pub confirm_at-requires-clause-it : goal.confirm_at-requires-clause-it
+confirm_at-requires-clause-it c =
+    let i = c.place-place.result in
+    sym (ap (λ (v : Queue). name_at v.script i) c.self.view_is) ∙ (sym (ap (λ (l : List (List ℕ)). slice_index_or l i []) c.self.invariant.ordered.are) ∙ c.place-place.ensures.it)

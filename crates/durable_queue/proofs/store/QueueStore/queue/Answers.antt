@@ -13,7 +13,7 @@ use Rattle.std.proofs.lemmas.Option.{slice_get-get_or}
 use Rattle.durable_queue.proofs.FirstLaws.{some_commands}
 use Rattle.durable_queue.proofs.NumberLaws.{number_next}
 use Rattle.durable_queue.proofs.ListLaws.{list_queued, sums_queued}
-use Rattle.durable_queue.proofs.KeptLaws.{kept_more, queued_queued, confirmed_queued, has_put}
+use Rattle.durable_queue.proofs.KeptLaws.{kept_more, queued_queued, confirmed_queued, size_put, IsPut}
 use Rattle.durable_queue.proofs.store.QueueStore.queue.Goals as goal
 
 pub put-requires : goal.put-requires
@@ -28,7 +28,7 @@ put-requires c =
     let more : reads.queued_in_all xs ≡ reads.queued_in_all c.args.self.now.entries = ap (λ v. reads.queued_in_all v.entries) c.self.view_is in
     let size : length all ≡ length (sends c.args.self.now.script c.args.self.now.producer) = ap (λ v. length (sends v.script v.producer)) c.self.view_is in omega arith in
     let at : x ≡ slice_index_or all (reads.queued_in_all xs) x = c.index-sends-self.is ∙ (ap (λ l. slice_index_or l q.total x) list ∙ ap (λ n. slice_index_or all n x) k.sums.total) in
-    k.queued_there.each x.entity (some_commands all (reads.queued_in_all xs) x left at)
+    record { sized = k.sized.queued; named = k.named.each x.entity (some_commands all (reads.queued_in_all xs) x left at) }
 
 pub returns-clause-next : goal.returns-clause-next
 returns-clause-next c =
@@ -75,11 +75,13 @@ invariant_of-self c =
     let held : is_held xs ≡ true = ap (λ v. is_held v.entries) c.self.view_is ∙ c.requires.leased in
     let next : slice_get all (reads.queued_in_all xs) ≡ Some x = slice_get-get_or all (reads.queued_in_all xs) x left ∙ ap Some (sym at) in
     let same : is_sending x x ≡ true = (c.sending_law.ensures x x).1 refl in
-    let counts : x.number ≡ counted q.queued x.entity + 1 = number_next q.script.value q.producer xs x k.list.first next ∙ ap (λ n. n + 1) (sym (k.queued.each x.entity)) in
-    kept_more q.script.value q.producer q.entries.items c.push.new.entries.items (entry.Queued x.entity x.number x.command) q.plans q.queued q.confirmed c.put.new.counts q.confirmed
+    let counts : x.number ≡ counted q.names q.queued.items x.entity + 1 = number_next q.script.value q.producer xs x k.list.first next ∙ ap (λ n. n + 1) (sym (k.queued.each x.entity)) in
+    let put : IsPut q.names q.queued.items c.put.new.counts.items x.entity x.number =
+    record { sized = k.sized.queued; named = k.named.each x.entity (some_commands all (reads.queued_in_all xs) x left at); is = c.put.ensures } in
+    kept_more q.script.value q.producer q.entries.items c.push.new.entries.items (entry.Queued x.entity x.number x.command) q.names (map (λ v. v.items) q.plans.items) q.queued.items q.confirmed.items c.put.new.counts.items q.confirmed.items
     q.total q.epoch (q.total + 1) q.epoch q.leased _ q.free _ _ k c.push.ensures.items (omega arith) c.push.ensures.capacity (omega arith) (omega arith)
-    (has_put q.queued c.put.new.counts all x.entity x.number c.put.ensures k.queued_there) k.confirmed_there
+    (record { plans = k.sized.plans; queued = size_put q.names q.queued.items c.put.new.counts.items x.entity x.number put; confirmed = k.sized.confirmed })
     (list_queued q.script.value q.producer xs x same held next k.list)
-    (queued_queued q.queued c.put.new.counts xs q.producer x x.number counts c.put.ensures k.queued)
-    (confirmed_queued q.confirmed xs q.producer x k.confirmed)
+    (queued_queued q.names q.queued.items c.put.new.counts.items xs q.producer x x.number counts put k.queued)
+    (confirmed_queued q.names q.confirmed.items xs q.producer x k.confirmed)
     (sums_queued q.total q.epoch q.leased xs q.producer x k.sums)

@@ -1,5 +1,8 @@
-use Rattle.producer_ctl.proofs.SendLaws.{pending_queued, after_is, message_is}
+use Rattle.producer_ctl.proofs.SendLaws.{pending_placed, pending_queued, after_is, message_is}
 use Rattle.producer_ctl.proofs.producers.Producers.next_send.Goals as goal
+
+pub message_in-message-requires-clause-place : goal.message_in-message-requires-clause-place
+message_in-message-requires-clause-place c = pending_placed c.self.invariant c.in-Some.is c.if-pending.false c.place_of-place.ensures c.index.ensures
 
 pub message_in-message-requires-clause-queued : goal.message_in-message-requires-clause-queued
 message_in-message-requires-clause-queued c = pending_queued c.self.invariant c.in-Some.is c.if-pending.false c.place_of-place.ensures c.index.ensures

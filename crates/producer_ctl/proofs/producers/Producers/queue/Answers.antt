@@ -16,7 +16,7 @@ pub queue_in-sends-requires-clause-store : goal.queue_in-sends-requires-clause-s
 queue_in-sends-requires-clause-store c = room_there c.args.p c.self.invariant c.self.view_is c.requires.producer c.place_of.ensures c.index_mut.ensures.value c.requires.store
 
 pub invariant_of-self : goal.invariant_of-self
-invariant_of-self c = sent_stands c.args.p c.find-at.result.entity (queueing c.args.sending.now) (λ st. sym c.find-at.ensures.entity) c.self.invariant c.self.view_is c.requires.producer c.place_of.ensures c.index_mut.ensures.value c.queue_in-sends.ensures.sent c.pending_of-self-inside.ensures
+invariant_of-self c = sent_stands c.args.p c.find-at.result (queueing c.args.sending.now) (λ st. sym c.find-at.ensures.entity) c.find-at.ensures.place c.self.invariant c.self.view_is c.requires.producer c.place_of.ensures c.index_mut.ensures.value c.queue_in-sends.ensures.sent c.pending_of-self-inside.ensures
 
 pub returns-clause-state : goal.returns-clause-state
-returns-clause-state c = sent_moved c.args.p c.find-at.result.entity (queueing c.args.sending.now) (λ st. sym c.find-at.ensures.entity) (plain_queueing c.args.sending.now) c.self.invariant c.self.view_is c.requires.producer c.place_of.ensures c.index_mut.ensures.value c.queue_in-sends.ensures.sent c.pending_of-self-inside.ensures
+returns-clause-state c = sent_moved c.args.p c.find-at.result (queueing c.args.sending.now) (λ st. sym c.find-at.ensures.entity) (plain_queueing c.args.sending.now) c.self.invariant c.self.view_is c.requires.producer c.place_of.ensures c.index_mut.ensures.value c.queue_in-sends.ensures.sent c.pending_of-self-inside.ensures

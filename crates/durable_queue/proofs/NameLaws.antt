@@ -14,7 +14,6 @@ use Rattle.std.proofs.lemmas.Cmp.{tied_itself}
 use Rattle.yard_model.specs.Script.{is_name}
 use Rattle.plain_laws.proofs.Booleans.{same_name}
 use Rattle.plain_laws.proofs.Names.{name_itself, name_cmp}
-use Rattle.producer_ctl.specs.Paired.{name_at}
 
 -- what compares alike is the name
 pub found_at : (names : List (List ℕ)) (e : List ℕ) (i : ℕ) → HoldsAt (λ y. slice_cmp nat_cmp y e ≡ Equal) names i → HoldsAt (λ y. y ≡ e) names i
@@ -66,6 +65,19 @@ not_missing names e i sorted place among =
       | true ↦ λ below. not_alike (slice_index_or names p.place e) e Less (point.0 p.place e (omega arith) (lt_of p.place i below)) (λ q. cc) p.it
       | false ↦ λ above. not_alike (slice_index_or names p.place e) e Greater (point.1 p.place e (le_of p.place i above) p.within) (λ q. cc) p.it
     ] refl
+
+-- a name that isn't found isn't among them
+pub is_missing : (names : List (List ℕ)) (e : List ℕ) (i : ℕ) → IsStrictlySortedBy (slice_cmp nat_cmp) names →
+    (IsNonDecreasingBy (λ y. ordering_index (slice_cmp nat_cmp y e)) names → IsPartitionPoint (λ y. slice_cmp nat_cmp y e ≡ Less) (λ y. slice_cmp nat_cmp y e ≡ Greater) names i) →
+    list_any (is_name e) names ≡ false
+is_missing names e i sorted place = by (list_any (is_name e) names) (λ among. not_missing names e i sorted place among)
+  where
+    by : (b : Bool) → (b ≡ true → ⊥) → b ≡ false
+    by true h = absurd (h refl)
+    by false h = refl
+
+abbrev name_at : List (List ℕ) → ℕ → List ℕ
+name_at names k = slice_index_or names k []
 
 all_at : (P : List ℕ → Type 0) (xs : List (List ℕ)) (i : ℕ) → AllByRecursion P xs → i < length xs → P (name_at xs i)
 all_at P [] i h within = absurd (omega arith)

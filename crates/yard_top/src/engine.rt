@@ -149,7 +149,7 @@ impl Engine {
         ensures lists { OnOk result (self.new.lists ≡ self.old.lists) }
         ensures config { self.new.config ≡ self.old.config }
     {
-        let mut known = take_out(alloc, &mut self.entities, entity, self.config.kind);
+        let mut known = take_out(alloc, &mut self.entities, entity, self.config.kind)?;
         let number = known.send(producer);
         self.entities.insert(*entity, known)?;
         let message = Message {
@@ -180,7 +180,7 @@ impl Engine {
         ensures lists { OnOk result (facts_of self.new.lists.items ≡ with_taken self.old.config (facts_of self.old.lists.items) message.now) }
         ensures config { self.new.config ≡ self.old.config }
     {
-        let mut known = take_out(alloc, &mut self.entities, &message.entity, self.config.kind);
+        let mut known = take_out(alloc, &mut self.entities, &message.entity, self.config.kind)?;
         let taken = known.take(message, behaviour)?;
         self.entities.insert(message.entity, known)?;
         match taken {
@@ -233,18 +233,18 @@ fn push_record(
     Ok(())
 }
 
-/// What is known of a name, taken out of the map.
+/// What is known of a name, taken out of the map. The only error is want of memory.
 fn take_out(
     alloc: Global,
     entities: &mut BTreeMap<EntityName, Entity>,
     entity: &EntityName,
     kind: Kind,
-) -> Entity
-    ensures known { result ≡ known_or kind (get (slice_cmp nat_cmp) entities.old entity.now) }
+) -> Result<Entity, AllocError>
+    ensures known { IfOk result (λ known. known ≡ known_or kind (get (slice_cmp nat_cmp) entities.old entity.now)) }
     ensures rest { Updates (slice_cmp nat_cmp) entities.old entities.new entity.now None }
 {
     match entities.remove(entity) {
-        Some(known) => known,
+        Some(known) => Ok(known),
         None => Entity::new(alloc, kind),
     }
 }

@@ -10,9 +10,15 @@ use std::marker::Model;
 use yard_model::{Kind, Message, ProducerNo, Record, State};
 
 /// How many commands each producer has sent to the entity, its journal, and the state that the
-/// journal leads to.
+/// journal leads to; on the heap, so that what moves is small.
 #[derive(Drop)]
 pub struct Entity {
+    kept: Box<Kept>,
+}
+
+/// What is kept of it.
+#[derive(Drop)]
+struct Kept {
     kind: Kind,
     sent: [u32; 32],
     journal: Journal,
@@ -24,22 +30,24 @@ impl Model for Entity {
 
     ghost Value = { Known };
 
-    ghost view = { λ e. record { kind = e.kind; sent = e.sent; records = e.journal.items } };
+    ghost view = { λ e. record { kind = e.kept.value.kind; sent = e.kept.value.sent; records = e.kept.value.journal.items } };
 
-    ghost invariant = { λ e. IsKept (record { kind = e.kind; sent = e.sent; records = e.journal.items }) e.state };
+    ghost invariant = { λ e. IsKept (record { kind = e.kept.value.kind; sent = e.kept.value.sent; records = e.kept.value.journal.items }) e.kept.value.state };
 }
 
 impl Entity {
-    /// An entity to which nothing was sent. It takes no memory.
-    pub fn new(alloc: Global, kind: Kind) -> Entity
-        ensures { result ≡ unknown kind }
+    /// An entity to which nothing was sent. The only error is want of memory.
+    pub fn new(alloc: Global, kind: Kind) -> Result<Entity, AllocError>
+        ensures { IfOk result (λ e. e ≡ unknown kind) }
     {
-        Entity {
+        let kept = Kept {
             kind,
             sent: [0; 32],
             journal: Journal::new(alloc),
             state: State::empty(kind),
-        }
+        };
+        let kept = Box::new(alloc, kept)?;
+        Ok(Entity { kept })
     }
 
     /// Counts one command more of this producer, and answers its number.
@@ -52,8 +60,8 @@ impl Entity {
         ensures records { self.new.records ≡ self.old.records }
     {
         let place = producer.get() as usize - 1;
-        let number = self.sent[place] + 1;
-        self.sent[place] = number;
+        let number = self.kept.sent[place] + 1;
+        self.kept.sent[place] = number;
         number
     }
 
@@ -71,13 +79,13 @@ impl Entity {
         ensures record_is { IfOk result (λ r. r ≡ taken_as self.old message.now) }
         ensures entity { IfOk result (λ r. self.new ≡ record self.old { records = self.old.records ++ option_to_list r }) }
     {
-        if message.number != self.journal.position(message.producer) + 1 {
+        if message.number != self.kept.journal.position(message.producer) + 1 {
             return Ok(None);
         }
-        self.journal.reserve(1)?;
-        let decision = behaviour.decide(&self.state, &message.command);
+        self.kept.journal.reserve(1)?;
+        let decision = behaviour.decide(&self.kept.state, &message.command);
         let entry = Record {
-            number: self.journal.len() + 1,
+            number: self.kept.journal.len() + 1,
             epoch: 1,
             producer: message.producer,
             place: message.number,
@@ -86,8 +94,8 @@ impl Entity {
             reply: decision.reply,
         };
         let entry = &entry;
-        self.state = state_after(behaviour, &self.state, entry.events.as_slice());
-        self.journal.append(*entry);
+        self.kept.state = state_after(behaviour, &self.kept.state, entry.events.as_slice());
+        self.kept.journal.append(*entry);
         Ok(Some(*entry))
     }
 }

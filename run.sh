@@ -69,7 +69,7 @@ build() {
 if ! is_built; then
     if [ "$*" = --help ]; then
         # the help of the program, from its source
-        sed -n '/^const HELP/,/^";/{s/^const HELP: &str = "//;/^";/d;p}' "$top/crates/sharder/src/main.rt"
+        sed -n '/^const HELP/,/^";/{s/^const HELP: &str = "//;/^";/d;p}' "$top/crates/program_words/src/notice.rt"
         exit 0
     fi
     build

@@ -29,7 +29,7 @@ use Rattle.trace_text.specs.Foldable.{is_foldable_in_all}
 use Rattle.trace_text.specs.Slots.{slots_text}
 use Rattle.world_sim.specs.Given.{IsGiven, is_numbered}
 use Rattle.world_sim.specs.Played.{AreSettled}
-use Rattle.yard_top.specs.declared.forms.Form.TheVariants as form
+use Rattle.program_words.specs.declared.forms.Form.TheVariants as form
 use Rattle.yard_top.specs.declared.writing.WriteError.{WriteError}
 use Rattle.yard_top.specs.declared.writing.WriteError.TheVariants as error
 use Rattle.yard_top.specs.LiveText.{AreLive, LiveText}

@@ -5,10 +5,10 @@ use Rattle.script_text.specs.Reading.{Spelled, reading}
 use Rattle.script_text.specs.declared.fault.Mode.TheVariants as mode
 use Rattle.yard_model.specs.Script.{Script}
 use Rattle.play_laws.specs.SafeText.{SafeText}
-use Rattle.yard_top.specs.declared.forms.Form.{Form}
-use Rattle.yard_top.specs.declared.forms.Form.TheVariants as form
-use Rattle.yard_top.specs.declared.status.Status.{Status}
-use Rattle.yard_top.specs.declared.status.Status.TheVariants as status
+use Rattle.program_words.specs.declared.forms.Form.{Form}
+use Rattle.program_words.specs.declared.forms.Form.TheVariants as form
+use Rattle.program_words.specs.declared.status.Status.{Status}
+use Rattle.program_words.specs.declared.status.Status.TheVariants as status
 use Rattle.yard_top.specs.Ends.{Wrote, Taken, IfWhole, IfWireFull}
 use Rattle.yard_top.specs.Safely.{WroteSafely, IfWritten, IfReplay}
 

@@ -3,12 +3,12 @@ use Rattle.std.proofs.Common.{◌≡◌, ℕ, List, inr}
 use Rattle.std.specs.Prelude.{true, Option, Result, Ok, Err}
 use Rattle.yard_model.specs.Script.{Script}
 use Rattle.yard_model.specs.Text.{Bytes}
-use Rattle.yard_top.specs.declared.forms.Form.{Form}
-use Rattle.yard_top.specs.declared.forms.Form.TheVariants as form
+use Rattle.program_words.specs.declared.forms.Form.{Form}
+use Rattle.program_words.specs.declared.forms.Form.TheVariants as form
 use Rattle.yard_top.specs.declared.writing.WriteError.{WriteError}
 use Rattle.yard_top.specs.declared.writing.WriteError.TheVariants as error
-use Rattle.yard_top.specs.Ends.{IsText, HasScript, WroteFront, from_of}
-use Rattle.yard_top.specs.Forms.{is_alone}
+use Rattle.yard_top.specs.Ends.{IsText, HasScript, WroteFront}
+use Rattle.program_words.specs.Forms.{from_of, is_alone}
 use Rattle.yard_top.specs.Texts.{Gives, RanOut, TookSome}
 use Rattle.yard_top.specs.Writing.{Sunk, Writes}
 

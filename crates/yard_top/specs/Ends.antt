@@ -1,11 +1,10 @@
 -- How a run of the program may end, and what each end says.
-use Rattle.std.specs.Prelude.{◌≡◌, ◌⊎◌, ℕ, Bool, true, List, length, take, Option, Some, None, IfSome, IsTrue}
+use Rattle.std.specs.Prelude.{◌≡◌, ◌⊎◌, ℕ, List, length, take, Option, Some, None, IfSome, IsTrue}
 use Rattle.yard_io.specs.Told.{followed_by, without_first, count_of, TakesFront}
 use Rattle.script_text.specs.Reading.{Reading, Spelled, Refused, reading}
 use Rattle.script_text.specs.declared.fault.Mode.{Mode}
 use Rattle.script_text.specs.declared.fault.Mode.TheVariants as mode
 use Rattle.script_text.specs.declared.fault.Why.{Why}
-use Rattle.yard_model.specs.Behaviour.{is_in}
 use Rattle.yard_model.specs.Script.{Script}
 use Rattle.yard_model.specs.Replay.{replay_text}
 use Rattle.yard_model.specs.Safe.{safe}
@@ -20,37 +19,15 @@ use Rattle.yard_top.specs.Replays.{replay_json}
 use Rattle.yard_top.specs.Settling.{EachSettles}
 use Rattle.yard_top.specs.Sound.{IsSound, solo_journal}
 use Rattle.yard_top.specs.Stops.{stop_in}
-use Rattle.yard_top.specs.declared.forms.Form.{Form}
-use Rattle.yard_top.specs.declared.forms.Form.TheVariants as form
-use Rattle.yard_top.specs.declared.forms.ScriptFrom.{ScriptFrom}
-use Rattle.yard_top.specs.declared.forms.ScriptFrom.TheVariants as script_from
-use Rattle.yard_top.specs.declared.status.Status.{Status}
-use Rattle.yard_top.specs.declared.status.Status.TheVariants as status
-
--- the exit status of the program
-abbrev pub code_of : Status → ℕ
-code_of status.Ok = 0
-code_of status.Usage = 2
-code_of (status.Refused line why) = 3
-code_of status.ReadFault = 4
-code_of status.WriteFault = 5
-code_of status.OutOfMemory = 6
-code_of (status.WireFull line) = 7
+use Rattle.program_words.specs.Forms.{from_of}
+use Rattle.program_words.specs.declared.forms.Form.{Form}
+use Rattle.program_words.specs.declared.forms.Form.TheVariants as form
+use Rattle.program_words.specs.declared.forms.ScriptFrom.{ScriptFrom}
+use Rattle.program_words.specs.declared.forms.ScriptFrom.TheVariants as script_from
+use Rattle.program_words.specs.declared.status.Status.{Status}
+use Rattle.program_words.specs.declared.status.Status.TheVariants as status
 
 -- What a form is to do.
-
--- where its script is from: the input, read as a script of a command, or a number
-abbrev pub from_of : Form → ScriptFrom
-from_of form.Solo = script_from.Input mode.Solo
-from_of form.Replay = script_from.Input mode.Replay
-from_of form.ReplayJson = script_from.Input mode.Replay
-from_of (form.Bulk n) = script_from.Number n
-from_of (form.Live n s) = script_from.Input mode.Live
-
--- the numbers that have a script are 1 to 1,000
-abbrev pub is_there : ScriptFrom → Bool
-is_there (script_from.Input m) = true
-is_there (script_from.Number n) = is_in 1 1000 n
 
 -- this is the text that it writes of a script; of `live`, one of the texts
 abbrev pub IsText : Form → Script → Bytes → Type 0

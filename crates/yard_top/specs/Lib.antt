@@ -1,7 +1,5 @@
-pub mod Complaint
 pub mod Ends
 pub mod Facts
-pub mod Forms
 pub mod Known
 pub mod LiveText
 pub mod Replays

@@ -6,10 +6,10 @@ use Rattle.script_text.specs.declared.fault.Mode.TheVariants as mode
 use Rattle.yard_model.specs.Script.{Script}
 use Rattle.yard_model.specs.Text.{Bytes}
 use Rattle.play_laws.specs.SafeText.{SafeText}
-use Rattle.yard_top.specs.declared.forms.Form.{Form}
-use Rattle.yard_top.specs.declared.forms.Form.TheVariants as form
-use Rattle.yard_top.specs.declared.status.Status.{Status}
-use Rattle.yard_top.specs.declared.status.Status.TheVariants as status
+use Rattle.program_words.specs.declared.forms.Form.{Form}
+use Rattle.program_words.specs.declared.forms.Form.TheVariants as form
+use Rattle.program_words.specs.declared.status.Status.{Status}
+use Rattle.program_words.specs.declared.status.Status.TheVariants as status
 
 -- the whole text of a script was written, of a trace that goes to its end or stops
 abbrev pub IfWritten : Status → Type 0 → Type 0

@@ -4,8 +4,8 @@ use Rattle.yard_model.specs.Script.{Script}
 use Rattle.yard_model.specs.Text.{Bytes}
 use Rattle.yard_top.specs.Ends.{IsText}
 use Rattle.yard_top.specs.Writing.{Sunk, Took, TookFront}
-use Rattle.yard_top.specs.declared.forms.Form.{Form}
-use Rattle.yard_top.specs.declared.forms.Form.TheVariants as form
+use Rattle.program_words.specs.declared.forms.Form.{Form}
+use Rattle.program_words.specs.declared.forms.Form.TheVariants as form
 use Rattle.yard_top.specs.declared.writing.WriteError.{WriteError}
 use Rattle.yard_top.specs.declared.writing.WriteError.TheVariants as error
 

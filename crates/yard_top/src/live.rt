@@ -5,7 +5,7 @@ ghost use Rattle.yard_model.specs.Script.{is_version};
 ghost use Rattle.shard_store.specs.Stores.{lists_at};
 ghost use Rattle.yard_top.specs.LiveText.{AreLive, LiveText};
 ghost use Rattle.yard_top.specs.Texts.{Gives};
-ghost use Rattle.yard_top.specs.declared.forms.Form.TheVariants as form;
+ghost use Rattle.program_words.specs.declared.forms.Form.TheVariants as form;
 
 use crate::writing::{WriteError, write_part};
 use behaviour_core::Behaviour;

@@ -1,17 +1,17 @@
 //! What a form writes of a script.
 ghost use Rattle.std.specs.Prelude.{◌≡◌, true, IfOk};
 ghost use Rattle.yard_model.specs.Solo.{solo_text};
-ghost use Rattle.yard_top.specs.Ends.{Holds, IsOf, from_of, stops_at};
-ghost use Rattle.yard_top.specs.Forms.{is_alone};
+ghost use Rattle.yard_top.specs.Ends.{Holds, IsOf, stops_at};
+ghost use Rattle.program_words.specs.Forms.{from_of, is_alone};
 ghost use Rattle.yard_top.specs.Texts.{Gives};
 ghost use Rattle.yard_top.specs.Writing.{Writes};
 
 use crate::bulk::write_bulk;
-use crate::forms::Form;
 use crate::json::write_json;
 use crate::replay::write_replay;
 use crate::solo::solo_report;
 use crate::writing::{WriteError, write_part};
+use program_words::Form;
 use std::alloc::Global;
 use yard_io::Sink;
 use yard_model::Charter;

@@ -2,16 +2,15 @@
 ghost use Rattle.std.specs.Prelude.{◌≡◌, ◌<◌, ◌≤◌, ◌↔◌, true, length, Some, None, IfOk, IfErr, IfSome, IsTrue};
 ghost use Rattle.yard_model.specs.Behaviour.{is_in};
 ghost use Rattle.bulk_gen.specs.Bulk.{bulk_script};
-ghost use Rattle.yard_top.specs.Ends.{IfWhole, IfUsage, IfRefused, IfReadFault, IfWriteFault, IfNoMemory, IfWireFull, IfNumber, Asked, Taken, Wrote, Began, WroteFront, CameRefused, CameScript, HasNone, HasScript, IsOf, IsEarly, IsComplete, from_of, is_there, end_of};
-ghost use Rattle.yard_top.specs.Forms.{form_in, alone_in, is_alone};
+ghost use Rattle.yard_top.specs.Ends.{IfWhole, IfUsage, IfRefused, IfReadFault, IfWriteFault, IfNoMemory, IfWireFull, IfNumber, Asked, Taken, Wrote, Began, WroteFront, CameRefused, CameScript, HasNone, HasScript, IsOf, IsEarly, IsComplete, end_of};
+ghost use Rattle.program_words.specs.Forms.{form_in, alone_in, is_alone, from_of, is_there};
 ghost use Rattle.yard_top.specs.Safely.{IfWritten, IfReplay, WroteSafely};
 
-use crate::forms::{Form, ScriptFrom, alone_form_of, form_of};
 use crate::live::write_live;
-use crate::status::Status;
 use crate::text::write_form;
 use crate::writing::WriteError;
 use bulk_gen::script_of;
+use program_words::{Form, ScriptFrom, Status, alone_form_of, form_of};
 use script_text::{Mode, ScriptFault, read_script};
 use std::alloc::Global;
 use std::sync::Wait;

@@ -1,6 +1,6 @@
 use Rattle.std.proofs.Common.{◌∙◌, subst}
 use Rattle.yard_io.proofs.ToldLemmas.{front_whole}
-use Rattle.yard_top.specs.declared.forms.ScriptFrom.{ScriptFrom}
+use Rattle.program_words.specs.declared.forms.ScriptFrom.{ScriptFrom}
 use Rattle.yard_top.specs.Ends.{HasScript}
 use Rattle.std.specs.Prelude.{ℕ, Option, Err}
 use Rattle.yard_top.specs.Texts.{Gives}

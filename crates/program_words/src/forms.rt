@@ -1,7 +1,6 @@
 //! The forms of the command line.
 ghost use Rattle.std.specs.Prelude.{◌≡◌, true, IfSome, IsTrue};
-ghost use Rattle.yard_top.specs.Ends.{from_of, is_there};
-ghost use Rattle.yard_top.specs.Forms.{form_in, alone_in, is_alone, form_of_word, form_of_words, form_of_three, bulk_form, live_form, live_seed};
+ghost use Rattle.program_words.specs.Forms.{form_in, alone_in, is_alone, from_of, is_there, form_of_word, form_of_words, form_of_three, bulk_form, live_form, live_seed};
 
 use script_text::{Mode, number_of};
 

@@ -1,10 +1,21 @@
--- The line on standard error beside a status, without its end; nothing where the whole text was written.
-use Rattle.std.specs.Prelude.{[], ◌++◌, codes, decimal}
+-- What a run leaves beside its text: the exit status, and the line on standard error without its end.
+use Rattle.std.specs.Prelude.{ℕ, [], ◌++◌, codes, decimal}
 use Rattle.script_text.specs.Faults.{number_of}
 use Rattle.yard_model.specs.Text.{Bytes}
-use Rattle.yard_top.specs.declared.status.Status.{Status}
-use Rattle.yard_top.specs.declared.status.Status.TheVariants as status
+use Rattle.program_words.specs.declared.status.Status.{Status}
+use Rattle.program_words.specs.declared.status.Status.TheVariants as status
 
+-- the exit status of the program
+abbrev pub code_of : Status → ℕ
+code_of status.Ok = 0
+code_of status.Usage = 2
+code_of (status.Refused line why) = 3
+code_of status.ReadFault = 4
+code_of status.WriteFault = 5
+code_of status.OutOfMemory = 6
+code_of (status.WireFull line) = 7
+
+-- nothing where the whole text was written
 abbrev pub complaint : Status → Bytes
 complaint status.Ok = []
 complaint status.Usage = codes "usage: sharder solo or replay [json] or live TURNS SEED or bulk NUMBER"

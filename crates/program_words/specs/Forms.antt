@@ -4,8 +4,11 @@ use Rattle.std.specs.Cmp.Lexicographic.{pointwise}
 use Rattle.std.specs.declared.alloc.Global.{Global}
 use Rattle.yard_model.specs.Behaviour.{is_in}
 use Rattle.script_text.specs.Words.{is_number, value_of}
-use Rattle.yard_top.specs.declared.forms.Form.{Form}
-use Rattle.yard_top.specs.declared.forms.Form.TheVariants as form
+use Rattle.script_text.specs.declared.fault.Mode.TheVariants as mode
+use Rattle.program_words.specs.declared.forms.Form.{Form}
+use Rattle.program_words.specs.declared.forms.Form.TheVariants as form
+use Rattle.program_words.specs.declared.forms.ScriptFrom.{ScriptFrom}
+use Rattle.program_words.specs.declared.forms.ScriptFrom.TheVariants as script_from
 
 abbrev pub form_of_word : List ℕ → Option Form
 form_of_word w =
@@ -53,3 +56,16 @@ alone_in (w ∷ v ∷ u ∷ ws) = None
 abbrev pub is_alone : Form → Bool
 is_alone (form.Live n s) = false
 is_alone f = true
+
+-- where a form's script is from: the input, read as a script of a command, or a number
+abbrev pub from_of : Form → ScriptFrom
+from_of form.Solo = script_from.Input mode.Solo
+from_of form.Replay = script_from.Input mode.Replay
+from_of form.ReplayJson = script_from.Input mode.Replay
+from_of (form.Bulk n) = script_from.Number n
+from_of (form.Live n s) = script_from.Input mode.Live
+
+-- the numbers that have a script are 1 to 1,000
+abbrev pub is_there : ScriptFrom → Bool
+is_there (script_from.Input m) = true
+is_there (script_from.Number n) = is_in 1 1000 n

@@ -1,11 +1,11 @@
 //! How a run of the program ends.
 ghost use Rattle.std.specs.Prelude.{◌≡◌};
-ghost use Rattle.yard_top.specs.Ends.{code_of};
+ghost use Rattle.program_words.specs.Complaint.{code_of};
 
 use script_text::Why;
 use std::fmt;
 
-/// The forms of the command line, also those that aren't built yet.
+/// The forms of the command line.
 const USAGE: &str = "usage: sharder solo or replay [json] or live TURNS SEED or bulk NUMBER";
 
 /// How a run of the program ends.
@@ -58,7 +58,7 @@ impl Status {
 /// written.
 impl fmt::Display for Status {
     ghost use Rattle.std.specs.Prelude.{Some};
-    ghost use Rattle.yard_top.specs.Complaint.{complaint};
+    ghost use Rattle.program_words.specs.Complaint.{complaint};
 
     ghost output = { λ s. Some (complaint s) };
 

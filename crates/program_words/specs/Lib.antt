@@ -1,0 +1,3 @@
+pub mod Complaint
+pub mod Forms
+pub mod Notices

@@ -1,0 +1,76 @@
+//! What the program prints of itself.
+ghost use Rattle.std.specs.Prelude.{◌≡◌, None, IfSome};
+ghost use Rattle.program_words.specs.Forms.{form_in};
+ghost use Rattle.program_words.specs.Notices.{notice_in, notice_of_word};
+
+const HELP: &str = "sharder: a cluster of sharded, event-sourced entities with reliable delivery
+
+  sharder solo         reads a script of settings, sends and deliveries, and writes
+                       the report of what is recorded
+  sharder replay       reads a script of settings and orders, plays it on all nodes,
+                       one step after the other, and writes the trace and the report
+  sharder replay json  does the same, and writes the report alone, as JSON
+  sharder live TURNS SEED
+                       does what a script of orders says with a thread for each node,
+                       each for TURNS turns at most (1 to 100000), where what nodes post
+                       is lost, repeated and delayed as SEED (0 to 4294967295) has it;
+                       then settles, and writes each slot's list and the report
+  sharder bulk NUMBER  plays the script of a number, 1 to 1000, in the same way as
+                       replay, and writes counts of what happened; it reads nothing
+  sharder --help       prints this
+  sharder --version    prints the name and the version
+
+Status: 0 the whole text was written, 2 usage, 3 the input is no script (standard
+error has the line and the reason's number), 4 a read failed, 5 a write failed,
+6 there was no memory, 7 the trace stopped at the 1,000,000 packets that can be
+posted.
+
+Reasons of status 3: 1 a byte that is no text, 2 a line of more than 256 bytes,
+3 no config, 4 a second config, 5 an unknown word, 6 a missing word, 7 a word too
+many, 8 no number, 9 out of range, 10 no name, 11 more than 20000 lines, 12 more
+than 4 MiB, 13 no order of this command, 14 not built yet.
+";
+
+const VERSION: &str = "sharder 0.1.0\n";
+
+/// What the program prints of itself, where it is asked for that.
+#[derive(Clone, Copy, Debug, PartialEq, Eq)]
+pub enum Notice {
+    /// `--help`
+    Help,
+    /// `--version`
+    Version,
+}
+
+impl Notice {
+    /// Its text.
+    pub fn text(self) -> &'static str {
+        match self {
+            Notice::Help => HELP,
+            Notice::Version => VERSION,
+        }
+    }
+}
+
+/// The notice that the words after the program's name ask for, if they do. They are no form then.
+pub fn notice_of(words: &[String]) -> Option<Notice>
+    ensures notice { result ≡ notice_in words.now }
+    ensures no_form { IfSome result (λ n. form_in words.now ≡ None) }
+{
+    match words {
+        [word] => notice_of_word(word.as_str()),
+        _ => None,
+    }
+}
+
+fn notice_of_word(word: &str) -> Option<Notice>
+    ensures notice { result ≡ notice_of_word word.now }
+{
+    if word == "--help" {
+        Some(Notice::Help)
+    } else if word == "--version" {
+        Some(Notice::Version)
+    } else {
+        None
+    }
+}

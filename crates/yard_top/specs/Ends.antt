@@ -3,7 +3,6 @@ use Rattle.std.specs.Prelude.{◌≡◌, ◌⊎◌, ℕ, List, length, take, Opt
 use Rattle.yard_io.specs.Told.{followed_by, without_first, count_of, TakesFront}
 use Rattle.script_text.specs.Reading.{Reading, Spelled, Refused, reading}
 use Rattle.script_text.specs.declared.fault.Mode.{Mode}
-use Rattle.script_text.specs.declared.fault.Mode.TheVariants as mode
 use Rattle.script_text.specs.declared.fault.Why.{Why}
 use Rattle.yard_model.specs.Script.{Script}
 use Rattle.yard_model.specs.Replay.{replay_text}

@@ -1,8 +1,13 @@
 //! Known scripts, each with the text that it must give: `index` names them, a line each with the
-//! exit status and the words of the program; `NAME.in` is the script and `NAME.out` the text. Every
-//! script is run by the program's own top call (the part of it that needs no threads), and a line says what came of it.
+//! exit status and the words of the program; `NAME.in` is the script and `NAME.out` the text. Where the
+//! text is too long to be stored, a line of `digests` has the name, whose script it is, the exit status, how
+//! many bytes the text has, their digest, and the words. Every script is run by the program's own top call
+//! (the part of it that needs no threads), and a line says what came of it.
 #![tactic(auto)]
 
+mod digest;
+
+use digest::Digest;
 use std::alloc::{AllocError, Global};
 use std::rt::Files;
 use std::{fs, io};
@@ -12,12 +17,14 @@ use yard_top::{Status, sharder_alone};
 /// What came of a script.
 #[derive(Clone, Copy, PartialEq, Eq)]
 enum Verdict {
-    /// The status and every byte are those that are known.
-    Same,
+    /// The status, which is this, and every byte are those that are known.
+    Same(Status),
     /// Another status, with the one that came.
     OtherStatus(u8),
     /// The status is the known one, and the text differs from this byte on, from 0.
     OtherText(usize),
+    /// The status is the known one, and the text has so many bytes, or this digest.
+    OtherDigest(Digest),
 }
 
 /// The words of a line, apart by spaces.
@@ -59,7 +66,27 @@ fn judged(
     }
     match first_difference(sink.bytes(), text) {
         Some(at) => Ok(Verdict::OtherText(at)),
-        None => Ok(Verdict::Same),
+        None => Ok(Verdict::Same(status)),
+    }
+}
+
+/// Runs a script, and compares the length and the digest of its text.
+fn judged_by_digest(
+    alloc: Global,
+    words: &[String],
+    script: &[u8],
+    code: u8,
+    text: Digest,
+) -> Result<Verdict, AllocError> {
+    let mut source = WholeSource::new(alloc, script)?;
+    let mut sink = Digest::new();
+    let status: Status = sharder_alone(alloc, words, &mut source, &mut sink);
+    if status.code() != code {
+        Ok(Verdict::OtherStatus(status.code()))
+    } else if sink != text {
+        Ok(Verdict::OtherDigest(sink))
+    } else {
+        Ok(Verdict::Same(status))
     }
 }
 
@@ -67,6 +94,19 @@ fn judged(
 fn bytes_of(rt: &(impl Files + AllocGlobal), name: &str, ending: &str) -> io::Result<Vec<u8>> {
     let path = format!(in rt.alloc(); "{name}.{ending}")?;
     fs::read(rt, path.as_str())
+}
+
+/// Says what came of a script.
+fn tell(rt: &impl Print, name: &str, verdict: Verdict) -> io::Result<()> {
+    match verdict {
+        Verdict::Same(Status::Ok) => println!(rt; "{name}: same"),
+        Verdict::Same(status) => println!(rt; "{name}: same, {status}"),
+        Verdict::OtherStatus(status) => println!(rt; "{name}: status {status}"),
+        Verdict::OtherText(at) => println!(rt; "{name}: differs from byte {at}"),
+        Verdict::OtherDigest(Digest { bytes, hash }) => {
+            println!(rt; "{name}: {bytes} bytes with the digest {hash}")
+        }
+    }
 }
 
 /// Plays the script of a line of the index, and says what came of it.
@@ -78,17 +118,44 @@ fn play(rt: &(impl Files + AllocGlobal + Print), line: &str) -> io::Result<()> {
     let code: u8 = code.as_str().parse().unwrap_or(255);
     let script = bytes_of(rt, name.as_str(), "in")?;
     let text = bytes_of(rt, name.as_str(), "out")?;
-    match judged(rt.alloc(), words, script.as_slice(), code, text.as_slice())? {
-        Verdict::Same => println!(rt; "{name}: same"),
-        Verdict::OtherStatus(status) => println!(rt; "{name}: status {status}"),
-        Verdict::OtherText(at) => println!(rt; "{name}: differs from byte {at}"),
+    let verdict = judged(rt.alloc(), words, script.as_slice(), code, text.as_slice())?;
+    tell(rt, name.as_str(), verdict)
+}
+
+/// Plays the script of a line of the digests, and says what came of it.
+fn play_long(rt: &(impl Files + AllocGlobal + Print), line: &str) -> io::Result<()> {
+    let words = words_of(rt.alloc(), line)?;
+    let [name, script, code, bytes, hash, words @ ..] = words.as_slice() else {
+        return println!(rt; "no script: {line}");
+    };
+    let code: u8 = code.as_str().parse().unwrap_or(255);
+    let bytes: u64 = bytes.as_str().parse().unwrap_or(0);
+    let hash: u64 = hash.as_str().parse().unwrap_or(0);
+    let script = bytes_of(rt, script.as_str(), "in")?;
+    let text = Digest { bytes, hash };
+    let verdict = judged_by_digest(rt.alloc(), words, script.as_slice(), code, text)?;
+    tell(rt, name.as_str(), verdict)
+}
+
+/// Plays the script of each line of the index.
+fn play_all(rt: &(impl Files + AllocGlobal + Print)) -> io::Result<()> {
+    let index = fs::read_to_string(rt, "index")?;
+    for line in index.as_str().lines() {
+        play(rt, line)?;
     }
+    Ok(())
+}
+
+/// Plays the script of each line of the digests.
+fn play_all_long(rt: &(impl Files + AllocGlobal + Print)) -> io::Result<()> {
+    let digests = fs::read_to_string(rt, "digests")?;
+    for line in digests.as_str().lines() {
+        play_long(rt, line)?;
+    }
+    Ok(())
 }
 
 fn main(rt: HostRuntime) -> io::Result<()> {
-    let index = fs::read_to_string(&rt, "index")?;
-    for line in index.as_str().lines() {
-        play(&rt, line)?;
-    }
-    Ok(())
+    play_all(&rt)?;
+    play_all_long(&rt)
 }

@@ -66,7 +66,7 @@ charter_sync =
     search (heap.crosses, maps.crosses, sendable) depth 100 fits 100000
 
 pub roster_send : (T : RattleType) (g : Ghosts T.Denot) → IsSend T → IsSend (roster.the_row T g)
-roster_send T g s = recorded_send (roster.the_field T g).row _ _ (roster.the_type T g).to_one (struct_send (struct.shape (roster.the_type T g)) (search (heap.crosses, maps.crosses, sendable) depth 100 fits 100000, (search (heap.crosses, maps.crosses, sendable) depth 100 fits 100000, (search (heap.crosses, maps.crosses, sendable) depth 100 fits 100000, tt))))
+roster_send T g s = recorded_send (roster.the_field T g).row _ _ (roster.the_type T g).to_one (struct_send (struct.shape (roster.the_type T g)) (search (heap.crosses, maps.crosses, sendable) depth 100 fits 100000, (search (heap.crosses, maps.crosses, sendable) depth 100 fits 100000, (search (heap.crosses, maps.crosses, sendable) depth 100 fits 100000, (search (heap.crosses, maps.crosses, sendable) depth 100 fits 100000, tt)))))
 
 pub job_send : (T : RattleType) → IsSend T → IsSend (job.the_row T)
 job_send T s =

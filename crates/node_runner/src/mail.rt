@@ -18,12 +18,14 @@ use std::alloc::{AllocError, Global};
 use std::sync::Wait;
 use yard_model::{Charter, NodeNo, Packet};
 
-/// The pass of a worker at the boxes, its draws, and the parcels that it is to post after the next turn.
+/// The pass of a worker at the boxes, its draws, the parcels that it is to post after the next turn, and how
+/// many packets it let go because it couldn't show what they need.
 #[derive(Drop)]
 pub struct Mail<J: Run> {
     pub(crate) pass: BoxPass<Parcel<J>>,
     pub(crate) draws: Draws,
     held: Vec<Parcel<J>>,
+    pub(crate) unshown: u64,
 }
 
 impl<J: Run> Mail<J> {
@@ -36,7 +38,15 @@ impl<J: Run> Mail<J> {
             pass,
             draws,
             held: Vec::new(alloc),
+            unshown: 0,
         }
+    }
+
+    /// So many packets more were let go because it couldn't be shown what they need.
+    pub(crate) fn let_go(&mut self, count: u64)
+        ensures pass { self.new.pass ≡ self.old.pass }
+    {
+        self.unshown = self.unshown.saturating_add(count);
     }
 
     /// The next word.
@@ -118,10 +128,30 @@ impl<J: Run> Mail<J> {
         }
         let (pass, parcel) = parcel_of::<J, B>(table, pass, me, node, charter, packet);
         let (pass, again) = again_of::<J, B>(fate, table, pass, me, node, charter, packet);
-        if let Some(parcel) = parcel {
-            self.dispatch(rt, boxes, fate, parcel, again)?;
-        }
+        self.dispatch_if(rt, boxes, fate, parcel, again)?;
         Ok(pass)
+    }
+
+    /// Posts a parcel as was drawn, if there is one; else one packet more was let go.
+    fn dispatch_if<R: Wait>(
+        &mut self,
+        rt: &R,
+        boxes: &PostBox<Parcel<J>>,
+        fate: Fate,
+        parcel: Option<Parcel<J>>,
+        again: Option<Parcel<J>>,
+    ) -> Result<(), AllocError>
+        requires belongs { self.old.pass.tables ≡ boxes.now.tables }
+        requires nodes { length boxes.now.tables ≡ J.script.config.nodes }
+        ensures kept { IsSameHolder self.old.pass self.new.pass }
+    {
+        match parcel {
+            Some(parcel) => self.dispatch(rt, boxes, fate, parcel, again),
+            None => {
+                self.let_go(1);
+                Ok(())
+            }
+        }
     }
 
     /// Posts a parcel as was drawn; a second one is at hand.

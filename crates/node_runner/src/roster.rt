@@ -11,12 +11,14 @@ use std::marker::PhantomData;
 use std::sync::{Mutex, Wait};
 use yard_model::{Body, Incarnation, Members, NodeNo, Packet};
 
-/// The incarnations that are up, oldest first, and how often one has come up or gone. The type keeps
-/// that each is of the run's script, with a number of at most 4,000,000,000.
+/// The incarnations that are up, oldest first, and how often one has come up or gone; and how many packets the
+/// workers that are done let go because they couldn't show what these need. The type keeps that each
+/// incarnation is of the run's script, with a number of at most 4,000,000,000.
 #[derive(Drop)]
 pub struct Roster<J: Run> {
     members: Members,
     version: u32,
+    unshown: u64,
     run: PhantomData<J>,
     ghost fit: { are_members J.script members ≡ true },
 }
@@ -38,6 +40,7 @@ impl<J: Run> Roster<J> {
         Roster {
             members: Members::empty(),
             version: 0,
+            unshown: 0,
             run: PhantomData,
         }
     }
@@ -64,6 +67,13 @@ impl<J: Run> Roster<J> {
         self.members = but(&self.members, &who);
         self.version = self.version.saturating_add(1);
         self.views()
+    }
+
+    /// A worker that is done let so many packets go because it couldn't show what they need.
+    pub fn let_go(&mut self, count: u64)
+        ensures { (self.new.members ≡ self.old.members) × (self.new.version ≡ self.old.version) }
+    {
+        self.unshown = self.unshown.saturating_add(count);
     }
 
     /// What each is to be told now.
@@ -113,6 +123,16 @@ pub fn enter<J: Run, R: Wait>(rt: &R, roster: &Mutex<Roster<J>>, who: Incarnatio
 /// One is gone from the shared roster. It may wait.
 pub fn leave<J: Run, R: Wait>(rt: &R, roster: &Mutex<Roster<J>>, who: Incarnation) -> Views<J> {
     roster.lock(rt).leave(who)
+}
+
+/// A worker that is done let so many packets go because it couldn't show what they need. It may wait.
+pub fn let_go<J: Run, R: Wait>(rt: &R, roster: &Mutex<Roster<J>>, count: u64) {
+    roster.lock(rt).let_go(count);
+}
+
+/// How many packets the workers that are done let go so. It may wait.
+pub fn all_let_go<J: Run, R: Wait>(rt: &R, roster: &Mutex<Roster<J>>) -> u64 {
+    roster.lock(rt).unshown
 }
 
 /// Whether a member is of this node.

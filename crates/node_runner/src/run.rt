@@ -10,7 +10,7 @@ ghost use Rattle.node_runner.specs.Ran.{IsRun, Ran};
 ghost use Rattle.node_runner.specs.Jobs.{IsDealt, IsJob, AreJobs, IsLeft, AreLeft};
 
 use crate::parcel::{Parcel, Run};
-use crate::roster::Roster;
+use crate::roster::{Roster, all_let_go};
 use crate::worker::work;
 use behaviour_core::Behaviour;
 use lease_table::{LeasePass, LeaseTable, Passes, empty_stores_are_ready};
@@ -199,7 +199,8 @@ fn unite_all(
     Ok(all)
 }
 
-/// All workers, with a box for each and a roster of who is up; then one pass for all nodes. It may wait.
+/// All workers, with a box for each and a roster of who is up; then one pass for all nodes, and how many packets
+/// the workers let go because they couldn't show what these need. It may wait.
 fn run_all<
     J: Run + Send + Sync,
     R: Threads + Wait + Sync,
@@ -215,13 +216,13 @@ fn run_all<
     seed: u32,
     gate: &G,
     behaviour: B,
-) -> Result<LeasePass, AllocError>
+) -> Result<(LeasePass, u64), AllocError>
     requires charter { charter.now ≡ charter_of table.now }
     requires kind { B.kind_of behaviour ≡ charter.now.config.kind }
     requires version { is_version charter.now (B.version_of behaviour) ≡ true }
     requires run { (J.script ≡ charter_of table.now) × (J.table ≡ id_of table.now) }
     requires passes { IsDealt (id_of table.now) (charter_of table.now) (left_of passes) }
-    ensures { IfOk result (Ran (id_of table.now) (charter_of table.now) turns 1) }
+    ensures { IfOk result (λ r. Ran (id_of table.now) (charter_of table.now) turns 1 r.0) }
 {
     charter.config();
     let (boxes, box_passes) = all_boxes::<Parcel<J>>(alloc, charter)?;
@@ -230,7 +231,17 @@ fn run_all<
     let left = run_jobs(
         rt, alloc, table, &boxes, &roster, charter, jobs, turns, seed, gate, behaviour,
     )?;
-    unite_all(table, turns, left)
+    let pass = unite_all(table, turns, left)?;
+    Ok((pass, all_let_go(rt, &roster)))
+}
+
+/// What a run leaves.
+#[derive(Drop)]
+pub struct Outcome {
+    /// The stores of all slots.
+    pub stores: Stores,
+    /// How many packets the workers let go because they couldn't show what these need.
+    pub unshown: u64,
 }
 
 /// A run of a charter: a worker for each node, each in a thread of its own where one can be had, takes
@@ -250,13 +261,38 @@ pub fn run_live<R: Threads + Wait + Sync, B: Behaviour + Copy + Drop + Send + Sy
     requires version { is_version charter.now (B.version_of behaviour) ≡ true }
     ensures { IfOk result (IsRun charter.now turns) }
 {
+    let outcome = run_counted(rt, alloc, charter, behaviour, turns, seed, gate)?;
+    Ok(outcome.stores)
+}
+
+/// The same, with the count of what was let go.
+pub fn run_counted<
+    R: Threads + Wait + Sync,
+    B: Behaviour + Copy + Drop + Send + Sync,
+    G: Gate + Sync,
+>(
+    rt: &R,
+    alloc: Global,
+    charter: &Charter,
+    behaviour: B,
+    turns: u32,
+    seed: u32,
+    gate: &G,
+) -> Result<Outcome, AllocError>
+    requires kind { B.kind_of behaviour ≡ charter.now.config.kind }
+    requires version { is_version charter.now (B.version_of behaviour) ≡ true }
+    ensures { IfOk result (λ r. IsRun charter.now turns r.stores) }
+{
     closed_is_lawful();
     closed_is_worked();
     empty_stores_are_ready();
     let stores = Stores::new(alloc, charter)?;
     let (table, passes) = LeaseTable::make(alloc, charter, stores)?;
-    let pass = run_all::<Brand, R, B, G>(
+    let (pass, unshown) = run_all::<Brand, R, B, G>(
         rt, alloc, &table, charter, passes, turns, seed, gate, behaviour,
     )?;
-    Ok(table.close(pass))
+    Ok(Outcome {
+        stores: table.close(pass),
+        unshown,
+    })
 }

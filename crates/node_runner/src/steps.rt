@@ -64,7 +64,7 @@ pub fn give<B: Behaviour + Drop>(
 }
 
 /// The node, which is up, takes a packet, with what its note shows; or the packet is lost, where that
-/// can't be shown. The only error is want of memory.
+/// can't be shown: one more is counted then, if it is for this incarnation. The only error is want of memory.
 pub fn take_packet<B: Behaviour + Drop>(
     table: &LeaseTable,
     charter: &Charter,
@@ -73,6 +73,7 @@ pub fn take_packet<B: Behaviour + Drop>(
     node: Node<B>,
     packet: &Packet,
     note: Option<Note>,
+    unshown: &mut u64,
     out: &mut Out,
 ) -> Result<Place<B>, AllocError>
     requires charter { charter.now ≡ charter_of table.now }
@@ -89,6 +90,7 @@ pub fn take_packet<B: Behaviour + Drop>(
     queues_are_shown();
     let (mut pass, may) = handed(table, pass, me, &node, charter, packet, note);
     if !may {
+        count_unshown(&node, packet, unshown);
         publish_all(table, &mut pass, &node, charter, me);
         return Ok(Place {
             pass,
@@ -96,6 +98,13 @@ pub fn take_packet<B: Behaviour + Drop>(
         });
     }
     give(table, charter, me, pass, node, Input::Packet(*packet), out)
+}
+
+/// A packet to the node was let go: one more, if it is for this incarnation.
+fn count_unshown<B: Behaviour + Drop>(node: &Node<B>, packet: &Packet, unshown: &mut u64) {
+    if packet.to == node.who() {
+        *unshown = unshown.saturating_add(1);
+    }
 }
 
 /// The worker takes an order: where the node is down, only an `up` does something, which starts it with

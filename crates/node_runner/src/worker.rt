@@ -15,7 +15,7 @@ use crate::draws::Draws;
 use crate::laws::queues_are_shown;
 use crate::mail::Mail;
 use crate::parcel::{Parcel, Run};
-use crate::roster::Roster;
+use crate::roster::{Roster, let_go};
 use crate::sending::{member, post_place, tell_roster};
 use crate::steps::{Place, finish, give, take_order, take_packet};
 use behaviour_core::Behaviour;
@@ -186,7 +186,9 @@ fn other_turn<'c, J: Run, R: Wait, B: Behaviour + Drop>(
         ups,
     } = course;
     let parcel = mail.take(rt, boxes);
-    let place = tick(table, charter, me, place, parcel, out)?;
+    let mut unshown = 0;
+    let place = tick(table, charter, me, place, parcel, &mut unshown, out)?;
+    mail.let_go(unshown);
     Ok(Course {
         place,
         next,
@@ -196,13 +198,15 @@ fn other_turn<'c, J: Run, R: Wait, B: Behaviour + Drop>(
     })
 }
 
-/// A node that is up takes the parcel, or gets its timer where there is none.
+/// A node that is up takes the parcel, or gets its timer where there is none. A packet that it can't be shown to
+/// be able to take is counted.
 fn tick<J: Run, B: Behaviour + Drop>(
     table: &LeaseTable,
     charter: &Charter,
     me: NodeNo,
     place: Place<B>,
     parcel: Option<Parcel<J>>,
+    unshown: &mut u64,
     out: &mut Out,
 ) -> Result<Place<B>, AllocError>
     requires charter { charter.now ≡ charter_of table.now }
@@ -215,11 +219,12 @@ fn tick<J: Run, B: Behaviour + Drop>(
     let Place { pass, node } = place;
     match node {
         None => Ok(Place { pass, node: None }),
-        Some(node) => wake(table, charter, me, pass, node, parcel, out),
+        Some(node) => wake(table, charter, me, pass, node, parcel, unshown, out),
     }
 }
 
-/// The node, which is up, takes the parcel, or gets its timer where there is none.
+/// The node, which is up, takes the parcel, or gets its timer where there is none. A packet that it can't be shown
+/// to be able to take is counted.
 fn wake<J: Run, B: Behaviour + Drop>(
     table: &LeaseTable,
     charter: &Charter,
@@ -227,6 +232,7 @@ fn wake<J: Run, B: Behaviour + Drop>(
     pass: LeasePass,
     node: Node<B>,
     parcel: Option<Parcel<J>>,
+    unshown: &mut u64,
     out: &mut Out,
 ) -> Result<Place<B>, AllocError>
     requires charter { charter.now ≡ charter_of table.now }
@@ -242,7 +248,7 @@ fn wake<J: Run, B: Behaviour + Drop>(
         return give(table, charter, me, pass, node, Input::Tick, out);
     };
     let (packet, note) = parcel.into_parts();
-    take_packet(table, charter, me, pass, node, &packet, note, out)
+    take_packet(table, charter, me, pass, node, &packet, note, unshown, out)
 }
 
 /// One more turn without an order, of which three are counted.
@@ -399,8 +405,8 @@ fn run_turns<'c, J: Run, R: Wait, B: Behaviour + Copy + Drop, G: Gate>(
 }
 
 /// The worker of a node, from its passes at the table and at the boxes to the end of its turns; then its
-/// node goes. It holds nothing then, and its pass has seen all sends of its steady producers queued. It
-/// may wait. The only error is want of memory.
+/// node goes. It holds nothing then, and its pass has seen all sends of its steady producers queued. The
+/// roster has then counted what it let go. It may wait. The only error is want of memory.
 pub fn work<J: Run, R: Wait, B: Behaviour + Copy + Drop, G: Gate>(
     rt: &R,
     alloc: Global,
@@ -445,5 +451,6 @@ pub fn work<J: Run, R: Wait, B: Behaviour + Copy + Drop, G: Gate>(
     let before = member(table, me, &place);
     let pass = finish(table, me, place, &mut out)?;
     tell_roster(rt, boxes, roster, &mut mail, before, None)?;
+    let_go(rt, roster, mail.unshown);
     Ok(pass)
 }

@@ -3,7 +3,7 @@ use Rattle.lease_table.specs.Leasing.{lists_in}
 use Rattle.lease_table.specs.Left.{left_of}
 use Rattle.node_runner.proofs.Joins.{ran_closes}
 use Rattle.node_runner.proofs.Working.{is_dealt, is_run_of}
-use Rattle.node_runner.proofs.run.run_live.Goals as goal
+use Rattle.node_runner.proofs.run.run_counted.Goals as goal
 
 pub run_all-requires-clause-passes : goal.run_all-requires-clause-passes
 run_all-requires-clause-passes g c κs within =

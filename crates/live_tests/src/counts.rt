@@ -1,0 +1,177 @@
+//! What no clause says: that the workers of a busy run let no packet go because they couldn't show what it needs.
+use behaviour_kinds::Counter;
+use node_runner::{Outcome, run_counted};
+use script_text::{Mode, read_script};
+use shard_store::Stores;
+use std::alloc::{AllocError, Global};
+use std::sync::Wait;
+use std::sync::atomic::{AtomicU64, Ordering};
+use std::test::Fail;
+use std::thread::Threads;
+use yard_io::Gate;
+use yard_model::{Charter, Kind, Lists, NodeNo, ProducerNo, QueueEntry};
+
+/// Four nodes come up, with a producer on each.
+const FIRST: &[u8] = b"config nodes=4 shards=8 producers=4 window=2 buffer=3 snapshot=3
+up 1
+up 2
+up 3
+up 4
+produce 1 1
+produce 2 2
+produce 3 3
+produce 4 4
+";
+
+/// Each producer sends to names that others send to, shards move, and an entity goes.
+const ROUND: &[u8] = b"send 1 a add 1
+send 2 b add 1
+send 3 c add 1
+send 4 d add 1
+send 1 b add 1
+send 2 c add 1
+send 3 d add 1
+send 4 a add 1
+send 1 e add 1
+send 2 e add 1
+send 3 e add 1
+send 4 e add 1
+rebalance 2
+passivate a
+";
+
+/// A node stops and comes back, and a queue goes to another node.
+const MIDDLE: &[u8] = b"crash 3
+up 3
+produce 3 3
+rest 2
+produce 2 1
+";
+
+/// How often the producers send, before what is in the middle, and after it.
+const ROUNDS: u32 = 8;
+
+/// So many turns the nodes make.
+const TURNS: u32 = 500;
+
+/// How many seeds are tried.
+const SEEDS: u32 = 8;
+
+/// Of so many turns a node waits before one for the others.
+const STRIDE: u32 = 4;
+
+/// So often it looks whether another is there.
+const LOOKS: u32 = 50_000;
+
+/// A gate that keeps four nodes together: before each fourth turn a node waits until the others have come so far,
+/// for a bounded number of looks.
+#[derive(Drop)]
+struct Together {
+    first: AtomicU64,
+    second: AtomicU64,
+    third: AtomicU64,
+    fourth: AtomicU64,
+}
+
+impl Together {
+    fn new() -> Together {
+        Together {
+            first: AtomicU64::new(0),
+            second: AtomicU64::new(0),
+            third: AtomicU64::new(0),
+            fourth: AtomicU64::new(0),
+        }
+    }
+
+    /// How far a node is.
+    fn turn_of(&self, node: u8) -> &AtomicU64 {
+        match node {
+            1 => &self.first,
+            2 => &self.second,
+            3 => &self.third,
+            _ => &self.fourth,
+        }
+    }
+}
+
+impl Gate for Together {
+    fn pass(&self, node: NodeNo, turn: u32) {
+        let turn_of = self.turn_of(node.get());
+        turn_of.store(u64::from(turn), Ordering::SeqCst);
+        if turn % STRIDE == 0 {
+            for other in 1..=4 {
+                wait_for(self.turn_of(other), u64::from(turn));
+            }
+        }
+    }
+}
+
+/// Waits until a node has come so far, but no longer than for so many looks.
+fn wait_for(other: &AtomicU64, turn: u64) {
+    for _ in 0..LOOKS {
+        if other.load(Ordering::SeqCst) >= turn {
+            return;
+        }
+    }
+}
+
+/// The script.
+fn busy(alloc: Global) -> Result<Vec<u8>, AllocError> {
+    let mut text = Vec::new(alloc);
+    text.extend_from_slice(FIRST)?;
+    for _ in 0..ROUNDS {
+        text.extend_from_slice(ROUND)?;
+    }
+    text.extend_from_slice(MIDDLE)?;
+    for _ in 0..ROUNDS {
+        text.extend_from_slice(ROUND)?;
+    }
+    Ok(text)
+}
+
+/// What a run of a script of counters leaves; None for another kind. It may wait.
+fn run<R: Threads + Wait + Sync>(
+    rt: &R,
+    alloc: Global,
+    charter: &Charter,
+    seed: u32,
+) -> Result<Option<Outcome>, AllocError> {
+    match charter.config().kind {
+        Kind::Counter => {
+            let gate = Together::new();
+            let outcome = run_counted(rt, alloc, charter, Counter::new(), TURNS, seed, &gate)?;
+            Ok(Some(outcome))
+        }
+        _ => Ok(None),
+    }
+}
+
+/// How often this producer was told that its commands are recorded.
+fn confirmed(stores: &Stores, p: ProducerNo) -> usize {
+    let is_confirmed = |entry: &&QueueEntry| matches!(entry, QueueEntry::Confirmed(_, _));
+    stores.queue(p).iter().filter(is_confirmed).count()
+}
+
+/// How often the four producers were told so.
+fn all_confirmed(stores: &Stores) -> usize {
+    let mut all: usize = 0;
+    for number in 1..=4 {
+        if let Some(p) = ProducerNo::new(number) {
+            all = all.saturating_add(confirmed(stores, p));
+        }
+    }
+    all
+}
+
+#[test]
+fn nothing_is_let_go(rt: HostRuntime) -> Result<(), Fail> {
+    let alloc = rt.alloc();
+    let text = busy(alloc)?;
+    let charter = read_script(alloc, text.as_slice(), Mode::Live)?;
+    for seed in 0..SEEDS {
+        let outcome = run(&rt, alloc, &charter, seed)?.ok_or("counters")?;
+        assert_eq!(rt; outcome.unshown, 0, "seed {seed}");
+        assert!(rt; all_confirmed(&outcome.stores) > 0, "seed {seed}");
+    }
+    Ok(())
+}

@@ -1,6 +1,7 @@
 -- How many entities of each shard exist.
 use Rattle.std.proofs.Common.{◌≡◌, ◌≢◌, ℕ, ◌+◌, ◌-◌, ◌<◌, ◌≤◌, List, [], ◌∷◌, length, map, sym, ap, subst, ◌∙◌, refl, true, false, arith, true≢false, get_or-set_same, get_or-set_other}
 use Rattle.std.specs.Prelude.{Bool, zero, suc, ◌==◌, not, cond, filter, replicate, Option, IfSome, IfNone, Some, None, slice_set, slice_index_or, if◌then◌else◌}
+use Rattle.std.specs.Option.{option_map}
 use Rattle.std.specs.List.Sorted.{IsStrictlySortedBy}
 use Rattle.std.specs.Ordering.{nat_cmp}
 use Rattle.std.specs.Cmp.Lexicographic.{slice_cmp}
@@ -15,10 +16,11 @@ use Rattle.yard_model.specs.declared.input.Phase.{Phase}
 use Rattle.yard_model.specs.declared.input.Phase.TheVariants as phase
 use Rattle.yard_model.specs.declared.packet.Body.TheVariants as body
 use Rattle.yard_model.specs.declared.packet.Message.{Message}
-use Rattle.yard_model.specs.Entities.{Cell, cell_in, new_cell, is_phase, is_in_phase, phase_step, entities_of}
+use Rattle.yard_model.specs.Entities.{Cell, cell_in, new_cell, is_phase, is_in_phase, phase_step, entities_of, is_running_in}
 use Rattle.yard_model.specs.Move.{told, post}
-use Rattle.yard_model.specs.Script.{Script, Setting, setting, is_name}
+use Rattle.yard_model.specs.Script.{Script, IsScript, Setting, setting, is_name, is_version}
 use Rattle.yard_model.specs.Setting.{shard_of, names_of, place}
+use Rattle.yard_model.specs.ShardSet.{has}
 use Rattle.yard_model.specs.Words.{is_empty}
 use Rattle.plain_laws.proofs.Booleans.{same_name, get_replicate}
 use Rattle.plain_laws.proofs.Names.{name_itself}
@@ -27,7 +29,8 @@ use Rattle.shard_entities.specs.Celled.{Celled, celled, celled_after}
 use Rattle.shard_entities.specs.Placed.{IsPlace}
 use Rattle.shard_entities.specs.declared.place.Place.{Place}
 use Rattle.shard_entities.specs.declared.hosting.Hosting.{Hosting}
-use Rattle.shard_entities.specs.Lodged.{Lodged, lodged, IsLodged, IsKept, AreCounted, cell_of}
+use Rattle.shard_entities.specs.Lodged.{Lodged, lodged, IsLodged, IsKept, IsCell, IsHosting, AreCounted, cell_of, new_celled, host_of, hosted_of}
+use Rattle.shard_entities.proofs.DropLaws.{new_stands}
 use Rattle.shard_entities.proofs.LodgedLaws.{is_same, is_other, placed, cell_at}
 use Rattle.shard_entities.proofs.NameLaws.{another_name}
 use Rattle.shard_entities.proofs.PlacesLaws.{new_cells}
@@ -286,7 +289,7 @@ none_pass : (f : List ℕ → Bool) → ((e : List ℕ) → f e ≡ false) → (
 none_pass f none [] = refl
 none_pass f none (x ∷ xs) = ap (λ b. length (cond b (x ∷ filter f xs) (filter f xs))) (none x) ∙ none_pass f none xs
 
-pub counted_new : (c : Script) (cells : List Celled) (existing : List ℕ) → cells ≡ replicate (length (setting c).names) (celled c.config.producers c.config.window) → existing ≡ replicate c.config.shards 0 → AreCounted (setting c) (map cell_of cells) existing
+counted_new : (c : Script) (cells : List Celled) (existing : List ℕ) → cells ≡ replicate (length (setting c).names) (celled c.config.producers c.config.window) → existing ≡ replicate c.config.shards 0 → AreCounted (setting c) (map cell_of cells) existing
 counted_new c cells existing fresh none = record {
   there = ap length none ∙ length-replicate {A = ℕ} c.config.shards 0;
   each = λ s below. (ap (λ l. slice_index_or l s 0) none ∙ get_replicate c.config.shards s 0) ∙ sym (none_pass (is_there (setting c) (map cell_of cells)) absent (names_of (setting c) s));
@@ -296,6 +299,29 @@ counted_new c cells existing fresh none = record {
     absent e = ap (λ (x : Cell). not (is_phase phase.Absent x.phase))
         (ap (λ l. slice_index_or l (place (setting c) e) (new_cell (setting c))) (ap (map cell_of) fresh ∙ new_cells (length (setting c).names) (celled c.config.producers c.config.window))
         ∙ get_replicate (length (setting c).names) (place (setting c) e) (new_cell (setting c)))
+
+-- what is kept as a node comes up
+pub kept_new : (script c : Script) (version : ℕ) (who : Incarnation) (config : Config) (places : Script) (cells : List Celled) (items : List (Option Hosting)) (running : ℕ) (existing : List ℕ) → script ≡ c → IsScript c → is_version c version ≡ true → config ≡ c.config → places ≡ c
+    → IsStrictlySortedBy (slice_cmp nat_cmp) (setting c).names → cells ≡ replicate (length (setting c).names) (celled c.config.producers c.config.window) → items ≡ replicate c.config.shards None → ((s : ℕ) → has running s ≡ false) → existing ≡ replicate c.config.shards 0
+    → IsKept script version who config places cells items running existing
+kept_new script c version who config places cells items running existing same ok admitted config_is places_are sorted fresh unhosted idle none = subst (λ x. IsKept x version who config places cells items running existing) (sym same) record {
+  lodged = record {
+    script_is = ok;
+    admitted = admitted;
+    config_is = config_is;
+    places_are = places_are;
+    sorted = sorted;
+    there = ap length fresh ∙ length-replicate {A = Celled} (length (setting c).names) (new_celled c);
+    shards_there = ap length unhosted ∙ length-replicate {A = Option Hosting} c.config.shards None;
+    each = λ j within. subst (IsCell c (name_at (setting c).names j) (host_of c items (name_at (setting c).names j))) (sym (ap (λ l. slice_index_or l j (new_celled c)) fresh ∙ get_replicate (length (setting c).names) j (new_celled c))) (new_stands c (name_at (setting c).names j) (host_of c items (name_at (setting c).names j)));
+    hosts = λ s. subst (λ o. IfSome o (IsHosting c who s)) (sym (none_there s)) tt;
+    runs = λ s below. idle s ∙ sym (ap (λ (o : Option Hosting). is_running_in (option_map hosted_of o)) (none_there s));
+  };
+  counted = counted_new c cells existing fresh none;
+}
+  where
+    none_there : (s : ℕ) → slice_index_or items s None ≡ None
+    none_there s = ap (λ l. slice_index_or l s None) unhosted ∙ get_replicate {X = Option Hosting} c.config.shards s None
 
 -- What is read.
 

@@ -70,7 +70,7 @@ dropped_moved None now {c} {version} {who} {config} {places} {cells} {items} {ru
 new_is : {c : Script} {e : List ℕ} {o : Option Hosting} {was now : Celled} → IsCell c e o was → now ≡ celled (length was.cell.reach) was.window → now ≡ celled c.config.producers c.config.window
 new_is {c} {e} {o} {was} {now} k step = step ∙ (ap (λ n. celled n was.window) k.reach_there ∙ ap (celled c.config.producers) k.window_is)
 
-new_stands : (c : Script) (e : List ℕ) (o : Option Hosting) → IsCell c e o (celled c.config.producers c.config.window)
+pub new_stands : (c : Script) (e : List ℕ) (o : Option Hosting) → IsCell c e o (celled c.config.producers c.config.window)
 new_stands c e o = record { window_is = refl; reach_there = length-replicate c.config.producers 0; stash_is = refl; clear = λ active. refl; folds = λ active. absurd (absent_not_active refl active) }
 
 pub cleared_stands : {c : Script} {version : ℕ} {who : Incarnation} {config : Config} {places : Script} {cells : List Celled} {items : List (Option Hosting)} {running : ℕ} {v : Lodged} {p : Place} {was now : Celled}

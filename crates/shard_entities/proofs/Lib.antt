@@ -1,5 +1,6 @@
 mod NameLaws
 mod LodgedLaws
+mod CountLaws
 mod MoveLaws
 mod EntryLaws
 mod PlannedLaws

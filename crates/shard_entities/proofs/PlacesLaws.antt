@@ -166,7 +166,7 @@ no_rooms : (n : ℕ) → map room_of (replicate n None) ≡ replicate n 0
 no_rooms zero = refl
 no_rooms (suc n) = ap (λ l. 0 ∷ l) (no_rooms n)
 
-new_cells : (n : ℕ) (x : Celled) → map cell_of (replicate n x) ≡ replicate n x.cell
+pub new_cells : (n : ℕ) (x : Celled) → map cell_of (replicate n x) ≡ replicate n x.cell
 new_cells zero x = refl
 new_cells (suc n) x = ap (λ l. x.cell ∷ l) (new_cells n x)
 

@@ -114,24 +114,6 @@ freed_settled {v} {w} s n why st settled left step = subst IsSettled (sym step) 
         gone = subst (λ k. (slice_index_or v.state.cells k (new_cell v.state.set)).phase ≡ phase.Absent) (place_at i st within) (absent_is (cell v.state (name_at v.state.set.names i)).phase absent)
     at_shard i within false e old = subst (λ o. IsQuiet o (slice_index_or v.state.cells i (new_cell v.state.set))) (sym (get_or-set_other v.state.hosted s (shard_of v.state.set (name_at v.state.set.names i)) None None (is_other (shard_of v.state.set (name_at v.state.set.names i)) s e))) old
 
--- the names that are left, one on, where it doesn't exist
-pub left_next : (v : Lodged) (s k : ℕ) (e : List ℕ) {n : ℕ} {found : Bool} → Stands v → k < n → n ≡ length (names_of (setting v.script) s) → e ≡ name_at (names_of (setting v.script) s) k → found ≡ not (is_in_phase phase.Absent v.state e) → found ≡ false
-    → filter (λ e. not (is_in_phase phase.Absent v.state e)) (drop k (names_of v.state.set s)) ≡ entities_of v.state s → filter (λ e. not (is_in_phase phase.Absent v.state e)) (drop (k + 1) (names_of v.state.set s)) ≡ entities_of v.state s
-left_next v s k e {n} {found} st below count name exists absent old = sym cut ∙ old
-  where
-    p : List ℕ → Bool
-    p e = not (is_in_phase phase.Absent v.state e)
-
-    within : k < length (names_of v.state.set s)
-    within = subst (λ (x : Setting). k < length (names_of x s)) (sym st.set_is) (subst (λ m. k < m) count below)
-
-    name_is : e ≡ name_at (names_of v.state.set s) k
-    name_is = name ∙ ap (λ (x : Setting). name_at (names_of x s) k) (sym st.set_is)
-
-    cut : filter (λ e. not (is_in_phase phase.Absent v.state e)) (drop k (names_of v.state.set s)) ≡ filter (λ e. not (is_in_phase phase.Absent v.state e)) (drop (k + 1) (names_of v.state.set s))
-    cut = ap (filter (λ e. not (is_in_phase phase.Absent v.state e))) (drop_more (names_of v.state.set s) k [] within ∙ ap (λ y. y ∷ drop (k + 1) (names_of v.state.set s)) (sym name_is))
-        ∙ ap (λ b. cond b (e ∷ filter (λ e. not (is_in_phase phase.Absent v.state e)) (drop (k + 1) (names_of v.state.set s))) (filter (λ e. not (is_in_phase phase.Absent v.state e)) (drop (k + 1) (names_of v.state.set s)))) (sym exists ∙ absent)
-
 -- No entity of it is left.
 
 new_quiet : (set : Setting) (o : Option Hosted) → IsQuiet o (new_cell set)

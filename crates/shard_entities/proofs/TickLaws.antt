@@ -1,18 +1,29 @@
 -- The tick: one shard after the other, and in it one name after the other.
-use Rattle.std.proofs.Common.{◌≡◌, ℕ, ◌+◌, ◌-◌, ◌<◌, ◌≤◌, List, [], ◌++◌, length, length-append, ap, ◌∙◌, refl, arith, drop}
-use Rattle.std.specs.Prelude.{cond, not, suc, filter}
+use Rattle.std.proofs.Common.{◌≡◌, ℕ, ◌+◌, ◌-◌, ◌<◌, ◌≤◌, List, [], ◌∷◌, ◌++◌, length, length-append, ap, sym, ◌∙◌, refl, true, arith, drop}
+use Rattle.std.specs.Prelude.{Bool, cond, not, suc, filter}
 use Rattle.std.specs.List.{flat_map}
 use Rattle.yard_model.specs.declared.input.Phase.{Phase}
 use Rattle.yard_model.specs.declared.input.Phase.TheVariants as phase
 use Rattle.yard_model.specs.Entities.{Entities, cell, entities_of, is_in_phase, is_phase, remind_by}
 use Rattle.yard_model.specs.Move.{Move}
-use Rattle.yard_model.specs.Words.{numbers}
+use Rattle.yard_model.specs.declared.out.Item.{Item}
+use Rattle.yard_model.specs.Spared.{Spared}
+use Rattle.yard_model.specs.Words.{numbers, is_empty}
 use Rattle.shard_store.specs.Shelved.{name_at}
+use Rattle.shard_entities.specs.Lodged.{given}
 use Rattle.shard_entities.proofs.WayLaws.{picked_next}
 
 -- what is told to the entities of a shard again
 abbrev pub of_shard : Entities → ℕ → List Move
 of_shard st s = flat_map (λ e. remind_by e st (cell st e).phase) (entities_of st s)
+
+none_there : (xs : List (List ℕ)) → is_empty xs ≡ true → xs ≡ []
+none_there [] h = refl
+none_there (x ∷ xs) h = cc
+
+-- a shard without entities is passed over
+pub passed_over : (out : Spared Item) (st : Entities) (s : ℕ) {b : Bool} → b ≡ is_empty (entities_of st s) → b ≡ true → out ≡ given out (of_shard st s)
+passed_over out st s {b} is none = ap (λ es. given out (flat_map (λ e. remind_by e st (cell st e).phase) es)) (sym (none_there (entities_of st s) (sym is ∙ none)))
 
 -- those of the names that are left
 abbrev pub of_names : Entities → List (List ℕ) → List Move

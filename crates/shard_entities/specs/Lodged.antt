@@ -1,5 +1,5 @@
 -- The entities of a node as they are kept, and what moves make of them.
-use Rattle.std.specs.Prelude.{◌≡◌, ℕ, ◌<◌, ◌-◌, ◌&&◌, Bool, true, List, [], ◌∷◌, ◌++◌, length, map, fold, slice_index_or, slice_set, Option, None, Some, IfSome}
+use Rattle.std.specs.Prelude.{◌≡◌, ℕ, ◌<◌, ◌-◌, ◌&&◌, Bool, true, not, List, [], ◌∷◌, ◌++◌, length, map, filter, fold, slice_index_or, slice_set, Option, None, Some, IfSome}
 use Rattle.std.specs.Option.{option_map}
 use Rattle.std.specs.List.{list_all}
 use Rattle.std.specs.List.Sorted.{IsStrictlySortedBy}
@@ -15,7 +15,7 @@ use Rattle.yard_model.specs.declared.out.Item.{Item}
 use Rattle.yard_model.specs.declared.out.Item.TheVariants as item
 use Rattle.yard_model.specs.declared.packet.Message.{Message}
 use Rattle.yard_model.specs.Behaviour.{folded, is_valid}
-use Rattle.yard_model.specs.Entities.{Entities, Cell, entities_after, hosted, entries_in, is_running_in, new_cell, Hosted, Stopping}
+use Rattle.yard_model.specs.Entities.{Entities, Cell, entities_after, hosted, entries_in, is_running_in, is_phase, cell_in, new_cell, Hosted, Stopping}
 use Rattle.yard_model.specs.Genuine.{is_genuine, is_producer}
 use Rattle.yard_model.specs.Move.{Move, made, took}
 use Rattle.yard_model.specs.Script.{Script, IsScript, Setting, setting, is_name, is_version}
@@ -123,6 +123,15 @@ pub record IsLodged (c : Script) (version : ℕ) (who : Incarnation) (config : C
   pub each : (i : ℕ) → i < length (setting c).names → IsCell c (name_at (setting c).names i) (host_of c items (name_at (setting c).names i)) (slice_index_or cells i (new_celled c))
   pub hosts : (s : ℕ) → IfSome (at items s) (IsHosting c who s)
   pub runs : (s : ℕ) → s < c.config.shards → has running s ≡ is_running_in (option_map hosted_of (at items s))
+
+-- of each shard, how many of its entities exist
+pub record AreCounted (set : Setting) (cells : List Cell) (existing : List ℕ) : Type 0 where
+  pub there : length existing ≡ set.config.shards
+  pub each : (s : ℕ) → s < set.config.shards → slice_index_or existing s 0 ≡ length (filter (λ e. not (is_phase phase.Absent (cell_in set cells e).phase)) (names_of set s))
+
+pub record IsKept (c : Script) (version : ℕ) (who : Incarnation) (config : Config) (places : Script) (cells : List Celled) (items : List (Option Hosting)) (running : ℕ) (existing : List ℕ) : Type 0 where
+  pub lodged : IsLodged c version who config places cells items running
+  pub counted : AreCounted (setting c) (map cell_of cells) existing
 
 abbrev pub lodged : Script → ℕ → Incarnation → List (Option Hosting) → List Celled → Lodged
 lodged c version who items cells = record { script = c; state = record { who = who; set = setting c; version = version; hosted = map (option_map hosted_of) items; cells = map cell_of cells }; rooms = map room_of items }

@@ -148,20 +148,6 @@ impl Shards {
         }
     }
 
-    /// Whether no entity of a shard exists.
-    fn is_empty(&self, s: ShardNo) -> bool
-        requires { s < self.now.script.config.shards }
-        ensures { result ≡ is_empty (entities_of self.now.state s) }
-    {
-        self.knows();
-        for k in 0..self.count(s) {
-            if self.exists(&self.nth(s, k)) {
-                return false;
-            }
-        }
-        true
-    }
-
     /// A hosted shard of which no entity exists is let go; its store.
     fn free(&mut self, s: ShardNo, ending: &Ending, out: &mut Out) -> ShardStore
         requires shard { s < self.old.script.config.shards }

@@ -4,6 +4,7 @@
 #![tactic(auto)]
 
 mod cell;
+mod counts;
 mod delivery;
 mod entities;
 mod handoff;

@@ -13,6 +13,7 @@ ghost use Rattle.yard_model.specs.SlotReads.{journal, last_snapshot, is_remember
 ghost use Rattle.shard_entities.specs.Lodged.{HasRoom, is_for, moved, given};
 ghost use Rattle.shard_entities.specs.Placed.{IsPlace};
 
+use crate::counts::{count_in, count_out};
 use crate::hosting::{
     Ending, set_ending, write_forgotten, write_record, write_remembered, write_snapshot,
 };
@@ -78,7 +79,9 @@ impl Shards {
         ensures state { self.new ≡ moved self.old (told (fact.Start self.old.state.who place.now.entity) ∷ []) }
         ensures out { out.new ≡ given out.old (told (fact.Start self.old.state.who place.now.entity) ∷ []) }
     {
+        let was = self.exists(place);
         self.cells[place.at].start();
+        count_in(&mut self.existing[place.shard.get() as usize], was);
         push(out, Item::Fact(Fact::Start(self.who, place.entity)));
     }
 
@@ -89,7 +92,9 @@ impl Shards {
         ensures state { self.new ≡ moved self.old (told (fact.WriteFailed self.old.state.who place.now.entity) ∷ []) }
         ensures out { out.new ≡ given out.old (told (fact.WriteFailed self.old.state.who place.now.entity) ∷ []) }
     {
+        let was = self.exists(place);
         self.cells[place.at].fail();
+        count_out(&mut self.existing[place.shard.get() as usize], was);
         push(out, Item::Fact(Fact::WriteFailed(self.who, place.entity)));
     }
 
@@ -112,7 +117,9 @@ impl Shards {
         ensures out { out.new ≡ given out.old (told (fact.Active self.old.state.who place.now.entity number state.now) ∷ []) }
         ensures pending { pending.new ≡ record { messages = (cell self.old.state place.now.entity).stash; window = self.old.script.config.window } }
     {
+        let was = self.exists(place);
         self.cells[place.at].activate(state, pending);
+        count_in(&mut self.existing[place.shard.get() as usize], was);
         push(
             out,
             Item::Fact(Fact::Active {
@@ -229,7 +236,9 @@ impl Shards {
         ensures state { self.new ≡ moved self.old (told (fact.Stop self.old.state.who place.now.entity) ∷ []) }
         ensures out { out.new ≡ given out.old (told (fact.Stop self.old.state.who place.now.entity) ∷ []) }
     {
+        let was = self.exists(place);
         self.cells[place.at].stop();
+        count_out(&mut self.existing[place.shard.get() as usize], was);
         push(out, Item::Fact(Fact::Stop(self.who, place.entity)));
     }
 

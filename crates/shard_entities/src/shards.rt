@@ -8,11 +8,11 @@ ghost use Rattle.yard_model.specs.declared.incarnation.Slot.TheVariants as slot;
 ghost use Rattle.yard_model.specs.ShardSet.{has};
 ghost use Rattle.yard_model.specs.declared.input.Phase.TheVariants as phase;
 ghost use Rattle.yard_model.specs.Behaviour.{folded, is_valid};
-ghost use Rattle.yard_model.specs.Entities.{is_running, is_hosted, new_entities, cell, hosted, is_in_phase, entries};
+ghost use Rattle.yard_model.specs.Entities.{is_running, is_hosted, new_entities, cell, hosted, is_in_phase, entries, entities_of};
 ghost use Rattle.yard_model.specs.Move.{told};
 ghost use Rattle.yard_model.specs.Script.{IsScript, is_name, is_version, setting, is_config};
 ghost use Rattle.yard_model.specs.Setting.{names_of, shard_of};
-ghost use Rattle.yard_model.specs.Words.{at};
+ghost use Rattle.yard_model.specs.Words.{at, is_empty};
 ghost use Rattle.yard_model.specs.SlotReads.{journal, is_remembered};
 ghost use Rattle.shard_store.specs.Shelved.{name_at};
 ghost use Rattle.shard_entities.specs.Lodged.{IsStore, HasRoom, moved, is_for, without, cleared, room_of};
@@ -22,6 +22,7 @@ ghost use Rattle.shard_entities.specs.Placed.{IsPlace};
 ghost use Rattle.shard_entities.specs.Celled.{celled};
 
 use crate::cell::Cell;
+use crate::counts::count_out;
 use crate::hosting::{Ending, Hosting, reserve_in};
 use crate::place::Place;
 use crate::places::{Places, shard_at};
@@ -47,6 +48,7 @@ pub(crate) struct Shards {
     pub(crate) cells: Vec<Cell>,
     pub(crate) hosted: Vec<Option<Hosting>>,
     pub(crate) running: ShardSet,
+    pub(crate) existing: Vec<u32>,
     pub(crate) holds: PhantomData<
         (
             Fact,
@@ -67,7 +69,7 @@ impl Model for Shards {
     ghost use Rattle.std.specs.Prelude.{map};
     ghost use Rattle.std.specs.Option.{option_map};
     ghost use Rattle.yard_model.specs.Script.{setting};
-    ghost use Rattle.shard_entities.specs.Lodged.{Lodged, IsLodged, hosted_of, room_of, cell_of};
+    ghost use Rattle.shard_entities.specs.Lodged.{Lodged, IsKept, hosted_of, room_of, cell_of};
 
     ghost Value = { Lodged };
 
@@ -83,7 +85,7 @@ impl Model for Shards {
       rooms = map room_of e.hosted.items;
     } };
 
-    ghost invariant = { λ e. IsLodged e.script.value e.version e.who e.config e.places e.cells.items e.hosted.items e.running };
+    ghost invariant = { λ e. IsKept e.script.value e.version e.who e.config e.places e.cells.items e.hosted.items e.running e.existing.items };
 }
 
 impl Shards {
@@ -103,6 +105,7 @@ impl Shards {
         let places = Places::new(alloc, charter)?;
         let cells = new_cells(alloc, count, config.producers, config.window)?;
         let hosted = none_hosted(alloc, config.shards)?;
+        let existing = none_counted(alloc, config.shards)?;
         Ok(Shards {
             script: Snapshot::of(charter),
             who,
@@ -112,6 +115,7 @@ impl Shards {
             cells,
             hosted,
             running: ShardSet::empty(),
+            existing,
             holds: PhantomData,
         })
     }
@@ -196,7 +200,9 @@ impl Shards {
         requires place { IsPlace self.old.script place.now }
         ensures { self.new ≡ cleared self.old (place.now.entity ∷ []) }
     {
+        let was = self.exists(place);
         self.cells[place.at].clear();
+        count_out(&mut self.existing[place.shard.get() as usize], was);
     }
 
     /// Makes room in the store of each hosted shard for all that a turn may write there. The only
@@ -234,6 +240,14 @@ impl Shards {
             Phase::Absent => false,
             _ => true,
         }
+    }
+
+    /// Whether no entity of a shard exists.
+    pub(crate) fn is_empty(&self, s: ShardNo) -> bool
+        requires { s < self.now.script.config.shards }
+        ensures { result ≡ is_empty (entities_of self.now.state s) }
+    {
+        self.existing[s.get() as usize] == 0
     }
 
     /// Whether it takes commands.
@@ -397,6 +411,14 @@ fn none_hosted(alloc: Global, shards: u8) -> Result<Vec<Option<Hosting>>, AllocE
         hosted.push(None)?;
     }
     Ok(hosted)
+}
+
+/// No entity of any shard exists.
+fn none_counted(alloc: Global, shards: u8) -> Result<Vec<u32>, AllocError>
+    ensures { IfOk result (λ v. v.items ≡ replicate shards 0) }
+{
+    let existing = vec![in alloc; 0u32; shards as usize]?;
+    Ok(existing)
 }
 
 /// Which of these shards are hosted.

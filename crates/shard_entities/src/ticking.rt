@@ -22,8 +22,19 @@ impl Shards {
         }
     }
 
-    /// Those of one shard.
+    /// Those of one shard, if there are any.
     fn remind_shard(&self, s: ShardNo, out: &mut Out)
+        requires shard { s < self.now.script.config.shards }
+        requires room { length (flat_map (λ e. remind_by e self.now.state (cell self.now.state e).phase) (entities_of self.now.state s)) ≤ out.old.spare }
+        ensures { out.new ≡ given out.old (flat_map (λ e. remind_by e self.now.state (cell self.now.state e).phase) (entities_of self.now.state s)) }
+    {
+        if !self.is_empty(s) {
+            self.remind_each(s, out);
+        }
+    }
+
+    /// Each of them.
+    fn remind_each(&self, s: ShardNo, out: &mut Out)
         requires shard { s < self.now.script.config.shards }
         requires room { length (flat_map (λ e. remind_by e self.now.state (cell self.now.state e).phase) (entities_of self.now.state s)) ≤ out.old.spare }
         ensures { out.new ≡ given out.old (flat_map (λ e. remind_by e self.now.state (cell self.now.state e).phase) (entities_of self.now.state s)) }

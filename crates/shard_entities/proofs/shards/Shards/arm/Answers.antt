@@ -1,9 +1,12 @@
+use Rattle.std.proofs.Common.{ap}
+use Rattle.shard_entities.proofs.CountLaws.{gone, stays}
 use Rattle.shard_entities.proofs.LodgedLaws.{cell_moved, stands}
 use Rattle.shard_entities.proofs.MoveLaws.{of_arm, keeps_arm}
 use Rattle.shard_entities.proofs.shards.Shards.arm.Goals as goal
 
 pub invariant_of-self : goal.invariant_of-self
-invariant_of-self c = stands (keeps_arm c.args.place.now.entity c.args.keep) c.self.invariant c.self.view_is c.requires.place c.index_mut.ensures.value (c.arm.ensures c.args.place.now.entity)
+invariant_of-self c = stays _ c.self.invariant c.self.view_is c.requires.place c.index_mut.ensures.value (ap gone (c.arm.ensures c.args.place.now.entity))
+    (stands (keeps_arm c.args.place.now.entity c.args.keep) c.self.invariant.lodged c.self.view_is c.requires.place c.index_mut.ensures.value (c.arm.ensures c.args.place.now.entity))
 
 pub returns-clause-state : goal.returns-clause-state
-returns-clause-state c = cell_moved (of_arm c.args.place.now.entity c.args.keep) c.self.invariant c.self.view_is c.requires.place c.index_mut.ensures.value (c.arm.ensures c.args.place.now.entity)
+returns-clause-state c = cell_moved (of_arm c.args.place.now.entity c.args.keep) c.self.invariant.lodged c.self.view_is c.requires.place c.index_mut.ensures.value (c.arm.ensures c.args.place.now.entity)

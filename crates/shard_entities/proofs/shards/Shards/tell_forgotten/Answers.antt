@@ -3,7 +3,10 @@ use Rattle.shard_entities.proofs.EntryLaws.{entry_forgotten, entry_only, entry_m
 use Rattle.shard_entities.proofs.shards.Shards.tell_forgotten.Goals as goal
 
 pub invariant_of-self : goal.invariant_of-self
-invariant_of-self c = entry_only (entry_forgotten c.args.place.now.entity) (λ old. refl) c.self.invariant c.self.view_is c.requires.place c.get.ensures.value c.index_mut.ensures.value c.write_forgotten.ensures
+invariant_of-self c = record {
+  lodged = entry_only (entry_forgotten c.args.place.now.entity) (λ old. refl) c.self.invariant.lodged c.self.view_is c.requires.place c.get.ensures.value c.index_mut.ensures.value c.write_forgotten.ensures;
+  counted = c.self.invariant.counted;
+}
 
 pub returns-clause-state : goal.returns-clause-state
-returns-clause-state c = entry_moved c.self.inside.cells.items (entry_forgotten c.args.place.now.entity) c.self.invariant c.self.view_is c.requires.place refl c.get.ensures.value c.index_mut.ensures.value c.write_forgotten.ensures
+returns-clause-state c = entry_moved c.self.inside.cells.items (entry_forgotten c.args.place.now.entity) c.self.invariant.lodged c.self.view_is c.requires.place refl c.get.ensures.value c.index_mut.ensures.value c.write_forgotten.ensures

@@ -4,7 +4,7 @@ use Rattle.yard_model.specs.Setting.{names_of}
 use Rattle.shard_entities.proofs.LoopLaws.{remind_cut, remind_room, room_goes}
 use Rattle.shard_entities.proofs.TickLaws.{of_names, of_shard}
 use Rattle.shard_entities.proofs.WayLaws.{out_goes}
-use Rattle.shard_entities.proofs.shards.Shards.remind_shard.Goals as goal
+use Rattle.shard_entities.proofs.shards.Shards.remind_each.Goals as goal
 
 pub remind-requires-clause-room : goal.remind-requires-clause-room
 remind-requires-clause-room c = remind_room c.args.s c.knows.ensures c.loop-k-test.true c.count-k-end.ensures.count c.nth.ensures.entity c.loop-k.invariant.room

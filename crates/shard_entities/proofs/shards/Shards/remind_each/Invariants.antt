@@ -5,7 +5,7 @@ use Rattle.yard_model.specs.declared.input.Phase.TheVariants as phase
 use Rattle.yard_model.specs.Entities.{cell, is_in_phase, entities_of, remind_by}
 use Rattle.yard_model.specs.Setting.{names_of}
 use Rattle.shard_entities.specs.Lodged.{given}
-use Rattle.shard_entities.proofs.shards.Shards.remind_shard.Given as goal
+use Rattle.shard_entities.proofs.shards.Shards.remind_each.Given as goal
 
 abbrev pub invariant-loop-k : goal.invariant-loop-k
 invariant-loop-k l = record {

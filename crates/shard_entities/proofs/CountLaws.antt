@@ -182,10 +182,10 @@ pub stays : (now : Celled) {c : Script} {version : ℕ} {who : Incarnation} {con
 stays now {c} {version} {who} {config} {places} {cells} {items} {new_items} {running} {new_running} {existing} {v} {p} {was} k seen is read same t = record {
   lodged = t;
   counted =
-    let here : IsPlace c p = placed k.lodged seen is in
-    let old : is_there (setting c) (map cell_of cells) p.entity ≡ not (gone was) = subst (λ (v : Lodged). not (is_in_phase phase.Absent v.state p.entity) ≡ not (gone was)) (sym seen) (ap (λ (x : Cell). not (is_phase phase.Absent x.phase)) (cell_at k.lodged seen is read)) in
-    subst (λ l. AreCounted (setting c) l existing) (sym (map-set cell_of cells p.at now))
-    (counted_same now.cell k.counted here k.lodged.sorted (cells_within k.lodged here) (ap not same ∙ sym old));
+      let here : IsPlace c p = placed k.lodged seen is in
+      let old : is_there (setting c) (map cell_of cells) p.entity ≡ not (gone was) = subst (λ (v : Lodged). not (is_in_phase phase.Absent v.state p.entity) ≡ not (gone was)) (sym seen) (ap (λ (x : Cell). not (is_phase phase.Absent x.phase)) (cell_at k.lodged seen is read)) in
+      subst (λ l. AreCounted (setting c) l existing) (sym (map-set cell_of cells p.at now))
+      (counted_same now.cell k.counted here k.lodged.sorted (cells_within k.lodged here) (ap not same ∙ sym old));
 }
 
 -- the count of its shard
@@ -208,12 +208,12 @@ recounted : (now : Celled) (n : ℕ) {c : Script} {version : ℕ} {who : Incarna
 recounted now n {c} {version} {who} {config} {places} {cells} {items} {running} {existing} {v} {p} {b} {i} {o} k seen is was at read step t = record {
   lodged = t;
   counted =
-    let its : IsCount c (map cell_of cells) existing p o = count_at k seen is at read in
-    let there : b ≡ is_there (setting c) (map cell_of cells) p.entity = subst (λ (v : Lodged). b ≡ not (is_in_phase phase.Absent v.state p.entity)) (sym seen) was in
-    subst (λ l. AreCounted (setting c) l (slice_set existing i n)) (sym (map-set cell_of cells p.at now))
-    (subst (λ m. AreCounted (setting c) (slice_set (map cell_of cells) p.at now.cell) (slice_set existing m n)) (sym at)
-    (counted_put now.cell n k.counted its.here k.lodged.sorted (cells_within k.lodged its.here)
-    (subst (λ x. n + bit x ≡ slice_index_or existing p.shard 0 + bit (not (gone now))) there (subst (λ m. n + bit b ≡ m + bit (not (gone now))) (sym its.old_is) step))));
+      let its : IsCount c (map cell_of cells) existing p o = count_at k seen is at read in
+      let there : b ≡ is_there (setting c) (map cell_of cells) p.entity = subst (λ (v : Lodged). b ≡ not (is_in_phase phase.Absent v.state p.entity)) (sym seen) was in
+      subst (λ l. AreCounted (setting c) l (slice_set existing i n)) (sym (map-set cell_of cells p.at now))
+      (subst (λ m. AreCounted (setting c) (slice_set (map cell_of cells) p.at now.cell) (slice_set existing m n)) (sym at)
+      (counted_put now.cell n k.counted its.here k.lodged.sorted (cells_within k.lodged its.here)
+      (subst (λ x. n + bit x ≡ slice_index_or existing p.shard 0 + bit (not (gone now))) there (subst (λ m. n + bit b ≡ m + bit (not (gone now))) (sym its.old_is) step))));
 }
 
 -- it exists

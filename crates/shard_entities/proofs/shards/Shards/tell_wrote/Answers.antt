@@ -7,7 +7,7 @@ use Rattle.shard_entities.proofs.shards.Shards.tell_wrote.Goals as goal
 pub invariant_of-self : goal.invariant_of-self
 invariant_of-self c = stays _ c.self.invariant c.self.view_is c.requires.place c.index_mut.ensures.value (ap gone c.set_state.ensures)
     (entry_stands (entry_wrote c.args.place.now.entity c.args.entry.now) c.self.invariant.lodged c.self.view_is c.requires.place (put_set _ _ _ _ (within c.self.invariant.lodged c.self.view_is c.requires.place)) c.get.ensures.value c.index_mut-2.ensures.value c.write_record.ensures
-        (wrote_cell c.args.entry.now c.self.invariant.lodged c.self.view_is c.requires.place c.index_mut.ensures.value c.get.ensures.value c.index_mut-2.ensures.value c.set_state.ensures c.requires.leads c.requires.valid))
+    (wrote_cell c.args.entry.now c.self.invariant.lodged c.self.view_is c.requires.place c.index_mut.ensures.value c.get.ensures.value c.index_mut-2.ensures.value c.set_state.ensures c.requires.leads c.requires.valid))
 
 pub returns-clause-state : goal.returns-clause-state
 returns-clause-state c = entry_moved _ (entry_wrote c.args.place.now.entity c.args.entry.now) c.self.invariant.lodged c.self.view_is c.requires.place (same_cells c.self.inside.cells.items c.args.place.now.at c.index_mut.ensures.value c.set_state.ensures) c.get.ensures.value c.index_mut-2.ensures.value c.write_record.ensures

@@ -146,21 +146,24 @@ fn run<R: Threads + Wait + Sync>(
     }
 }
 
-/// How often this producer was told that its commands are recorded.
-fn confirmed(stores: &Stores, p: ProducerNo) -> usize {
-    let is_confirmed = |entry: &&QueueEntry| matches!(entry, QueueEntry::Confirmed(_, _));
-    stores.queue(p).iter().filter(is_confirmed).count()
+/// Whether this producer was told that a command of it is recorded.
+fn is_confirmed(stores: &Stores, p: ProducerNo) -> bool {
+    stores
+        .queue(p)
+        .iter()
+        .any(|entry| matches!(entry, QueueEntry::Confirmed(_, _)))
 }
 
-/// How often the four producers were told so.
-fn all_confirmed(stores: &Stores) -> usize {
-    let mut all: usize = 0;
+/// Whether some producer was told so.
+fn is_any_confirmed(stores: &Stores) -> bool {
     for number in 1..=4 {
         if let Some(p) = ProducerNo::new(number) {
-            all = all.saturating_add(confirmed(stores, p));
+            if is_confirmed(stores, p) {
+                return true;
+            }
         }
     }
-    all
+    false
 }
 
 #[test]
@@ -171,7 +174,7 @@ fn nothing_is_let_go(rt: HostRuntime) -> Result<(), Fail> {
     for seed in 0..SEEDS {
         let outcome = run(&rt, alloc, &charter, seed)?.ok_or("counters")?;
         assert_eq!(rt; outcome.unshown, 0, "seed {seed}");
-        assert!(rt; all_confirmed(&outcome.stores) > 0, "seed {seed}");
+        assert!(rt; is_any_confirmed(&outcome.stores), "seed {seed}");
     }
     Ok(())
 }

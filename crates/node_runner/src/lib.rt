@@ -22,7 +22,7 @@ pub use mail::Mail;
 pub use offer::{Confirmed, handed};
 pub use parcel::{Parcel, Run, confirms, is_within_limit};
 pub use record::parcel_of;
-pub use roster::{Roster, Views, all_let_go, enter, leave, let_go};
+pub use roster::{Roster, Views, enter, leave};
 pub use run::{Job, Outcome, run_counted, run_live};
 pub use steps::{Place, finish, give, take_order, take_packet};
 pub use turn::{node_ends, node_starts, publish_all, take_turn};

@@ -70,7 +70,7 @@ impl<J: Run> Roster<J> {
     }
 
     /// A worker that is done let so many packets go because it couldn't show what they need.
-    pub fn let_go(&mut self, count: u64)
+    pub(crate) fn let_go(&mut self, count: u64)
         ensures { (self.new.members ≡ self.old.members) × (self.new.version ≡ self.old.version) }
     {
         self.unshown = self.unshown.saturating_add(count);
@@ -126,12 +126,12 @@ pub fn leave<J: Run, R: Wait>(rt: &R, roster: &Mutex<Roster<J>>, who: Incarnatio
 }
 
 /// A worker that is done let so many packets go because it couldn't show what they need. It may wait.
-pub fn let_go<J: Run, R: Wait>(rt: &R, roster: &Mutex<Roster<J>>, count: u64) {
+pub(crate) fn let_go<J: Run, R: Wait>(rt: &R, roster: &Mutex<Roster<J>>, count: u64) {
     roster.lock(rt).let_go(count);
 }
 
 /// How many packets the workers that are done let go so. It may wait.
-pub fn all_let_go<J: Run, R: Wait>(rt: &R, roster: &Mutex<Roster<J>>) -> u64 {
+pub(crate) fn all_let_go<J: Run, R: Wait>(rt: &R, roster: &Mutex<Roster<J>>) -> u64 {
     roster.lock(rt).unshown
 }
 

@@ -198,8 +198,8 @@ fn other_turn<'c, J: Run, R: Wait, B: Behaviour + Drop>(
     })
 }
 
-/// A node that is up takes the parcel, or gets its timer where there is none. A packet that it can't be shown to
-/// be able to take is counted.
+/// A node that is up takes the parcel, or gets its timer where there is none. A packet that is let go, since what it
+/// needs can't be shown, is counted.
 fn tick<J: Run, B: Behaviour + Drop>(
     table: &LeaseTable,
     charter: &Charter,
@@ -223,8 +223,8 @@ fn tick<J: Run, B: Behaviour + Drop>(
     }
 }
 
-/// The node, which is up, takes the parcel, or gets its timer where there is none. A packet that it can't be shown
-/// to be able to take is counted.
+/// The node, which is up, takes the parcel, or gets its timer where there is none. A packet that is let go, since
+/// what it needs can't be shown, is counted.
 fn wake<J: Run, B: Behaviour + Drop>(
     table: &LeaseTable,
     charter: &Charter,

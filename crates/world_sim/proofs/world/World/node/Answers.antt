@@ -6,7 +6,7 @@ use Rattle.world_sim.specs.Played.{Played, made_at, made_by}
 use Rattle.world_sim.specs.World.{given_in}
 use Rattle.world_sim.proofs.LookLaws.{looked}
 use Rattle.world_sim.proofs.StoresLaws.{firm_kept}
-use Rattle.world_sim.proofs.look.World.node.Goals as goal
+use Rattle.world_sim.proofs.world.World.node.Goals as goal
 
 pub returns : goal.returns
 returns g c =

@@ -7,7 +7,6 @@ pub mod GiveLaws
 pub mod GivenLaws
 pub mod KeepLaws
 pub mod LeftLaws
-mod LookLaws
 pub mod LoopLaws
 pub mod MembersLaws
 pub mod NewLaws

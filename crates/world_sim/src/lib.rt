@@ -8,7 +8,6 @@ mod fault;
 mod gives;
 pub mod laws;
 mod left;
-mod look;
 mod mail;
 mod members;
 mod numbers;

@@ -19,6 +19,7 @@ pub mod Move
 pub mod Name
 pub mod Node
 pub mod Opening
+pub mod Outgoing
 pub mod Padded
 pub mod Producer
 pub mod Queries

@@ -1,12 +1,11 @@
 //! What a node's turn makes: facts, and packets to be posted.
-ghost use Rattle.std.specs.Prelude.{◌≡◌, ◌+◌, ◌-◌, ◌<◌, ◌≤◌, max, [], ◌∷◌, ◌++◌, OnOk, OnErr, MatchOption};
+ghost use Rattle.std.specs.Prelude.{◌≡◌, ◌+◌, ◌<◌, ◌≤◌, [], ◌∷◌, ◌++◌, drop, OnOk, OnErr, MatchOption};
 
 use crate::fact::Fact;
 use crate::incarnation::Slot;
 use crate::packet::{Body, Packet};
 use crate::state::State;
 use std::alloc::{AllocError, Global};
-use std::collections::VecDeque;
 use std::marker::{Model, PhantomData};
 
 /// A fact, or a packet that is to be posted and gets its number then.
@@ -21,22 +20,22 @@ pub enum Item {
 /// Items, oldest first, with a spare: so many more are pushed with no memory taken.
 #[derive(Drop)]
 pub struct Out {
-    list: VecDeque<Item>,
+    list: Vec<Item>,
+    taken: usize,
     free: usize,
     holds: PhantomData<(Fact, Packet, Body, State, Slot)>,
 }
 
 impl Model for Out {
-    ghost use Rattle.std.specs.Prelude.{◌+◌, ◌≤◌, List};
-    ghost use Rattle.std.specs.VecDeque.{deque_len, deque_capacity};
     ghost use Rattle.yard_model.specs.declared.out.Item.{Item};
+    ghost use Rattle.yard_model.specs.Outgoing.{IsOutgoing, outgoing};
     ghost use Rattle.yard_model.specs.Spared.{Spared};
 
     ghost Value = { Spared Item };
 
-    ghost view = { λ o. record { items = o.list.items; spare = o.free } };
+    ghost view = { λ o. outgoing o.list o.taken o.free };
 
-    ghost invariant = { λ o. deque_len o.list + o.free ≤ deque_capacity o.list };
+    ghost invariant = { λ o. IsOutgoing o.list o.taken o.free };
 }
 
 impl Out {
@@ -46,7 +45,8 @@ impl Out {
         ensures spare { result.spare ≡ 0 }
     {
         Out {
-            list: VecDeque::new(alloc),
+            list: Vec::new(alloc),
+            taken: 0,
             free: 0,
             holds: PhantomData,
         }
@@ -73,11 +73,48 @@ impl Out {
         ensures items { self.new.items ≡ self.old.items ++ item ∷ [] }
         ensures spare { self.new.spare + 1 ≡ self.old.spare }
     {
-        match self.list.push_back(item) {
+        match self.list.push(item) {
             Ok(()) => {}
             Err(_) => unreachable!(),
         }
         self.free -= 1;
+    }
+
+    /// The oldest item; None exactly where there is none.
+    pub fn first(&self) -> Option<&Item>
+        ensures { MatchOption result (self.now.items ≡ []) (λ item. self.now.items ≡ item.now ∷ drop 1 self.now.items) }
+    {
+        self.list.get(self.taken)
+    }
+
+    /// The oldest item is dropped, if there is one.
+    pub fn drop_first(&mut self)
+        ensures items { self.new.items ≡ drop 1 self.old.items }
+        ensures spare { self.new.spare ≡ self.old.spare }
+    {
+        self.pass_first();
+        self.begin_again();
+    }
+
+    /// The oldest item is passed over, if there is one.
+    #[tactic(auto, using(crate::proofs::OutLaws::drop_next))]
+    fn pass_first(&mut self)
+        ensures items { self.new.items ≡ drop 1 self.old.items }
+        ensures spare { self.new.spare ≡ self.old.spare }
+    {
+        if self.taken < self.list.len() {
+            self.taken += 1;
+        }
+    }
+
+    /// Where all are taken, the next one stands at the front again, where the memory was used last.
+    fn begin_again(&mut self)
+        ensures { self.new ≡ self.old }
+    {
+        if self.taken >= self.list.len() {
+            self.list.clear();
+            self.taken = 0;
+        }
     }
 
     /// Takes the oldest item out; None exactly where there is none.
@@ -85,6 +122,8 @@ impl Out {
         ensures item { MatchOption result ((self.old.items ≡ []) × (self.new.items ≡ [])) (λ item. self.old.items ≡ item ∷ self.new.items) }
         ensures spare { self.new.spare ≡ self.old.spare }
     {
-        self.list.pop_front()
+        let item = self.first().copied();
+        self.drop_first();
+        item
     }
 }

@@ -143,7 +143,15 @@ impl Charter {
         ensures { IfOk result (λ c. c ≡ self.now) }
     {
         let orders = Vec::from_slice(alloc, self.orders.as_slice())?;
-        Charter::new(alloc, self.config, orders)
+        let names = Vec::from_slice(alloc, self.names.as_slice())?;
+        let sends = copy_sends(alloc, self.sends.as_slice())?;
+        Ok(Charter {
+            config: self.config,
+            orders,
+            names,
+            sends,
+            holds: PhantomData,
+        })
     }
 
     /// The charter of the same orders with so many shards. The only error is want of memory.
@@ -191,6 +199,17 @@ impl Charter {
         let place = p.get() as usize - 1;
         self.sends[place].as_slice()
     }
+}
+
+/// The same sends.
+fn copy_sends(alloc: Global, sends: &[Vec<Sending>]) -> Result<Vec<Vec<Sending>>, AllocError>
+    ensures { IfOk result (λ all. map (λ v. v.items) all.items ≡ map (λ v. v.items) sends.now) }
+{
+    let mut all = Vec::new(alloc);
+    for of_one in sends {
+        all.push(Vec::from_slice(alloc, of_one.as_slice())?)?;
+    }
+    Ok(all)
 }
 
 /// The sends of each producer that there can be. The counts are those of no orders, and come to be

@@ -1,5 +1,5 @@
 -- What is kept of each name, at its place.
-use Rattle.std.proofs.Common.{◌≡◌, ◌≢◌, ◌<◌, ℕ, ◌+◌, sym, ap, ◌∙◌, refl, arith, List, [], ◌∷◌, length, true≢false, map, Vec, Global}
+use Rattle.std.proofs.Common.{◌≡◌, ◌≢◌, ◌<◌, ℕ, ◌+◌, sym, ap, ◌∙◌, refl, arith, List, [], ◌∷◌, length, true≢false, map, Vec, Global, MatchOption}
 use Rattle.std.specs.Prelude.{Bool, true, false, not, cond, ◌||◌, Option, Some, None, IfSome, IfNone, slice_set, slice_index_or, if◌then◌else◌}
 use Rattle.std.specs.List.{list_any}
 use Rattle.std.specs.List.Sorted.{IsStrictlySortedBy}
@@ -10,7 +10,7 @@ use Rattle.yard_model.specs.declared.event.Command.{Command}
 use Rattle.yard_model.specs.Script.{Script, is_name, names_in}
 use Rattle.plain_laws.proofs.Booleans.{same_name}
 use Rattle.plain_laws.proofs.Names.{name_itself}
-use Rattle.durable_queue.proofs.NameLaws.{placed}
+use Rattle.name_index.proofs.NameLaws.{placed}
 use Rattle.durable_queue.specs.Kept.{place_of, kept_of, AreOrdered}
 use Rattle.durable_queue.specs.Queue.{name_at}
 
@@ -59,12 +59,12 @@ pub kept_past : {X : Type 0} (names : List (List ℕ)) (xs : List X) (d : X) (e 
 kept_past names xs d e sized past = get_or_past xs (place_of names e) d (omega (arith, sized, past))
 
 -- the place at which a name in order is found
-pub some_place : (names : List (List ℕ)) (e : List ℕ) (o : Option ℕ) → IsStrictlySortedBy (slice_cmp nat_cmp) names → IfSome o (λ k. (k < length names) × (slice_index_or names k [] ≡ e)) → IfSome o (λ k. (k < length names) × (k ≡ place_of names e))
+pub some_place : (names : List (List ℕ)) (e : List ℕ) (o : Option ℕ) → IsStrictlySortedBy (slice_cmp nat_cmp) names → MatchOption o (list_any (is_name e) names ≡ false) (λ k. (k < length names) × (slice_index_or names k [] ≡ e)) → IfSome o (λ k. (k < length names) × (k ≡ place_of names e))
 some_place names e None sorted h = tt
 some_place names e (Some k) sorted h = (h.0, placed names e k sorted h.0 h.1)
 
 -- a name that isn't found has none
-pub none_place : (names : List (List ℕ)) (e : List ℕ) (o : Option ℕ) → IfNone o (list_any (is_name e) names ≡ false) → IfNone o (place_of names e ≡ length names)
+pub none_place : (names : List (List ℕ)) (e : List ℕ) (o : Option ℕ) → MatchOption o (list_any (is_name e) names ≡ false) (λ k. (k < length names) × (slice_index_or names k [] ≡ e)) → IfNone o (place_of names e ≡ length names)
 none_place names e None h = place_past names e h
 none_place names e (Some k) h = tt
 

@@ -7,6 +7,7 @@ ghost use Rattle.std.specs.Cmp.Lexicographic.{slice_cmp};
 ghost use Rattle.yard_model.specs.Script.{is_name, names_in};
 ghost use Rattle.durable_queue.specs.Kept.{place_of};
 
+use name_index::NameIndex;
 use std::alloc::{AllocError, Global};
 use std::marker::Model;
 use yard_model::{Charter, EntityName};
@@ -14,7 +15,7 @@ use yard_model::{Charter, EntityName};
 /// Names in order; seen as their list.
 #[derive(Drop)]
 pub(crate) struct Names {
-    list: Vec<EntityName>,
+    list: NameIndex,
 }
 
 impl Model for Names {
@@ -25,9 +26,9 @@ impl Model for Names {
 
     ghost Value = { List (List ℕ) };
 
-    ghost view = { λ n. n.list.items };
+    ghost view = { λ n. n.list };
 
-    ghost invariant = { λ n. IsStrictlySortedBy (slice_cmp nat_cmp) n.list.items };
+    ghost invariant = { λ n. IsStrictlySortedBy (slice_cmp nat_cmp) n.list };
 }
 
 impl Names {
@@ -36,7 +37,7 @@ impl Names {
         ensures names { IfOk result (λ n. n ≡ names_in charter.now.orders) }
         ensures sorted { IfOk result (λ n. IsStrictlySortedBy (slice_cmp nat_cmp) n) }
     {
-        let list = Vec::from_slice(alloc, charter.names())?;
+        let list = NameIndex::new(alloc, charter)?;
         Ok(Names { list })
     }
 
@@ -52,7 +53,7 @@ impl Names {
         ensures place { IfSome result (λ k. (k < length self.now) × (k ≡ place_of self.now entity.now)) }
         ensures none { IfNone result (place_of self.now entity.now ≡ length self.now) }
     {
-        look_in(self.list.as_slice(), entity)
+        self.list.find(entity)
     }
 
     /// The place of a name that is among them.
@@ -62,31 +63,6 @@ impl Names {
         ensures it { slice_index_or self.now result [] ≡ entity.now }
         ensures place { result ≡ place_of self.now entity.now }
     {
-        place_in(self.list.as_slice(), entity)
-    }
-}
-
-/// The place of a name among names in order; None exactly where it isn't among them.
-fn look_in(names: &[EntityName], name: &EntityName) -> Option<usize>
-    requires { IsStrictlySortedBy (slice_cmp nat_cmp) names.now }
-    ensures found { IfSome result (λ k. (k < length names.now) × (slice_index_or names.now k [] ≡ name.now)) }
-    ensures missing { IfNone result (list_any (is_name name.now) names.now ≡ false) }
-{
-    match names.binary_search(name) {
-        Ok(place) => Some(place),
-        Err(_) => None,
-    }
-}
-
-/// The place of a name among names in order, where it is among them.
-fn place_in(names: &[EntityName], name: &EntityName) -> usize
-    requires sorted { IsStrictlySortedBy (slice_cmp nat_cmp) names.now }
-    requires among { list_any (is_name name.now) names.now ≡ true }
-    ensures within { result < length names.now }
-    ensures it { slice_index_or names.now result [] ≡ name.now }
-{
-    match names.binary_search(name) {
-        Ok(place) => place,
-        Err(_) => unreachable!(),
+        self.list.place(entity)
     }
 }

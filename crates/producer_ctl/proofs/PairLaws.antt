@@ -20,7 +20,7 @@ use Rattle.yard_model.specs.SlotReads.{holder_step, queued_in_all, commands, com
 use Rattle.durable_queue.specs.Queue.{Queue}
 use Rattle.plain_laws.proofs.Lists.{by_place, of_write, some_is}
 use Rattle.plain_laws.proofs.Names.{name_itself}
-use Rattle.durable_queue.proofs.NameLaws.{another_name}
+use Rattle.name_index.proofs.NameLaws.{another_name}
 use Rattle.producer_ctl.specs.declared.pair.Pair.{Pair}
 use Rattle.producer_ctl.specs.declared.place.Place.{Place}
 use Rattle.producer_ctl.specs.Paired.{IsPair, IsPlace, name_at, no_pair, progress_of}

@@ -26,7 +26,7 @@ use Rattle.producer_ctl.specs.declared.producers.Pending.{Pending}
 use Rattle.producer_ctl.specs.Paired.{IsPlace, name_at}
 use Rattle.producer_ctl.specs.Produced.{Produced, Gives, IsStoreOf, given}
 use Rattle.producer_ctl.specs.Producing.{Producing, producing, IsProducing, IsHeld, IsBounded, IsSent, IsStore, HasPlaces, held, holding, moved_by, no_routing, room_of, routing, state_of, without}
-use Rattle.durable_queue.proofs.NameLaws.{placed}
+use Rattle.name_index.proofs.NameLaws.{placed}
 use Rattle.producer_ctl.proofs.ProducingLaws.{item_put, item_read, held_is, numbered, sent_stands}
 
 -- Where a name stands.

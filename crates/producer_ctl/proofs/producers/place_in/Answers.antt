@@ -1,5 +1,5 @@
 use Rattle.std.proofs.Common.{[]}
-use Rattle.durable_queue.proofs.NameLaws.{found_at, not_missing}
+use Rattle.name_index.proofs.NameLaws.{found_at, not_missing}
 use Rattle.producer_ctl.proofs.producers.place_in.Goals as goal
 
 pub unreachable-requires : goal.unreachable-requires

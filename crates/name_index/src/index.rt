@@ -1,0 +1,187 @@
+//! Names in order, with an index by a hash of their bytes.
+ghost use Rattle.std.specs.Prelude.{◌≡◌, ℕ, ◌<◌, List, [], true, false, length, IfOk, IfSome, MatchOption, slice_index_or};
+ghost use Rattle.std.specs.List.{list_any};
+ghost use Rattle.std.specs.List.Sorted.{IsStrictlySortedBy};
+ghost use Rattle.std.specs.Ordering.{nat_cmp};
+ghost use Rattle.std.specs.Cmp.Lexicographic.{slice_cmp};
+ghost use Rattle.yard_model.specs.Script.{is_name, names_in};
+ghost use Rattle.yard_model.specs.Words.{is_empty};
+
+use std::alloc::{AllocError, Global};
+use std::marker::Model;
+use yard_model::laws::name_law;
+use yard_model::{Charter, EntityName};
+
+/// Names in the order of their bytes, each once; seen as their list.
+///
+/// A name is looked for where the hash of its bytes says, and what stands there is compared with it;
+/// only where that is another, it is searched for. So nothing is required of the hash.
+#[derive(Drop)]
+pub struct NameIndex {
+    names: Vec<EntityName>,
+    hints: Vec<u16>,
+    mask: usize,
+}
+
+impl Model for NameIndex {
+    ghost use Rattle.std.specs.Prelude.{List, ℕ};
+    ghost use Rattle.std.specs.List.Sorted.{IsStrictlySortedBy};
+    ghost use Rattle.std.specs.Ordering.{nat_cmp};
+    ghost use Rattle.std.specs.Cmp.Lexicographic.{slice_cmp};
+
+    ghost Value = { List (List ℕ) };
+
+    ghost view = { λ n. n.names.items };
+
+    ghost invariant = { λ n. IsStrictlySortedBy (slice_cmp nat_cmp) n.names.items };
+}
+
+impl NameIndex {
+    /// The names that a charter's orders bring. The only error is want of memory.
+    pub fn new(alloc: Global, charter: &Charter) -> Result<NameIndex, AllocError>
+        ensures names { IfOk result (λ n. n ≡ names_in charter.now.orders) }
+        ensures sorted { IfOk result (λ n. IsStrictlySortedBy (slice_cmp nat_cmp) n) }
+    {
+        let names = Vec::from_slice(alloc, charter.names())?;
+        let mask = mask_for(names.len());
+        let hints = hints_of(alloc, names.as_slice(), mask)?;
+        Ok(NameIndex { names, hints, mask })
+    }
+
+    /// How many there are.
+    pub fn len(&self) -> usize
+        ensures { result ≡ length self.now }
+    {
+        self.names.len()
+    }
+
+    /// Whether there are none.
+    pub fn is_empty(&self) -> bool
+        ensures { result ≡ is_empty self.now }
+    {
+        self.names.is_empty()
+    }
+
+    /// The names.
+    pub fn as_slice(&self) -> &[EntityName]
+        ensures names { result.now ≡ self.now }
+        ensures sorted { IsStrictlySortedBy (slice_cmp nat_cmp) self.now }
+    {
+        self.names.as_slice()
+    }
+
+    /// The place of a name; None exactly where it isn't among them.
+    pub fn find(&self, name: &EntityName) -> Option<usize>
+        ensures { MatchOption result (list_any (is_name name.now) self.now ≡ false) (λ k. (k < length self.now) × (slice_index_or self.now k [] ≡ name.now)) }
+    {
+        match self.hinted(name) {
+            Some(place) => Some(place),
+            None => look_in(self.names.as_slice(), name),
+        }
+    }
+
+    /// The place of a name that is among them.
+    pub fn place(&self, name: &EntityName) -> usize
+        requires { list_any (is_name name.now) self.now ≡ true }
+        ensures within { result < length self.now }
+        ensures it { slice_index_or self.now result [] ≡ name.now }
+    {
+        match self.find(name) {
+            Some(place) => place,
+            None => unreachable!(),
+        }
+    }
+
+    /// The place that the hash of a name says, where the name stands there.
+    fn hinted(&self, name: &EntityName) -> Option<usize>
+        ensures { IfSome result (λ k. (k < length self.now) × (slice_index_or self.now k [] ≡ name.now)) }
+    {
+        let place = hint_in(
+            self.hints.as_slice(),
+            hash_of(name.bytes()) as usize & self.mask,
+        );
+        if stands_at(self.names.as_slice(), place, name) {
+            Some(place)
+        } else {
+            None
+        }
+    }
+}
+
+/// Whether a name stands at this place.
+fn stands_at(names: &[EntityName], place: usize, name: &EntityName) -> bool
+    ensures within { result ≡ true → place < length names.now }
+    ensures it { result ≡ true → slice_index_or names.now place [] ≡ name.now }
+{
+    name_law();
+    match names.get(place) {
+        Some(other) => *other == *name,
+        None => false,
+    }
+}
+
+/// The hint at a place; 0 where there is none.
+fn hint_in(hints: &[u16], at: usize) -> usize {
+    match hints.get(at) {
+        Some(place) => *place as usize,
+        None => 0,
+    }
+}
+
+/// A number of 32 bits for these bytes (Fowler, Noll and Vo's).
+fn hash_of(bytes: &[u8]) -> u32 {
+    let mut hash = 2_166_136_261u32;
+    for byte in bytes {
+        hash = (hash ^ u32::from(*byte)).wrapping_mul(16_777_619);
+    }
+    hash
+}
+
+/// One less than how many hints there are for so many names: a power of two, from two to sixteen times as
+/// many up to 2,048 names.
+fn mask_for(names: usize) -> usize
+    ensures { result < 65536 }
+{
+    if names <= 8 {
+        15
+    } else if names <= 64 {
+        127
+    } else if names <= 512 {
+        1023
+    } else {
+        4095
+    }
+}
+
+/// For each hash the place of the last name that has it.
+fn hints_of(alloc: Global, names: &[EntityName], mask: usize) -> Result<Vec<u16>, AllocError>
+    requires { mask < 65536 }
+{
+    let mut hints = vec![in alloc; 0u16; mask + 1]?;
+    for place in 0..names.len() {
+        let at = hash_of(names[place].bytes()) as usize & mask;
+        set_hint(&mut hints, at, place);
+    }
+    Ok(hints)
+}
+
+/// The hint at a place is this one, where 16 bits hold it.
+fn set_hint(hints: &mut Vec<u16>, at: usize, place: usize) {
+    let Ok(place) = u16::try_from(place) else {
+        return;
+    };
+    if let Some(hint) = hints.get_mut(at) {
+        *hint = place;
+    }
+}
+
+/// The place of a name among names in order; None exactly where it isn't among them.
+fn look_in(names: &[EntityName], name: &EntityName) -> Option<usize>
+    requires { IsStrictlySortedBy (slice_cmp nat_cmp) names.now }
+    ensures { MatchOption result (list_any (is_name name.now) names.now ≡ false) (λ k. (k < length names.now) × (slice_index_or names.now k [] ≡ name.now)) }
+{
+    match names.binary_search(name) {
+        Ok(place) => Some(place),
+        Err(_) => None,
+    }
+}

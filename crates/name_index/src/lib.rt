@@ -1,0 +1,6 @@
+//! The names of a script, in order, each found at its place.
+#![tactic(auto)]
+
+mod index;
+
+pub use index::NameIndex;

@@ -2,14 +2,12 @@
 //! output, and a line on standard error where it could not be had.
 #![tactic(auto)]
 
-use program_words::{Status, notice_of, words_of};
+use program_run::run;
+use program_words::Status;
 use std::env::{self, Env};
 use std::io;
 use std::process::ExitCode;
-use std::sync::Wait;
-use std::thread::Threads;
 use yard_io::{FreeGate, StdSink, StdSource};
-use yard_top::sharder;
 
 /// All arguments of the program, of which the first is its name.
 fn arguments(rt: &(impl Env + AllocGlobal)) -> io::Result<Vec<String>> {
@@ -24,35 +22,15 @@ fn complain(rt: &impl Eprint, status: Status) {
     }
 }
 
-/// Does what the words ask for; `live` with these threads.
-fn run(rt: &HostRuntime, threads: &(impl Threads + Wait + Sync)) -> Status {
-    let words = match words_of(arguments(rt)) {
-        Ok(words) => words,
-        Err(status) => return status,
-    };
-    if let Some(notice) = notice_of(words.as_slice()) {
-        let text = notice.text();
-        return match print!(rt; "{text}") {
-            Ok(()) => Status::Ok,
-            Err(_) => Status::WriteFault,
-        };
-    }
-    let mut source = StdSource::new(rt.stdin());
-    match StdSink::new(rt.alloc(), rt.stdout()) {
-        Ok(mut sink) => sharder(
-            threads,
-            rt.alloc(),
-            words.as_slice(),
-            &mut source,
-            &mut sink,
-            &FreeGate,
-        ),
-        Err(_) => Status::OutOfMemory,
-    }
-}
-
 fn main(rt: HostRuntime) -> ExitCode {
-    let status = run(&rt, &rt);
+    let mut source = StdSource::new(rt.stdin());
+    let status = match StdSink::new(rt.alloc(), rt.stdout()) {
+        Ok(mut sink) => {
+            let arguments = arguments(&rt);
+            run(&rt, rt.alloc(), arguments, &mut source, &mut sink, &FreeGate)
+        }
+        Err(_) => Status::OutOfMemory,
+    };
     complain(&rt, status);
     ExitCode::from(status.code())
 }

@@ -1,0 +1,6 @@
+//! The program as one call: arguments and streams in, a text and a status out.
+#![tactic(auto)]
+
+mod run;
+
+pub use run::run;

@@ -1,0 +1,2 @@
+mod BitLaws
+mod PlaceLaws

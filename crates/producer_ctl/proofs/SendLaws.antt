@@ -1,5 +1,5 @@
 -- What is routed next; what is queued next; what stands of a producer.
-use Rattle.std.proofs.Common.{◌≡◌, ℕ, ◌<◌, ◌≤◌, ◌+◌, ◌-◌, List, [], ◌∷◌, length, map, replicate, sym, ap, subst, ◌∙◌, refl, true, arith, Vec, Global}
+use Rattle.std.proofs.Common.{◌≡◌, ℕ, ◌<◌, ◌≤◌, ◌+◌, ◌-◌, List, [], ◌∷◌, length, map, replicate, sym, ap, subst, ◌∙◌, refl, true, arith}
 use Rattle.std.specs.Prelude.{zero, suc, Option, None, Some, IfSome, Result, Ok, Err, OnOk, slice_index_or}
 use Rattle.std.specs.Option.{option_map, option_and_then}
 use Rattle.std.proofs.lemmas.List.{length-map, get_or-map, ext_get_or}
@@ -31,7 +31,7 @@ numbers_step after last some = ap (numbers (after + 1)) (less after last some)
     less a b h = omega (arith, h)
 
 -- the one that is read, where something is still to be routed
-pub pending_read : {c : Script} {who : Incarnation} {names : List (List ℕ)} {items : List (Option Produced)} {tables : List (Option (Vec Pair Global))} {pending : Option Pending} {x : Pending} {i : ℕ} {o : Option Produced}
+pub pending_read : {c : Script} {who : Incarnation} {names : List (List ℕ)} {items : List (Option Produced)} {tables : List (Option (List Pair))} {pending : Option Pending} {x : Pending} {i : ℕ} {o : Option Produced}
     → IsProducing c who names items tables pending → pending ≡ Some x → x.sends.after < x.sends.last → i ≡ x.producer - 1 → o ≡ slice_index_or items i o → (at items i ≡ o) × IsQueued x.place.entity x.sends.last o
 pending_read {c} {who} {names} {items} {tables} {pending} {x} {i} {o} k some below same read =
     let here : at items i ≡ o = in_items items i o there_at read in
@@ -48,7 +48,7 @@ pending_read {c} {who} {names} {items} {tables} {pending} {x} {i} {o} k some bel
     in_items (y ∷ items) zero o q read = sym read
     in_items (y ∷ items) (suc i) o q read = in_items items i o q read
 
-pub pending_queued : {c : Script} {who : Incarnation} {names : List (List ℕ)} {items : List (Option Produced)} {tables : List (Option (Vec Pair Global))} {pending : Option Pending} {x : Pending} {i : ℕ} {o : Option Produced}
+pub pending_queued : {c : Script} {who : Incarnation} {names : List (List ℕ)} {items : List (Option Produced)} {tables : List (Option (List Pair))} {pending : Option Pending} {x : Pending} {i : ℕ} {o : Option Produced}
     → IsProducing c who names items tables pending → pending ≡ Some x → x.sends.after < x.sends.last → i ≡ x.producer - 1 → o ≡ slice_index_or items i o → IsQueued x.place.entity (x.sends.after + 1) o
 pending_queued {c} {who} {names} {items} {tables} {pending} {x} {i} {o} k some below same read = weaker o (pending_read k some below same read).1
   where
@@ -57,7 +57,7 @@ pending_queued {c} {who} {names} {items} {tables} {pending} {x} {i} {o} k some b
     weaker (Some k) q = omega (arith, q, below)
 
 -- its place is one of the script of the producer that is read
-pub pending_placed : {c : Script} {who : Incarnation} {names : List (List ℕ)} {items : List (Option Produced)} {tables : List (Option (Vec Pair Global))} {pending : Option Pending} {x : Pending} {i : ℕ} {o : Option Produced}
+pub pending_placed : {c : Script} {who : Incarnation} {names : List (List ℕ)} {items : List (Option Produced)} {tables : List (Option (List Pair))} {pending : Option Pending} {x : Pending} {i : ℕ} {o : Option Produced}
     → IsProducing c who names items tables pending → pending ≡ Some x → x.sends.after < x.sends.last → i ≡ x.producer - 1 → o ≡ slice_index_or items i o → IfSome o (λ k. IsPlace k.script x.place)
 pending_placed {c} {who} {names} {items} {tables} {pending} {x} {i} {o} k some below same read =
     by o (subst (λ y. IfSome y (IsHeld c who (i + 1))) (pending_read k some below same read).0 (k.each i))
@@ -81,7 +81,7 @@ after_is items pending {c} {who} {v} {x} seen some below =
     (subst (λ y. producing c who items (Some (record { producer = x.producer; place = x.place; sends = record { after = x.sends.after + 1; last = x.sends.last } })) ≡ after_message (producing c who items y)) (sym some)
     (ap (λ l. record { script = c; who = who; producers = map (option_map state_of) items; rooms = map room_of items; pending = record { producer = x.producer; entity = x.place.entity; numbers = l } }) (sym (ap rest_of (numbers_step x.sends.after x.sends.last below)))))
 
-pub message_is : {c : Script} {who : Incarnation} {names : List (List ℕ)} {items : List (Option Produced)} {tables : List (Option (Vec Pair Global))} {pending : Option Pending} {v : Producing} {x : Pending} {i : ℕ} {o : Option Produced} {m : Message}
+pub message_is : {c : Script} {who : Incarnation} {names : List (List ℕ)} {items : List (Option Produced)} {tables : List (Option (List Pair))} {pending : Option Pending} {v : Producing} {x : Pending} {i : ℕ} {o : Option Produced} {m : Message}
     → IsProducing c who names items tables pending → producing c who items pending ≡ v → pending ≡ Some x → x.sends.after < x.sends.last → i ≡ x.producer - 1 → o ≡ slice_index_or items i o → option_map (λ k. message_of x.place.entity k.state (x.sends.after + 1)) o ≡ Some m → Some m ≡ next_message v
 message_is {c} {who} {names} {items} {tables} {pending} {v} {x} {i} {o} {m} k seen some below same read made =
     subst (λ (v : Producing). Some m ≡ next_message v) seen
@@ -97,7 +97,7 @@ message_is {c} {who} {names} {items} {tables} {pending} {v} {x} {i} {o} {m} k se
 
 -- What is queued next.
 
-pub next_is : (p : ℕ) {c : Script} {who : Incarnation} {names : List (List ℕ)} {items : List (Option Produced)} {tables : List (Option (Vec Pair Global))} {pending : Option Pending} {v : Producing} {i : ℕ} {o : Option Produced}
+pub next_is : (p : ℕ) {c : Script} {who : Incarnation} {names : List (List ℕ)} {items : List (Option Produced)} {tables : List (Option (List Pair))} {pending : Option Pending} {v : Producing} {i : ℕ} {o : Option Produced}
     → IsProducing c who names items tables pending → producing c who items pending ≡ v → is_producer v.script p ≡ true → i ≡ p - 1 → o ≡ slice_index_or items i o
     → option_and_then (λ k. next_sending (sends k.script k.state.number) k.state) o ≡ option_and_then (next_sending (sends v.script p)) (held p v)
 next_is p {c} {who} {names} {items} {tables} {pending} {v} {i} {o} k seen its same read =
@@ -142,7 +142,7 @@ stands_as {who} {number} {store} {pairs} {v} k seen = subst StandsAs seen record
     one i h inside = subst (λ (x : Progress). x.demand ≤ confirmed (name_at (setting store.script).names i) store.entries + store.script.config.window) (sym (get_or-map progress_of pairs i no_pair no_progress inside))
         (subst (λ n. (slice_index_or pairs i no_pair).demand ≤ n + store.script.config.window) h.confirmed_is h.bounded)
 
-pub stands_at : (p : ℕ) {c : Script} {who : Incarnation} {names : List (List ℕ)} {items : List (Option Produced)} {tables : List (Option (Vec Pair Global))} {pending : Option Pending} {v : Producing} {i : ℕ} {o : Option Produced}
+pub stands_at : (p : ℕ) {c : Script} {who : Incarnation} {names : List (List ℕ)} {items : List (Option Produced)} {tables : List (Option (List Pair))} {pending : Option Pending} {v : Producing} {i : ℕ} {o : Option Produced}
     → IsProducing c who names items tables pending → producing c who items pending ≡ v → is_producer v.script p ≡ true → i ≡ p - 1 → o ≡ slice_index_or items i o → IfSome o StandsAs → Stands p v
 stands_at p {c} {who} {names} {items} {tables} {pending} {v} {i} {o} k seen its same read as_it = record {
   empty = no_room p items pending seen;
@@ -190,7 +190,7 @@ reserved_queued e m (Some k) n r q = subst (IsQueued e m) (sym r.same) q
 abbrev pub AllReserved : List (Option Produced) → List (Option Produced) → Type 0
 AllReserved old new = (i : ℕ) → IsReserved (at old i) (at new i)
 
-pub reserved_stands : {c : Script} {who : Incarnation} {names : List (List ℕ)} {items new : List (Option Produced)} {tables : List (Option (Vec Pair Global))} {pending : Option Pending}
+pub reserved_stands : {c : Script} {who : Incarnation} {names : List (List ℕ)} {items new : List (Option Produced)} {tables : List (Option (List Pair))} {pending : Option Pending}
     → IsProducing c who names items tables pending → length new ≡ length items → AllReserved items new → IsProducing c who names new tables pending
 reserved_stands {c} {who} {names} {items} {new} {tables} {pending} k size all = record {
   names_are = k.names_are;
@@ -257,7 +257,7 @@ on_ok (Err e) P Q f h = tt
 
 -- What queueing asks.
 
-pub next_there : (p : ℕ) {c : Script} {who : Incarnation} {names : List (List ℕ)} {items : List (Option Produced)} {tables : List (Option (Vec Pair Global))} {pending : Option Pending} {v : Producing} {i : ℕ} {o : Option Produced} {x : Sending}
+pub next_there : (p : ℕ) {c : Script} {who : Incarnation} {names : List (List ℕ)} {items : List (Option Produced)} {tables : List (Option (List Pair))} {pending : Option Pending} {v : Producing} {i : ℕ} {o : Option Produced} {x : Sending}
     → IsProducing c who names items tables pending → producing c who items pending ≡ v → is_producer v.script p ≡ true → i ≡ p - 1 → o ≡ slice_index_or items i o → option_and_then (next_sending (sends v.script p)) (held p v) ≡ Some x
     → IfSome o (λ k. next_sending (sends k.script k.state.number) k.state ≡ Some x)
 next_there p {c} {who} {names} {items} {tables} {pending} {v} {i} {o} {x} k seen its same read is = by o (next_is p k seen its same read ∙ is)
@@ -266,7 +266,7 @@ next_there p {c} {who} {names} {items} {tables} {pending} {v} {i} {o} {x} k seen
     by None e = tt
     by (Some k) e = e
 
-pub room_there : (p : ℕ) {c : Script} {who : Incarnation} {names : List (List ℕ)} {items : List (Option Produced)} {tables : List (Option (Vec Pair Global))} {pending : Option Pending} {v : Producing} {i : ℕ} {o : Option Produced}
+pub room_there : (p : ℕ) {c : Script} {who : Incarnation} {names : List (List ℕ)} {items : List (Option Produced)} {tables : List (Option (List Pair))} {pending : Option Pending} {v : Producing} {i : ℕ} {o : Option Produced}
     → IsProducing c who names items tables pending → producing c who items pending ≡ v → is_producer v.script p ≡ true → i ≡ p - 1 → o ≡ slice_index_or items i o → IfSome (held p v) (λ st. 0 < slice_index_or v.rooms (p - 1) 0) → IfSome o (λ k. 0 < k.room)
 room_there p {c} {who} {names} {items} {tables} {pending} {v} {i} {o} k seen its same read room =
     by o (subst (λ y. IfSome y (λ st. 0 < slice_index_or v.rooms (p - 1) 0)) (held_is p k seen its same read) room)

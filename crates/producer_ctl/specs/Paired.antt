@@ -1,11 +1,12 @@
 -- What is kept of a pair of producer and entity.
-use Rattle.std.specs.Prelude.{◌≡◌, ℕ, ◌+◌, ◌<◌, ◌≤◌, List, [], length, min, max, slice_index_or}
+use Rattle.std.specs.Prelude.{◌≡◌, ℕ, ◌+◌, ◌<◌, ◌≤◌, Bool, true, false, nat_lt, List, [], length, min, max, slice_index_or}
 use Rattle.yard_model.specs.declared.fact.Fact.{Fact}
 use Rattle.yard_model.specs.Producer.{Progress}
 use Rattle.yard_model.specs.Script.{Script, setting}
 use Rattle.yard_model.specs.Setting.{place}
 use Rattle.yard_model.specs.SlotReads.{queued, confirmed}
 use Rattle.yard_model.specs.Words.{from_to}
+use Rattle.place_set.specs.Places.{Places, is_in}
 use Rattle.producer_ctl.specs.declared.pair.Pair.{Pair}
 use Rattle.producer_ctl.specs.declared.pair.Sends.{Sends}
 use Rattle.producer_ctl.specs.declared.place.Place.{Place}
@@ -29,6 +30,22 @@ pub record IsPair (window : ℕ) (e : List ℕ) (entries : List Fact) (k : Pair)
   pub queued_is : k.queued ≡ queued e entries
   pub confirmed_is : k.confirmed ≡ confirmed e entries
   pub bounded : k.demand ≤ k.confirmed + window
+
+-- a command is queued that isn't confirmed
+abbrev pub is_waiting : Pair → Bool
+is_waiting k = nat_lt k.confirmed k.queued
+
+-- the set has the places of the pairs that wait
+pub record AreMarked (pairs : List Pair) (waiting : Places) : Type 0 where
+  pub bound_is : waiting.bound ≡ length pairs
+  pub each : (i : ℕ) → i < length pairs → is_in waiting i ≡ is_waiting (slice_index_or pairs i no_pair)
+
+-- the least place from the first on, below n, of which p holds; n where there is none
+pub record IsNext (p : ℕ → Bool) (first n i : ℕ) : Type 0 where
+  pub from_first : first ≤ i
+  pub within : i ≤ n
+  pub holds : i < n → p i ≡ true
+  pub passed : (k : ℕ) → first ≤ k → k < i → p k ≡ false
 
 -- once the queue is granted
 abbrev pub new_pair : List ℕ → List Fact → Pair

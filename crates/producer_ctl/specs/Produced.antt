@@ -1,5 +1,5 @@
 -- A producer as it is kept, and what moves make of it.
-use Rattle.std.specs.Prelude.{◌≡◌, ℕ, ◌+◌, ◌<◌, ◌≤◌, ◌-◌, List, [], ◌∷◌, ◌++◌, length, map, fold, slice_index_or, Some}
+use Rattle.std.specs.Prelude.{◌≡◌, ℕ, ◌+◌, ◌<◌, ◌≤◌, ◌-◌, Bool, nat_lt, List, [], ◌∷◌, ◌++◌, length, map, fold, slice_index_or, Some}
 use Rattle.std.specs.List.Sorted.{IsStrictlySortedBy}
 use Rattle.std.specs.Ordering.{nat_cmp}
 use Rattle.std.specs.Cmp.Lexicographic.{slice_cmp}
@@ -11,7 +11,7 @@ use Rattle.yard_model.specs.declared.out.Item.TheVariants as item
 use Rattle.yard_model.specs.Move.{Move, made, demanded, pushed}
 use Rattle.yard_model.specs.Producer.{Producer, no_progress, producer_after, progress, queue, confirm, push_marks, to_push, to_resend, to_repeat}
 use Rattle.yard_model.specs.Script.{Script, setting}
-use Rattle.yard_model.specs.SlotReads.{confirmed, holder}
+use Rattle.yard_model.specs.SlotReads.{queued, confirmed, holder}
 use Rattle.yard_model.specs.Spared.{Spared}
 use Rattle.durable_queue.specs.Queue.{Queue}
 use Rattle.producer_ctl.specs.declared.pair.Pair.{Pair}
@@ -94,6 +94,10 @@ produced who number store pairs = record {
   state = record { who = who; set = setting store.script; number = number; entries = store.entries; pairs = map progress_of pairs };
   room = store.spare;
 }
+
+-- a command to the entity is queued that isn't confirmed
+abbrev pub waits_to : List ℕ → Producer → Bool
+waits_to e st = nat_lt (confirmed e st.entries) (queued e st.entries)
 
 -- what is kept of an entity
 pub record IsPairOf (v : Produced) (e : List ℕ) (k : Pair) : Type 0 where

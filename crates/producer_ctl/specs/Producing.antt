@@ -1,10 +1,9 @@
 -- The producers of a node as they are kept, and what moves make of them.
-use Rattle.std.specs.Prelude.{◌≡◌, ℕ, ◌+◌, ◌-◌, ◌<◌, ◌≤◌, List, [], ◌∷◌, length, map, fold, slice_index_or, slice_set, Option, None, Some, IfSome, Vec}
+use Rattle.std.specs.Prelude.{◌≡◌, ℕ, ◌+◌, ◌-◌, ◌<◌, ◌≤◌, List, [], ◌∷◌, length, map, fold, slice_index_or, slice_set, Bool, false, Option, None, Some, IfSome}
 use Rattle.std.specs.List.Sorted.{IsStrictlySortedBy}
-use Rattle.std.specs.Option.{option_map, option_and_then}
+use Rattle.std.specs.Option.{option_map, option_map_or, option_and_then}
 use Rattle.std.specs.Ordering.{nat_cmp}
 use Rattle.std.specs.Cmp.Lexicographic.{slice_cmp}
-use Rattle.std.specs.declared.alloc.Global.{Global}
 use Rattle.yard_model.specs.declared.incarnation.Incarnation.{Incarnation}
 use Rattle.yard_model.specs.declared.incarnation.Slot.TheVariants as slot
 use Rattle.yard_model.specs.declared.charter.Sending.{Sending}
@@ -20,7 +19,7 @@ use Rattle.producer_ctl.specs.declared.pair.Pair.{Pair}
 use Rattle.producer_ctl.specs.declared.pair.Sends.{Sends}
 use Rattle.producer_ctl.specs.declared.producers.Pending.{Pending}
 use Rattle.producer_ctl.specs.Paired.{IsPlace, name_at, numbers_of}
-use Rattle.producer_ctl.specs.Produced.{Produced, Gives, moved, room_step, queueing}
+use Rattle.producer_ctl.specs.Produced.{Produced, Gives, moved, room_step, queueing, waits_to}
 
 -- the numbers to an entity that a producer is still to route
 pub record Routing : Type 0 where
@@ -55,6 +54,10 @@ moved_by p v ms = fold (producing_after p) v ms
 -- the producer, where its queue is held
 abbrev pub held : ℕ → Producing → Option Producer
 held p v = at v.producers (p - 1)
+
+-- its queue is held, and a command to the entity is queued that isn't confirmed
+abbrev pub waits : ℕ → List ℕ → Producing → Bool
+waits p e v = option_map_or (waits_to e) (held p v) false
 
 -- what an input makes of it, where its queue is held
 abbrev pub of_held : (Producer → Gives) → ℕ → Producing → Option Gives
@@ -136,9 +139,9 @@ pub record IsHeld (c : Script) (who : Incarnation) (p : ℕ) (k : Produced) : Ty
   pub number_is : k.state.number ≡ p
 
 -- a table with so many places
-abbrev pub HasPlaces : ℕ → Option (Vec Pair Global) → Type 0
+abbrev pub HasPlaces : ℕ → Option (List Pair) → Type 0
 HasPlaces n None = ⊥
-HasPlaces n (Some t) = length t.items ≡ n
+HasPlaces n (Some t) = length t ≡ n
 
 -- there is a producer, which has so many commands queued
 abbrev pub IsQueued : List ℕ → ℕ → Option Produced → Type 0
@@ -150,7 +153,7 @@ pub record IsPending (c : Script) (items : List (Option Produced)) (x : Pending)
   pub stands : IsPlace c x.place
   pub there : x.sends.after < x.sends.last → IsQueued x.place.entity x.sends.last (at items (x.producer - 1))
 
-pub record IsProducing (c : Script) (who : Incarnation) (names : List (List ℕ)) (items : List (Option Produced)) (tables : List (Option (Vec Pair Global))) (pending : Option Pending) : Type 0 where
+pub record IsProducing (c : Script) (who : Incarnation) (names : List (List ℕ)) (items : List (Option Produced)) (tables : List (Option (List Pair))) (pending : Option Pending) : Type 0 where
   pub names_are : names ≡ (setting c).names
   pub sorted : IsStrictlySortedBy (slice_cmp nat_cmp) names
   pub there : length items ≡ c.config.producers

@@ -1,11 +1,11 @@
 //! A producer whose queue may be held.
-ghost use Rattle.std.specs.Prelude.{◌≡◌, ℕ, ◌+◌, ◌<◌, ◌≤◌, true, length, None, Some, OnOk, IfSome, MatchOption};
-ghost use Rattle.std.specs.Option.{option_map, option_and_then};
+ghost use Rattle.std.specs.Prelude.{◌≡◌, ℕ, ◌+◌, ◌<◌, ◌≤◌, true, false, length, None, Some, OnOk, IfSome, MatchOption};
+ghost use Rattle.std.specs.Option.{option_map, option_map_or, option_and_then};
 ghost use Rattle.yard_model.specs.Producer.{message_of, next_sending};
-ghost use Rattle.yard_model.specs.Script.{sends};
+ghost use Rattle.yard_model.specs.Script.{setting, sends};
 ghost use Rattle.yard_model.specs.SlotReads.{queued};
-ghost use Rattle.producer_ctl.specs.Paired.{IsPlace};
-ghost use Rattle.producer_ctl.specs.Produced.{given, acking, asking, queueing, resending, repeating, StandsAs};
+ghost use Rattle.producer_ctl.specs.Paired.{IsPlace, IsNext, name_at};
+ghost use Rattle.producer_ctl.specs.Produced.{given, acking, asking, queueing, resending, repeating, waits_to, StandsAs};
 ghost use Rattle.producer_ctl.specs.Producing.{IsQueued, IsSent, IsReserved, room_of, of_item, moves_of};
 
 use crate::pair::Sends;
@@ -98,6 +98,19 @@ pub(crate) fn tick_in(held: &mut Option<Producer>, place: &Place) -> Option<Send
     match held {
         Some(producer) => Some(producer.tick(place)),
         None => None,
+    }
+}
+
+/// The next of so many places, from one on, to whose name a command is queued that isn't confirmed;
+/// their number where there is none, or the queue isn't held.
+pub(crate) fn next_waiting_in(held: &Option<Producer>, from: usize, names: usize) -> usize
+    requires from { from ≤ names }
+    requires names { IfSome held.now (λ k. length (setting k.script).names ≡ names) }
+    ensures { IsNext (λ k. option_map_or (λ x. waits_to (name_at (setting x.script).names k) x.state) held.now false) from names result }
+{
+    match held {
+        Some(producer) => producer.next_waiting(from),
+        None => names,
     }
 }
 

@@ -9,6 +9,7 @@ mod pair;
 mod place;
 mod producer;
 mod producers;
+mod table;
 
 pub use laws::rules_are_calls;
 pub use producers::Producers;

@@ -8,11 +8,12 @@ ghost use Rattle.yard_model.specs.Move.{told, made, demanded, pushed};
 ghost use Rattle.yard_model.specs.Producer.{new_producer, next_sending, queue, confirm, push_marks, to_push, to_resend, to_repeat, message_of};
 ghost use Rattle.yard_model.specs.Script.{setting, sends};
 ghost use Rattle.yard_model.specs.SlotReads.{holder, queued, confirmed};
-ghost use Rattle.producer_ctl.specs.Paired.{IsPlace, name_at, numbers_of, new_pair, no_pair};
-ghost use Rattle.producer_ctl.specs.Produced.{moved, given, acking, asking, queueing, repeating, IsPairOf, IsStoreOf, StandsAs};
+ghost use Rattle.producer_ctl.specs.Paired.{IsPlace, IsNext, name_at, numbers_of, new_pair, no_pair};
+ghost use Rattle.producer_ctl.specs.Produced.{moved, given, acking, asking, queueing, repeating, waits_to, IsPairOf, IsStoreOf, StandsAs};
 
 use crate::pair::{Pair, Sends, larger};
 use crate::place::Place;
+use crate::table::Table;
 use durable_queue::QueueStore;
 use std::alloc::AllocError;
 use std::marker::{Model, PhantomData};
@@ -26,7 +27,7 @@ pub(crate) struct Producer {
     who: Incarnation,
     number: ProducerNo,
     store: QueueStore,
-    pairs: Vec<Pair>,
+    pairs: Table,
     holds: PhantomData<(Fact, Command, Message)>,
 }
 
@@ -35,9 +36,9 @@ impl Model for Producer {
 
     ghost Value = { Produced };
 
-    ghost view = { λ k. produced k.who k.number k.store k.pairs.items };
+    ghost view = { λ k. produced k.who k.number k.store k.pairs };
 
-    ghost invariant = { λ k. IsProduced k.who k.number k.store k.pairs.items };
+    ghost invariant = { λ k. IsProduced k.who k.number k.store k.pairs };
 }
 
 /// One item more, for which there is room.
@@ -54,7 +55,7 @@ pub(crate) struct Parts {
     /// The queue's store.
     pub store: QueueStore,
     /// The table of what is kept of each name.
-    pub table: Vec<Pair>,
+    pub table: Table,
 }
 
 impl Producer {
@@ -63,12 +64,12 @@ impl Producer {
         who: Incarnation,
         number: ProducerNo,
         store: QueueStore,
-        table: Vec<Pair>,
+        table: Table,
     ) -> Producer
         requires number { store.producer ≡ number }
         requires leased { holder store.entries ≡ Some who }
         requires sorted { IsStrictlySortedBy (slice_cmp nat_cmp) (setting store.script).names }
-        requires table { length table.items ≡ length (setting store.script).names }
+        requires table { length table ≡ length (setting store.script).names }
         ensures { result ≡ record { script = store.script; state = new_producer (setting store.script) who number store.entries; room = store.spare } }
     {
         let mut pairs = table;
@@ -92,7 +93,7 @@ impl Producer {
     /// The queue's store, and the table.
     pub(crate) fn into_parts(self) -> Parts
         ensures store { IsStoreOf self result.store }
-        ensures table { length result.table.items ≡ length (setting self.script).names }
+        ensures table { length result.table ≡ length (setting self.script).names }
     {
         let Producer {
             who: _,
@@ -114,6 +115,15 @@ impl Producer {
         &self.store
     }
 
+    /// The next place, from one on, to whose name a command is queued that isn't confirmed; the number
+    /// of names where there is none.
+    pub(crate) fn next_waiting(&self, from: usize) -> usize
+        requires { from ≤ length (setting self.now.script).names }
+        ensures { IsNext (λ k. waits_to (name_at (setting self.now.script).names k) self.now.state) from (length (setting self.now.script).names) result }
+    {
+        self.pairs.next(from)
+    }
+
     /// Makes room for so many entries in the queue. The only error is want of memory; then nothing
     /// changes.
     pub(crate) fn reserve(&mut self, wanted: u32) -> Result<(), AllocError>
@@ -129,7 +139,7 @@ impl Producer {
         requires place { IsPlace self.now.script place.now }
         ensures { IsPairOf self.now place.now.entity result }
     {
-        self.pairs[place.at]
+        self.pairs.get(place.at)
     }
 
     /// The next of the producer's sends that isn't queued; None exactly where all are.
@@ -172,7 +182,9 @@ impl Producer {
         ensures out { out.new ≡ given out.old (queue sending.now self.old.state) }
     {
         let sent = self.store.queue(charter);
-        self.pairs[place.at].queue(sent.number);
+        let mut pair = self.pairs.get(place.at);
+        pair.queue(sent.number);
+        self.pairs.put(place.at, pair);
         push(
             out,
             Item::Fact(Fact::Queued(self.number, sent.entity, sent.number, sent.command)),
@@ -190,7 +202,9 @@ impl Producer {
         ensures out { out.new ≡ given out.old (told (fact.Confirmed self.old.state.number place.now.entity number) ∷ []) }
     {
         self.store.confirm_at(place.at, &place.entity, number);
-        self.pairs[place.at].confirm(number);
+        let mut pair = self.pairs.get(place.at);
+        pair.confirm(number);
+        self.pairs.put(place.at, pair);
         push(
             out,
             Item::Fact(Fact::Confirmed(self.number, place.entity, number)),
@@ -203,7 +217,9 @@ impl Producer {
         requires bounded { up_to ≤ confirmed place.now.entity self.old.state.entries + self.old.script.config.window }
         ensures { self.new ≡ moved self.old (demanded place.now.entity up_to ∷ []) }
     {
-        self.pairs[place.at].ask(up_to);
+        let mut pair = self.pairs.get(place.at);
+        pair.ask(up_to);
+        self.pairs.put(place.at, pair);
     }
 
     /// A move: it is sent up to this number.
@@ -211,7 +227,9 @@ impl Producer {
         requires place { IsPlace self.old.script place.now }
         ensures { self.new ≡ moved self.old (pushed place.now.entity number ∷ []) }
     {
-        self.pairs[place.at].mark(number);
+        let mut pair = self.pairs.get(place.at);
+        pair.mark(number);
+        self.pairs.put(place.at, pair);
     }
 }
 
@@ -330,17 +348,18 @@ impl Producer {
 }
 
 /// Of each name, what is queued and confirmed in this queue is read, and nothing was sent.
-fn read_all(pairs: &mut Vec<Pair>, store: &QueueStore)
-    requires { length pairs.old.items ≡ length (setting store.now.script).names }
-    ensures there { length pairs.new.items ≡ length (setting store.now.script).names }
-    ensures each { (i : ℕ) → i < length (setting store.now.script).names → slice_index_or pairs.new.items i no_pair ≡ new_pair (name_at (setting store.now.script).names i) store.now.entries }
+fn read_all(pairs: &mut Table, store: &QueueStore)
+    requires { length pairs.old ≡ length (setting store.now.script).names }
+    ensures there { length pairs.new ≡ length (setting store.now.script).names }
+    ensures each { (i : ℕ) → i < length (setting store.now.script).names → slice_index_or pairs.new i no_pair ≡ new_pair (name_at (setting store.now.script).names i) store.now.entries }
 {
     for at in 0..pairs.len() {
-        pairs[at] = Pair {
+        let pair = Pair {
             demand: 0,
             sent: 0,
             queued: store.queued_at(at),
             confirmed: store.confirmed_at(at),
         };
+        pairs.put(at, pair);
     }
 }

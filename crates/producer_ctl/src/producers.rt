@@ -17,16 +17,18 @@ ghost use Rattle.yard_model.specs.Turns.{where_some};
 ghost use Rattle.yard_model.specs.Words.{at};
 ghost use Rattle.durable_queue.specs.Queue.{Queue};
 ghost use Rattle.producer_ctl.specs.declared.pair.Sends.{Sends};
-ghost use Rattle.producer_ctl.specs.Paired.{IsPlace, name_at};
+ghost use Rattle.producer_ctl.specs.Paired.{IsPlace, IsNext, name_at};
 ghost use Rattle.producer_ctl.specs.Produced.{given, acking, asking, queueing, resending, repeating};
-ghost use Rattle.producer_ctl.specs.Producing.{no_routing, routing, held, of_held, sending, moves_of, moved_by, stepped, holding, without, next_message, after_message, IsStore, IsReserved, Stands, AreMore, HasPlaces, room_of};
+ghost use Rattle.producer_ctl.specs.Producing.{no_routing, routing, held, waits, of_held, sending, moves_of, moved_by, stepped, holding, without, next_message, after_message, IsStore, IsReserved, Stands, AreMore, HasPlaces, room_of};
 
 use crate::held::{
-    ack_in, demand_in, knows_in, message_in, next_in, queue_in, resend_in, reserve_in, tick_in,
+    ack_in, demand_in, knows_in, message_in, next_in, next_waiting_in, queue_in, resend_in,
+    reserve_in, tick_in,
 };
-use crate::pair::{Pair, Sends};
+use crate::pair::Sends;
 use crate::place::Place;
 use crate::producer::{Producer, push};
+use crate::table::Table;
 use durable_queue::QueueStore;
 use std::alloc::{AllocError, Global};
 use std::marker::{Model, PhantomData};
@@ -62,7 +64,7 @@ pub struct Producers {
     who: Incarnation,
     names: Vec<EntityName>,
     held: Vec<Option<Producer>>,
-    tables: Vec<Option<Vec<Pair>>>,
+    tables: Vec<Option<Table>>,
     pending: Option<Pending>,
     holds: PhantomData<(Fact, Message, Place, Slot)>,
 }
@@ -130,6 +132,16 @@ impl Producers {
         ensures { result ≡ length (setting self.now.script).names }
     {
         self.names.len()
+    }
+
+    /// The next place, from one on, to whose name a command of the producer is queued that isn't
+    /// confirmed; the number of names where there is none, or its queue isn't held.
+    pub fn next_waiting(&self, p: ProducerNo, from: usize) -> usize
+        requires producer { is_producer self.now.script p ≡ true }
+        requires from { from ≤ length (setting self.now.script).names }
+        ensures { IsNext (λ k. waits p (name_at (setting self.now.script).names k) self.now) from (length (setting self.now.script).names) result }
+    {
+        next_waiting_in(&self.held[place_of(p)], from, self.names())
     }
 
     /// Makes room in each queue that is held for all that a turn may write there. The only error is
@@ -366,24 +378,20 @@ fn none_held(alloc: Global, producers: u8) -> Result<Vec<Option<Producer>>, Allo
 }
 
 /// For each producer, a table with a place for each name.
-fn new_tables(
-    alloc: Global,
-    producers: u8,
-    names: usize,
-) -> Result<Vec<Option<Vec<Pair>>>, AllocError>
+fn new_tables(alloc: Global, producers: u8, names: usize) -> Result<Vec<Option<Table>>, AllocError>
     ensures there { IfOk result (λ v. length v.items ≡ producers) }
     ensures each { IfOk result (λ v. (i : ℕ) → i < producers → HasPlaces names (at v.items i)) }
 {
     let mut tables = Vec::new(alloc);
     for _ in 0..producers {
-        let table = vec![in alloc; Pair::new(); names]?;
+        let table = Table::new(alloc, names)?;
         tables.push(Some(table))?;
     }
     Ok(tables)
 }
 
 /// Takes a table out.
-fn take_table(tables: &mut Vec<Option<Vec<Pair>>>, place: usize) -> Vec<Pair>
+fn take_table(tables: &mut Vec<Option<Table>>, place: usize) -> Table
     requires within { place < length tables.old.items }
     requires there { at tables.old.items place ≡ None → ⊥ }
     ensures table { at tables.old.items place ≡ Some result }

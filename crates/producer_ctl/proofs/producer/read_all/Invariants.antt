@@ -5,6 +5,6 @@ use Rattle.producer_ctl.proofs.producer.read_all.Given as goal
 
 abbrev pub invariant-loop-at : goal.invariant-loop-at
 invariant-loop-at l = record {
-  there : length l.pairs.items ≡ length (setting l.store.script).names;
-  done : (i : ℕ) → i < l.at → slice_index_or l.pairs.items i no_pair ≡ new_pair (name_at (setting l.store.script).names i) l.store.entries;
+  there : length l.pairs ≡ length (setting l.store.script).names;
+  done : (i : ℕ) → i < l.at → slice_index_or l.pairs i no_pair ≡ new_pair (name_at (setting l.store.script).names i) l.store.entries;
 }

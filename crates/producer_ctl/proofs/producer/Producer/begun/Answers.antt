@@ -5,4 +5,4 @@ pub invariant_of-result : goal.invariant_of-result
 invariant_of-result c = begun_stands c.requires.number c.requires.leased c.requires.sorted c.read_all.ensures.there c.read_all.ensures.each
 
 pub returns : goal.returns
-returns c = begun_seen c.args.who c.args.number c.args.store c.read_all.new.pairs.items c.read_all.ensures.there c.read_all.ensures.each
+returns c = begun_seen c.args.who c.args.number c.args.store c.read_all.new.pairs c.read_all.ensures.there c.read_all.ensures.each

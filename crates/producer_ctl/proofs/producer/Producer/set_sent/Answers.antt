@@ -1,8 +1,10 @@
+use Rattle.std.proofs.Common.{sym, subst}
+use Rattle.producer_ctl.specs.Produced.{IsProduced}
 use Rattle.producer_ctl.proofs.PairLaws.{pushed_stands, pushed_moved}
 use Rattle.producer_ctl.proofs.producer.Producer.set_sent.Goals as goal
 
 pub invariant_of-self : goal.invariant_of-self
-invariant_of-self c = pushed_stands c.args.number c.self.invariant c.self.view_is c.requires.place c.index_mut.ensures.value c.mark.ensures
+invariant_of-self c = subst (IsProduced _ _ _) (sym c.put.ensures) (pushed_stands c.args.number c.self.invariant c.self.view_is c.requires.place c.get-pair.ensures c.mark.ensures)
 
 pub returns : goal.returns
-returns c = pushed_moved c.args.number c.self.invariant c.self.view_is c.requires.place c.index_mut.ensures.value c.mark.ensures
+returns c = rw c.put.ensures (pushed_moved c.args.number c.self.invariant c.self.view_is c.requires.place c.get-pair.ensures c.mark.ensures)

@@ -30,6 +30,7 @@ use crate::place::Place;
 use crate::producer::{Producer, push};
 use crate::table::Table;
 use durable_queue::QueueStore;
+use name_index::NameIndex;
 use std::alloc::{AllocError, Global};
 use std::marker::{Model, PhantomData};
 use std::snapshot::Snapshot;
@@ -62,7 +63,7 @@ pub(crate) struct Pending {
 pub struct Producers {
     script: Snapshot<Charter>,
     who: Incarnation,
-    names: Vec<EntityName>,
+    names: NameIndex,
     held: Vec<Option<Producer>>,
     tables: Vec<Option<Table>>,
     pending: Option<Pending>,
@@ -76,7 +77,7 @@ impl Model for Producers {
 
     ghost view = { λ v. producing v.script.value v.who v.held.items v.pending };
 
-    ghost invariant = { λ v. IsProducing v.script.value v.who v.names.items v.held.items v.tables.items v.pending };
+    ghost invariant = { λ v. IsProducing v.script.value v.who v.names v.held.items v.tables.items v.pending };
 }
 
 impl Producers {
@@ -85,7 +86,7 @@ impl Producers {
         ensures { IfOk result (λ v. v ≡ record { script = charter.now; who = who; producers = replicate charter.now.config.producers None; rooms = replicate charter.now.config.producers 0; pending = no_routing }) }
     {
         let producers = charter.config().producers;
-        let names = Vec::from_slice(alloc, charter.names())?;
+        let names = NameIndex::new(alloc, charter)?;
         let held = none_held(alloc, producers)?;
         let tables = new_tables(alloc, producers, names.len())?;
         Ok(Producers {
@@ -342,7 +343,7 @@ impl Producers {
     {
         Place {
             entity: *entity,
-            at: place_in(self.names.as_slice(), entity),
+            at: self.names.place(entity),
         }
     }
 
@@ -353,7 +354,7 @@ impl Producers {
         ensures entity { result.entity ≡ name_at (setting self.now.script).names at }
     {
         Place {
-            entity: self.names[at],
+            entity: self.names.as_slice()[at],
             at,
         }
     }
@@ -439,18 +440,5 @@ fn pending_of(p: ProducerNo, place: &Place, sends: Option<Sends>) -> Option<Pend
             sends,
         }),
         None => None,
-    }
-}
-
-/// Where a name stands among names in order.
-fn place_in(names: &[EntityName], entity: &EntityName) -> usize
-    requires sorted { IsStrictlySortedBy (slice_cmp nat_cmp) names.now }
-    requires among { list_any (is_name entity.now) names.now ≡ true }
-    ensures within { result < length names.now }
-    ensures it { name_at names.now result ≡ entity.now }
-{
-    match names.binary_search(entity) {
-        Ok(place) => place,
-        Err(_) => unreachable!(),
     }
 }

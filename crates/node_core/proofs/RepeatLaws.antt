@@ -6,7 +6,7 @@ use Rattle.std.specs.List.{list_all, list_any, flat_map}
 use Rattle.std.proofs.Math.Nat.{le-min}
 use Rattle.std.proofs.Math.Seq.{map-set_same, take-suc}
 use Rattle.std.proofs.lemmas.Grind.{flat_map-append}
-use Rattle.std.proofs.lemmas.List.{take-append-drop}
+use Rattle.std.proofs.lemmas.List.{take-append-drop, take_all}
 use Rattle.std.proofs.lemmas.List.Elements.{filter-append}
 use Rattle.std.proofs.lemmas.List.Filters.{length-filter_more}
 use Rattle.std.proofs.lemmas.List.Sums.{fold-append}
@@ -22,7 +22,7 @@ use Rattle.yard_model.specs.Genuine.{is_producer}
 use Rattle.yard_model.specs.Move.{Move, pushed}
 use Rattle.yard_model.specs.Node.{Node, Act, Rule, by_region, by_entities, by_producer, by_coordinator, after, items_of, of_coordinator, of_entities, of_region, of_producer, is_running, all_in_turn, lead, route, route_numbers, start_again, send_again, tick}
 use Rattle.yard_model.specs.Producer.{Producer, producer_after, message_of, to_repeat}
-use Rattle.yard_model.specs.Region.{is_home, route_away, tick_region}
+use Rattle.yard_model.specs.Region.{Region, is_home, route_away, tick_region}
 use Rattle.yard_model.specs.Script.{Script, IsScript, Setting, setting, pairs_in, is_pair}
 use Rattle.yard_model.specs.Setting.{shard_of, shards, producers, names_of}
 use Rattle.yard_model.specs.SlotLists.{SlotLists}
@@ -38,9 +38,14 @@ use Rattle.node_laws.specs.NodeStands.{IsSoundNode, IsProducerAt}
 use Rattle.node_laws.proofs.NodePackets.{TurnLaws, producer_node}
 use Rattle.node_laws.proofs.NodeProducers.{repeat_node}
 use Rattle.node_laws.proofs.NodeTicks.{sends_again, names_again}
-use Rattle.producer_ctl.specs.Produced.{repeating}
+use Rattle.producer_ctl.specs.Paired.{IsNext, name_at}
+use Rattle.producer_ctl.specs.Produced.{repeating, waits_to}
+use Rattle.producer_ctl.specs.Producing.{Producing, waits}
 use Rattle.producer_ctl.specs.Routed.{calls_of}
 use Rattle.producer_ctl.proofs.NodeLaws.{repeat_calls}
+use Rattle.producer_ctl.proofs.TableLaws.{next_same}
+use Rattle.coordinator_actor.specs.Held.{Held}
+use Rattle.shard_entities.specs.Lodged.{Lodged}
 use Rattle.shard_entities.specs.Roomy.{room_wanted}
 use Rattle.shard_lease.specs.Meaning.{Meaning}
 use Rattle.node_core.specs.Again.{TickLaws, Stepped, NamesSent, ProducersSent, AsksShards, queues, repeats, repeated, repeated_at, starts_again, tick_members, tick_shards}
@@ -48,7 +53,7 @@ use Rattle.node_core.specs.Found.{none, asks, either}
 use Rattle.node_core.specs.Gave.{Moment, moment, Gave, asks_lead, is_to_lead, office}
 use Rattle.node_core.specs.Leased.{Rests}
 use Rattle.node_core.specs.Releasing.{HasReleaseRoom}
-use Rattle.node_core.specs.Standing.{Standing, IsReady}
+use Rattle.node_core.specs.Standing.{Standing, IsReady, node_of}
 use Rattle.node_core.specs.Still.{is_still, is_of_shards}
 use Rattle.node_core.specs.Went.{Went, rooms_after}
 use Rattle.node_core.proofs.AgainLaws.{each_more, numbers_more, laws_of, vouches_all, same_room, stepped_both}
@@ -107,6 +112,18 @@ queue_at : (ks : List (Option Producer)) (i : ℕ) → at (map (option_map (λ k
 queue_at [] i = refl
 queue_at (k ∷ ks) zero = refl
 queue_at (k ∷ ks) (suc i) = queue_at ks i
+
+-- it is the producer whose command waits
+pub next_repeated : (c : Script) (r : Region) (e : Lodged) (ps : Producing) (k : Option Held) (p first i : ℕ) → ps.script ≡ c → IsNext (λ j. waits p (name_at (setting ps.script).names j) ps) first (length (setting ps.script).names) i
+    → IsNext (λ j. repeats (queues (node_of c r e ps k)) p (name_at (setting c).names j)) first (length (setting c).names) i
+next_repeated c r e ps k p first i script_is is =
+    next_same (λ j. waits p (name_at (setting c).names j) ps) (λ j. repeats (queues (node_of c r e ps k)) p (name_at (setting c).names j)) first (length (setting c).names) i
+    (λ j inside. ap (λ o. option_map_or (λ list. nat_lt (confirmed (name_at (setting c).names j) list) (queued (name_at (setting c).names j) list)) o false) (queue_at ps.producers (p - 1)) ∙ one (name_at (setting c).names j) (at ps.producers (p - 1)))
+    (subst (λ (s : Script). IsNext (λ j. waits p (name_at (setting s).names j) ps) first (length (setting s).names) i) script_is is)
+  where
+    one : (e : List ℕ) (o : Option Producer) → option_map_or (λ list. nat_lt (confirmed e list) (queued e list)) (option_map (λ (k : Producer). k.entries) o) false ≡ option_map_or (waits_to e) o false
+    one e None = refl
+    one e (Some k) = refl
 
 -- what a producer gives of one pair, by whether it repeats a number
 abbrev again_with : ℕ → List ℕ → Node → Producer → Bool → List Act
@@ -248,6 +265,45 @@ names_next {v} {w} {x} {before} {late} {last} p i laws script is above inside r 
             let same : (repeats lists p e && (shard_of v.state.set e == t)) ≡ true = both (repeats lists p e) (shard_of v.state.set e == t) h (number_itself (shard_of v.state.set e) t (sym (same_number t (shard_of v.state.set e) d))) in
             subst (λ b. (if t == shard_of v.state.set e then 2 else 0) ≤ 2 * cond b 1 0) (sym same) (subst (λ b. (if b then 2 else 0) ≤ 2) (sym d) (omega arith))
         one_at false d = subst (λ b. (if b then 2 else 0) ≤ 2 * cond (repeats lists p e && (shard_of v.state.set e == t)) 1 0) (sym d) (omega arith)
+
+-- a name to which no number is repeated changes nothing
+name_passed : {v w : Standing} {before late : Spared Item} (p i : ℕ) → TickLaws → IsScript v.script → IsSoundNode v.script v.state → 0 < p → i < length v.state.set.names → NamesSent p (take i v.state.set.names) v w before late
+    → repeats (queues w.state) p (name_at w.state.set.names i) ≡ false → NamesSent p (take (i + 1) v.state.set.names) v w before late
+name_passed {v} {w} {before} {late} p i laws script is above inside r idle =
+    names_next p i laws script is above inside r
+    (subst (Went w w late late) (sym (not_repeated p (name_at w.state.set.names i) w.state idle)) (went_nothing w late))
+    (λ t n room. fewer_room (2 + (n + (if t == shard_of w.state.set (name_at w.state.set.names i) then 2 else 0))) (2 + n) (omega arith) room)
+
+names_passed : {v w : Standing} {before late : Spared Item} (p i d : ℕ) → TickLaws → IsScript v.script → IsSoundNode v.script v.state → 0 < p → i + d ≤ length v.state.set.names → NamesSent p (take i v.state.set.names) v w before late
+    → ((k : ℕ) → i ≤ k → k < i + d → repeats (queues w.state) p (name_at w.state.set.names k) ≡ false) → NamesSent p (take (i + d) v.state.set.names) v w before late
+names_passed {v} {w} {before} {late} p i zero laws script is above within r idle = let same : i ≡ i + 0 = omega arith in subst (λ n. NamesSent p (take n v.state.set.names) v w before late) same r
+names_passed {v} {w} {before} {late} p i (suc d) laws script is above within r idle =
+    let same : (i + 1) + d ≡ i + suc d = omega arith in
+    subst (λ n. NamesSent p (take n v.state.set.names) v w before late) same
+    (names_passed p (i + 1) d laws script is above (omega (arith, within)) (name_passed p i laws script is above (omega (arith, within)) r (idle i (omega arith) (omega arith)))
+    (λ k low high. idle k (omega (arith, low)) (omega (arith, high))))
+
+-- up to the next name to which one is
+pub names_reach : {v w : Standing} {before late : Spared Item} (p i j : ℕ) → TickLaws → IsScript v.script → IsSoundNode v.script v.state → 0 < p → NamesSent p (take i v.state.set.names) v w before late
+    → IsNext (λ k. repeats (queues w.state) p (name_at w.state.set.names k)) i (length w.state.set.names) j → (j ≤ length v.state.set.names) × NamesSent p (take j v.state.set.names) v w before late
+names_reach {v} {w} {before} {late} p i j laws script is above r next = (
+  within,
+  subst (λ n. NamesSent p (take n v.state.set.names) v w before late) there
+      (names_passed p i (j - i) laws script is above (subst (λ n. n ≤ length v.state.set.names) (sym there) within) r (λ k low high. next.passed k low (subst (λ n. k < n) there high))),
+)
+  where
+    set_is : w.state.set ≡ v.state.set
+    set_is = r.stands.set_is ∙ sym is.set_is
+
+    within : j ≤ length v.state.set.names
+    within = subst (λ (z : Setting). j ≤ length z.names) set_is next.within
+
+    there : i + (j - i) ≡ j
+    there = let low = next.from_first in omega (arith, low)
+
+-- past the last name
+pub names_over : {v w : Standing} {before late : Spared Item} (p i : ℕ) → NamesSent p (take i v.state.set.names) v w before late → length v.state.set.names ≤ i → NamesSent p v.state.set.names v w before late
+names_over {v} {w} {before} {late} p i r over = subst (λ es. NamesSent p es v w before late) (take_all i v.state.set.names over) r
 
 -- The producers, one after another.
 

@@ -10,11 +10,12 @@ ghost use Rattle.yard_model.specs.Setting.{shard_of};
 ghost use Rattle.yard_model.specs.Words.{at};
 ghost use Rattle.yard_model.specs.World.{all_sends};
 ghost use Rattle.node_laws.specs.NodeStands.{IsSoundNode};
-ghost use Rattle.producer_ctl.specs.Paired.{name_at};
+ghost use Rattle.producer_ctl.specs.Paired.{name_at, IsNext};
 ghost use Rattle.producer_ctl.specs.Produced.{acking, asking, repeating, resending};
 ghost use Rattle.producer_ctl.specs.Producing.{sending};
 ghost use Rattle.shard_lease.specs.declared.leases.Acquire.TheVariants as answers;
 ghost use Rattle.shard_store.specs.declared.store.Store.TheVariants as stores;
+ghost use Rattle.node_core.specs.Again.{queues, repeats};
 ghost use Rattle.node_core.specs.Calling.{called, Called, given_of, AreDemanded, AreQueued, next_pending, without_first, pending_acts, is_pending_well, asks_queue, IsQueueGrant, IsQueueGrantOf, TookQueue, is_for_producer, producer_rule, ConfirmsQueued};
 ghost use Rattle.node_core.specs.Found.{none, asks};
 ghost use Rattle.node_core.specs.Gave.{Gave, moment};
@@ -219,6 +220,16 @@ impl<B: Behaviour + Drop> Actors<B> {
         rules_are_calls();
         self.note_tick(p, at, out);
         self.route_pending(out);
+    }
+
+    /// The next place, from one on, of a name to which the producer repeats a number; the number of names
+    /// where there is none.
+    pub(crate) fn next_waiting(&self, p: ProducerNo, from: usize) -> usize
+        requires producer { is_producer self.now.script p ≡ true }
+        requires from { from ≤ length self.now.state.set.names }
+        ensures { IsNext (λ k. repeats (queues self.now.state) p (name_at self.now.state.set.names k)) from (length self.now.state.set.names) result }
+    {
+        self.producers.next_waiting(p, from)
     }
 
     /// The producer's part of a pair of the tick.

@@ -114,8 +114,11 @@ impl<B: Behaviour + Drop> Actors<B> {
     {
         tick_laws();
         self.knows();
-        for at in 0..charter.names().len() {
+        let names = charter.names().len();
+        let mut at = self.next_waiting(p, 0);
+        while at < names {
             self.send_again(p, at, out);
+            at = self.next_waiting(p, at + 1);
         }
     }
 }

@@ -6,5 +6,5 @@ mod PlainLaws
 mod StoreLaws
 mod SentLaws
 mod SendLaws
-mod TableLaws
+pub mod TableLaws
 pub mod NodeLaws

@@ -301,6 +301,10 @@ names_reach {v} {w} {before} {late} p i j laws script is above r next = (
     there : i + (j - i) ≡ j
     there = let low = next.from_first in omega (arith, low)
 
+-- the names stay, and so the place is within them
+pub names_within : {v w : Standing} {before late : Spared Item} {es : List (List ℕ)} (p n : ℕ) → IsSoundNode v.script v.state → NamesSent p es v w before late → n ≤ length v.state.set.names → n ≤ length w.state.set.names
+names_within {v} {w} p n is r within = subst (λ (z : Setting). n ≤ length z.names) (sym (r.stands.set_is ∙ sym is.set_is)) within
+
 -- past the last name
 pub names_over : {v w : Standing} {before late : Spared Item} (p i : ℕ) → NamesSent p (take i v.state.set.names) v w before late → length v.state.set.names ≤ i → NamesSent p v.state.set.names v w before late
 names_over {v} {w} {before} {late} p i r over = subst (λ es. NamesSent p es v w before late) (take_all i v.state.set.names over) r

@@ -33,11 +33,11 @@ send_again-requires-clause-rooms g c = (names_room c.args.p c.loop-at.at c.loop-
 pub send_again-requires-clause-room : goal.send_again-requires-clause-room
 send_again-requires-clause-room g c = (names_room c.args.p c.loop-at.at c.loop-at.invariant.sent c.requires.rooms c.requires.room).0
 
-pub next_waiting-at-in-loop-at-requires-clause-producer : goal.next_waiting-at-in-loop-at-requires-clause-producer
-next_waiting-at-in-loop-at-requires-clause-producer g c = subst (λ (s : Script). is_producer s c.args.p ≡ true) (sym (c.send_again.ensures.went.script_is ∙ c.loop-at.invariant.sent.went.script_is)) c.requires.producer
+pub next_waiting-at-requires-in-loop-at-clause-producer : goal.next_waiting-at-requires-in-loop-at-clause-producer
+next_waiting-at-requires-in-loop-at-clause-producer g c = subst (λ (s : Script). is_producer s c.args.p ≡ true) (sym (c.send_again.ensures.went.script_is ∙ c.loop-at.invariant.sent.went.script_is)) c.requires.producer
 
-pub next_waiting-at-in-loop-at-requires-clause-from : goal.next_waiting-at-in-loop-at-requires-clause-from
-next_waiting-at-in-loop-at-requires-clause-from g c =
+pub next_waiting-at-requires-in-loop-at-clause-from : goal.next_waiting-at-requires-in-loop-at-clause-from
+next_waiting-at-requires-in-loop-at-clause-from g c =
     let names_are : length c.names-names.result.now ≡ length c.args.self.now.state.set.names =
     ap length c.names-names.ensures.value ∙ (ap (λ (d : Script). length (names_in d.orders)) c.requires.charter ∙ ap (λ (z : Setting). length z.names) (sym c.requires.sound.set_is)) in
     let within : c.loop-at.at < length c.args.self.now.state.set.names = subst (λ n. c.loop-at.at < n) names_are c.loop-at-test.true in

@@ -71,7 +71,7 @@ shard_put {c} {version} {who} {config} {places} {cells} {items} {running} {new_r
         let most : c.config.shards ≤ 128 = shards_most c k.script_is in
         others t (omega (arith, below, most)) (is_other t s e) ∙ (k.runs t below ∙ ap (λ x. is_running_in (option_map hosted_of x)) (sym (there_still t e)))
 
-shard_below : {c : Script} {version : ℕ} {who : Incarnation} (cells : List Celled) (items : List (Option Hosting)) {v : Lodged} {s : ℕ} → lodged c version who items cells ≡ v → s < v.script.config.shards → s < c.config.shards
+pub shard_below : {c : Script} {version : ℕ} {who : Incarnation} (cells : List Celled) (items : List (Option Hosting)) {v : Lodged} {s : ℕ} → lodged c version who items cells ≡ v → s < v.script.config.shards → s < c.config.shards
 shard_below {c} {version} {who} cells items {v} {s} seen lt = subst (λ (x : Script). s < x.config.shards) (ap (λ (v : Lodged). v.script) (sym seen)) lt
 
 -- It stops.
@@ -314,3 +314,9 @@ reserved_next first items i o new k inside read step = record {
     at_shard s true e =
         rw (is_same s i e) (subst (IsReserved (at first i)) (sym (get_or-set_same items i new None inside)) (then_reserved (at first i) o new (subst (IsReserved (at first i)) (get_or_default items i None o inside ∙ sym read) (k.each i)) step))
     at_shard s false e = subst (IsReserved (at first s)) (sym (get_or-set_other items i s new None (is_other s i e))) (k.each s)
+
+pub then_are_reserved : {first between last : List (Option Hosting)} → AreReserved first between → AreReserved between last → AreReserved first last
+then_are_reserved {first} {between} {last} a b = record {
+  there = b.there ∙ a.there;
+  each = λ s. then_reserved (at first s) (at between s) (at last s) (a.each s) (b.each s);
+}

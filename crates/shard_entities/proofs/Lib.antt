@@ -17,3 +17,4 @@ mod SettleLaws
 mod LoopLaws
 mod FreedLaws
 mod RoomLaws
+mod ReadyLaws

@@ -5,4 +5,5 @@ pub mod Written
 pub mod Delivered
 pub mod Settled
 pub mod Roomy
+pub mod Ready
 pub mod Foldable

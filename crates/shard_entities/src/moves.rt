@@ -204,6 +204,8 @@ impl Shards {
         ensures out { out.new ≡ given out.old (told (fact.Wrote place.now.entity entry.now) ∷ []) }
     {
         self.cells[place.at].set_state(state);
+        let touched = self.touched.with(place.shard);
+        self.touched = touched;
         write_record(&mut self.hosted[place.shard.get() as usize], place, entry);
         push(out, Item::Fact(Fact::Wrote(place.entity, *entry)));
     }
@@ -220,6 +222,8 @@ impl Shards {
         ensures out { out.new ≡ given out.old (told (fact.Snapshot place.now.entity number) ∷ []) }
     {
         let state = self.cells[place.at].state();
+        let touched = self.touched.with(place.shard);
+        self.touched = touched;
         write_snapshot(
             &mut self.hosted[place.shard.get() as usize],
             place,
@@ -265,6 +269,8 @@ impl Shards {
         ensures state { self.new ≡ moved self.old (told (fact.Remembered place.now.entity) ∷ []) }
         ensures out { out.new ≡ given out.old (told (fact.Remembered place.now.entity) ∷ []) }
     {
+        let touched = self.touched.with(place.shard);
+        self.touched = touched;
         write_remembered(&mut self.hosted[place.shard.get() as usize], place);
         push(out, Item::Fact(Fact::Remembered(place.entity)));
     }
@@ -278,6 +284,8 @@ impl Shards {
         ensures state { self.new ≡ moved self.old (told (fact.Forgotten place.now.entity) ∷ []) }
         ensures out { out.new ≡ given out.old (told (fact.Forgotten place.now.entity) ∷ []) }
     {
+        let touched = self.touched.with(place.shard);
+        self.touched = touched;
         write_forgotten(&mut self.hosted[place.shard.get() as usize], place);
         push(out, Item::Fact(Fact::Forgotten(place.entity)));
     }

@@ -17,6 +17,7 @@ ghost use Rattle.yard_model.specs.SlotReads.{journal, is_remembered};
 ghost use Rattle.shard_store.specs.Shelved.{name_at};
 ghost use Rattle.shard_entities.specs.Lodged.{IsStore, HasRoom, moved, is_for, without, cleared, room_of};
 ghost use Rattle.shard_entities.specs.Roomy.{AreMore, AreReserved, room_wanted, room_for};
+ghost use Rattle.shard_entities.specs.Ready.{IsReady, AreReady};
 ghost use Rattle.shard_entities.specs.Settled.{IsSettled};
 ghost use Rattle.shard_entities.specs.Placed.{IsPlace};
 ghost use Rattle.shard_entities.specs.Celled.{celled};
@@ -49,6 +50,7 @@ pub(crate) struct Shards {
     pub(crate) hosted: Vec<Option<Hosting>>,
     pub(crate) running: ShardSet,
     pub(crate) existing: Vec<u32>,
+    pub(crate) touched: ShardSet,
     pub(crate) holds: PhantomData<
         (
             Fact,
@@ -69,7 +71,8 @@ impl Model for Shards {
     ghost use Rattle.std.specs.Prelude.{map};
     ghost use Rattle.std.specs.Option.{option_map};
     ghost use Rattle.yard_model.specs.Script.{setting};
-    ghost use Rattle.shard_entities.specs.Lodged.{Lodged, IsKept, hosted_of, room_of, cell_of};
+    ghost use Rattle.shard_entities.specs.Lodged.{Lodged, hosted_of, room_of, cell_of};
+    ghost use Rattle.shard_entities.specs.Ready.{IsWhole};
 
     ghost Value = { Lodged };
 
@@ -85,7 +88,7 @@ impl Model for Shards {
       rooms = map room_of e.hosted.items;
     } };
 
-    ghost invariant = { λ e. IsKept e.script.value e.version e.who e.config e.places e.cells.items e.hosted.items e.running e.existing.items };
+    ghost invariant = { λ e. IsWhole e.script.value e.version e.who e.config e.places e.cells.items e.hosted.items e.running e.existing.items e.touched };
 }
 
 impl Shards {
@@ -116,6 +119,7 @@ impl Shards {
             hosted,
             running: ShardSet::empty(),
             existing,
+            touched: ShardSet::empty(),
             holds: PhantomData,
         })
     }
@@ -213,7 +217,12 @@ impl Shards {
         ensures ok { OnOk result ((s : ℕ) → (hosted self.old.state s ≡ None → ⊥) → room_wanted self.old.script s ≤ slice_index_or self.new.rooms s 0) }
     {
         self.knows();
-        reserve_each(&mut self.hosted, &self.places, &self.config)
+        reserve_each(
+            &mut self.hosted,
+            &mut self.touched,
+            &self.places,
+            &self.config,
+        )
     }
 
     /// Whose they are.
@@ -435,23 +444,49 @@ fn hosted_in(hosted: &Vec<Option<Hosting>>) -> ShardSet
     all
 }
 
-/// Makes room in the store of each hosted shard.
+/// Makes room in the store of each shard that was touched, lowest first; none is then.
 fn reserve_each(
     hosted: &mut Vec<Option<Hosting>>,
+    touched: &mut ShardSet,
     places: &Places,
     config: &Config,
 ) -> Result<(), AllocError>
     requires script { IsScript places.now }
     requires shards { length hosted.old.items ≡ places.now.config.shards }
     requires config { config.now ≡ places.now.config }
+    requires ready { AreReady places.now touched.old hosted.old.items }
     ensures kept { AreReserved hosted.old.items hosted.new.items }
+    ensures ready { AreReady places.now touched.new hosted.new.items }
     ensures ok { OnOk result ((s : ℕ) → (at hosted.old.items s ≡ None → ⊥) → room_wanted places.now s ≤ room_of (at hosted.new.items s)) }
 {
-    for s in 0..config.shards {
-        let wanted = wanted(config, places.count(shard_at(s)));
-        reserve_in(&mut hosted[s as usize], wanted)?;
+    for _ in 0..config.shards {
+        match touched.lowest(config.shards) {
+            Some(s) => {
+                reserve_shard(hosted, s, places, config)?;
+                *touched = touched.without(s);
+            }
+            None => return Ok(()),
+        }
     }
     Ok(())
+}
+
+/// Makes room in the store of one shard, where it is hosted.
+fn reserve_shard(
+    hosted: &mut Vec<Option<Hosting>>,
+    s: ShardNo,
+    places: &Places,
+    config: &Config,
+) -> Result<(), AllocError>
+    requires script { IsScript places.now }
+    requires shards { length hosted.old.items ≡ places.now.config.shards }
+    requires config { config.now ≡ places.now.config }
+    requires shard { s < places.now.config.shards }
+    ensures kept { AreReserved hosted.old.items hosted.new.items }
+    ensures ok { OnOk result (IsReady places.now s (at hosted.new.items s)) }
+{
+    let wanted = wanted(config, places.count(s));
+    reserve_in(&mut hosted[s.get() as usize], wanted)
 }
 
 /// How many entries a turn may write to the store of a shard with so many names.

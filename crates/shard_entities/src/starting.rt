@@ -49,6 +49,8 @@ impl Shards {
     {
         let running = self.running.with(s);
         self.running = running;
+        let touched = self.touched.with(s);
+        self.touched = touched;
         self.hosted[s.get() as usize] = Some(Hosting {
             store,
             stopping: None,

@@ -4,8 +4,11 @@ use Rattle.shard_entities.proofs.MoveLaws.{of_request, keeps_request}
 use Rattle.shard_entities.proofs.shards.Shards.post_request.Goals as goal
 
 pub invariant_of-self : goal.invariant_of-self
-invariant_of-self c = stays _ c.self.invariant c.self.view_is c.requires.place c.index_mut.ensures.value (request_leaves c.args.self.now.state.who c.args.message.now.origin c.args.message.now.producer c.args.message.now.entity c.args.confirmed c.args.up_to _ (c.ask.ensures c.args.self.now.state.who c.args.message.now.origin c.args.message.now.entity c.args.confirmed))
-    (stands (keeps_request c.args.self.now.state.who c.args.message.now.origin c.args.message.now.producer c.args.message.now.entity c.args.confirmed c.args.up_to) c.self.invariant.lodged c.self.view_is c.requires.place c.index_mut.ensures.value (c.ask.ensures c.args.self.now.state.who c.args.message.now.origin c.args.message.now.entity c.args.confirmed))
+invariant_of-self c = record {
+  kept = stays _ c.self.invariant.kept c.self.view_is c.requires.place c.index_mut.ensures.value (request_leaves c.args.self.now.state.who c.args.message.now.origin c.args.message.now.producer c.args.message.now.entity c.args.confirmed c.args.up_to _ (c.ask.ensures c.args.self.now.state.who c.args.message.now.origin c.args.message.now.entity c.args.confirmed))
+      (stands (keeps_request c.args.self.now.state.who c.args.message.now.origin c.args.message.now.producer c.args.message.now.entity c.args.confirmed c.args.up_to) c.self.invariant.kept.lodged c.self.view_is c.requires.place c.index_mut.ensures.value (c.ask.ensures c.args.self.now.state.who c.args.message.now.origin c.args.message.now.entity c.args.confirmed));
+  ready = c.self.invariant.ready;
+}
 
 pub returns-clause-state : goal.returns-clause-state
-returns-clause-state c = cell_moved (of_request c.args.self.now.state.who c.args.message.now.origin c.args.message.now.producer c.args.confirmed c.args.up_to c.requires.entity) c.self.invariant.lodged c.self.view_is c.requires.place c.index_mut.ensures.value (c.ask.ensures c.args.self.now.state.who c.args.message.now.origin c.args.message.now.entity c.args.confirmed)
+returns-clause-state c = cell_moved (of_request c.args.self.now.state.who c.args.message.now.origin c.args.message.now.producer c.args.confirmed c.args.up_to c.requires.entity) c.self.invariant.kept.lodged c.self.view_is c.requires.place c.index_mut.ensures.value (c.ask.ensures c.args.self.now.state.who c.args.message.now.origin c.args.message.now.entity c.args.confirmed)

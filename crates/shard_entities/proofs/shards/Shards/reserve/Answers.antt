@@ -1,10 +1,18 @@
+use Rattle.std.proofs.Common.{sym}
 use Rattle.shard_entities.proofs.HostLaws.{reserved_stands, reserved_seen, reserved_more}
+use Rattle.shard_entities.proofs.ReadyLaws.{ready_of}
 use Rattle.shard_entities.proofs.shards.Shards.reserve.Goals as goal
+
+pub reserve_each-requires-clause-ready : goal.reserve_each-requires-clause-ready
+reserve_each-requires-clause-ready c = ready_of (sym c.self.invariant.kept.lodged.places_are) c.self.invariant.ready
 
 pub invariant_of-self : goal.invariant_of-self
 invariant_of-self c = record {
-  lodged = reserved_stands c.self.invariant.lodged c.reserve_each.ensures.kept;
-  counted = c.self.invariant.counted;
+  kept = record {
+    lodged = reserved_stands c.self.invariant.kept.lodged c.reserve_each.ensures.kept;
+    counted = c.self.invariant.kept.counted;
+  };
+  ready = ready_of c.self.invariant.kept.lodged.places_are c.reserve_each.ensures.ready;
 }
 
 pub returns-clause-state : goal.returns-clause-state

@@ -5,8 +5,11 @@ use Rattle.shard_entities.proofs.MoveLaws.{of_passivates, keeps_passivates}
 use Rattle.shard_entities.proofs.shards.Shards.set_passivating.Goals as goal
 
 pub invariant_of-self : goal.invariant_of-self
-invariant_of-self c = stays _ c.self.invariant c.self.view_is c.requires.place c.index_mut.ensures.value (ap gone (c.passivate.ensures c.args.place.now.entity))
-    (stands (keeps_passivates c.args.place.now.entity) c.self.invariant.lodged c.self.view_is c.requires.place c.index_mut.ensures.value (c.passivate.ensures c.args.place.now.entity))
+invariant_of-self c = record {
+  kept = stays _ c.self.invariant.kept c.self.view_is c.requires.place c.index_mut.ensures.value (ap gone (c.passivate.ensures c.args.place.now.entity))
+      (stands (keeps_passivates c.args.place.now.entity) c.self.invariant.kept.lodged c.self.view_is c.requires.place c.index_mut.ensures.value (c.passivate.ensures c.args.place.now.entity));
+  ready = c.self.invariant.ready;
+}
 
 pub returns : goal.returns
-returns c = cell_moved (of_passivates c.args.place.now.entity) c.self.invariant.lodged c.self.view_is c.requires.place c.index_mut.ensures.value (c.passivate.ensures c.args.place.now.entity)
+returns c = cell_moved (of_passivates c.args.place.now.entity) c.self.invariant.kept.lodged c.self.view_is c.requires.place c.index_mut.ensures.value (c.passivate.ensures c.args.place.now.entity)

@@ -1,12 +1,17 @@
 use Rattle.std.proofs.Common.{refl}
 use Rattle.shard_entities.proofs.EntryLaws.{entry_forgotten, entry_only, entry_moved}
+use Rattle.shard_entities.proofs.LodgedLaws.{placed}
+use Rattle.shard_entities.proofs.ReadyLaws.{touches}
 use Rattle.shard_entities.proofs.shards.Shards.tell_forgotten.Goals as goal
 
 pub invariant_of-self : goal.invariant_of-self
 invariant_of-self c = record {
-  lodged = entry_only (entry_forgotten c.args.place.now.entity) (λ old. refl) c.self.invariant.lodged c.self.view_is c.requires.place c.get.ensures.value c.index_mut.ensures.value c.write_forgotten.ensures;
-  counted = c.self.invariant.counted;
+  kept = record {
+    lodged = entry_only (entry_forgotten c.args.place.now.entity) (λ old. refl) c.self.invariant.kept.lodged c.self.view_is c.requires.place c.get.ensures.value c.index_mut.ensures.value c.write_forgotten.ensures;
+    counted = c.self.invariant.kept.counted;
+  };
+  ready = touches _ c.self.invariant.ready (placed c.self.invariant.kept.lodged c.self.view_is c.requires.place).shard_in c.get.ensures.value c.with-touched.ensures.it (λ t other. c.with-touched.ensures.others t other);
 }
 
 pub returns-clause-state : goal.returns-clause-state
-returns-clause-state c = entry_moved c.self.inside.cells.items (entry_forgotten c.args.place.now.entity) c.self.invariant.lodged c.self.view_is c.requires.place refl c.get.ensures.value c.index_mut.ensures.value c.write_forgotten.ensures
+returns-clause-state c = entry_moved c.self.inside.cells.items (entry_forgotten c.args.place.now.entity) c.self.invariant.kept.lodged c.self.view_is c.requires.place refl c.get.ensures.value c.index_mut.ensures.value c.write_forgotten.ensures

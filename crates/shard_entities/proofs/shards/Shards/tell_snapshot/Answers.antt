@@ -1,14 +1,18 @@
 use Rattle.std.proofs.Common.{refl}
 use Rattle.shard_entities.proofs.EntryLaws.{entry_snapshot, entry_stands, entry_moved, put_same, own_goes_on, own_cell}
-use Rattle.shard_entities.proofs.LodgedLaws.{within}
+use Rattle.shard_entities.proofs.LodgedLaws.{placed, within}
+use Rattle.shard_entities.proofs.ReadyLaws.{touches}
 use Rattle.shard_entities.proofs.shards.Shards.tell_snapshot.Goals as goal
 
 pub invariant_of-self : goal.invariant_of-self
 invariant_of-self c = record {
-  lodged = entry_stands (entry_snapshot c.args.place.now.entity c.args.number) c.self.invariant.lodged c.self.view_is c.requires.place (put_same _ _ _ _ (within c.self.invariant.lodged c.self.view_is c.requires.place) c.index.ensures) c.get.ensures.value c.index_mut.ensures.value c.write_snapshot.ensures
-      (own_goes_on _ (λ old. refl) (own_cell c.self.invariant.lodged c.self.view_is c.requires.place c.index.ensures c.get.ensures.value c.index_mut.ensures.value));
-  counted = c.self.invariant.counted;
+  kept = record {
+    lodged = entry_stands (entry_snapshot c.args.place.now.entity c.args.number) c.self.invariant.kept.lodged c.self.view_is c.requires.place (put_same _ _ _ _ (within c.self.invariant.kept.lodged c.self.view_is c.requires.place) c.index.ensures) c.get.ensures.value c.index_mut.ensures.value c.write_snapshot.ensures
+        (own_goes_on _ (λ old. refl) (own_cell c.self.invariant.kept.lodged c.self.view_is c.requires.place c.index.ensures c.get.ensures.value c.index_mut.ensures.value));
+    counted = c.self.invariant.kept.counted;
+  };
+  ready = touches _ c.self.invariant.ready (placed c.self.invariant.kept.lodged c.self.view_is c.requires.place).shard_in c.get.ensures.value c.with-touched.ensures.it (λ t other. c.with-touched.ensures.others t other);
 }
 
 pub returns-clause-state : goal.returns-clause-state
-returns-clause-state c = entry_moved c.self.inside.cells.items (entry_snapshot c.args.place.now.entity c.args.number) c.self.invariant.lodged c.self.view_is c.requires.place refl c.get.ensures.value c.index_mut.ensures.value c.write_snapshot.ensures
+returns-clause-state c = entry_moved c.self.inside.cells.items (entry_snapshot c.args.place.now.entity c.args.number) c.self.invariant.kept.lodged c.self.view_is c.requires.place refl c.get.ensures.value c.index_mut.ensures.value c.write_snapshot.ensures

@@ -5,11 +5,14 @@ use Rattle.shard_entities.proofs.MoveLaws.{of_start, keeps_start}
 use Rattle.shard_entities.proofs.shards.Shards.tell_start.Goals as goal
 
 pub count_in-requires : goal.count_in-requires
-count_in-requires c = count_fits c.self.invariant c.self.view_is c.requires.place c.get.ensures.value c.index_mut-2.ensures.value
+count_in-requires c = count_fits c.self.invariant.kept c.self.view_is c.requires.place c.get.ensures.value c.index_mut-2.ensures.value
 
 pub invariant_of-self : goal.invariant_of-self
-invariant_of-self c = comes _ c.self.invariant c.self.view_is c.requires.place (ap gone (c.start.ensures c.args.self.now.state.who c.args.place.now.entity)) c.exists-was.ensures c.get.ensures.value c.index_mut-2.ensures.value c.count_in.ensures
-    (stands (keeps_start c.args.self.now.state.who c.args.place.now.entity) c.self.invariant.lodged c.self.view_is c.requires.place c.index_mut.ensures.value (c.start.ensures c.args.self.now.state.who c.args.place.now.entity))
+invariant_of-self c = record {
+  kept = comes _ c.self.invariant.kept c.self.view_is c.requires.place (ap gone (c.start.ensures c.args.self.now.state.who c.args.place.now.entity)) c.exists-was.ensures c.get.ensures.value c.index_mut-2.ensures.value c.count_in.ensures
+      (stands (keeps_start c.args.self.now.state.who c.args.place.now.entity) c.self.invariant.kept.lodged c.self.view_is c.requires.place c.index_mut.ensures.value (c.start.ensures c.args.self.now.state.who c.args.place.now.entity));
+  ready = c.self.invariant.ready;
+}
 
 pub returns-clause-state : goal.returns-clause-state
-returns-clause-state c = cell_moved (of_start c.args.self.now.state.who c.args.place.now.entity) c.self.invariant.lodged c.self.view_is c.requires.place c.index_mut.ensures.value (c.start.ensures c.args.self.now.state.who c.args.place.now.entity)
+returns-clause-state c = cell_moved (of_start c.args.self.now.state.who c.args.place.now.entity) c.self.invariant.kept.lodged c.self.view_is c.requires.place c.index_mut.ensures.value (c.start.ensures c.args.self.now.state.who c.args.place.now.entity)

@@ -5,8 +5,11 @@ use Rattle.shard_entities.proofs.MoveLaws.{of_stashed}
 use Rattle.shard_entities.proofs.shards.Shards.tell_stashed.Goals as goal
 
 pub invariant_of-self : goal.invariant_of-self
-invariant_of-self c = stays _ c.self.invariant c.self.view_is c.requires.place c.index_mut.ensures.value (ap gone (c.put.ensures c.args.self.now.state.who))
-    (cell_put c.self.invariant.lodged c.self.view_is c.requires.place (stashed_cell c.args.self.now.state.who c.args.message.now c.self.invariant.lodged c.self.view_is c.requires.place c.index_mut.ensures.value (c.put.ensures c.args.self.now.state.who) c.requires.genuine c.requires.idle))
+invariant_of-self c = record {
+  kept = stays _ c.self.invariant.kept c.self.view_is c.requires.place c.index_mut.ensures.value (ap gone (c.put.ensures c.args.self.now.state.who))
+      (cell_put c.self.invariant.kept.lodged c.self.view_is c.requires.place (stashed_cell c.args.self.now.state.who c.args.message.now c.self.invariant.kept.lodged c.self.view_is c.requires.place c.index_mut.ensures.value (c.put.ensures c.args.self.now.state.who) c.requires.genuine c.requires.idle));
+  ready = c.self.invariant.ready;
+}
 
 pub returns-clause-state : goal.returns-clause-state
-returns-clause-state c = cell_moved (of_stashed c.args.self.now.state.who c.requires.entity) c.self.invariant.lodged c.self.view_is c.requires.place c.index_mut.ensures.value (c.put.ensures c.args.self.now.state.who)
+returns-clause-state c = cell_moved (of_stashed c.args.self.now.state.who c.requires.entity) c.self.invariant.kept.lodged c.self.view_is c.requires.place c.index_mut.ensures.value (c.put.ensures c.args.self.now.state.who)

@@ -5,11 +5,14 @@ use Rattle.shard_entities.proofs.MoveLaws.{of_stop, keeps_stop}
 use Rattle.shard_entities.proofs.shards.Shards.tell_stop.Goals as goal
 
 pub count_out-requires : goal.count_out-requires
-count_out-requires c = count_some c.self.invariant c.self.view_is c.requires.place c.exists-was.ensures c.get.ensures.value c.index_mut-2.ensures.value
+count_out-requires c = count_some c.self.invariant.kept c.self.view_is c.requires.place c.exists-was.ensures c.get.ensures.value c.index_mut-2.ensures.value
 
 pub invariant_of-self : goal.invariant_of-self
-invariant_of-self c = goes _ c.self.invariant c.self.view_is c.requires.place (ap gone (c.stop.ensures c.args.self.now.state.who c.args.place.now.entity)) c.exists-was.ensures c.get.ensures.value c.index_mut-2.ensures.value c.count_out.ensures
-    (stands (keeps_stop c.args.self.now.state.who c.args.place.now.entity) c.self.invariant.lodged c.self.view_is c.requires.place c.index_mut.ensures.value (c.stop.ensures c.args.self.now.state.who c.args.place.now.entity))
+invariant_of-self c = record {
+  kept = goes _ c.self.invariant.kept c.self.view_is c.requires.place (ap gone (c.stop.ensures c.args.self.now.state.who c.args.place.now.entity)) c.exists-was.ensures c.get.ensures.value c.index_mut-2.ensures.value c.count_out.ensures
+      (stands (keeps_stop c.args.self.now.state.who c.args.place.now.entity) c.self.invariant.kept.lodged c.self.view_is c.requires.place c.index_mut.ensures.value (c.stop.ensures c.args.self.now.state.who c.args.place.now.entity));
+  ready = c.self.invariant.ready;
+}
 
 pub returns-clause-state : goal.returns-clause-state
-returns-clause-state c = cell_moved (of_stop c.args.self.now.state.who c.args.place.now.entity) c.self.invariant.lodged c.self.view_is c.requires.place c.index_mut.ensures.value (c.stop.ensures c.args.self.now.state.who c.args.place.now.entity)
+returns-clause-state c = cell_moved (of_stop c.args.self.now.state.who c.args.place.now.entity) c.self.invariant.kept.lodged c.self.view_is c.requires.place c.index_mut.ensures.value (c.stop.ensures c.args.self.now.state.who c.args.place.now.entity)

@@ -32,7 +32,7 @@ use Rattle.shard_entities.specs.declared.hosting.Hosting.{Hosting}
 use Rattle.shard_entities.specs.Lodged.{Lodged, lodged, IsLodged, IsKept, IsCell, IsHosting, AreCounted, cell_of, new_celled, host_of, hosted_of}
 use Rattle.shard_entities.proofs.DropLaws.{new_stands}
 use Rattle.shard_entities.proofs.LodgedLaws.{is_same, is_other, placed, cell_at}
-use Rattle.shard_entities.proofs.NameLaws.{another_name}
+use Rattle.name_index.proofs.NameLaws.{another_name}
 use Rattle.shard_entities.proofs.PlacesLaws.{new_cells}
 use Rattle.shard_entities.proofs.PlannedLaws.{picked_few}
 

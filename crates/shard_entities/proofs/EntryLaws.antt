@@ -27,7 +27,7 @@ use Rattle.shard_entities.specs.Written.{entered}
 use Rattle.shard_entities.specs.declared.place.Place.{Place}
 use Rattle.shard_entities.specs.declared.hosting.Hosting.{Hosting}
 use Rattle.shard_entities.specs.Lodged.{Lodged, lodged, moved, less, rooms_step, IsLodged, IsCell, IsHosting, host_of, cell_of, new_celled, hosted_of, room_of}
-use Rattle.shard_entities.proofs.NameLaws.{another_name}
+use Rattle.name_index.proofs.NameLaws.{another_name}
 use Rattle.shard_entities.proofs.LodgedLaws.{is_same, is_other, placed, within, cell_is}
 
 abbrev pub entered_hosted : Fact → Hosted → Hosted

@@ -26,7 +26,8 @@ use Rattle.plain_laws.proofs.Booleans.{and_both}
 use Rattle.plain_laws.proofs.Names.{name_itself}
 use Rattle.std.proofs.Math.Nat.{mod-lt}
 use Rattle.shard_entities.proofs.PlannedLaws.{picked_few}
-use Rattle.shard_entities.proofs.NameLaws.{placed, picked_place}
+use Rattle.shard_entities.proofs.NameLaws.{picked_place}
+use Rattle.name_index.proofs.NameLaws.{placed}
 use Rattle.shard_entities.proofs.LodgedLaws.{is_same, is_other}
 
 list_any_at : (names : List (List ℕ)) (k : ℕ) → k < length names → list_any (is_name (name_at names k)) names ≡ true

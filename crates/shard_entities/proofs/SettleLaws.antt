@@ -22,7 +22,8 @@ use Rattle.shard_entities.specs.Delivered.{Stands}
 use Rattle.shard_entities.specs.Lodged.{Lodged, moved, hosting, cleared, without, cells_cleared}
 use Rattle.shard_entities.specs.Settled.{IsSettled, IsQuiet}
 use Rattle.shard_entities.proofs.LodgedLaws.{is_same, is_other}
-use Rattle.shard_entities.proofs.NameLaws.{placed, picked_place}
+use Rattle.shard_entities.proofs.NameLaws.{picked_place}
+use Rattle.name_index.proofs.NameLaws.{placed}
 
 -- It starts.
 

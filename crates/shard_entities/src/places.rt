@@ -10,6 +10,7 @@ ghost use Rattle.shard_store.specs.Shelved.{name_at};
 ghost use Rattle.shard_entities.specs.Placed.{IsPlace, AreFirst, AreByShard};
 
 use crate::place::Place;
+use name_index::NameIndex;
 use shard_extract::shard_of;
 use std::alloc::{AllocError, Global};
 use std::marker::{Model, PhantomData};
@@ -20,7 +21,7 @@ use yard_model::{Charter, EntityName, ShardNo};
 #[derive(Drop)]
 pub(crate) struct Places {
     script: Snapshot<Charter>,
-    names: Vec<EntityName>,
+    names: NameIndex,
     places: Vec<Place>,
     by_shard: Vec<Vec<Place>>,
     holds: PhantomData<ShardNo>,
@@ -35,7 +36,7 @@ impl Model for Places {
 
     ghost view = { λ p. p.script.value };
 
-    ghost invariant = { λ p. ArePlaces p.script.value p.names.items p.places.items (map (λ v. v.items) p.by_shard.items) };
+    ghost invariant = { λ p. ArePlaces p.script.value p.names p.places.items (map (λ v. v.items) p.by_shard.items) };
 }
 
 impl Places {
@@ -44,7 +45,7 @@ impl Places {
         ensures { IfOk result (λ p. p ≡ charter.now) }
     {
         let places = all_places(alloc, charter)?;
-        let names = Vec::from_slice(alloc, charter.names())?;
+        let names = NameIndex::new(alloc, charter)?;
         charter.config();
         let by_shard = by_shard(alloc, charter, places.as_slice())?;
         Ok(Places {
@@ -62,7 +63,7 @@ impl Places {
         ensures place { IsPlace self.now result.now }
         ensures entity { result.now.entity ≡ entity.now }
     {
-        &self.places[place_in(self.names.as_slice(), entity)]
+        &self.places[self.names.place(entity)]
     }
 
     /// How many names a shard has.
@@ -142,19 +143,6 @@ fn put(all: &mut Vec<Vec<Place>>, place: &Place) -> Result<(), AllocError>
 {
     all[place.shard.get() as usize].push(*place)?;
     Ok(())
-}
-
-/// Where a name stands among names in order.
-fn place_in(names: &[EntityName], entity: &EntityName) -> usize
-    requires sorted { IsStrictlySortedBy (slice_cmp nat_cmp) names.now }
-    requires among { list_any (is_name entity.now) names.now ≡ true }
-    ensures within { result < length names.now }
-    ensures it { name_at names.now result ≡ entity.now }
-{
-    match names.binary_search(entity) {
-        Ok(place) => place,
-        Err(_) => unreachable!(),
-    }
 }
 
 /// The shard of this number.

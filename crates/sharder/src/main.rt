@@ -27,7 +27,14 @@ fn main(rt: HostRuntime) -> ExitCode {
     let status = match StdSink::new(rt.alloc(), rt.stdout()) {
         Ok(mut sink) => {
             let arguments = arguments(&rt);
-            run(&rt, rt.alloc(), arguments, &mut source, &mut sink, &FreeGate)
+            run(
+                &rt,
+                rt.alloc(),
+                arguments,
+                &mut source,
+                &mut sink,
+                &FreeGate,
+            )
         }
         Err(_) => Status::OutOfMemory,
     };

@@ -1,6 +1,6 @@
 //! The program as one call: arguments and streams in, a text and a status out.
 #![tactic(auto)]
 
-mod run;
+mod program;
 
-pub use run::run;
+pub use program::run;

@@ -349,8 +349,10 @@ impl Region {
         self.post(member, &Body::GetShardHome(s), out);
     }
 
-    /// A message is kept as the newest of its shard, where the buffer has room; else it is dropped.
-    pub(crate) fn keep(&mut self, message: &Message, out: &mut Out)
+    /// A message is kept as the newest of its shard, which is this one, where the buffer has room; else it is dropped.
+    pub(crate) fn keep(&mut self, s: ShardNo, message: &Message, out: &mut Out)
+        requires shard { s ≡ shard_of self.old.state.set message.now.entity }
+        requires range { s < self.old.script.config.shards }
         requires genuine { IsTrue (is_genuine self.old.script message.now) }
         requires room { 0 < out.old.spare }
         ensures items { out.new.items ≡ out.old.items ++ flat_map item_of (keep message.now self.old.state) }
@@ -358,7 +360,6 @@ impl Region {
         ensures script { self.new.script ≡ self.old.script }
         ensures spare { out.new.spare + 1 ≡ out.old.spare }
     {
-        let s = self.shard_of(message);
         match self.kept.keep(s, *message) {
             Ok(()) => out.push(Item::Fact(Fact::Kept(self.who, *message))),
             Err(_) => out.push(Item::Fact(Fact::Dropped(self.who, *message))),

@@ -33,12 +33,14 @@ impl Region {
         if self.is_home(s) && running.has(s) {
             return Route::Local(*message);
         }
-        self.route_away(message, out);
+        self.route_away(s, message, out);
         Route::Gone
     }
 
-    /// Routes a message that isn't delivered here.
-    fn route_away(&mut self, message: &Message, out: &mut Out)
+    /// Routes a message of this shard that isn't delivered here.
+    fn route_away(&mut self, s: ShardNo, message: &Message, out: &mut Out)
+        requires shard { s ≡ shard_of self.old.state.set message.now.entity }
+        requires range { s < self.old.script.config.shards }
         requires genuine { IsTrue (is_genuine self.old.script message.now) }
         requires room { length (flat_map item_of (route_away message.now self.old.state)) ≤ out.old.spare }
         ensures items { out.new.items ≡ out.old.items ++ flat_map item_of (route_away message.now self.old.state) }
@@ -46,18 +48,17 @@ impl Region {
         ensures script { self.new.script ≡ self.old.script }
         ensures spare { out.new.spare + length (flat_map item_of (route_away message.now self.old.state)) ≡ out.old.spare }
     {
-        let s = self.shard_of(message);
         match self.home(s) {
             Some(home) => {
                 let home = &home;
                 if *home == self.who() {
-                    self.keep(message, out);
+                    self.keep(s, message, out);
                 } else {
                     self.post(home, &Body::Sequenced(*message), out);
                 }
             }
             None => {
-                self.keep(message, out);
+                self.keep(s, message, out);
                 self.ask(s, out);
             }
         }

@@ -93,7 +93,7 @@ is_there set cells e = not (is_phase phase.Absent (cell_in set cells e).phase)
 abbrev how_many : Setting → List Cell → ℕ → ℕ
 how_many set cells s = length (filter (λ e. is_there set cells e) (names_of set s))
 
-other_place : {c : Script} {p : Place} → IsPlace c p → (e : List ℕ) → (e ≡ p.entity → ⊥) → place (setting c) e ≢ p.at
+pub other_place : {c : Script} {p : Place} → IsPlace c p → (e : List ℕ) → (e ≡ p.entity → ⊥) → place (setting c) e ≢ p.at
 other_place {c} {p} is e other same =
     let within : place (setting c) e < length (setting c).names = subst (λ n. n < length (setting c).names) (sym same) is.here.within in
     other (same_name e (name_at (setting c).names (place (setting c) e)) (passes_at_first (is_name e) (setting c).names [] within) ∙ (ap (name_at (setting c).names) same ∙ is.here.it))
@@ -172,7 +172,7 @@ counted_same {c} {p} {cells} {existing} now k is sorted within same = record {
 abbrev pub gone : Celled → Bool
 gone x = is_phase phase.Absent x.cell.phase
 
-cells_within : {c : Script} {version : ℕ} {who : Incarnation} {config : Config} {places : Script} {cells : List Celled} {items : List (Option Hosting)} {running : ℕ} {p : Place} → IsLodged c version who config places cells items running → IsPlace c p → p.at < length (map cell_of cells)
+pub cells_within : {c : Script} {version : ℕ} {who : Incarnation} {config : Config} {places : Script} {cells : List Celled} {items : List (Option Hosting)} {running : ℕ} {p : Place} → IsLodged c version who config places cells items running → IsPlace c p → p.at < length (map cell_of cells)
 cells_within {c} {version} {who} {config} {places} {cells} {items} {running} {p} t is = subst (λ n. p.at < n) (sym (length-map cells cell_of ∙ t.there)) is.here.within
 
 -- the entity exists if it did

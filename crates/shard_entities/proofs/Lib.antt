@@ -18,3 +18,4 @@ mod LoopLaws
 mod FreedLaws
 mod RoomLaws
 mod ReadyLaws
+mod RestlessLaws

@@ -5,5 +5,6 @@ pub mod Written
 pub mod Delivered
 pub mod Settled
 pub mod Roomy
+pub mod Restless
 pub mod Ready
 pub mod Foldable

@@ -14,6 +14,7 @@ mod passivation;
 mod place;
 mod places;
 mod recovery;
+mod restless;
 mod shards;
 mod starting;
 mod stopping;

@@ -18,11 +18,12 @@ use crate::hosting::{
     Ending, set_ending, write_forgotten, write_record, write_remembered, write_snapshot,
 };
 use crate::place::Place;
+use crate::restless::note;
 use crate::shards::Shards;
 use consumer_ctl::Stash;
 use yard_model::{
-    Body, EntityName, Fact, Incarnation, Item, Keep, Message, Out, Packet, ProducerNo, Record,
-    ShardNo, Stamp, State,
+    Body, EntityName, Fact, Incarnation, Item, Keep, Message, Out, Packet, Phase, ProducerNo,
+    Record, ShardNo, Stamp, State,
 };
 
 /// One item more.
@@ -62,6 +63,8 @@ impl Shards {
         ensures out { out.new ≡ given out.old (post self.old.state.who self.old.state.who (body.StopEntity place.now.entity) ∷ []) }
     {
         self.cells[place.at].ask_stop();
+        let now = self.cells[place.at].phase();
+        note(&mut self.restless, place, now);
         push(
             out,
             Item::Post(Packet {
@@ -82,6 +85,7 @@ impl Shards {
         let was = self.exists(place);
         self.cells[place.at].start();
         count_in(&mut self.existing[place.shard.get() as usize], was);
+        note(&mut self.restless, place, Phase::Loading);
         push(out, Item::Fact(Fact::Start(self.who, place.entity)));
     }
 
@@ -95,6 +99,7 @@ impl Shards {
         let was = self.exists(place);
         self.cells[place.at].fail();
         count_out(&mut self.existing[place.shard.get() as usize], was);
+        note(&mut self.restless, place, Phase::Absent);
         push(out, Item::Fact(Fact::WriteFailed(self.who, place.entity)));
     }
 
@@ -120,6 +125,7 @@ impl Shards {
         let was = self.exists(place);
         self.cells[place.at].activate(state, pending);
         count_in(&mut self.existing[place.shard.get() as usize], was);
+        note(&mut self.restless, place, Phase::Active);
         push(
             out,
             Item::Fact(Fact::Active {
@@ -243,6 +249,7 @@ impl Shards {
         let was = self.exists(place);
         self.cells[place.at].stop();
         count_out(&mut self.existing[place.shard.get() as usize], was);
+        note(&mut self.restless, place, Phase::Absent);
         push(out, Item::Fact(Fact::Stop(self.who, place.entity)));
     }
 

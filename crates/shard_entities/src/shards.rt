@@ -27,6 +27,8 @@ use crate::counts::count_out;
 use crate::hosting::{Ending, Hosting, reserve_in};
 use crate::place::Place;
 use crate::places::{Places, shard_at};
+use crate::restless::{none_restless, note};
+use place_set::PlaceSet;
 use shard_store::ShardStore;
 use std::alloc::{AllocError, Global};
 use std::marker::{Model, PhantomData};
@@ -51,6 +53,7 @@ pub(crate) struct Shards {
     pub(crate) running: ShardSet,
     pub(crate) existing: Vec<u32>,
     pub(crate) touched: ShardSet,
+    pub(crate) restless: Vec<PlaceSet>,
     pub(crate) holds: PhantomData<
         (
             Fact,
@@ -88,7 +91,7 @@ impl Model for Shards {
       rooms = map room_of e.hosted.items;
     } };
 
-    ghost invariant = { λ e. IsWhole e.script.value e.version e.who e.config e.places e.cells.items e.hosted.items e.running e.existing.items e.touched };
+    ghost invariant = { λ e. IsWhole e.script.value e.version e.who e.config e.places e.cells.items e.hosted.items e.running e.existing.items e.touched e.restless.items };
 }
 
 impl Shards {
@@ -109,6 +112,7 @@ impl Shards {
         let cells = new_cells(alloc, count, config.producers, config.window)?;
         let hosted = none_hosted(alloc, config.shards)?;
         let existing = none_counted(alloc, config.shards)?;
+        let restless = none_restless(alloc, &places, config.shards)?;
         Ok(Shards {
             script: Snapshot::of(charter),
             who,
@@ -120,6 +124,7 @@ impl Shards {
             running: ShardSet::empty(),
             existing,
             touched: ShardSet::empty(),
+            restless,
             holds: PhantomData,
         })
     }
@@ -207,6 +212,7 @@ impl Shards {
         let was = self.exists(place);
         self.cells[place.at].clear();
         count_out(&mut self.existing[place.shard.get() as usize], was);
+        note(&mut self.restless, place, Phase::Absent);
     }
 
     /// Makes room in the store of each hosted shard for all that a turn may write there. The only

@@ -1,9 +1,12 @@
 //! The tick.
-ghost use Rattle.std.specs.Prelude.{◌≡◌, ℕ, ◌<◌, ◌≤◌, List, [], ◌∷◌, length};
+ghost use Rattle.std.specs.Prelude.{◌≡◌, ℕ, ◌<◌, ◌≤◌, false, List, [], ◌∷◌, length};
 ghost use Rattle.std.specs.List.{flat_map};
 ghost use Rattle.yard_model.specs.Entities.{cell, entities_of, remind_by, tick_entities};
 ghost use Rattle.shard_entities.specs.Lodged.{given};
+ghost use Rattle.yard_model.specs.Setting.{names_of};
+ghost use Rattle.shard_store.specs.Shelved.{name_at};
 ghost use Rattle.shard_entities.specs.Placed.{IsPlace};
+ghost use Rattle.shard_entities.specs.Restless.{is_restless};
 
 use crate::place::Place;
 use crate::places::shard_at;
@@ -40,9 +43,28 @@ impl Shards {
         ensures { out.new ≡ given out.old (flat_map (λ e. remind_by e self.now.state (cell self.now.state e).phase) (entities_of self.now.state s)) }
     {
         self.knows();
-        for k in 0..self.count(s) {
+        let count = self.count(s);
+        let mut from = 0;
+        for _ in 0..count {
+            let k = self.next_restless(s, from);
+            if k >= count {
+                return;
+            }
             self.remind(&self.nth(s, k), out);
+            from = k + 1;
         }
+    }
+
+    /// The next name of a shard, from one on, whose entity recovers or stops; how many names it has
+    /// where there is none.
+    fn next_restless(&self, s: ShardNo, from: usize) -> usize
+        requires shard { s < self.now.script.config.shards }
+        requires from { from ≤ length (names_of self.now.state.set s) }
+        ensures from { from ≤ result }
+        ensures within { result ≤ length (names_of self.now.state.set s) }
+        ensures between { (k : ℕ) → from ≤ k → k < result → is_restless (cell self.now.state (name_at (names_of self.now.state.set s) k)).phase ≡ false }
+    {
+        self.restless[s.get() as usize].next(from)
     }
 
     /// One of them.

@@ -12,6 +12,7 @@ invariant_of-self c = record {
     counted = c.self.invariant.kept.counted;
   };
   ready = touches (Some (record { store = c.args.store; stopping = None })) c.self.invariant.ready (shard_below c.self.inside.cells.items c.self.inside.hosted.items c.self.view_is c.requires.shard) c.get.ensures.value c.with-touched.ensures.it (λ t other. c.with-touched.ensures.others t other);
+  restless = c.self.invariant.restless;
 }
 
 pub returns-clause-state : goal.returns-clause-state

@@ -13,6 +13,7 @@ invariant_of-self c = record {
     counted = c.self.invariant.kept.counted;
   };
   ready = ready_of c.self.invariant.kept.lodged.places_are c.reserve_each.ensures.ready;
+  restless = c.self.invariant.restless;
 }
 
 pub returns-clause-state : goal.returns-clause-state

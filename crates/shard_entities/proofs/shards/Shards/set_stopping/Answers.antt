@@ -9,6 +9,7 @@ invariant_of-self c = record {
     counted = c.self.invariant.kept.counted;
   };
   ready = ended_ready (record { stamp = c.args.stamp.now; to = c.args.to.now }) c.self.invariant.ready (shard_inside c.self.invariant.kept.lodged c.self.view_is c.requires.shard c.get.ensures.value) c.index_mut.ensures.value c.set_ending.ensures;
+  restless = c.self.invariant.restless;
 }
 
 pub returns : goal.returns

@@ -13,6 +13,7 @@ invariant_of-self c = record {
     counted = c.self.invariant.kept.counted;
   };
   ready = taken_ready c.self.invariant.ready (shard_inside c.self.invariant.kept.lodged c.self.view_is c.requires.shard c.get.ensures.value) c.index_mut.ensures.value c.take.ensures.after;
+  restless = c.self.invariant.restless;
 }
 
 pub returns-clause-state : goal.returns-clause-state

@@ -12,6 +12,7 @@ invariant_of-self c = record {
     counted = c.self.invariant.kept.counted;
   };
   ready = touches _ c.self.invariant.ready (placed c.self.invariant.kept.lodged c.self.view_is c.requires.place).shard_in c.get.ensures.value c.with-touched.ensures.it (λ t other. c.with-touched.ensures.others t other);
+  restless = c.self.invariant.restless;
 }
 
 pub returns-clause-state : goal.returns-clause-state

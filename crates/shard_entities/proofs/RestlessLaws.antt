@@ -1,0 +1,274 @@
+-- Which entities recover or stop, as one of them goes on; and what a tick passes over.
+use Rattle.std.proofs.Common.{◌≡◌, ◌≢◌, ℕ, ◌+◌, ◌<◌, ◌≤◌, List, [], ◌∷◌, ◌++◌, ◌-◌, length, length-append, map, drop, replicate, sym, ap, subst, ◌∙◌, refl, true, false, arith, true≢false, get_or-set_same, get_or-set_other}
+use Rattle.std.specs.Prelude.{Bool, zero, suc, ◌==◌, nat_lt, not, cond, filter, Option, None, Some, IfSome, IfNone, slice_set, slice_index_or}
+use Rattle.std.specs.List.Sorted.{IsStrictlySortedBy}
+use Rattle.std.specs.Ordering.{nat_cmp}
+use Rattle.std.specs.Cmp.Lexicographic.{slice_cmp}
+use Rattle.std.proofs.lemmas.List.{map-set, length-set, get_or_default, get_or_append_left}
+use Rattle.std.proofs.lemmas.List.Kept.{IsStrictlySortedBy-filter}
+use Rattle.std.proofs.Math.Seq.{get_or-append_seam}
+use Rattle.std.proofs.Math.ListN.{drop_of_length-le}
+use Rattle.yard_model.specs.declared.charter.Config.{Config}
+use Rattle.yard_model.specs.declared.fact.Fact.TheVariants as fact
+use Rattle.yard_model.specs.declared.incarnation.Incarnation.{Incarnation}
+use Rattle.yard_model.specs.declared.input.Phase.{Phase}
+use Rattle.yard_model.specs.declared.input.Phase.TheVariants as phase
+use Rattle.yard_model.specs.declared.packet.Body.TheVariants as body
+use Rattle.yard_model.specs.declared.packet.Message.{Message}
+use Rattle.yard_model.specs.Entities.{Entities, Cell, cell, cell_in, new_cell, phase_step, remind_by}
+use Rattle.yard_model.specs.declared.out.Item.{Item}
+use Rattle.yard_model.specs.Move.{Move, told, post}
+use Rattle.yard_model.specs.Spared.{Spared}
+use Rattle.yard_model.specs.Script.{Script, Setting, setting, is_name}
+use Rattle.yard_model.specs.Setting.{shard_of, names_of, place}
+use Rattle.plain_laws.proofs.Booleans.{get_replicate}
+use Rattle.plain_laws.proofs.Names.{name_itself}
+use Rattle.place_set.specs.Places.{Places, is_in}
+use Rattle.shard_store.specs.Shelved.{name_at}
+use Rattle.shard_entities.specs.Celled.{Celled, celled, celled_after}
+use Rattle.shard_entities.specs.Placed.{IsPlace}
+use Rattle.shard_entities.specs.declared.place.Place.{Place}
+use Rattle.shard_entities.specs.declared.hosting.Hosting.{Hosting}
+use Rattle.shard_entities.specs.Lodged.{Lodged, lodged, given, IsLodged, cell_of}
+use Rattle.shard_entities.specs.Restless.{is_restless, no_places, set_at, AreRestless, AreFresh, IsPut, IsNoted}
+use Rattle.shard_entities.proofs.CountLaws.{other_place, cells_within}
+use Rattle.shard_entities.proofs.HostLaws.{shard_below}
+use Rattle.shard_entities.proofs.LodgedLaws.{is_same, is_other, placed, cell_at}
+use Rattle.shard_entities.proofs.NameLaws.{another_name}
+use Rattle.shard_entities.proofs.PlacesLaws.{new_cells}
+use Rattle.shard_entities.proofs.ReadyLaws.{lt_of, le_of}
+use Rattle.shard_entities.proofs.TickLaws.{of_names, names_next, room_next}
+
+abbrev pub rests : Celled → Bool
+rests x = is_restless x.cell.phase
+
+-- One set.
+
+pub set_read : (sets : List Places) (s i : ℕ) {o : Places} → i ≡ s → s < length sets → o ≡ slice_index_or sets i o → set_at sets s ≡ o
+set_read sets s i {o} same inside read = get_or_default sets s no_places o inside ∙ (ap (λ n. slice_index_or sets n o) (sym same) ∙ sym read)
+
+pub noted : (old : List Places) (s i k : ℕ) (b : Bool) {o new : Places} → i ≡ s → s < length old → o ≡ slice_index_or old i o → IsPut o new k b → IsNoted old (slice_set old i new) s k b
+noted old s i k b {o} {new} same inside read step = record {
+  there = length-set old i new;
+  own = subst (λ x. IsPut x (set_at (slice_set old i new) s) k b) (sym (set_read old s i same inside read))
+      (subst (λ x. IsPut o x k b) (sym (ap (λ n. set_at (slice_set old n new) s) same ∙ get_or-set_same old s new no_places inside)) step);
+  others = λ t other. get_or-set_other old i t new no_places (λ it. other (it ∙ same));
+}
+
+-- The first sets.
+
+pub fresh_none : (c : Script) (sets : List Places) → sets ≡ [] → AreFresh c 0 sets
+fresh_none c sets none = record {
+  there = ap length none;
+  bound = λ s lt. absurd (omega (arith, lt));
+  none = λ s k lt. absurd (omega (arith, lt));
+}
+
+pub fresh_more : (c : Script) (n t : ℕ) (sets : List Places) (x : Places) → AreFresh c n sets → t ≡ n → x.bound ≡ length (names_of (setting c) t) → ((i : ℕ) → is_in x i ≡ false) → AreFresh c (n + 1) (sets ++ x ∷ [])
+fresh_more c n t sets x k same bound none = record {
+  there = let long : length (sets ++ x ∷ []) ≡ length sets + 1 = length-append sets (x ∷ []) in let old : length sets ≡ n = k.there in omega (arith, long, old);
+  bound = λ s lt. bound_at s lt (s == n) refl;
+  none = λ s i lt. none_at s i lt (s == n) refl;
+}
+  where
+    last : (s : ℕ) → (s == n) ≡ true → set_at (sets ++ x ∷ []) s ≡ x
+    last s e = ap (set_at (sets ++ x ∷ [])) (is_same s n e ∙ sym k.there) ∙ get_or-append_seam sets x [] no_places
+
+    before : (s : ℕ) → s < n + 1 → (s == n) ≡ false → s < length sets
+    before s lt e = by (nat_lt s (length sets)) refl
+      where
+        by : (b : Bool) → nat_lt s (length sets) ≡ b → s < length sets
+        by true f = lt_of s (length sets) f
+        by false f = absurd (is_other s n e (let up : length sets ≤ s = le_of s (length sets) f in let long : length sets ≡ n = k.there in omega (arith, up, long, lt)))
+
+    below : (s : ℕ) → s < length sets → s < n
+    below s lt = subst (λ m. s < m) k.there lt
+
+    earlier : (s : ℕ) → s < length sets → set_at (sets ++ x ∷ []) s ≡ set_at sets s
+    earlier s lt = get_or_append_left sets (x ∷ []) no_places s lt
+
+    bound_at : (s : ℕ) → s < n + 1 → (b : Bool) → (s == n) ≡ b → (set_at (sets ++ x ∷ []) s).bound ≡ length (names_of (setting c) s)
+    bound_at s lt true e = ap (λ (y : Places). y.bound) (last s e) ∙ (bound ∙ ap (λ m. length (names_of (setting c) m)) (same ∙ sym (is_same s n e)))
+    bound_at s lt false e = ap (λ (y : Places). y.bound) (earlier s (before s lt e)) ∙ k.bound s (below s (before s lt e))
+
+    none_at : (s i : ℕ) → s < n + 1 → (b : Bool) → (s == n) ≡ b → is_in (set_at (sets ++ x ∷ []) s) i ≡ false
+    none_at s i lt true e = ap (λ (y : Places). is_in y i) (last s e) ∙ none i
+    none_at s i lt false e = ap (λ (y : Places). is_in y i) (earlier s (before s lt e)) ∙ k.none s i (below s (before s lt e))
+
+pub restless_new : (c script : Script) (cells : List Celled) (sets : List Places) → script ≡ c → cells ≡ replicate (length (setting c).names) (celled c.config.producers c.config.window) → AreFresh c c.config.shards sets → AreRestless (setting script) (map cell_of cells) sets
+restless_new c script cells sets same fresh k = subst (λ x. AreRestless (setting x) (map cell_of cells) sets) (sym same) record {
+  there = k.there;
+  bound = k.bound;
+  each = λ s i lt inside. k.none s i lt ∙ sym (absent (name_at (names_of (setting c) s) i));
+}
+  where
+    absent : (e : List ℕ) → is_restless (cell_in (setting c) (map cell_of cells) e).phase ≡ false
+    absent e = ap (λ (x : Cell). is_restless x.phase)
+        (ap (λ l. slice_index_or l (place (setting c) e) (new_cell (setting c))) (ap (map cell_of) fresh ∙ new_cells (length (setting c).names) (celled c.config.producers c.config.window))
+        ∙ get_replicate (length (setting c).names) (place (setting c) e) (new_cell (setting c)))
+
+-- The cell at a place is another.
+
+picked_passes : (p : List ℕ → Bool) (xs : List (List ℕ)) (k : ℕ) → k < length (filter p xs) → p (name_at (filter p xs) k) ≡ true
+picked_passes p [] k inside = absurd (omega (arith, inside))
+picked_passes p (x ∷ xs) k inside = by (p x) refl k inside (λ j below. picked_passes p xs j below)
+  where
+    by : (b : Bool) → p x ≡ b → (k : ℕ) → k < length (cond b (x ∷ filter p xs) (filter p xs)) → ((j : ℕ) → j < length (filter p xs) → p (name_at (filter p xs) j) ≡ true) → p (name_at (cond b (x ∷ filter p xs) (filter p xs)) k) ≡ true
+    by true e zero inside rest = e
+    by true e (suc k) inside rest = rest k (let here : suc k < suc (length (filter p xs)) = inside in omega (arith, here))
+    by false e k inside rest = rest k inside
+
+not_itself : (e f : List ℕ) → is_name e f ≡ false → f ≡ e → ⊥
+not_itself e f differ same = true≢false (sym (name_itself e) ∙ (ap (is_name e) (sym same) ∙ differ))
+
+restless_put : {c : Script} {p : Place} {cells : List Cell} {sets new : List Places} (now : Cell) → AreRestless (setting c) cells sets → IsPlace c p → IsStrictlySortedBy (slice_cmp nat_cmp) (setting c).names → p.at < length cells
+    → IsNoted sets new p.shard p.inner (is_restless now.phase) → AreRestless (setting c) (slice_set cells p.at now) new
+restless_put {c} {p} {cells} {sets} {new} now k is sorted within n = record {
+  there = n.there ∙ k.there;
+  bound = λ s lt. bound_at s lt (s == p.shard) refl;
+  each = λ s i lt inside. each_at s i lt inside (s == p.shard) refl (i == p.inner) refl;
+}
+  where
+    bound_at : (s : ℕ) → s < c.config.shards → (b : Bool) → (s == p.shard) ≡ b → (set_at new s).bound ≡ length (names_of (setting c) s)
+    bound_at s lt true e = rw (is_same s p.shard e) (n.own.bound ∙ k.bound p.shard is.shard_in)
+    bound_at s lt false e = ap (λ (x : Places). x.bound) (n.others s (is_other s p.shard e)) ∙ k.bound s lt
+
+    other_cell : (e : List ℕ) → (e ≡ p.entity → ⊥) → is_restless (cell_in (setting c) (slice_set cells p.at now) e).phase ≡ is_restless (cell_in (setting c) cells e).phase
+    other_cell e other = ap (λ (x : Cell). is_restless x.phase) (get_or-set_other cells p.at (place (setting c) e) now (new_cell (setting c)) (other_place is e other))
+
+    own_cell : is_restless (cell_in (setting c) (slice_set cells p.at now) (name_at (names_of (setting c) p.shard) p.inner)).phase ≡ is_restless now.phase
+    own_cell = ap (λ e. is_restless (cell_in (setting c) (slice_set cells p.at now) e).phase) is.there.it
+        ∙ (ap (λ m. is_restless (slice_index_or (slice_set cells p.at now) m (new_cell (setting c))).phase) (sym is.at_is)
+        ∙ ap (λ (x : Cell). is_restless x.phase) (get_or-set_same cells p.at now (new_cell (setting c)) within))
+
+    another : (j : ℕ) → j < length (names_of (setting c) p.shard) → j ≢ p.inner → name_at (names_of (setting c) p.shard) j ≡ p.entity → ⊥
+    another j below other = not_itself p.entity (name_at (names_of (setting c) p.shard) j)
+        (another_name (names_of (setting c) p.shard) p.entity p.inner j (IsStrictlySortedBy-filter (slice_cmp nat_cmp) (λ e. shard_of (setting c) e == p.shard) (setting c).names sorted) is.there.within below is.there.it other)
+
+    elsewhere : (s i : ℕ) → i < length (names_of (setting c) s) → s ≢ p.shard → name_at (names_of (setting c) s) i ≡ p.entity → ⊥
+    elsewhere s i inside apart same = apart (sym (is_same (shard_of (setting c) (name_at (names_of (setting c) s) i)) s (picked_passes (λ e. shard_of (setting c) e == s) (setting c).names i inside)) ∙ (ap (shard_of (setting c)) same ∙ sym is.shard_is))
+
+    each_at : (s i : ℕ) → s < c.config.shards → i < length (names_of (setting c) s) → (a : Bool) → (s == p.shard) ≡ a → (b : Bool) → (i == p.inner) ≡ b
+        → is_in (set_at new s) i ≡ is_restless (cell_in (setting c) (slice_set cells p.at now) (name_at (names_of (setting c) s) i)).phase
+    each_at s i lt inside false e b f =
+        ap (λ (x : Places). is_in x i) (n.others s (is_other s p.shard e)) ∙ (k.each s i lt inside ∙ sym (other_cell (name_at (names_of (setting c) s) i) (elsewhere s i inside (is_other s p.shard e))))
+    each_at s i lt inside true e true f =
+        ap (λ m. is_in (set_at new m) i) (is_same s p.shard e) ∙ (ap (is_in (set_at new p.shard)) (is_same i p.inner f) ∙ (n.own.it ∙ (sym own_cell
+        ∙ (ap (λ j. is_restless (cell_in (setting c) (slice_set cells p.at now) (name_at (names_of (setting c) p.shard) j)).phase) (sym (is_same i p.inner f))
+        ∙ ap (λ m. is_restless (cell_in (setting c) (slice_set cells p.at now) (name_at (names_of (setting c) m) i)).phase) (sym (is_same s p.shard e))))))
+    each_at s i lt inside true e false f =
+        let here : i < length (names_of (setting c) p.shard) = subst (λ m. i < length (names_of (setting c) m)) (is_same s p.shard e) inside in
+        ap (λ m. is_in (set_at new m) i) (is_same s p.shard e) ∙ (n.own.others i (is_other i p.inner f) ∙ (k.each p.shard i is.shard_in here
+        ∙ (sym (other_cell (name_at (names_of (setting c) p.shard) i) (another i here (is_other i p.inner f)))
+        ∙ ap (λ m. is_restless (cell_in (setting c) (slice_set cells p.at now) (name_at (names_of (setting c) m) i)).phase) (sym (is_same s p.shard e)))))
+
+-- it goes on to another phase
+pub goes_on : (now : Celled) {b : Bool} {c : Script} {version : ℕ} {who : Incarnation} {config : Config} {places : Script} {cells : List Celled} {items : List (Option Hosting)} {running : ℕ} {v : Lodged} {p : Place} {sets new : List Places}
+    → IsLodged c version who config places cells items running → lodged c version who items cells ≡ v → IsPlace v.script p → rests now ≡ b → IsNoted sets new p.shard p.inner b
+    → AreRestless (setting c) (map cell_of cells) sets → AreRestless (setting c) (map cell_of (slice_set cells p.at now)) new
+goes_on now {b} {c} {version} {who} {config} {places} {cells} {items} {running} {v} {p} {sets} {new} t seen is phase_is step k =
+    let here : IsPlace c p = placed t seen is in
+    subst (λ l. AreRestless (setting c) l new) (sym (map-set cell_of cells p.at now))
+    (restless_put now.cell k here t.sorted (cells_within t here) (subst (IsNoted sets new p.shard p.inner) (sym phase_is) step))
+
+-- it stays in its phase, or in one like it
+pub rests_on : (now : Celled) {c : Script} {version : ℕ} {who : Incarnation} {config : Config} {places : Script} {cells : List Celled} {items : List (Option Hosting)} {running : ℕ} {v : Lodged} {p : Place} {was : Celled} {sets : List Places}
+    → IsLodged c version who config places cells items running → lodged c version who items cells ≡ v → IsPlace v.script p → was ≡ slice_index_or cells p.at was → rests now ≡ rests was
+    → AreRestless (setting c) (map cell_of cells) sets → AreRestless (setting c) (map cell_of (slice_set cells p.at now)) sets
+rests_on now {c} {version} {who} {config} {places} {cells} {items} {running} {v} {p} {was} {sets} t seen is read same k =
+    let here : IsPlace c p = placed t seen is in
+    let old : is_restless (cell_in (setting c) (map cell_of cells) p.entity).phase ≡ rests was = subst (λ (v : Lodged). is_restless (cell v.state p.entity).phase ≡ rests was) (sym seen) (ap (λ (x : Cell). is_restless x.phase) (cell_at t seen is read)) in
+    let own : is_in (set_at sets p.shard) p.inner ≡ rests now = k.each p.shard p.inner here.shard_in here.there.within ∙ (ap (λ e. is_restless (cell_in (setting c) (map cell_of cells) e).phase) here.there.it ∙ (old ∙ sym same)) in
+    goes_on now t seen is refl record { there = refl; own = record { bound = refl; it = own; others = λ i other. refl }; others = λ s other. refl } k
+
+-- the cell that was put
+pub put_read : (cells : List Celled) (i : ℕ) {now o : Celled} → i < length cells → o ≡ slice_index_or (slice_set cells i now) i o → o ≡ now
+put_read cells i {now} {o} inside read = read ∙ get_or-set_same cells i now o inside
+
+-- there is a set for the shard, and a place in it
+pub shard_there : {c : Script} {version : ℕ} {who : Incarnation} {config : Config} {places : Script} {cells : List Celled} {items : List (Option Hosting)} {running : ℕ} {v : Lodged} {p : Place} {sets : List Places}
+    → IsLodged c version who config places cells items running → lodged c version who items cells ≡ v → IsPlace v.script p → AreRestless (setting c) (map cell_of cells) sets → p.shard < length sets
+shard_there {c} {version} {who} {config} {places} {cells} {items} {running} {v} {p} {sets} t seen is k = subst (λ n. p.shard < n) (sym k.there) (placed t seen is).shard_in
+
+pub place_there : {c : Script} {version : ℕ} {who : Incarnation} {config : Config} {places : Script} {cells : List Celled} {items : List (Option Hosting)} {running : ℕ} {v : Lodged} {p : Place} {sets : List Places}
+    → IsLodged c version who config places cells items running → lodged c version who items cells ≡ v → IsPlace v.script p → AreRestless (setting c) (map cell_of cells) sets → p.inner < (set_at sets p.shard).bound
+place_there {c} {version} {who} {config} {places} {cells} {items} {running} {v} {p} {sets} t seen is k =
+    let here : IsPlace c p = placed t seen is in subst (λ n. p.inner < n) (sym (k.bound p.shard here.shard_in)) here.there.within
+
+-- Moves that leave whether it recovers or stops.
+
+pub request_rests : (x y : Incarnation) (p : ℕ) (e : List ℕ) (n u : ℕ) (was : Celled) {now : Celled} → now ≡ celled_after was (post x y (body.Request p e n u)) → rests now ≡ rests was
+request_rests x y p e n u was {now} step = ap rests step ∙ by was.cell.phase
+  where
+    by : (q : Phase) → is_restless (phase_step q (post x y (body.Request p e n u))) ≡ is_restless q
+    by phase.Absent = refl
+    by phase.Loading = refl
+    by phase.Active = refl
+    by phase.Stopping = refl
+
+pub drop_rests : (who : Incarnation) (r : Option Message) (was now : Celled) → IfSome r (λ m. (x : Incarnation) → now ≡ celled_after was (told (fact.Dropped x m))) → IfNone r (now ≡ was) → rests now ≡ rests was
+drop_rests who None was now step none = ap rests none
+drop_rests who (Some m) was now step none = ap rests (step who)
+
+-- What is passed over.
+
+silent : (e : List ℕ) (st : Entities) (q : Phase) → is_restless q ≡ false → remind_by e st q ≡ []
+silent e st phase.Absent rest = refl
+silent e st phase.Loading rest = absurd (true≢false rest)
+silent e st phase.Active rest = refl
+silent e st phase.Stopping rest = absurd (true≢false rest)
+
+-- no entity from a place to another recovers or stops
+abbrev pub AreSilent : Entities → List (List ℕ) → ℕ → ℕ → Type 0
+AreSilent st xs i j = (k : ℕ) → i ≤ k → k < j → is_restless (cell st (name_at xs k)).phase ≡ false
+
+passed_by : (st : Entities) (xs : List (List ℕ)) (n i j : ℕ) → j ≡ i + n → j ≤ length xs → AreSilent st xs i j → of_names st (drop i xs) ≡ of_names st (drop j xs)
+passed_by st xs zero i j far most rest = let same : i ≡ j = omega (arith, far) in ap (λ m. of_names st (drop m xs)) same
+passed_by st xs (suc n) i j far most rest =
+    names_next st xs i (name_at xs i) (omega (arith, far, most)) refl
+    ∙ (ap (λ l. l ++ of_names st (drop (i + 1) xs)) (silent (name_at xs i) st (cell st (name_at xs i)).phase (rest i (omega arith) (omega (arith, far))))
+    ∙ passed_by st xs n (i + 1) j (omega (arith, far)) most (λ k up low. rest k (omega (arith, up)) low))
+
+pub names_passed : (st : Entities) (xs : List (List ℕ)) (i j : ℕ) → i ≤ j → j ≤ length xs → AreSilent st xs i j → of_names st (drop i xs) ≡ of_names st (drop j xs)
+names_passed st xs i j up most rest = passed_by st xs (j - i) i j (omega (arith, up)) most rest
+
+pub names_end : (st : Entities) (xs : List (List ℕ)) (i : ℕ) → length xs ≤ i → of_names st (drop i xs) ≡ []
+names_end st xs i most = ap (of_names st) (drop_of_length-le xs most)
+
+-- What is told by a tick, one restless entity after another.
+
+-- no more is told where none is left
+pub remind_done : (st : Entities) (xs : List (List ℕ)) (i j : ℕ) (out : Spared Item) {whole : Spared Item} → given out (of_names st (drop i xs)) ≡ whole → i ≤ j → j ≤ length xs → AreSilent st xs i j → length xs ≤ j → out ≡ whole
+remind_done st xs i j out {whole} way up most rest end = ap (given out) (sym (names_passed st xs i j up most rest ∙ names_end st xs j end)) ∙ way
+
+-- nor after as many as there are names
+pub remind_over : (st : Entities) (xs : List (List ℕ)) (i : ℕ) (out : Spared Item) {whole : Spared Item} → given out (of_names st (drop i xs)) ≡ whole → length xs ≤ i → out ≡ whole
+remind_over st xs i out {whole} way end = ap (given out) (sym (names_end st xs i end)) ∙ way
+
+-- the set of a shard, as it is read
+pub bound_read : {c : Script} {version : ℕ} {who : Incarnation} (cells : List Celled) (items : List (Option Hosting)) {v : Lodged} {sets : List Places} {s i : ℕ} {o : Places}
+    → AreRestless (setting c) (map cell_of cells) sets → lodged c version who items cells ≡ v → s < v.script.config.shards → i ≡ s → o ≡ slice_index_or sets i o → o.bound ≡ length (names_of v.state.set s)
+bound_read {c} {version} {who} cells items {v} {sets} {s} {i} {o} k seen lt same read =
+    let below : s < c.config.shards = shard_below cells items seen lt in
+    let its : set_at sets s ≡ o = set_read sets s i same (subst (λ m. s < m) (sym k.there) below) read in
+    sym (ap (λ (x : Places). x.bound) its) ∙ subst (λ (v : Lodged). (set_at sets s).bound ≡ length (names_of v.state.set s)) seen (k.bound s below)
+
+pub next_fits : {c : Script} {version : ℕ} {who : Incarnation} (cells : List Celled) (items : List (Option Hosting)) {v : Lodged} {sets : List Places} {s i n : ℕ} {o : Places}
+    → AreRestless (setting c) (map cell_of cells) sets → lodged c version who items cells ≡ v → s < v.script.config.shards → i ≡ s → o ≡ slice_index_or sets i o → n ≤ length (names_of v.state.set s) → n ≤ o.bound
+next_fits {c} {version} {who} cells items {v} {sets} {s} {i} {n} {o} k seen lt same read most =
+    subst (λ m. n ≤ m) (sym (bound_read cells items k seen lt same read)) most
+
+pub next_silent : {c : Script} {version : ℕ} {who : Incarnation} (cells : List Celled) (items : List (Option Hosting)) {v : Lodged} {sets : List Places} {s i from last : ℕ} {o : Places}
+    → AreRestless (setting c) (map cell_of cells) sets → lodged c version who items cells ≡ v → s < v.script.config.shards → i ≡ s → o ≡ slice_index_or sets i o → last ≤ o.bound → ((k : ℕ) → from ≤ k → k < last → is_in o k ≡ false)
+    → AreSilent v.state (names_of v.state.set s) from last
+next_silent {c} {version} {who} cells items {v} {sets} {s} {i} {from} {last} {o} k seen lt same read most none = λ j up low.
+    let below : s < c.config.shards = shard_below cells items seen lt in
+    let its : set_at sets s ≡ o = set_read sets s i same (subst (λ m. s < m) (sym k.there) below) read in
+    let bound : (set_at sets s).bound ≡ length (names_of (setting c) s) = k.bound s below in
+    let here : (set_at sets s).bound ≡ o.bound = ap (λ (x : Places). x.bound) its in
+    let inside : j < length (names_of (setting c) s) = omega (arith, low, most, bound, here) in
+    subst (λ (v : Lodged). is_restless (cell v.state (name_at (names_of v.state.set s) j)).phase ≡ false) seen
+    (sym (k.each s j below inside) ∙ (ap (λ (x : Places). is_in x j) its ∙ none j up low))
+
+pub first_room : (l a b : List Move) (spare : ℕ) → l ≡ a ++ b → length l ≤ spare → length a ≤ spare
+first_room l a b spare cut room = let both : length a + length b ≤ spare = room_next l a b spare cut room in omega (arith, both)

@@ -9,26 +9,31 @@ use Rattle.yard_model.specs.declared.charter.Config.{Config}
 use Rattle.yard_model.specs.declared.fact.Fact.{Fact}
 use Rattle.yard_model.specs.declared.fact.Fact.TheVariants as fact
 use Rattle.yard_model.specs.declared.incarnation.Incarnation.{Incarnation}
+use Rattle.yard_model.specs.declared.input.Phase.TheVariants as phase
 use Rattle.yard_model.specs.declared.packet.Record.{Record}
 use Rattle.yard_model.specs.declared.state.State.{State}
 use Rattle.yard_model.specs.Behaviour.{folded, is_valid}
-use Rattle.yard_model.specs.Entities.{Hosted, Cell, entries, entries_in, is_running_in, entity_of, hosted_step, cells_by}
+use Rattle.yard_model.specs.Entities.{Hosted, Cell, cell, entries, entries_in, hosted, is_running_in, entity_of, hosted_step, cells_by}
+use Rattle.yard_model.specs.Genuine.{is_brought}
+use Rattle.yard_model.specs.Lawful.{is_of_shard}
 use Rattle.yard_model.specs.Move.{told}
 use Rattle.yard_model.specs.Script.{Script, Setting, setting, is_name}
 use Rattle.yard_model.specs.Setting.{shard_of}
 use Rattle.yard_model.specs.ShardSet.{has}
 use Rattle.yard_model.specs.SlotReads.{holder, holder_step, journal, journal_step}
 use Rattle.yard_model.specs.Words.{at}
+use Rattle.plain_laws.proofs.Booleans.{both, number_itself}
 use Rattle.plain_laws.proofs.Names.{name_itself}
+use Rattle.shard_store.specs.Shelf.{Shelf}
 use Rattle.shard_store.specs.Shelved.{name_at}
 use Rattle.shard_entities.specs.Celled.{Celled}
 use Rattle.shard_entities.specs.Placed.{IsPlace}
-use Rattle.shard_entities.specs.Written.{entered}
+use Rattle.shard_entities.specs.Written.{WithStore, entered}
 use Rattle.shard_entities.specs.declared.place.Place.{Place}
 use Rattle.shard_entities.specs.declared.hosting.Hosting.{Hosting}
 use Rattle.shard_entities.specs.Lodged.{Lodged, lodged, moved, less, rooms_step, IsLodged, IsCell, IsHosting, host_of, cell_of, new_celled, hosted_of, room_of}
 use Rattle.name_index.proofs.NameLaws.{another_name}
-use Rattle.shard_entities.proofs.LodgedLaws.{is_same, is_other, placed, within, cell_is}
+use Rattle.shard_entities.proofs.LodgedLaws.{is_same, is_other, placed, within, cell_at, cell_is}
 
 abbrev pub entered_hosted : Fact → Hosted → Hosted
 entered_hosted f h = record { entries = h.entries ++ f ∷ []; stopping = h.stopping }
@@ -225,9 +230,9 @@ entry_moved new_cells {c} {version} {who} {config} {places} {cells} {items} {run
     value : List (Option Hosted) → List Cell → List ℕ → Lodged
     value h l r = record { script = c; state = record { who = who; set = setting c; version = version; hosted = h; cells = l }; rooms = r }
 
-    both : (a : Option Hosting) → option_map hosted_of (option_map (entered f) a) ≡ option_map (entered_hosted f) (option_map hosted_of a)
-    both None = refl
-    both (Some h) = refl
+    both_are : (a : Option Hosting) → option_map hosted_of (option_map (entered f) a) ≡ option_map (entered_hosted f) (option_map hosted_of a)
+    both_are None = refl
+    both_are (Some h) = refl
 
     room_less : (a : Option Hosting) → room_of (option_map (entered f) a) ≡ room_of a - 1
     room_less None = refl
@@ -235,7 +240,7 @@ entry_moved new_cells {c} {version} {who} {config} {places} {cells} {items} {run
 
     hosts : map (option_map hosted_of) (slice_set items i new) ≡ hosted_step (setting c) (map (option_map hosted_of) items) (told f)
     hosts = map-set (option_map hosted_of) items i new
-        ∙ (ap (λ x. slice_set (map (option_map hosted_of) items) i x) (ap (option_map hosted_of) step ∙ (both o ∙ ap (option_map (entered_hosted f)) (sym (get_or-map (option_map hosted_of) items i None None inside ∙ ap (option_map hosted_of) host))))
+        ∙ (ap (λ x. slice_set (map (option_map hosted_of) items) i x) (ap (option_map hosted_of) step ∙ (both_are o ∙ ap (option_map (entered_hosted f)) (sym (get_or-map (option_map hosted_of) items i None None inside ∙ ap (option_map hosted_of) host))))
         ∙ (ap (λ n. slice_set (map (option_map hosted_of) items) n (option_map (entered_hosted f) (at (map (option_map hosted_of) items) n))) place_is ∙ sym (entry.hosted_is (setting c) (map (option_map hosted_of) items))))
 
     rooms : map room_of (slice_set items i new) ≡ rooms_step (setting c) (map room_of items) (told f)
@@ -261,3 +266,43 @@ entry_only {c} {version} {who} {config} {places} {cells} {items} {running} {v} {
     let was : Celled = slice_index_or cells p.at (new_celled c) in
     let cell_read : was ≡ slice_index_or cells p.at was = get_or_default cells p.at (new_celled c) was inside in
     entry_stands entry t seen is (put_same c cells p.at was inside cell_read) same read step (own_goes_on f none (own_cell t seen is cell_read same read))
+
+-- What a snapshot asks of the store of the shard at a place.
+
+-- where it is hosted, there is one
+store_there : {c : Script} {version : ℕ} {who : Incarnation} {config : Config} {places : Script} {cells : List Celled} {items : List (Option Hosting)} {running : ℕ} {v : Lodged} {p : Place} {i : ℕ} {o : Option Hosting}
+    → IsLodged c version who config places cells items running → lodged c version who items cells ≡ v → IsPlace v.script p → i ≡ p.shard → o ≡ slice_index_or items i o → (hosted v.state p.shard ≡ None → ⊥) → o ≡ None → ⊥
+store_there {c} {version} {who} {config} {places} {cells} {items} {running} {v} {p} {i} {o} t seen is same read there none =
+    let inside : p.shard < length items = subst (λ n. p.shard < n) (sym t.shards_there) (placed t seen is).shard_in in
+    there (subst (λ (v : Lodged). hosted v.state p.shard ≡ None) seen (get_or-map (option_map hosted_of) items p.shard None None inside ∙ ap (option_map hosted_of) (host_at t seen is same read ∙ none)))
+
+-- the name is one of its shard
+pub store_names : {c : Script} {version : ℕ} {who : Incarnation} {config : Config} {places : Script} {cells : List Celled} {items : List (Option Hosting)} {running : ℕ} {v : Lodged} {p : Place} {i : ℕ} {o : Option Hosting}
+    → IsLodged c version who config places cells items running → lodged c version who items cells ≡ v → IsPlace v.script p → i ≡ p.shard → o ≡ slice_index_or items i o → (hosted v.state p.shard ≡ None → ⊥) → WithStore o (λ (s : Shelf). is_of_shard s.script s.shard p.entity ≡ true)
+store_names {c} {version} {who} {config} {places} {cells} {items} {running} {v} {p} {i} {o} t seen is same read there = by o (host_at t seen is same read) (store_there t seen is same read there)
+  where
+    here : IsPlace c p
+    here = placed t seen is
+
+    by : (a : Option Hosting) → at items p.shard ≡ a → (a ≡ None → ⊥) → WithStore a (λ (s : Shelf). is_of_shard s.script s.shard p.entity ≡ true)
+    by None it some = absurd (some refl)
+    by (Some h) it some =
+        let k : IsHosting c who p.shard h = subst (λ x. IfSome x (IsHosting c who p.shard)) it (t.hosts p.shard) in
+        both (is_brought h.store.script p.entity) (shard_of (setting h.store.script) p.entity == h.store.shard)
+        (ap (λ (x : Script). is_brought x p.entity) k.script_is ∙ here.brought)
+        (number_itself (shard_of (setting h.store.script) p.entity) h.store.shard (ap (λ (x : Script). shard_of (setting x) p.entity) k.script_is ∙ (sym here.shard_is ∙ sym k.shard_is)))
+
+-- the state of one that takes commands is what its journal leads to
+pub store_leads : {c : Script} {version : ℕ} {who : Incarnation} {config : Config} {places : Script} {cells : List Celled} {items : List (Option Hosting)} {running : ℕ} {v : Lodged} {p : Place} {i : ℕ} {o : Option Hosting} {was : Celled} {st : State}
+    → IsLodged c version who config places cells items running → lodged c version who items cells ≡ v → IsPlace v.script p → was ≡ slice_index_or cells p.at was → i ≡ p.shard → o ≡ slice_index_or items i o → (hosted v.state p.shard ≡ None → ⊥) → (cell v.state p.entity).phase ≡ phase.Active → st ≡ was.state
+    → WithStore o (λ (s : Shelf). st ≡ folded s.script.config.kind (journal p.entity s.entries))
+store_leads {c} {version} {who} {config} {places} {cells} {items} {running} {v} {p} {i} {o} {was} {st} t seen is cell_read same read there active state_is = by o (host_at t seen is same read) (store_there t seen is same read there) (own_cell t seen is cell_read same read)
+  where
+    takes : was.cell.phase ≡ phase.Active
+    takes = ap (λ (x : Cell). x.phase) (sym (cell_at t seen is cell_read)) ∙ active
+
+    by : (a : Option Hosting) → at items p.shard ≡ a → (a ≡ None → ⊥) → IsCell c p.entity a was → WithStore a (λ (s : Shelf). st ≡ folded s.script.config.kind (journal p.entity s.entries))
+    by None it some k = absurd (some refl)
+    by (Some h) it some k =
+        let hosts : IsHosting c who p.shard h = subst (λ x. IfSome x (IsHosting c who p.shard)) it (t.hosts p.shard) in
+        state_is ∙ ((k.folds takes).state_is ∙ ap (λ (x : Script). folded x.config.kind (journal p.entity h.store.entries)) (sym hosts.script_is))

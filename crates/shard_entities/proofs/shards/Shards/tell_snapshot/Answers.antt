@@ -1,8 +1,14 @@
 use Rattle.std.proofs.Common.{refl}
-use Rattle.shard_entities.proofs.EntryLaws.{entry_snapshot, entry_stands, entry_moved, put_same, own_goes_on, own_cell}
+use Rattle.shard_entities.proofs.EntryLaws.{entry_snapshot, entry_stands, entry_moved, put_same, own_goes_on, own_cell, store_names, store_leads}
 use Rattle.shard_entities.proofs.LodgedLaws.{placed, within}
 use Rattle.shard_entities.proofs.ReadyLaws.{touches}
 use Rattle.shard_entities.proofs.shards.Shards.tell_snapshot.Goals as goal
+
+pub write_snapshot-requires-clause-name : goal.write_snapshot-requires-clause-name
+write_snapshot-requires-clause-name c = store_names c.self.invariant.kept.lodged c.self.view_is c.requires.place c.get.ensures.value c.index_mut.ensures.value c.requires.there.hosted_is
+
+pub write_snapshot-requires-clause-state : goal.write_snapshot-requires-clause-state
+write_snapshot-requires-clause-state c = store_leads c.self.invariant.kept.lodged c.self.view_is c.requires.place c.index.ensures c.get.ensures.value c.index_mut.ensures.value c.requires.there.hosted_is c.requires.active c.state-state.ensures
 
 pub invariant_of-self : goal.invariant_of-self
 invariant_of-self c = record {

@@ -1,6 +1,6 @@
 -- Which shards want room: a shard is touched, or stays as ready as it was, or gets its room.
 use Rattle.std.proofs.Common.{◌≡◌, ◌≢◌, ℕ, ◌<◌, ◌≤◌, ◌^◌, List, length, replicate, sym, ap, subst, ◌∙◌, refl, true, false, arith, true≢false, get_or-set_same, get_or-set_other}
-use Rattle.std.specs.Prelude.{Bool, ◌==◌, ◌+◌, nat_lt, Option, None, Some, Result, OnOk, slice_set, slice_index_or}
+use Rattle.std.specs.Prelude.{Bool, ◌==◌, ◌+◌, nat_lt, Option, None, Some, slice_set, slice_index_or}
 use Rattle.std.specs.Option.{option_map}
 use Rattle.std.proofs.lemmas.Bool.Decides.{nat_tests}
 use Rattle.std.proofs.lemmas.List.{get_or_default}

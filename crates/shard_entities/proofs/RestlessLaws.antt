@@ -1,6 +1,6 @@
 -- Which entities recover or stop, as one of them goes on; and what a tick passes over.
 use Rattle.std.proofs.Common.{◌≡◌, ◌≢◌, ℕ, ◌+◌, ◌<◌, ◌≤◌, List, [], ◌∷◌, ◌++◌, ◌-◌, length, length-append, map, drop, replicate, sym, ap, subst, ◌∙◌, refl, true, false, arith, true≢false, get_or-set_same, get_or-set_other}
-use Rattle.std.specs.Prelude.{Bool, zero, suc, ◌==◌, nat_lt, not, cond, filter, Option, None, Some, IfSome, IfNone, slice_set, slice_index_or}
+use Rattle.std.specs.Prelude.{Bool, zero, suc, ◌==◌, nat_lt, cond, filter, Option, None, Some, IfSome, IfNone, slice_set, slice_index_or}
 use Rattle.std.specs.List.Sorted.{IsStrictlySortedBy}
 use Rattle.std.specs.Ordering.{nat_cmp}
 use Rattle.std.specs.Cmp.Lexicographic.{slice_cmp}
@@ -19,7 +19,7 @@ use Rattle.yard_model.specs.Entities.{Entities, Cell, cell, cell_in, new_cell, p
 use Rattle.yard_model.specs.declared.out.Item.{Item}
 use Rattle.yard_model.specs.Move.{Move, told, post}
 use Rattle.yard_model.specs.Spared.{Spared}
-use Rattle.yard_model.specs.Script.{Script, Setting, setting, is_name}
+use Rattle.yard_model.specs.Script.{Script, setting, is_name}
 use Rattle.yard_model.specs.Setting.{shard_of, names_of, place}
 use Rattle.plain_laws.proofs.Booleans.{get_replicate}
 use Rattle.plain_laws.proofs.Names.{name_itself}

@@ -150,12 +150,6 @@ pub remind_cut : {v : Lodged} (s : ℕ) {k n : ℕ} {e : List ℕ} → Stands v 
 remind_cut {v} s {k} {n} {e} st below count name =
     names_next v.state (names_of v.state.set s) k e (subst (λ (x : Setting). k < length (names_of x s)) (sym st.set_is) (subst (λ m. k < m) count below)) (name ∙ ap (λ (x : Setting). name_at (names_of x s) k) (sym st.set_is))
 
-pub remind_room : {v : Lodged} (s : ℕ) {k n spare : ℕ} {e : List ℕ} → Stands v → k < n → n ≡ length (names_of (setting v.script) s) → e ≡ name_at (names_of (setting v.script) s) k → length (of_names v.state (drop k (names_of v.state.set s))) ≤ spare
-    → length (remind_by e v.state (cell v.state e).phase) ≤ spare
-remind_room {v} s {k} {n} {spare} {e} st below count name room =
-    let both : length (remind_by e v.state (cell v.state e).phase) + length (of_names v.state (drop (k + 1) (names_of v.state.set s))) ≤ spare = room_next _ _ _ spare (remind_cut s st below count name) room in
-    omega (arith, both)
-
 pub room_goes : (l a b : List Move) (out next_out : Spared Item) → l ≡ a ++ b → next_out ≡ given out a → length l ≤ out.spare → length b ≤ next_out.spare
 room_goes l a b out next_out cut told room =
     let both : length a + length b ≤ out.spare = room_next l a b out.spare cut room in

@@ -89,10 +89,10 @@ ready_more {c} {touched} {items} {new} k r = record {
   each = λ s out. roomy_more c s (at items s) (at new s) (r.each s) (k.each s out);
 }
 
-pub lt_of : (a b : ℕ) → nat_lt a b ≡ true → a < b
+lt_of : (a b : ℕ) → nat_lt a b ≡ true → a < b
 lt_of a b e = grind (arith, nat_tests)
 
-pub le_of : (a b : ℕ) → nat_lt a b ≡ false → b ≤ a
+le_of : (a b : ℕ) → nat_lt a b ≡ false → b ≤ a
 le_of a b e = grind (arith, nat_tests)
 
 -- it has its room, and is out of the set

@@ -1,12 +1,11 @@
 -- Which entities recover or stop, as one of them goes on; and what a tick passes over.
-use Rattle.std.proofs.Common.{◌≡◌, ◌≢◌, ℕ, ◌+◌, ◌<◌, ◌≤◌, List, [], ◌∷◌, ◌++◌, ◌-◌, length, length-append, map, drop, replicate, sym, ap, subst, ◌∙◌, refl, true, false, arith, true≢false, get_or-set_same, get_or-set_other}
-use Rattle.std.specs.Prelude.{Bool, zero, suc, ◌==◌, nat_lt, cond, filter, Option, None, Some, IfSome, IfNone, slice_set, slice_index_or}
+use Rattle.std.proofs.Common.{◌≡◌, ◌≢◌, ℕ, ◌+◌, ◌<◌, ◌≤◌, List, [], ◌∷◌, ◌++◌, ◌-◌, length, map, drop, replicate, sym, ap, subst, ◌∙◌, refl, true, false, arith, true≢false, get_or-set_same, get_or-set_other}
+use Rattle.std.specs.Prelude.{Bool, zero, suc, ◌==◌, cond, filter, Option, None, Some, IfSome, IfNone, slice_set, slice_index_or}
 use Rattle.std.specs.List.Sorted.{IsStrictlySortedBy}
 use Rattle.std.specs.Ordering.{nat_cmp}
 use Rattle.std.specs.Cmp.Lexicographic.{slice_cmp}
-use Rattle.std.proofs.lemmas.List.{map-set, length-set, get_or_default, get_or_append_left}
+use Rattle.std.proofs.lemmas.List.{map-set, length-set, get_or_default}
 use Rattle.std.proofs.lemmas.List.Kept.{IsStrictlySortedBy-filter}
-use Rattle.std.proofs.Math.Seq.{get_or-append_seam}
 use Rattle.std.proofs.Math.ListN.{drop_of_length-le}
 use Rattle.yard_model.specs.declared.charter.Config.{Config}
 use Rattle.yard_model.specs.declared.fact.Fact.TheVariants as fact
@@ -36,7 +35,6 @@ use Rattle.shard_entities.proofs.HostLaws.{shard_below}
 use Rattle.shard_entities.proofs.LodgedLaws.{is_same, is_other, placed, cell_at}
 use Rattle.shard_entities.proofs.NameLaws.{another_name}
 use Rattle.shard_entities.proofs.PlacesLaws.{new_cells}
-use Rattle.shard_entities.proofs.ReadyLaws.{lt_of, le_of}
 use Rattle.shard_entities.proofs.TickLaws.{of_names, names_next, room_next}
 
 abbrev pub rests : Celled → Bool
@@ -56,44 +54,6 @@ noted old s i k b {o} {new} same inside read step = record {
 }
 
 -- The first sets.
-
-pub fresh_none : (c : Script) (sets : List Places) → sets ≡ [] → AreFresh c 0 sets
-fresh_none c sets none = record {
-  there = ap length none;
-  bound = λ s lt. absurd (omega (arith, lt));
-  none = λ s k lt. absurd (omega (arith, lt));
-}
-
-pub fresh_more : (c : Script) (n t : ℕ) (sets : List Places) (x : Places) → AreFresh c n sets → t ≡ n → x.bound ≡ length (names_of (setting c) t) → ((i : ℕ) → is_in x i ≡ false) → AreFresh c (n + 1) (sets ++ x ∷ [])
-fresh_more c n t sets x k same bound none = record {
-  there = let long : length (sets ++ x ∷ []) ≡ length sets + 1 = length-append sets (x ∷ []) in let old : length sets ≡ n = k.there in omega (arith, long, old);
-  bound = λ s lt. bound_at s lt (s == n) refl;
-  none = λ s i lt. none_at s i lt (s == n) refl;
-}
-  where
-    last : (s : ℕ) → (s == n) ≡ true → set_at (sets ++ x ∷ []) s ≡ x
-    last s e = ap (set_at (sets ++ x ∷ [])) (is_same s n e ∙ sym k.there) ∙ get_or-append_seam sets x [] no_places
-
-    before : (s : ℕ) → s < n + 1 → (s == n) ≡ false → s < length sets
-    before s lt e = by (nat_lt s (length sets)) refl
-      where
-        by : (b : Bool) → nat_lt s (length sets) ≡ b → s < length sets
-        by true f = lt_of s (length sets) f
-        by false f = absurd (is_other s n e (let up : length sets ≤ s = le_of s (length sets) f in let long : length sets ≡ n = k.there in omega (arith, up, long, lt)))
-
-    below : (s : ℕ) → s < length sets → s < n
-    below s lt = subst (λ m. s < m) k.there lt
-
-    earlier : (s : ℕ) → s < length sets → set_at (sets ++ x ∷ []) s ≡ set_at sets s
-    earlier s lt = get_or_append_left sets (x ∷ []) no_places s lt
-
-    bound_at : (s : ℕ) → s < n + 1 → (b : Bool) → (s == n) ≡ b → (set_at (sets ++ x ∷ []) s).bound ≡ length (names_of (setting c) s)
-    bound_at s lt true e = ap (λ (y : Places). y.bound) (last s e) ∙ (bound ∙ ap (λ m. length (names_of (setting c) m)) (same ∙ sym (is_same s n e)))
-    bound_at s lt false e = ap (λ (y : Places). y.bound) (earlier s (before s lt e)) ∙ k.bound s (below s (before s lt e))
-
-    none_at : (s i : ℕ) → s < n + 1 → (b : Bool) → (s == n) ≡ b → is_in (set_at (sets ++ x ∷ []) s) i ≡ false
-    none_at s i lt true e = ap (λ (y : Places). is_in y i) (last s e) ∙ none i
-    none_at s i lt false e = ap (λ (y : Places). is_in y i) (earlier s (before s lt e)) ∙ k.none s i (below s (before s lt e))
 
 pub restless_new : (c script : Script) (cells : List Celled) (sets : List Places) → script ≡ c → cells ≡ replicate (length (setting c).names) (celled c.config.producers c.config.window) → AreFresh c c.config.shards sets → AreRestless (setting script) (map cell_of cells) sets
 restless_new c script cells sets same fresh k = subst (λ x. AreRestless (setting x) (map cell_of cells) sets) (sym same) record {
@@ -240,10 +200,6 @@ names_end st xs i most = ap (of_names st) (drop_of_length-le xs most)
 -- no more is told where none is left
 pub remind_done : (st : Entities) (xs : List (List ℕ)) (i j : ℕ) (out : Spared Item) {whole : Spared Item} → given out (of_names st (drop i xs)) ≡ whole → i ≤ j → j ≤ length xs → AreSilent st xs i j → length xs ≤ j → out ≡ whole
 remind_done st xs i j out {whole} way up most rest end = ap (given out) (sym (names_passed st xs i j up most rest ∙ names_end st xs j end)) ∙ way
-
--- nor after as many as there are names
-pub remind_over : (st : Entities) (xs : List (List ℕ)) (i : ℕ) (out : Spared Item) {whole : Spared Item} → given out (of_names st (drop i xs)) ≡ whole → length xs ≤ i → out ≡ whole
-remind_over st xs i out {whole} way end = ap (given out) (sym (names_end st xs i end)) ∙ way
 
 -- the set of a shard, as it is read
 pub bound_read : {c : Script} {version : ℕ} {who : Incarnation} (cells : List Celled) (items : List (Option Hosting)) {v : Lodged} {sets : List Places} {s i : ℕ} {o : Places}

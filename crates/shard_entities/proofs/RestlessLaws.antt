@@ -33,7 +33,7 @@ use Rattle.shard_entities.specs.Restless.{is_restless, no_places, set_at, AreRes
 use Rattle.shard_entities.proofs.CountLaws.{other_place, cells_within}
 use Rattle.shard_entities.proofs.HostLaws.{shard_below}
 use Rattle.shard_entities.proofs.LodgedLaws.{is_same, is_other, placed, cell_at}
-use Rattle.shard_entities.proofs.NameLaws.{another_name}
+use Rattle.name_index.proofs.NameLaws.{another_name}
 use Rattle.shard_entities.proofs.PlacesLaws.{new_cells}
 use Rattle.shard_entities.proofs.TickLaws.{of_names, names_next, room_next}
 

@@ -1,5 +1,5 @@
 //! Names in order, with an index by a hash of their bytes.
-ghost use Rattle.std.specs.Prelude.{◌≡◌, ℕ, ◌<◌, List, [], true, false, length, IfOk, IfSome, MatchOption, slice_index_or};
+ghost use Rattle.std.specs.Prelude.{◌≡◌, ℕ, ◌+◌, ◌<◌, ◌≤◌, List, [], true, false, length, IfOk, IfSome, MatchOption, slice_index_or};
 ghost use Rattle.std.specs.List.{list_any};
 ghost use Rattle.std.specs.List.Sorted.{IsStrictlySortedBy};
 ghost use Rattle.std.specs.Ordering.{nat_cmp};
@@ -128,13 +128,60 @@ fn hint_in(hints: &[u16], at: usize) -> usize {
     }
 }
 
-/// A number of 32 bits for these bytes (Fowler, Noll and Vo's).
+/// A number for these bytes: their words of eight, the last of which may overlap the one before.
 fn hash_of(bytes: &[u8]) -> u32 {
-    let mut hash = 2_166_136_261u32;
-    for byte in bytes {
-        hash = (hash ^ u32::from(*byte)).wrapping_mul(16_777_619);
+    let count = bytes.len();
+    if count < 8 {
+        return hash_of_few(bytes);
     }
-    hash
+    let mut hash = count as u64;
+    for at in 0..count / 8 {
+        hash = hash_with(hash, word_at(bytes, at * 8));
+    }
+    let hash = hash_with(hash, word_at(bytes, count - 8));
+    (hash >> 32) as u32
+}
+
+/// The same of less than a word: its first four bytes and its last, or its first, middle and last one.
+fn hash_of_few(bytes: &[u8]) -> u32 {
+    let count = bytes.len();
+    if count == 0 {
+        return 0;
+    }
+    let word = if count < 4 {
+        u64::from(bytes[0]) << 16 | u64::from(bytes[count / 2]) << 8 | u64::from(bytes[count - 1])
+    } else {
+        u64::from(half_at(bytes, 0)) << 32 | u64::from(half_at(bytes, count - 4))
+    };
+    (hash_with(count as u64, word) >> 32) as u32
+}
+
+/// A word more. The factor is an odd number near 2^64 divided by the golden ratio.
+fn hash_with(hash: u64, word: u64) -> u64 {
+    (hash.rotate_left(29) ^ word).wrapping_mul(0x9e37_79b9_7f4a_7c15)
+}
+
+/// The number that eight bytes from a place on spell.
+fn word_at(bytes: &[u8], at: usize) -> u64
+    requires { at + 8 ≤ length bytes.now }
+{
+    u64::from_le_bytes([
+        bytes[at],
+        bytes[at + 1],
+        bytes[at + 2],
+        bytes[at + 3],
+        bytes[at + 4],
+        bytes[at + 5],
+        bytes[at + 6],
+        bytes[at + 7],
+    ])
+}
+
+/// The number that four bytes from a place on spell.
+fn half_at(bytes: &[u8], at: usize) -> u32
+    requires { at + 4 ≤ length bytes.now }
+{
+    u32::from_le_bytes([bytes[at], bytes[at + 1], bytes[at + 2], bytes[at + 3]])
 }
 
 /// One less than how many hints there are for so many names: a power of two, from two to sixteen times as

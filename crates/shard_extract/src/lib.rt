@@ -2,9 +2,10 @@
 //! the hash code of the entity's id).
 #![tactic(auto)]
 
-ghost use Rattle.std.specs.Prelude.{◌≡◌, ◌+◌, ◌*◌, ◌%◌, ◌<◌, ◌≤◌};
+ghost use Rattle.std.specs.Prelude.{◌≡◌, ◌+◌, ◌*◌, ◌%◌, ◌<◌, ◌≤◌, length};
 ghost use Rattle.std.specs.Int.{w32, cast_signed};
 ghost use Rattle.yard_model.specs.Shard.{java_hash, shard};
+ghost use Rattle.shard_extract.specs.HashTo.{IsHashTo};
 
 use yard_model::{EntityName, ShardNo};
 
@@ -34,7 +35,37 @@ pub fn shard_of(name: &EntityName, shards: u8) -> ShardNo
 fn hash_of_bytes(bytes: &[u8]) -> u32
     ensures { result ≡ java_hash bytes.now }
 {
-    bytes.iter().fold(0, |h, b| hash_with(h, *b))
+    let fours = bytes.len() / 4;
+    let mut hash = hash_of_fours(bytes, fours);
+    for i in 4 * fours..bytes.len() {
+        hash = hash_with(hash, bytes[i]);
+    }
+    hash
+}
+
+/// The hash of so many groups of four bytes at the front.
+fn hash_of_fours(bytes: &[u8], fours: usize) -> u32
+    requires { 4 * fours ≤ length bytes.now }
+    ensures { IsHashTo bytes.now (4 * fours) result }
+{
+    let mut hash = 0;
+    for k in 0..fours {
+        let at = 4 * k;
+        hash = hash_with_four(hash, bytes[at], bytes[at + 1], bytes[at + 2], bytes[at + 3]);
+    }
+    hash
+}
+
+/// Four bytes more at once.
+fn hash_with_four(hash: u32, a: u8, b: u8, c: u8, d: u8) -> u32
+    ensures { result ≡ (923521 * hash + 29791 * a + 961 * b + 31 * c + d) % 4294967296 }
+{
+    let sum = u64::from(hash) * 923_521
+        + u64::from(a) * 29_791
+        + u64::from(b) * 961
+        + u64::from(c) * 31
+        + u64::from(d);
+    (sum % 4_294_967_296) as u32
 }
 
 #[tactic(auto, using(crate::proofs::Hash::wrapped_step))]

@@ -1,14 +1,14 @@
 -- Cells in chains, read as a list for each key.
 use Rattle.std.proofs.Common.{◌≡◌, ℕ, zero, suc, ◌+◌, ◌<◌, ◌≤◌, List, [], ◌∷◌, ◌++◌, length, length-append, length-drop, drop, map, get_or, set, refl, ap, ap₂, ◌∙◌, sym, subst, arith}
 use Rattle.std.specs.Prelude.{sum_by, Option, Some, None, replicate, MatchOption}
-use Rattle.std.proofs.lemmas.List.{map-set, get_or-set_same, get_or-set_other, length-map, set-get_or}
+use Rattle.std.proofs.lemmas.List.{map-set, get_or-set_same, get_or-set_other, length-map, length-replicate, set-get_or}
 use Rattle.std.proofs.Math.ListN.{get_or-map}
 use Rattle.std.proofs.lemmas.List.Sums.{sum_by-cons}
 use Rattle.envelope_pool.specs.declared.links.Chain.{Chain}
 use Rattle.envelope_pool.specs.Keyed.{Keyed, keyed}
-use Rattle.envelope_pool.specs.Chains.{times, chains_of, chain_at, places_of}
+use Rattle.envelope_pool.specs.Chains.{times, no_chain, chains_of, chain_at, places_of}
 use Rattle.envelope_pool.specs.Cells.{with_item, gather, lists_of, IsPool}
-use Rattle.envelope_pool.proofs.ChainLaws.{part-le, none_first, chain_len}
+use Rattle.envelope_pool.proofs.ChainLaws.{part-le, none_first, none_linked, none_places, chain_len, get_past}
 
 drop_set : {B : Type 0} (xs : List B) (k : ℕ) (v : B) → drop 1 (set xs (k + 1) v) ≡ set (drop 1 xs) k v
 drop_set [] k v = refl
@@ -49,6 +49,14 @@ key_chain next cs key h = omega (arith, length-drop 1 (chains_of next cs), lengt
 -- a key that changes nothing
 pub unchanged : {B : Type 0} (lists : List (List B)) (k : ℕ) → get_or lists k [] ≡ [] → lists ≡ set lists k (drop 1 (get_or lists k []))
 unchanged lists k e = sym (ap (λ xs. set lists k xs) (ap (drop 1) e ∙ sym e) ∙ set-get_or lists k [])
+
+-- no cell is free
+pub none_free : (next : List ℕ) (cs : List Chain) → 0 < length cs → (chain_at cs 0).len ≡ 0 → get_or (chains_of next cs) 0 [] ≡ []
+none_free next cs some e = nil_of (get_or (chains_of next cs) 0 []) (sym (chain_len next cs 0 some) ∙ e)
+
+-- chains of none after the first
+none_after : (k : ℕ) → drop 1 (chains_of [] (replicate (k + 1) no_chain)) ≡ replicate k []
+none_after k = let e : k + 1 ≡ suc k = omega arith in ap (λ n. drop 1 (chains_of [] (replicate n no_chain))) e ∙ none_places [] k
 
 module _ {A : Type 0} where
   gather_other : (items : List (Option A)) (p : ℕ) (x : A) (ps : List ℕ) → times p ps ≡ 0 → gather (set items p (Some x)) ps ≡ gather items ps
@@ -98,10 +106,10 @@ module _ {A : Type 0} where
   pub all_held : (items : List (Option A)) (chains : List (List ℕ)) → 0 < length chains → map length (lists_of items chains) ≡ map length (drop 1 chains) → length (get_or chains 0 []) + sum_by length (lists_of items chains) ≡ sum_by length chains
   all_held items chains h filled = omega (arith, sum_first length chains [] h, same_sums (lists_of items chains) (drop 1 chains) filled)
 
-  pub held_is : (next : List ℕ) (cs : List Chain) (items : List (Option A)) (size : ℕ) → IsPool next cs items size → sum_by length (lists_of items (chains_of next cs)) + (chain_at cs 0).len ≡ size
-  held_is next cs items size p =
+  pub held_is : {size n m : ℕ} (next : List ℕ) (cs : List Chain) (items : List (Option A)) → IsPool next cs items size n m → sum_by length (lists_of items (chains_of next cs)) + (chain_at cs 0).len ≡ length items
+  held_is {size} {n} {m} next cs items p =
       let some : 0 < length (chains_of next cs) = omega (arith, length-map cs (places_of next), p.chains) in
-      omega (arith, all_held items (chains_of next cs) some p.filled, chain_len next cs 0 p.chains, p.linked.all, p.cells)
+      omega (arith, all_held items (chains_of next cs) some p.filled, chain_len next cs 0 p.chains, p.linked.all, p.sized)
 
   pub key_inside : (items : List (Option A)) (chains : List (List ℕ)) (size key : ℕ) (v : Keyed A) → keyed (lists_of items chains) size ≡ v → key < length v.lists → key < length (drop 1 chains)
   key_inside items chains size key v e h = omega (arith, ap (λ (w : Keyed A). length w.lists) e, length-map (drop 1 chains) (gather items), h)
@@ -128,6 +136,22 @@ module _ {A : Type 0} where
       lengths : (n : ℕ) → map length (replicate {A = List A} n []) ≡ map length (replicate {A = List ℕ} n [])
       lengths zero = refl
       lengths (suc n) = ap (λ l. 0 ∷ l) (lengths n)
+
+  -- no cell was used yet
+  pub begun_lists : (k : ℕ) → lists_of {A = A} [] (chains_of [] (replicate (k + 1) no_chain)) ≡ replicate k []
+  begun_lists k = none_yet [] (chains_of [] (replicate (k + 1) no_chain)) k (none_after k)
+
+  pub begun_pool : {size n m : ℕ} (k : ℕ) → size < 65536 → size ≤ n → size ≤ m → IsPool {A = A} [] (replicate (k + 1) no_chain) [] size n m
+  begun_pool k fits a b = record {
+    linked = none_linked (k + 1);
+    sized = refl;
+    cells = omega arith;
+    fits = fits;
+    places_fit = a;
+    items_fit = b;
+    chains = omega (arith, length-replicate {A = Chain} (k + 1) no_chain);
+    filled = none_filled [] (chains_of [] (replicate (k + 1) no_chain)) k (none_after k);
+  }
 
   -- a cell goes from the free ones to a key
   module _ (items : List (Option A)) (X X1 X2 : List (List ℕ)) (key p : ℕ) (x : A) (first : X1 ≡ set X 0 (drop 1 (get_or X 0 []))) (second : X2 ≡ set X1 (key + 1) (get_or X1 (key + 1) [] ++ p ∷ []))
@@ -161,6 +185,42 @@ module _ {A : Type 0} where
         ∙ (map-set length (lists_of items X) key (get_or (lists_of items X) key [] ++ x ∷ [])
         ∙ (ap₂ (λ l n. set l key n) filled more
         ∙ (sym (map-set length (drop 1 X) key (get_or (drop 1 X) key [] ++ p ∷ [])) ∙ ap (map length) (sym tail))))
+
+  -- a new cell goes to a key
+  gather_past : (items : List (Option A)) (ps : List ℕ) → gather (items ++ None ∷ []) ps ≡ gather items ps
+  gather_past items [] = refl
+  gather_past items (p ∷ ps) = ap₂ with_item (get_past items None p) (gather_past items ps)
+
+  lists_past : (items : List (Option A)) (chains : List (List ℕ)) → map (gather (items ++ None ∷ [])) chains ≡ map (gather items) chains
+  lists_past items [] = refl
+  lists_past items (c ∷ cs) = ap₂ (λ l m. l ∷ m) (gather_past items c) (lists_past items cs)
+
+  set_last : (items : List (Option A)) (a b : Option A) → set (items ++ a ∷ []) (length items) b ≡ items ++ b ∷ []
+  set_last [] a b = refl
+  set_last (x ∷ items) a b = ap (λ l. x ∷ l) (set_last items a b)
+
+  module _ (items : List (Option A)) (X X1 X2 : List (List ℕ)) (key p : ℕ) (x : A) (free : get_or X 0 [] ≡ []) (same : X1 ≡ X) (second : X2 ≡ set X1 (key + 1) (get_or X1 (key + 1) [] ++ p ∷ []))
+      (loose : sum_by (times p) X1 ≡ 0) (at : p ≡ length items) (inside : key < length (drop 1 X)) (filled : map length (lists_of items X) ≡ map length (drop 1 X)) where
+    items_are : set (items ++ None ∷ []) p (Some x) ≡ items ++ Some x ∷ []
+    items_are = ap (λ i. set (items ++ None ∷ []) i (Some x)) at ∙ set_last items None (Some x)
+
+    lists_are : lists_of (items ++ None ∷ []) X ≡ lists_of items X
+    lists_are = lists_past items (drop 1 X)
+
+    begun : X1 ≡ set X 0 (drop 1 (get_or X 0 []))
+    begun = same ∙ unchanged X 0 free
+
+    within_wide : p < length (items ++ None ∷ [])
+    within_wide = omega (arith, at, length-append items (None ∷ []))
+
+    pub made_lists : lists_of (items ++ Some x ∷ []) X2 ≡ set (lists_of items X) key (get_or (lists_of items X) key [] ++ x ∷ [])
+    made_lists =
+        ap (λ i. lists_of i X2) (sym items_are)
+        ∙ (pushed_lists (items ++ None ∷ []) X X1 X2 key p x begun second loose within_wide inside (ap (map length) lists_are ∙ filled)
+        ∙ ap (λ l. set l key (get_or l key [] ++ x ∷ [])) lists_are)
+
+    pub made_filled : map length (lists_of (items ++ Some x ∷ []) X2) ≡ map length (drop 1 X2)
+    made_filled = ap (λ i. map length (lists_of i X2)) (sym items_are) ∙ pushed_filled (items ++ None ∷ []) X X1 X2 key p x begun second loose within_wide inside (ap (map length) lists_are ∙ filled)
 
   -- a cell goes from a key to the free ones
   module _ (items : List (Option A)) (X X1 X2 : List (List ℕ)) (key p : ℕ) (place : get_or X (key + 1) [] ≡ p ∷ drop 1 (get_or X (key + 1) [])) (first : X1 ≡ set X (key + 1) (drop 1 (get_or X (key + 1) [])))

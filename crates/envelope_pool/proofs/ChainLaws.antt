@@ -335,64 +335,59 @@ none_at zero k = refl
 none_at (suc n) zero = refl
 none_at (suc n) (suc k) = none_at n k
 
-module _ (next : List ℕ) (cells : ℕ) (each : (i : ℕ) → i < cells → slice_index next i ≡ i + 1) where
-  low : (r n p : ℕ) → p + n ≤ cells → r < p → times r (walk next p n) ≡ 0
-  low r zero p h g = refl
-  low r (suc n) p h g =
-      let far : (p == r) ≡ false = grind (arith, nat_tests) in
-      let rest : times r (walk next (slice_index next p) n) ≡ 0 = ap (λ g. times r (walk next g n)) (each p (omega arith)) ∙ low r n (p + 1) (omega arith) (omega arith) in
-      ap (λ b. cond b 1 0 + times r (walk next (slice_index next p) n)) far ∙ omega (arith, rest)
+-- no place yet
+pub none_linked : (n : ℕ) → IsLinked [] (replicate n no_chain) 0
+none_linked n = record {
+  once = λ r. let e : sum_by (times r) (chains_of [] (replicate n no_chain)) ≡ 0 = ap (sum_by (times r)) (none_places [] n) ∙ none_sum (times r) n refl in omega (arith, e);
+  ends = λ k h some. let e : (chain_at (replicate n no_chain) k).len ≡ 0 = ap (λ (c : Chain). c.len) (none_at n k) in absurd (omega (arith, e));
+  all = let e : sum_by length (chains_of [] (replicate n no_chain)) ≡ 0 = ap (sum_by length) (none_places [] n) ∙ none_sum length n refl in omega (arith, e);
+  small = omega arith;
+}
 
-  high : (r n p : ℕ) → p + n ≤ cells → p + n ≤ r → times r (walk next p n) ≡ 0
-  high r zero p h g = refl
-  high r (suc n) p h g =
-      let far : (p == r) ≡ false = grind (arith, nat_tests) in
-      let rest : times r (walk next (slice_index next p) n) ≡ 0 = ap (λ g. times r (walk next g n)) (each p (omega arith)) ∙ high r n (p + 1) (omega arith) (omega arith) in
-      ap (λ b. cond b 1 0 + times r (walk next (slice_index next p) n)) far ∙ omega (arith, rest)
+-- One place more, in no chain yet.
 
-  at_most : (r n p : ℕ) → p + n ≤ cells → times r (walk next p n) ≤ 1
-  at_most r zero p h = omega arith
-  at_most r (suc n) p h = by_test (p == r) refl (ap (λ g. times r (walk next g n)) (each p (omega arith))) (at_most r n (p + 1) (omega arith))
-    where
-      by_test : (b : Bool) → (p == r) ≡ b → times r (walk next (slice_index next p) n) ≡ times r (walk next (p + 1) n) → times r (walk next (p + 1) n) ≤ 1 → cond b 1 0 + times r (walk next (slice_index next p) n) ≤ 1
-      by_test true t e rest =
-          let here : p ≡ r = same_is p r t in
-          let none : times r (walk next (p + 1) n) ≡ 0 = low r n (p + 1) (omega arith) (omega arith) in
-          omega (arith, e, none)
-      by_test false t e rest = omega (arith, e, rest)
+-- what stands at the end is what is read past it
+pub get_past : {A : Type 0} (xs : List A) (d : A) (i : ℕ) → get_or (xs ++ d ∷ []) i d ≡ get_or xs i d
+get_past [] d zero = refl
+get_past [] d (suc i) = refl
+get_past (x ∷ xs) d zero = refl
+get_past (x ∷ xs) d (suc i) = get_past xs d i
 
-  at_end : (n p : ℕ) → p + suc n ≤ cells → slice_index (walk next p (suc n)) n ≡ p + n
-  at_end zero p h = omega arith
-  at_end (suc n) p h = ap (λ g. slice_index (walk next g (suc n)) n) (each p (omega arith)) ∙ (at_end n (p + 1) (omega arith) ∙ omega arith)
+walk_past : (next : List ℕ) (p n : ℕ) → walk (next ++ 0 ∷ []) p n ≡ walk next p n
+walk_past next p zero = refl
+walk_past next p (suc n) = ap (λ l. p ∷ l) (ap (λ g. walk (next ++ 0 ∷ []) g n) (get_past next 0 p) ∙ walk_past next (slice_index next p) n)
 
-  module _ (others : ℕ) (long : length next ≡ cells) (small : cells < 65536) where
-    first_sum : (f : List ℕ → ℕ) → f [] ≡ 0 → sum_by f (chains_of next (chain 0 (cells - 1) cells ∷ replicate others no_chain)) ≡ f (walk next 0 cells)
-    first_sum f e =
-        sum_by-cons f (walk next 0 cells) (map (places_of next) (replicate others no_chain))
-        ∙ (ap (λ l. f (walk next 0 cells) + sum_by f l) (none_places next others) ∙ omega (arith, none_sum f others e))
+pub made_chains : (next : List ℕ) (cs : List Chain) → chains_of (next ++ 0 ∷ []) cs ≡ chains_of next cs
+made_chains next [] = refl
+made_chains next (c ∷ cs) = ap₂ (λ l m. l ∷ m) (walk_past next c.first c.len) (made_chains next cs)
 
-    pub fresh : IsLinked next (chain 0 (cells - 1) cells ∷ replicate others no_chain) 0
-    fresh = record {
-      once = λ r. subst (λ n. n ≤ room (length next) r) (sym (first_sum (times r) refl)) (fits r (nat_lt r (length next)) refl);
-      ends = λ k h some. ending k some;
-      all = omega (arith, first_sum length refl, walk_length next 0 cells);
-      small = omega arith;
+room_more : (n p : ℕ) → room n p ≤ room (n + 1) p
+room_more n p = by_test (nat_lt p n) refl
+  where
+    by_test : (b : Bool) → nat_lt p n ≡ b → room n p ≤ room (n + 1) p
+    by_test true t =
+        let inside : p < n = grind (arith, nat_tests) in
+        let more : room (n + 1) p ≡ 1 = room_of (n + 1) p (omega arith) in
+        omega (arith, more, room_one n p)
+    by_test false t = let none : room n p ≡ 0 = ap (λ b. cond b 1 0) t in omega (arith, none)
+
+room_none : (n : ℕ) → room n n ≡ 0
+room_none n = let t : nat_lt n n ≡ false = grind (arith, nat_tests) in ap (λ b. cond b 1 0) t
+
+pub made_linked : (next : List ℕ) (cs : List Chain) → IsLinked next cs 0 → length next + 1 < 65536 → IsLinked (next ++ 0 ∷ []) cs 1
+made_linked next cs linked few =
+    let long : length (next ++ 0 ∷ []) ≡ length next + 1 = length-append next (0 ∷ []) in
+    record {
+      once = λ r.
+          let same : sum_by (times r) (chains_of (next ++ 0 ∷ []) cs) ≡ sum_by (times r) (chains_of next cs) = ap (sum_by (times r)) (made_chains next cs) in
+          let wide : room (length (next ++ 0 ∷ [])) r ≡ room (length next + 1) r = ap (λ n. room n r) long in
+          omega (arith, same, wide, linked.once r, room_more (length next) r);
+      ends = λ k h some. ap (λ l. slice_index l ((chain_at cs k).len - 1)) (walk_past next (chain_at cs k).first (chain_at cs k).len) ∙ linked.ends k h some;
+      all = let same : sum_by length (chains_of (next ++ 0 ∷ []) cs) ≡ sum_by length (chains_of next cs) = ap (sum_by length) (made_chains next cs) in omega (arith, same, linked.all, long);
+      small = omega (arith, long, few);
     }
-      where
-        fits : (r : ℕ) (b : Bool) → nat_lt r (length next) ≡ b → times r (walk next 0 cells) ≤ room (length next) r
-        fits r true t =
-            let below : r < length next = grind (arith, nat_tests) in
-            omega (arith, at_most r cells 0 (omega arith), room_of (length next) r below)
-        fits r false t =
-            let above : cells ≤ r = grind (arith, nat_tests) in
-            omega (arith, high r cells 0 (omega arith) (omega arith))
 
-        ending : (k : ℕ) → 0 < (chain_at (chain 0 (cells - 1) cells ∷ replicate others no_chain) k).len
-            → slice_index (places_of next (chain_at (chain 0 (cells - 1) cells ∷ replicate others no_chain) k)) ((chain_at (chain 0 (cells - 1) cells ∷ replicate others no_chain) k).len - 1)
-            ≡ (chain_at (chain 0 (cells - 1) cells ∷ replicate others no_chain) k).last
-        ending zero some =
-            let e : cells ≡ suc (cells - 1) = omega arith in
-            ap (λ n. slice_index (walk next 0 n) (cells - 1)) e ∙ (at_end (cells - 1) 0 (omega arith) ∙ omega arith)
-        ending (suc k) some =
-            let e : (chain_at (replicate others no_chain) k).len ≡ 0 = ap (λ (c : Chain). c.len) (none_at others k) in
-            absurd (omega (arith, e))
+pub made_loose : (next : List ℕ) (cs : List Chain) → IsLinked next cs 0 → sum_by (times (length next)) (chains_of (next ++ 0 ∷ []) cs) ≡ 0
+made_loose next cs linked =
+    let same : sum_by (times (length next)) (chains_of (next ++ 0 ∷ []) cs) ≡ sum_by (times (length next)) (chains_of next cs) = ap (sum_by (times (length next))) (made_chains next cs) in
+    omega (arith, same, linked.once (length next), room_none (length next))

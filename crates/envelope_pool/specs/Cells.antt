@@ -1,5 +1,5 @@
 -- How a pool is kept: cells in chains, of which the first is that of the free cells, and then one for each key.
-use Rattle.std.specs.Prelude.{◌≡◌, ℕ, ◌<◌, List, [], ◌∷◌, length, map, drop, Option, Some, None, slice_index_or}
+use Rattle.std.specs.Prelude.{◌≡◌, ℕ, ◌<◌, ◌≤◌, ◌^◌, List, [], ◌∷◌, length, map, drop, Option, Some, None, slice_index_or}
 use Rattle.envelope_pool.specs.declared.links.Chain.{Chain}
 use Rattle.envelope_pool.specs.Chains.{IsLinked, chains_of}
 
@@ -17,9 +17,12 @@ module _ {A : Type 0} where
   abbrev pub lists_of : List (Option A) → List (List ℕ) → List (List A)
   lists_of items chains = map (gather items) (drop 1 chains)
 
-  pub record IsPool (next : List ℕ) (cs : List Chain) (items : List (Option A)) (size : ℕ) : Type 0 where
+  pub record IsPool (next : List ℕ) (cs : List Chain) (items : List (Option A)) (size next_room item_room : ℕ) : Type 0 where
     pub linked : IsLinked next cs 0
     pub sized : length items ≡ length next
-    pub cells : length next ≡ size
+    pub cells : length next ≤ size
+    pub fits : size < 2 ^ 16
+    pub places_fit : size ≤ next_room
+    pub items_fit : size ≤ item_room
     pub chains : 0 < length cs
     pub filled : map length (lists_of items (chains_of next cs)) ≡ map length (drop 1 (chains_of next cs))

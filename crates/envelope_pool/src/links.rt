@@ -1,5 +1,5 @@
 //! Places in chains.
-ghost use Rattle.std.specs.Prelude.{◌≡◌, ℕ, ◌+◌, ◌-◌, ◌<◌, [], ◌∷◌, ◌++◌, drop, length, replicate, slice_index, slice_index_or, slice_set, sum_by, IfOk};
+ghost use Rattle.std.specs.Prelude.{◌≡◌, ◌+◌, ◌<◌, ◌≤◌, ◌^◌, [], ◌∷◌, ◌++◌, drop, length, replicate, slice_index, slice_index_or, slice_set, sum_by, vec_capacity, IfOk};
 ghost use Rattle.envelope_pool.specs.Chains.{IsLinked, chains_of, chain_at, no_chain, times};
 
 use std::alloc::{AllocError, Global};
@@ -20,16 +20,33 @@ pub(crate) struct Links {
 }
 
 impl Links {
-    /// All places in the first chain, in rising order, and so many chains of none beside it.
-    pub(crate) fn new(alloc: Global, places: u16, others: u16) -> Result<Links, AllocError>
-        ensures linked { IfOk result (λ l. IsLinked l.next.items l.chains.items 0) }
-        ensures places { IfOk result (λ l. length l.next.items ≡ places) }
-        ensures chains { IfOk result (λ l. length l.chains.items ≡ others + 1) }
-        ensures none { IfOk result (λ l. drop 1 (chains_of l.next.items l.chains.items) ≡ replicate others []) }
+    /// No place yet, room for so many, and so many chains of none.
+    pub(crate) fn new(alloc: Global, places: u16, chains: usize) -> Result<Links, AllocError>
+        ensures next { IfOk result (λ l. l.next.items ≡ []) }
+        ensures chains { IfOk result (λ l. l.chains.items ≡ replicate chains no_chain) }
+        ensures room { IfOk result (λ l. places ≤ vec_capacity l.next) }
     {
-        let next = in_a_row(alloc, places)?;
-        let chains = all_in_one(alloc, places, others)?;
+        let next = Vec::with_capacity(alloc, places as usize)?;
+        let chains = no_chains(alloc, chains)?;
         Ok(Links { next, chains })
+    }
+
+    /// A place more, which is in no chain yet; there is room for it.
+    pub(crate) fn make(&mut self) -> u16
+        requires linked { IsLinked self.old.next.items self.old.chains.items 0 }
+        requires few { length self.old.next.items + 1 < 2 ^ 16 }
+        requires room { length self.old.next.items < vec_capacity self.old.next }
+        ensures linked { IsLinked self.new.next.items self.new.chains.items 1 }
+        ensures place { result ≡ length self.old.next.items }
+        ensures next { length self.new.next.items ≡ length self.old.next.items + 1 }
+        ensures room { vec_capacity self.old.next ≤ vec_capacity self.new.next }
+        ensures chains { chains_of self.new.next.items self.new.chains.items ≡ chains_of self.old.next.items self.old.chains.items }
+        ensures length { length self.new.chains.items ≡ length self.old.chains.items }
+        ensures loose { sum_by (times result) (chains_of self.new.next.items self.new.chains.items) ≡ 0 }
+    {
+        let place = self.next.len() as u16;
+        push_within(&mut self.next, 0);
+        place
     }
 
     /// How many places a chain has.
@@ -47,6 +64,7 @@ impl Links {
         requires some { 0 < (chain_at self.old.chains.items k).len }
         ensures linked { IsLinked self.new.next.items self.new.chains.items 1 }
         ensures next { self.new.next.items ≡ self.old.next.items }
+        ensures room { vec_capacity self.new.next ≡ vec_capacity self.old.next }
         ensures place { slice_index_or (chains_of self.old.next.items self.old.chains.items) k [] ≡ result ∷ drop 1 (slice_index_or (chains_of self.old.next.items self.old.chains.items) k []) }
         ensures chains { chains_of self.new.next.items self.new.chains.items ≡ slice_set (chains_of self.old.next.items self.old.chains.items) k (drop 1 (slice_index_or (chains_of self.old.next.items self.old.chains.items) k [])) }
         ensures length { length self.new.chains.items ≡ length self.old.chains.items }
@@ -71,6 +89,7 @@ impl Links {
         requires within { place < length self.old.next.items }
         ensures linked { IsLinked self.new.next.items self.new.chains.items 0 }
         ensures next { length self.new.next.items ≡ length self.old.next.items }
+        ensures room { vec_capacity self.new.next ≡ vec_capacity self.old.next }
         ensures chains { chains_of self.new.next.items self.new.chains.items ≡ slice_set (chains_of self.old.next.items self.old.chains.items) k (slice_index_or (chains_of self.old.next.items self.old.chains.items) k [] ++ place ∷ []) }
         ensures length { length self.new.chains.items ≡ length self.old.chains.items }
     {
@@ -106,34 +125,29 @@ fn next_of(next: &Vec<u16>, place: u16) -> u16
     next[place as usize]
 }
 
-/// Places of which each is followed by the next number.
-fn in_a_row(alloc: Global, places: u16) -> Result<Vec<u16>, AllocError>
-    ensures length { IfOk result (λ v. length v.items ≡ places) }
-    ensures each { IfOk result (λ v. (i : ℕ) → i < places → slice_index v.items i ≡ i + 1) }
+/// So many chains of none.
+fn no_chains(alloc: Global, chains: usize) -> Result<Vec<Chain>, AllocError>
+    ensures { IfOk result (λ v. v.items ≡ replicate chains no_chain) }
 {
-    let mut next = Vec::new(alloc);
-    for i in 0..places {
-        next.push(i + 1)?;
-    }
-    Ok(next)
-}
-
-/// One chain of all places, and others of none.
-fn all_in_one(alloc: Global, places: u16, others: u16) -> Result<Vec<Chain>, AllocError>
-    ensures { IfOk result (λ v. v.items ≡ record { first = 0; last = places - 1; len = places } ∷ replicate others no_chain) }
-{
-    let mut chains = Vec::new(alloc);
-    chains.push(Chain {
-        first: 0,
-        last: places.saturating_sub(1),
-        len: places,
-    })?;
-    for _ in 0..others {
-        chains.push(Chain {
+    let mut none = Vec::with_capacity(alloc, chains)?;
+    for _ in 0..chains {
+        none.push(Chain {
             first: 0,
             last: 0,
             len: 0,
         })?;
     }
-    Ok(chains)
+    Ok(none)
+}
+
+/// One item more at the end, for which there is room.
+pub(crate) fn push_within<T: Copy>(items: &mut Vec<T>, item: T)
+    requires { length items.old.items < vec_capacity items.old }
+    ensures items { items.new.items ≡ items.old.items ++ item ∷ [] }
+    ensures room { vec_capacity items.old ≤ vec_capacity items.new }
+{
+    match items.push(item) {
+        Ok(()) => {}
+        Err(_) => unreachable!(),
+    }
 }

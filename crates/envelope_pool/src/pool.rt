@@ -2,7 +2,7 @@
 ghost use Rattle.std.specs.Prelude.{◌≡◌, ℕ, ◌+◌, ◌-◌, ◌<◌, ◌≤◌, ◌↔◌, [], ◌∷◌, ◌++◌, length, drop, replicate, slice_set, IfOk, IfErr, OnOk, OnErr, MatchOption};
 ghost use Rattle.envelope_pool.specs.Keyed.{list_of, held};
 
-use crate::links::Links;
+use crate::links::{Links, push_within};
 use std::alloc::{AllocError, Global};
 use std::marker::Model;
 
@@ -17,7 +17,7 @@ pub struct Full<T> {
 }
 
 /// Lists of items, one for each key, oldest first; all of them share the cells. Once it is made it
-/// takes no memory.
+/// takes no memory; a cell isn't touched before its first use.
 #[derive(Drop)]
 pub struct Pool<T> {
     links: Links,
@@ -29,6 +29,7 @@ impl<T> Model for Pool<T> {
     ghost use Rattle.envelope_pool.specs.Keyed.{Keyed, keyed, keyed_code};
     ghost use Rattle.envelope_pool.specs.Chains.{chains_of};
     ghost use Rattle.envelope_pool.specs.Cells.{IsPool, lists_of};
+    ghost use Rattle.std.specs.Prelude.{vec_capacity};
 
     ghost Value = { Keyed T };
 
@@ -36,7 +37,7 @@ impl<T> Model for Pool<T> {
 
     ghost view = { λ p. keyed (lists_of p.items.items (chains_of p.links.next.items p.links.chains.items)) p.cells };
 
-    ghost invariant = { λ p. IsPool p.links.next.items p.links.chains.items p.items.items p.cells };
+    ghost invariant = { λ p. IsPool p.links.next.items p.links.chains.items p.items.items p.cells (vec_capacity p.links.next) (vec_capacity p.items) };
 }
 
 impl<T: Copy> Pool<T> {
@@ -46,8 +47,8 @@ impl<T: Copy> Pool<T> {
         ensures keys { IfOk result (λ pool. length pool.lists ≡ keys) }
         ensures cells { IfOk result (λ pool. pool.cells ≡ cells) }
     {
-        let links = Links::new(alloc, cells, keys)?;
-        let items = no_items(alloc, cells)?;
+        let links = Links::new(alloc, cells, keys as usize + 1)?;
+        let items = Vec::with_capacity(alloc, cells as usize)?;
         Ok(Pool {
             links,
             items,
@@ -67,12 +68,19 @@ impl<T: Copy> Pool<T> {
         ensures item { IfErr result (λ full. full.item ≡ item) }
         ensures err { OnErr result (self.new ≡ self.old) }
     {
-        if self.links.len(FREE) == 0 {
+        let own = key as usize + 1;
+        if self.links.len(FREE) > 0 {
+            let place = self.links.take_first(FREE);
+            self.items[place as usize] = Some(item);
+            self.links.put_last(own, place);
+            return Ok(());
+        }
+        if self.items.len() >= self.cells as usize {
             return Err(Full { item });
         }
-        let place = self.links.take_first(FREE);
-        self.items[place as usize] = Some(item);
-        self.links.put_last(key as usize + 1, place);
+        let place = self.links.make();
+        push_within(&mut self.items, Some(item));
+        self.links.put_last(own, place);
         Ok(())
     }
 
@@ -106,17 +114,6 @@ impl<T: Copy> Pool<T> {
         ensures count { result ≡ held self.now }
         ensures within { result ≤ self.now.cells }
     {
-        self.cells - self.links.len(FREE)
+        self.items.len() as u16 - self.links.len(FREE)
     }
-}
-
-/// So many cells with nothing in them.
-fn no_items<T: Copy>(alloc: Global, cells: u16) -> Result<Vec<Option<T>>, AllocError>
-    ensures { IfOk result (λ v. length v.items ≡ cells) }
-{
-    let mut items = Vec::new(alloc);
-    for _ in 0..cells {
-        items.push(None)?;
-    }
-    Ok(items)
 }

@@ -17,6 +17,9 @@ invariant_of-self g c = record {
   linked = c.put_last.ensures.linked;
   sized = omega (arith, c.self.invariant.sized, c.put_last.ensures.next, ap length c.take_first-place.ensures.next);
   cells = omega (arith, c.self.invariant.cells, c.put_last.ensures.next, ap length c.take_first-place.ensures.next);
+  fits = c.self.invariant.fits;
+  places_fit = omega (arith, c.self.invariant.places_fit, c.take_first-place.ensures.room, c.put_last.ensures.room);
+  items_fit = c.self.invariant.items_fit;
   chains = omega (arith, c.put_last.ensures.length, c.take_first-place.ensures.length, c.self.invariant.chains);
   filled = popped_filled c.self.inside.items.items (chains_of c.self.inside.links.next.items c.self.inside.links.chains.items) (chains_of c.take_first-place.new.self.next.items c.take_first-place.new.self.chains.items) (chains_of c.put_last.new.self.next.items c.put_last.new.self.chains.items) c.args.key c.take_first-place.result c.take_first-place.ensures.place c.take_first-place.ensures.chains c.put_last.ensures.chains c.self.invariant.filled;
 }

@@ -68,8 +68,11 @@ by_gives : (m : Message) (st : Region) (o : Option Incarnation) → Gives 2 (rou
 by_gives m st None = both_give 1 1 (keep m st) (ask (shard_of st.set m.entity) st) (keep_gives m st) (ask_gives (shard_of st.set m.entity) st)
 by_gives m st (Some h) = if_gives 2 (keep m st) (post st.who h (body.Sequenced m) ∷ []) (more 1 2 (keep m st) (omega arith) (keep_gives m st)) (omega arith) (is_same h st.who)
 
+pub away_room : (m : Message) (st : Region) → Gives 2 (route_away m st)
+away_room m st = by_gives m st (home st (shard_of st.set m.entity))
+
 pub route_room : (m : Message) (running : Bool) (st : Region) → Gives 2 (routed m running st)
-route_room m running st = if_gives 2 [] (route_away m st) (omega arith) (by_gives m st (home st (shard_of st.set m.entity))) (is_local m running st)
+route_room m running st = if_gives 2 [] (route_away m st) (omega arith) (away_room m st) (is_local m running st)
 
 pub tick_room : (st : Region) → Gives (st.set.config.shards + 2) (tick_region st)
 tick_room st =

@@ -6,7 +6,7 @@ ghost use Rattle.yard_model.specs.declared.incarnation.Incarnation.{Incarnation}
 ghost use Rattle.yard_model.specs.declared.packet.Body.{Body};
 ghost use Rattle.yard_model.specs.declared.packet.Message.{Message};
 ghost use Rattle.yard_model.specs.Move.{Move, item_of};
-ghost use Rattle.yard_model.specs.Region.{Region, region_after, register, leave, tick_region};
+ghost use Rattle.yard_model.specs.Region.{Region, region_after, register, leave, route_away, tick_region};
 ghost use Rattle.region_actor.specs.Handled.{handled, routed};
 
 /// No move changes whose region it is, nor the setting.
@@ -32,6 +32,12 @@ pub fn leave_room()
 #[tactic(auto, using(crate::proofs::RoomLaws::route_room))]
 pub fn route_room()
     ensures { (m : Message) (running : Bool) (st : Region) → length (flat_map item_of (routed m running st)) ≤ 2 }
+{}
+
+/// Routing a message that isn't delivered here gives at most two items.
+#[tactic(auto, using(crate::proofs::RoomLaws::away_room))]
+pub fn away_room()
+    ensures { (m : Message) (st : Region) → length (flat_map item_of (route_away m st)) ≤ 2 }
 {}
 
 /// The timer gives at most two items and one for each shard.

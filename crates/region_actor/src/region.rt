@@ -380,6 +380,19 @@ impl Region {
         self.kept.release_one(s)
     }
 
+    /// A message is posted; what the region knows stays.
+    pub(crate) fn post_message(&self, to: &Incarnation, message: &Message, out: &mut Out)
+        requires room { 0 < out.old.spare }
+        ensures items { out.new.items ≡ out.old.items ++ item.Post (record { from = self.now.state.who; to = to.now; body = body.Sequenced message.now }) ∷ [] }
+        ensures spare { out.new.spare + 1 ≡ out.old.spare }
+    {
+        out.push(Item::Post(Packet {
+            from: self.who,
+            to: *to,
+            body: Body::Sequenced(*message),
+        }));
+    }
+
     /// A packet is posted; what the region knows stays.
     pub(crate) fn post(&self, to: &Incarnation, body: &Body, out: &mut Out)
         requires room { 0 < out.old.spare }

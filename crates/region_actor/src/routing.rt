@@ -37,8 +37,10 @@ impl Region {
         Route::Gone
     }
 
-    /// Routes a message of this shard that isn't delivered here.
-    fn route_away(&mut self, s: ShardNo, message: &Message, out: &mut Out)
+    /// Routes a message of this shard that isn't delivered here: it is sent to the shard's home where
+    /// that is another node, and is kept where not, or dropped where the buffer is full; and the oldest
+    /// member is asked for a home that isn't known, once.
+    pub fn route_away(&mut self, s: ShardNo, message: &Message, out: &mut Out)
         requires shard { s ≡ shard_of self.old.state.set message.now.entity }
         requires range { s < self.old.script.config.shards }
         requires genuine { IsTrue (is_genuine self.old.script message.now) }
@@ -54,7 +56,7 @@ impl Region {
                 if *home == self.who() {
                     self.keep(s, message, out);
                 } else {
-                    self.post(home, &Body::Sequenced(*message), out);
+                    self.post_message(home, message, out);
                 }
             }
             None => {

@@ -95,6 +95,13 @@ message_is {c} {who} {names} {items} {tables} {pending} {v} {x} {i} {o} {m} k se
     both None = refl
     both (Some k) = refl
 
+-- where nothing is to be routed, nothing changes
+pub none_after : {c : Script} {who : Incarnation} {v : Producing} (items : List (Option Produced)) (pending : Option Pending) → producing c who items pending ≡ v → pending ≡ None → producing c who items pending ≡ after_message v
+none_after {c} {who} {v} items pending seen none = subst (λ (x : Producing). producing c who items pending ≡ after_message x) seen (subst (λ y. producing c who items y ≡ after_message (producing c who items y)) (sym none) refl)
+
+pub none_message : {c : Script} {who : Incarnation} {v : Producing} (items : List (Option Produced)) (pending : Option Pending) → producing c who items pending ≡ v → pending ≡ None → None ≡ next_message v
+none_message {c} {who} {v} items pending seen none = subst (λ (x : Producing). None ≡ next_message x) seen (subst (λ y. None ≡ next_message (producing c who items y)) (sym none) refl)
+
 -- What is queued next.
 
 pub next_is : (p : ℕ) {c : Script} {who : Incarnation} {names : List (List ℕ)} {items : List (Option Produced)} {tables : List (Option (List Pair))} {pending : Option Pending} {v : Producing} {i : ℕ} {o : Option Produced}

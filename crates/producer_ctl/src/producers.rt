@@ -313,7 +313,7 @@ impl Producers {
         ensures state { self.new ≡ after_message self.old }
         ensures message { result ≡ next_message self.old }
     {
-        match self.pending {
+        match &mut self.pending {
             Some(pending) => {
                 if pending.sends.after >= pending.sends.last {
                     return None;
@@ -321,14 +321,7 @@ impl Producers {
                 let number = pending.sends.after + 1;
                 let place = place_of(pending.producer);
                 let message = message_in(&self.held[place], &pending.place, number);
-                self.pending = Some(Pending {
-                    producer: pending.producer,
-                    place: pending.place,
-                    sends: Sends {
-                        after: number,
-                        last: pending.sends.last,
-                    },
-                });
+                pending.sends.after = number;
                 Some(message)
             }
             None => None,

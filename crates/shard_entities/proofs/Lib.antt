@@ -19,3 +19,4 @@ mod FreedLaws
 mod RoomLaws
 mod ReadyLaws
 mod RestlessLaws
+mod StashLaws

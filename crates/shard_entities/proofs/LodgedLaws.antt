@@ -1,5 +1,5 @@
 -- What a move makes of a node's entities, and that they stand after it.
-use Rattle.std.proofs.Common.{◌≡◌, ◌≢◌, ℕ, ◌<◌, List, [], ◌∷◌, length, map, sym, ap, subst, ◌∙◌, refl, true, false, arith, get_or-set_same, get_or-set_other}
+use Rattle.std.proofs.Common.{◌≡◌, ◌≢◌, ℕ, ◌-◌, ◌<◌, ◌≤◌, List, [], ◌∷◌, length, map, sym, ap, subst, ◌∙◌, refl, true, false, arith, get_or-set_same, get_or-set_other}
 use Rattle.std.specs.Prelude.{Bool, ◌==◌, ◌&&◌, Option, None, Some, IfSome, slice_set, slice_index_or}
 use Rattle.std.specs.Option.{option_map}
 use Rattle.std.specs.List.{list_all}
@@ -11,18 +11,19 @@ use Rattle.yard_model.specs.declared.input.Phase.{Phase}
 use Rattle.yard_model.specs.declared.input.Phase.TheVariants as phase
 use Rattle.yard_model.specs.declared.packet.Message.{Message}
 use Rattle.yard_model.specs.declared.state.State.{State}
-use Rattle.yard_model.specs.Behaviour.{folded, is_valid}
+use Rattle.yard_model.specs.Behaviour.{folded, is_in, is_valid}
 use Rattle.yard_model.specs.SlotReads.{journal}
 use Rattle.yard_model.specs.Entities.{entries, entries_in, Hosted, Cell, cell, cell_in, cell_after, new_cell, entity_of, hosted_step, phase_step, stash_step, reach_step, entities_after, cells_by, cells_step}
 use Rattle.yard_model.specs.declared.fact.Fact.TheVariants as fact
 use Rattle.yard_model.specs.Move.{Move, told}
 use Rattle.std.proofs.lemmas.List.Folds.{list_all-append}
-use Rattle.yard_model.specs.Script.{Script, Setting, setting}
+use Rattle.yard_model.specs.Script.{Script, IsScript, Setting, setting}
 use Rattle.yard_model.specs.Setting.{place}
 use Rattle.yard_model.specs.Words.{at}
-use Rattle.plain_laws.proofs.Booleans.{both}
+use Rattle.consumer_ctl.specs.Held.{Held}
+use Rattle.plain_laws.proofs.Booleans.{and_both, both}
 use Rattle.shard_store.specs.Shelved.{name_at}
-use Rattle.shard_entities.specs.Celled.{Celled, celled_after}
+use Rattle.shard_entities.specs.Celled.{Celled, celled, celled_after, celled_at}
 use Rattle.shard_entities.specs.Placed.{IsPlace}
 use Rattle.shard_entities.specs.declared.place.Place.{Place}
 use Rattle.shard_entities.specs.declared.hosting.Hosting.{Hosting}
@@ -60,6 +61,42 @@ cell_is {c} {version} {who} {config} {places} {cells} {items} {running} {v} {p} 
     let kept : slice_index_or cells p.at (new_celled c) ≡ was = get_or_default cells p.at (new_celled c) was (within t seen is) ∙ sym read in
     subst (λ s. IsCell c p.entity (at items s) was) (sym here.shard_is)
     (subst (λ e. IsCell c e (host_of c items e) was) here.here.it (subst (IsCell c (name_at (setting c).names p.at) (host_of c items (name_at (setting c).names p.at))) kept (t.each p.at here.here.within)))
+
+-- what is read at a place is there, whatever would be read past the end
+pub cell_read : {c : Script} {version : ℕ} {who : Incarnation} {config : Config} {places : Script} {cells : List Celled} {items : List (Option Hosting)} {running : ℕ} {v : Lodged} {p : Place} → IsLodged c version who config places cells items running → lodged c version who items cells ≡ v → IsPlace v.script p → celled_at cells p.at ≡ slice_index_or cells p.at (celled_at cells p.at)
+cell_read {c} {version} {who} {config} {places} {cells} {items} {running} {v} {p} t seen is = get_or_default cells p.at (celled 0 0) (celled_at cells p.at) (within t seen is)
+
+pub window_is : {c : Script} {version : ℕ} {who : Incarnation} {config : Config} {places : Script} {cells : List Celled} {items : List (Option Hosting)} {running : ℕ} {v : Lodged} {p : Place} → IsLodged c version who config places cells items running → lodged c version who items cells ≡ v → IsPlace v.script p → (celled_at cells p.at).window ≡ v.script.config.window
+window_is {c} {version} {who} {config} {places} {cells} {items} {running} {v} {p} t seen is = (cell_is t seen is (cell_read t seen is)).window_is ∙ ap (λ (v : Lodged). v.script.config.window) seen
+
+-- a script has producers
+producers_some : (c : Script) → IsScript c → 0 < c.config.producers
+producers_some c k =
+    let a : _ × _ = and_both _ (is_in 1 10 c.config.keep) k.config in
+    let b : _ × _ = and_both _ (is_in 1 10000 c.config.snapshot) a.0 in
+    let d : _ × _ = and_both _ (is_in 1 64 c.config.window) b.0 in
+    let e : _ × _ = and_both _ (is_in 1 1000 c.config.buffer) d.0 in
+    at_least c.config.producers (and_both _ (is_in 1 32 c.config.producers) e.0).1
+  where
+    at_least : (n : ℕ) → is_in 1 32 n ≡ true → 0 < n
+    at_least n h = grind (arith, nat_tests)
+
+pub reach_inside : (q : ℕ) {c : Script} {version : ℕ} {who : Incarnation} {config : Config} {places : Script} {cells : List Celled} {items : List (Option Hosting)} {running : ℕ} {v : Lodged} {p : Place} → IsLodged c version who config places cells items running → lodged c version who items cells ≡ v → IsPlace v.script p → q ≤ v.script.config.producers → q - 1 < length (celled_at cells p.at).cell.reach
+reach_inside q {c} {version} {who} {config} {places} {cells} {items} {running} {v} {p} t seen is most =
+    let there : length (celled_at cells p.at).cell.reach ≡ c.config.producers = (cell_is t seen is (cell_read t seen is)).reach_there in
+    let same : c.config.producers ≡ v.script.config.producers = ap (λ (v : Lodged). v.script.config.producers) seen in
+    let some : 0 < c.config.producers = producers_some c t.script_is in
+    omega (arith, there, same, most, some)
+
+pub stash_inside : {c : Script} {version : ℕ} {who : Incarnation} {config : Config} {places : Script} {cells : List Celled} {items : List (Option Hosting)} {running : ℕ} {v : Lodged} {p : Place} → IsLodged c version who config places cells items running → lodged c version who items cells ≡ v → IsPlace v.script p → length (cell v.state p.entity).stash < v.script.config.window → length (celled_at cells p.at).cell.stash < (celled_at cells p.at).window
+stash_inside {c} {version} {who} {config} {places} {cells} {items} {running} {v} {p} t seen is some =
+    subst (λ n. length (celled_at cells p.at).cell.stash < n) (sym (window_is t seen is)) (subst (λ (x : Cell). length x.stash < v.script.config.window) (cell_at t seen is (cell_read t seen is)) some)
+
+abbrev held : List Message → ℕ → Held
+held messages window = record { messages = messages; window = window }
+
+pub pending_is : {c : Script} {version : ℕ} {who : Incarnation} {config : Config} {places : Script} {cells : List Celled} {items : List (Option Hosting)} {running : ℕ} {v : Lodged} {p : Place} → IsLodged c version who config places cells items running → lodged c version who items cells ≡ v → IsPlace v.script p → held (celled_at cells p.at).cell.stash (celled_at cells p.at).window ≡ held (cell v.state p.entity).stash v.script.config.window
+pending_is {c} {version} {who} {config} {places} {cells} {items} {running} {v} {p} t seen is = ap (λ n. held (celled_at cells p.at).cell.stash n) (window_is t seen is) ∙ ap (λ (x : Cell). held x.stash v.script.config.window) (sym (cell_at t seen is (cell_read t seen is)))
 
 abbrev StandsAt : Script → List (Option Hosting) → ℕ → Celled → Type 0
 StandsAt c items j x = IsCell c (name_at (setting c).names j) (host_of c items (name_at (setting c).names j)) x

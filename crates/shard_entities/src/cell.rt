@@ -1,28 +1,24 @@
 //! Where the entity of one name stands.
-ghost use Rattle.std.specs.Prelude.{◌≡◌, ℕ, ◌-◌, ◌<◌, ◌≤◌, List, [], ◌∷◌, ◌++◌, length, drop, replicate, slice_set, slice_index_or, IfOk, MatchOption, IsNone, IfSome, IfNone, ◌↔◌};
+ghost use Rattle.std.specs.Prelude.{◌≡◌, ℕ, ◌-◌, ◌<◌, List, length, slice_index_or, IfOk};
 ghost use Rattle.yard_model.specs.declared.fact.Fact.TheVariants as fact;
 ghost use Rattle.yard_model.specs.declared.packet.Body.TheVariants as body;
-ghost use Rattle.yard_model.specs.declared.packet.Message.{Message};
 ghost use Rattle.yard_model.specs.declared.incarnation.Incarnation.{Incarnation};
 ghost use Rattle.yard_model.specs.declared.input.Phase.TheVariants as phase;
 ghost use Rattle.yard_model.specs.declared.state.State.{State};
-ghost use Rattle.yard_model.specs.Entities.{is_phase};
 ghost use Rattle.yard_model.specs.Move.{told, post, passivates};
 ghost use Rattle.shard_entities.specs.Celled.{celled, celled_after};
 
-use consumer_ctl::Stash;
 use std::alloc::{AllocError, Global};
 use std::marker::{Model, PhantomData};
 use yard_model::{Command, Keep, Message, Phase, ProducerNo, State};
 
-/// Where the entity of one name stands: its phase, whether it passivates, what is stashed for it,
-/// whether its next write fails, and up to which number each producer was asked. Once it is made
-/// it takes no memory.
+/// Where the entity of one name stands: its phase, whether it passivates, whether its next write
+/// fails, and up to which number each producer was asked. What is stashed for it is kept elsewhere;
+/// it is seen with a stash of none. Once it is made it takes no memory.
 #[derive(Drop)]
 pub(crate) struct Cell {
     phase: Phase,
     passivating: bool,
-    stash: Stash,
     armed: Option<Keep>,
     reach: Vec<u32>,
     state: State,
@@ -30,29 +26,28 @@ pub(crate) struct Cell {
 }
 
 impl Model for Cell {
+    ghost use Rattle.std.specs.Prelude.{[]};
     ghost use Rattle.shard_entities.specs.Celled.{Celled};
 
     ghost Value = { Celled };
 
     ghost view = { λ c. record {
-      cell = record { phase = c.phase; passivating = c.passivating; stash = c.stash.messages; armed = c.armed; reach = c.reach.items };
+      cell = record { phase = c.phase; passivating = c.passivating; stash = []; armed = c.armed; reach = c.reach.items };
       state = c.state;
-      window = c.stash.window;
+      window = 0;
     } };
 }
 
 impl Cell {
-    /// Of an entity that wasn't started yet, with so many producers, and room for a window of
-    /// messages. The only error is want of memory.
-    pub(crate) fn new(alloc: Global, producers: u8, window: u8) -> Result<Cell, AllocError>
-        ensures { IfOk result (λ c. c ≡ celled producers window) }
+    /// Of an entity that wasn't started yet, with so many producers. The only error is want of
+    /// memory.
+    pub(crate) fn new(alloc: Global, producers: u8) -> Result<Cell, AllocError>
+        ensures { IfOk result (λ c. c ≡ celled producers 0) }
     {
-        let stash = Stash::new(alloc, window)?;
         let reach = vec![in alloc; 0u32; producers as usize]?;
         Ok(Cell {
             phase: Phase::Absent,
             passivating: false,
-            stash,
             armed: None,
             reach,
             state: State::NoAccount,
@@ -65,16 +60,6 @@ impl Cell {
         ensures { result ≡ self.now.cell.phase }
     {
         self.phase
-    }
-
-    /// Whether it takes commands.
-    pub(crate) fn is_active(&self) -> bool
-        ensures { result ≡ is_phase phase.Active self.now.cell.phase }
-    {
-        match self.phase {
-            Phase::Active => true,
-            _ => false,
-        }
     }
 
     /// Whether it asked for its stop.
@@ -107,14 +92,6 @@ impl Cell {
         self.state = *state;
     }
 
-    /// How many messages are stashed.
-    pub(crate) fn stashed(&self) -> usize
-        ensures count { result ≡ length self.now.cell.stash }
-        ensures fits { length self.now.cell.stash ≤ self.now.window }
-    {
-        self.stash.len()
-    }
-
     /// Up to which number a producer was asked.
     pub(crate) fn reach(&self, p: ProducerNo) -> u32
         requires { p - 1 < length self.now.cell.reach }
@@ -132,28 +109,23 @@ impl Cell {
         self.armed = None;
     }
 
-    /// It takes commands from now on, at this state; what was stashed goes into `pending`, which
-    /// gives an empty stash for it.
-    pub(crate) fn activate(&mut self, state: &State, pending: &mut Stash)
-        requires window { pending.old.window ≡ self.old.window }
-        requires empty { pending.old.messages ≡ [] }
-        ensures cell { (x : Incarnation) (e : List ℕ) (n : ℕ) (st : State) → self.new ≡ record (celled_after self.old (told (fact.Active x e n st))) { state = state.now } }
-        ensures pending { pending.new ≡ record { messages = self.old.cell.stash; window = self.old.window } }
+    /// It takes commands from now on, at this state.
+    pub(crate) fn activate(&mut self, state: &State)
+        ensures { (x : Incarnation) (e : List ℕ) (n : ℕ) (st : State) → self.new ≡ record (celled_after self.old (told (fact.Active x e n st))) { state = state.now } }
     {
-        std::mem::swap(&mut self.stash, pending);
         self.phase = Phase::Active;
         self.reach.fill(0);
         self.state = *state;
     }
 
-    /// It is stopped; what is stashed stays.
+    /// It is stopped.
     pub(crate) fn stop(&mut self)
         ensures { (x : Incarnation) (e : List ℕ) → self.new ≡ celled_after self.old (told (fact.Stop x e)) }
     {
         self.phase = Phase::Absent;
     }
 
-    /// Its write failed, and it is gone; what is stashed stays.
+    /// Its write failed, and it is gone.
     pub(crate) fn fail(&mut self)
         ensures { (x : Incarnation) (e : List ℕ) → self.new ≡ celled_after self.old (told (fact.WriteFailed x e)) }
     {
@@ -184,39 +156,15 @@ impl Cell {
         }
     }
 
-    /// A message is stashed, which there is room for.
-    pub(crate) fn put(&mut self, message: Message)
-        requires room { length self.old.cell.stash < self.old.window }
-        ensures { (x : Incarnation) → self.new ≡ celled_after self.old (told (fact.Stashed x message)) }
-    {
-        match self.stash.put(message) {
-            Ok(()) => {}
-            Err(_) => unreachable!(),
-        }
-    }
-
-    /// The oldest stashed message is taken out, while the entity doesn't exist; None exactly where
-    /// there is none.
-    pub(crate) fn pop(&mut self) -> Option<Message>
-        requires gone { self.old.cell.phase ≡ phase.Absent }
-        ensures empty { IsNone result ↔ (self.old.cell.stash ≡ []) }
-        ensures oldest { IfSome result (λ m. self.old.cell.stash ≡ m ∷ drop 1 self.old.cell.stash) }
-        ensures cell { IfSome result (λ m. (x : Incarnation) → self.new ≡ celled_after self.old (told (fact.Dropped x m))) }
-        ensures unchanged { IfNone result (self.new ≡ self.old) }
-    {
-        self.stash.pop()
-    }
-
     /// Nothing is known of its entity any more.
     pub(crate) fn clear(&mut self)
-        ensures { self.new ≡ celled (length self.old.cell.reach) self.old.window }
+        ensures { self.new ≡ celled (length self.old.cell.reach) 0 }
     {
         self.phase = Phase::Absent;
         self.passivating = false;
         self.armed = None;
         self.state = State::NoAccount;
         self.reach.fill(0);
-        self.stash.clear();
     }
 
     /// A producer was asked up to this number.

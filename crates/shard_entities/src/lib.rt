@@ -4,6 +4,7 @@
 #![tactic(auto)]
 
 mod cell;
+mod cells;
 mod counts;
 mod delivery;
 mod entities;

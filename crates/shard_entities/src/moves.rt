@@ -43,7 +43,7 @@ impl Shards {
         ensures state { self.new ≡ moved self.old (told (fact.Armed place.now.entity keep) ∷ []) }
         ensures out { out.new ≡ given out.old (told (fact.Armed place.now.entity keep) ∷ []) }
     {
-        self.cells[place.at].arm(keep);
+        self.cells.arm(place.at, keep);
         push(out, Item::Fact(Fact::Armed(place.entity, keep)));
     }
 
@@ -52,7 +52,7 @@ impl Shards {
         requires place { IsPlace self.old.script place.now }
         ensures { self.new ≡ moved self.old (passivates place.now.entity ∷ []) }
     {
-        self.cells[place.at].passivate();
+        self.cells.passivate(place.at);
     }
 
     /// It is told to stop.
@@ -62,8 +62,8 @@ impl Shards {
         ensures state { self.new ≡ moved self.old (post self.old.state.who self.old.state.who (body.StopEntity place.now.entity) ∷ []) }
         ensures out { out.new ≡ given out.old (post self.old.state.who self.old.state.who (body.StopEntity place.now.entity) ∷ []) }
     {
-        self.cells[place.at].ask_stop();
-        let now = self.cells[place.at].phase();
+        self.cells.ask_stop(place.at);
+        let now = self.cells.phase(place.at);
         note(&mut self.restless, place, now);
         push(
             out,
@@ -83,7 +83,7 @@ impl Shards {
         ensures out { out.new ≡ given out.old (told (fact.Start self.old.state.who place.now.entity) ∷ []) }
     {
         let was = self.exists(place);
-        self.cells[place.at].start();
+        self.cells.start(place.at);
         count_in(&mut self.existing[place.shard.get() as usize], was);
         note(&mut self.restless, place, Phase::Loading);
         push(out, Item::Fact(Fact::Start(self.who, place.entity)));
@@ -97,7 +97,7 @@ impl Shards {
         ensures out { out.new ≡ given out.old (told (fact.WriteFailed self.old.state.who place.now.entity) ∷ []) }
     {
         let was = self.exists(place);
-        self.cells[place.at].fail();
+        self.cells.fail(place.at);
         count_out(&mut self.existing[place.shard.get() as usize], was);
         note(&mut self.restless, place, Phase::Absent);
         push(out, Item::Fact(Fact::WriteFailed(self.who, place.entity)));
@@ -123,7 +123,7 @@ impl Shards {
         ensures pending { pending.new ≡ record { messages = (cell self.old.state place.now.entity).stash; window = self.old.script.config.window } }
     {
         let was = self.exists(place);
-        self.cells[place.at].activate(state, pending);
+        self.cells.activate(place.at, state, pending);
         count_in(&mut self.existing[place.shard.get() as usize], was);
         note(&mut self.restless, place, Phase::Active);
         push(
@@ -148,7 +148,7 @@ impl Shards {
         ensures state { self.new ≡ moved self.old (told (fact.Stashed self.old.state.who message.now) ∷ []) }
         ensures out { out.new ≡ given out.old (told (fact.Stashed self.old.state.who message.now) ∷ []) }
     {
-        self.cells[place.at].put(*message);
+        self.cells.put(place.at, *message);
         push(out, Item::Fact(Fact::Stashed(self.who, *message)));
     }
 
@@ -184,7 +184,7 @@ impl Shards {
         ensures state { self.new ≡ moved self.old (post self.old.state.who message.now.origin (body.Request message.now.producer message.now.entity confirmed up_to) ∷ []) }
         ensures out { out.new ≡ given out.old (post self.old.state.who message.now.origin (body.Request message.now.producer message.now.entity confirmed up_to) ∷ []) }
     {
-        self.cells[place.at].ask(message.producer, up_to);
+        self.cells.ask(place.at, message.producer, up_to);
         self.post(
             &message.origin,
             Body::Request {
@@ -209,7 +209,7 @@ impl Shards {
         ensures state { self.new ≡ moved self.old (told (fact.Wrote place.now.entity entry.now) ∷ []) }
         ensures out { out.new ≡ given out.old (told (fact.Wrote place.now.entity entry.now) ∷ []) }
     {
-        self.cells[place.at].set_state(state);
+        self.cells.set_state(place.at, state);
         let touched = self.touched.with(place.shard);
         self.touched = touched;
         write_record(&mut self.hosted[place.shard.get() as usize], place, entry);
@@ -227,7 +227,7 @@ impl Shards {
         ensures state { self.new ≡ moved self.old (told (fact.Snapshot place.now.entity number) ∷ []) }
         ensures out { out.new ≡ given out.old (told (fact.Snapshot place.now.entity number) ∷ []) }
     {
-        let state = self.cells[place.at].state();
+        let state = self.cells.state(place.at);
         let touched = self.touched.with(place.shard);
         self.touched = touched;
         write_snapshot(
@@ -247,7 +247,7 @@ impl Shards {
         ensures out { out.new ≡ given out.old (told (fact.Stop self.old.state.who place.now.entity) ∷ []) }
     {
         let was = self.exists(place);
-        self.cells[place.at].stop();
+        self.cells.stop(place.at);
         count_out(&mut self.existing[place.shard.get() as usize], was);
         note(&mut self.restless, place, Phase::Absent);
         push(out, Item::Fact(Fact::Stop(self.who, place.entity)));
@@ -261,7 +261,7 @@ impl Shards {
         ensures state { self.new ≡ moved self.old (map (λ m. told (fact.Dropped self.old.state.who m)) (take 1 (cell self.old.state place.now.entity).stash)) }
         ensures out { out.new ≡ given out.old (map (λ m. told (fact.Dropped self.old.state.who m)) (take 1 (cell self.old.state place.now.entity).stash)) }
     {
-        match self.cells[place.at].pop() {
+        match self.cells.pop(place.at) {
             Some(message) => push(out, Item::Fact(Fact::Dropped(self.who, message))),
             None => {}
         }

@@ -20,9 +20,8 @@ ghost use Rattle.shard_entities.specs.Roomy.{AreMore, AreReserved, room_wanted, 
 ghost use Rattle.shard_entities.specs.Ready.{IsReady, AreReady};
 ghost use Rattle.shard_entities.specs.Settled.{IsSettled};
 ghost use Rattle.shard_entities.specs.Placed.{IsPlace};
-ghost use Rattle.shard_entities.specs.Celled.{celled};
 
-use crate::cell::Cell;
+use crate::cells::Cells;
 use crate::counts::count_out;
 use crate::hosting::{Ending, Hosting, reserve_in};
 use crate::place::Place;
@@ -48,7 +47,7 @@ pub(crate) struct Shards {
     pub(crate) version: u8,
     pub(crate) config: Config,
     pub(crate) places: Places,
-    pub(crate) cells: Vec<Cell>,
+    pub(crate) cells: Cells,
     pub(crate) hosted: Vec<Option<Hosting>>,
     pub(crate) running: ShardSet,
     pub(crate) existing: Vec<u32>,
@@ -86,12 +85,12 @@ impl Model for Shards {
         set = setting e.script.value;
         version = e.version;
         hosted = map (option_map hosted_of) e.hosted.items;
-        cells = map cell_of e.cells.items;
+        cells = map cell_of e.cells;
       };
       rooms = map room_of e.hosted.items;
     } };
 
-    ghost invariant = { λ e. IsWhole e.script.value e.version e.who e.config e.places e.cells.items e.hosted.items e.running e.existing.items e.touched e.restless.items };
+    ghost invariant = { λ e. IsWhole e.script.value e.version e.who e.config e.places e.cells e.hosted.items e.running e.existing.items e.touched e.restless.items };
 }
 
 impl Shards {
@@ -109,7 +108,7 @@ impl Shards {
         let config = *charter.config();
         let count = charter.names().len();
         let places = Places::new(alloc, charter)?;
-        let cells = new_cells(alloc, count, config.producers, config.window)?;
+        let cells = Cells::new(alloc, count, config.producers, config.window)?;
         let hosted = none_hosted(alloc, config.shards)?;
         let existing = none_counted(alloc, config.shards)?;
         let restless = none_restless(alloc, &places, config.shards)?;
@@ -210,7 +209,7 @@ impl Shards {
         ensures { self.new ≡ cleared self.old (place.now.entity ∷ []) }
     {
         let was = self.exists(place);
-        self.cells[place.at].clear();
+        self.cells.clear(place.at);
         count_out(&mut self.existing[place.shard.get() as usize], was);
         note(&mut self.restless, place, Phase::Absent);
     }
@@ -243,7 +242,7 @@ impl Shards {
         requires place { IsPlace self.now.script place.now }
         ensures { result ≡ (cell self.now.state place.now.entity).phase }
     {
-        self.cells[place.at].phase()
+        self.cells.phase(place.at)
     }
 
     /// Whether it was started and hasn't stopped.
@@ -281,7 +280,7 @@ impl Shards {
         requires place { IsPlace self.now.script place.now }
         ensures { result ≡ (cell self.now.state place.now.entity).passivating }
     {
-        self.cells[place.at].is_passivating()
+        self.cells.is_passivating(place.at)
     }
 
     /// Whether it is remembered.
@@ -310,7 +309,7 @@ impl Shards {
         ensures few { result ≤ self.now.script.config.window }
         ensures own { list_all (is_for self.now.script place.now.entity) (cell self.now.state place.now.entity).stash ≡ true }
     {
-        self.cells[place.at].stashed()
+        self.cells.stashed(place.at)
     }
 
     /// Whether entities are remembered.
@@ -353,7 +352,7 @@ impl Shards {
         requires place { IsPlace self.now.script place.now }
         ensures { result ≡ nat_lt (length (cell self.now.state place.now.entity).stash) self.now.script.config.window }
     {
-        self.cells[place.at].stashed() < self.config.window as usize
+        self.cells.stashed(place.at) < self.config.window as usize
     }
 
     /// How its next write fails; None exactly where it isn't to fail.
@@ -361,7 +360,7 @@ impl Shards {
         requires place { IsPlace self.now.script place.now }
         ensures { result ≡ (cell self.now.state place.now.entity).armed }
     {
-        self.cells[place.at].armed()
+        self.cells.armed(place.at)
     }
 
     /// Up to which number a producer was asked.
@@ -370,7 +369,7 @@ impl Shards {
         requires producer { p ≤ self.now.script.config.producers }
         ensures { result ≡ slice_index_or (cell self.now.state place.now.entity).reach (p - 1) 0 }
     {
-        self.cells[place.at].reach(p)
+        self.cells.reach(place.at, p)
     }
 
     /// What its journal leads to, of one that takes commands.
@@ -382,7 +381,7 @@ impl Shards {
         ensures value { result ≡ folded self.now.script.config.kind (journal place.now.entity (entries self.now.state place.now.entity)) }
         ensures valid { IsTrue (is_valid self.now.script.config.kind result) }
     {
-        self.cells[place.at].state()
+        self.cells.state(place.at)
     }
 
     /// Of how many records a snapshot is due.
@@ -399,22 +398,6 @@ impl Shards {
     {
         self.config.window
     }
-}
-
-/// So many cells of entities that weren't started yet.
-fn new_cells(
-    alloc: Global,
-    count: usize,
-    producers: u8,
-    window: u8,
-) -> Result<Vec<Cell>, AllocError>
-    ensures { IfOk result (λ v. v.items ≡ replicate count (celled producers window)) }
-{
-    let mut cells = Vec::new(alloc);
-    for _ in 0..count {
-        cells.push(Cell::new(alloc, producers, window)?)?;
-    }
-    Ok(cells)
 }
 
 /// No shard is hosted.

@@ -1,17 +1,20 @@
-use Rattle.std.proofs.Common.{ap}
-use Rattle.shard_entities.proofs.CountLaws.{gone, stays}
-use Rattle.shard_entities.proofs.LodgedLaws.{cell_moved, stands}
+use Rattle.std.proofs.Common.{refl}
+use Rattle.yard_model.specs.declared.fact.Fact.TheVariants as fact
+use Rattle.yard_model.specs.Move.{told}
+use Rattle.shard_entities.specs.Celled.{celled_at, celled_after}
+use Rattle.shard_entities.proofs.CountLaws.{stays}
+use Rattle.shard_entities.proofs.LodgedLaws.{cell_read, cell_moved, stands}
 use Rattle.shard_entities.proofs.MoveLaws.{of_arm, keeps_arm}
-use Rattle.shard_entities.proofs.RestlessLaws.{rests, rests_on}
+use Rattle.shard_entities.proofs.RestlessLaws.{rests_on}
 use Rattle.shard_entities.proofs.shards.Shards.arm.Goals as goal
 
 pub invariant_of-self : goal.invariant_of-self
-invariant_of-self c = record {
-  kept = stays _ c.self.invariant.kept c.self.view_is c.requires.place c.index_mut.ensures.value (ap gone (c.arm.ensures c.args.place.now.entity))
-      (stands (keeps_arm c.args.place.now.entity c.args.keep) c.self.invariant.kept.lodged c.self.view_is c.requires.place c.index_mut.ensures.value (c.arm.ensures c.args.place.now.entity));
+invariant_of-self c = rw (c.arm.ensures c.args.place.now.entity) (record {
+  kept = stays (celled_after (celled_at c.self.inside.cells c.args.place.now.at) (told (fact.Armed c.args.place.now.entity c.args.keep))) c.self.invariant.kept c.self.view_is c.requires.place (cell_read c.self.invariant.kept.lodged c.self.view_is c.requires.place) refl
+      (stands (keeps_arm c.args.place.now.entity c.args.keep) c.self.invariant.kept.lodged c.self.view_is c.requires.place (cell_read c.self.invariant.kept.lodged c.self.view_is c.requires.place) refl);
   ready = c.self.invariant.ready;
-  restless = rests_on _ c.self.invariant.kept.lodged c.self.view_is c.requires.place c.index_mut.ensures.value (ap rests (c.arm.ensures c.args.place.now.entity)) c.self.invariant.restless;
-}
+  restless = rests_on (celled_after (celled_at c.self.inside.cells c.args.place.now.at) (told (fact.Armed c.args.place.now.entity c.args.keep))) c.self.invariant.kept.lodged c.self.view_is c.requires.place (cell_read c.self.invariant.kept.lodged c.self.view_is c.requires.place) refl c.self.invariant.restless;
+})
 
 pub returns-clause-state : goal.returns-clause-state
-returns-clause-state c = cell_moved (of_arm c.args.place.now.entity c.args.keep) c.self.invariant.kept.lodged c.self.view_is c.requires.place c.index_mut.ensures.value (c.arm.ensures c.args.place.now.entity)
+returns-clause-state c = rw (c.arm.ensures c.args.place.now.entity) (cell_moved (of_arm c.args.place.now.entity c.args.keep) c.self.invariant.kept.lodged c.self.view_is c.requires.place (cell_read c.self.invariant.kept.lodged c.self.view_is c.requires.place) refl)

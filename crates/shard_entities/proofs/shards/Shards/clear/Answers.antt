@@ -1,11 +1,13 @@
-use Rattle.std.proofs.Common.{ap}
-use Rattle.shard_entities.proofs.CountLaws.{count_some, goes, gone}
+use Rattle.std.proofs.Common.{refl, length}
+use Rattle.shard_entities.specs.Celled.{celled_at, celled}
+use Rattle.shard_entities.proofs.CountLaws.{count_some, goes}
 use Rattle.shard_entities.proofs.DropLaws.{cleared_stands, cleared_moved}
-use Rattle.shard_entities.proofs.RestlessLaws.{goes_on, rests, shard_there, place_there}
+use Rattle.shard_entities.proofs.RestlessLaws.{goes_on, shard_there, place_there}
+use Rattle.shard_entities.proofs.LodgedLaws.{cell_read}
 use Rattle.shard_entities.proofs.shards.Shards.clear.Goals as goal
 
 pub count_out-requires : goal.count_out-requires
-count_out-requires c = count_some c.self.invariant.kept c.self.view_is c.requires.place c.exists-was.ensures c.get.ensures.value c.index_mut-2.ensures.value
+count_out-requires c = count_some c.self.invariant.kept c.self.view_is c.requires.place c.exists-was.ensures c.get.ensures.value c.index_mut.ensures.value
 
 pub note-requires-clause-shard : goal.note-requires-clause-shard
 note-requires-clause-shard c = shard_there c.self.invariant.kept.lodged c.self.view_is c.requires.place c.self.invariant.restless
@@ -14,12 +16,12 @@ pub note-requires-clause-inner : goal.note-requires-clause-inner
 note-requires-clause-inner c = place_there c.self.invariant.kept.lodged c.self.view_is c.requires.place c.self.invariant.restless
 
 pub invariant_of-self : goal.invariant_of-self
-invariant_of-self c = record {
-  kept = goes _ c.self.invariant.kept c.self.view_is c.requires.place (ap gone (c.clear.ensures)) c.exists-was.ensures c.get.ensures.value c.index_mut-2.ensures.value c.count_out.ensures
-      (cleared_stands c.self.invariant.kept.lodged c.self.view_is c.requires.place c.index_mut.ensures.value c.clear.ensures);
+invariant_of-self c = rw (c.clear.ensures) (record {
+  kept = goes (celled (length (celled_at c.self.inside.cells c.args.place.now.at).cell.reach) (celled_at c.self.inside.cells c.args.place.now.at).window) c.self.invariant.kept c.self.view_is c.requires.place refl c.exists-was.ensures c.get.ensures.value c.index_mut.ensures.value c.count_out.ensures
+      (cleared_stands c.self.invariant.kept.lodged c.self.view_is c.requires.place (cell_read c.self.invariant.kept.lodged c.self.view_is c.requires.place) refl);
   ready = c.self.invariant.ready;
-  restless = goes_on _ c.self.invariant.kept.lodged c.self.view_is c.requires.place (ap rests c.clear.ensures) c.note.ensures c.self.invariant.restless;
-}
+  restless = goes_on (celled (length (celled_at c.self.inside.cells c.args.place.now.at).cell.reach) (celled_at c.self.inside.cells c.args.place.now.at).window) c.self.invariant.kept.lodged c.self.view_is c.requires.place refl c.note.ensures c.self.invariant.restless;
+})
 
 pub returns : goal.returns
-returns c = cleared_moved c.self.invariant.kept.lodged c.self.view_is c.requires.place c.index_mut.ensures.value c.clear.ensures
+returns c = rw (c.clear.ensures) (cleared_moved c.self.invariant.kept.lodged c.self.view_is c.requires.place (cell_read c.self.invariant.kept.lodged c.self.view_is c.requires.place) refl)

@@ -11,7 +11,7 @@ invariant_of-self c = record {
     lodged = hosted_stands (record { store = c.args.store; stopping = None }) c.self.invariant.kept.lodged c.self.view_is c.requires.shard c.get.ensures.value c.requires.new c.requires.settled c.requires.script c.requires.its c.requires.leased refl c.with-running.ensures.it (λ t lt other. c.with-running.ensures.others t other);
     counted = c.self.invariant.kept.counted;
   };
-  ready = touches (Some (record { store = c.args.store; stopping = None })) c.self.invariant.ready (shard_below c.self.inside.cells.items c.self.inside.hosted.items c.self.view_is c.requires.shard) c.get.ensures.value c.with-touched.ensures.it (λ t other. c.with-touched.ensures.others t other);
+  ready = touches (Some (record { store = c.args.store; stopping = None })) c.self.invariant.ready (shard_below c.self.inside.cells c.self.inside.hosted.items c.self.view_is c.requires.shard) c.get.ensures.value c.with-touched.ensures.it (λ t other. c.with-touched.ensures.others t other);
   restless = c.self.invariant.restless;
 }
 

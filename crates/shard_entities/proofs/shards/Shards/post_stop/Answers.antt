@@ -1,10 +1,16 @@
-use Rattle.std.proofs.Common.{ap, sym, ◌∙◌}
+use Rattle.std.proofs.Common.{◌<◌, refl, subst, length-set, ap, sym, ◌∙◌, get_or-set_same}
+use Rattle.yard_model.specs.declared.packet.Body.TheVariants as body
+use Rattle.yard_model.specs.Move.{post}
+use Rattle.shard_entities.specs.Celled.{celled_at, celled_after, celled}
 use Rattle.shard_entities.specs.Restless.{is_restless}
 use Rattle.shard_entities.proofs.CountLaws.{stays, stop_leaves}
-use Rattle.shard_entities.proofs.LodgedLaws.{cell_moved, stands, within}
+use Rattle.shard_entities.proofs.LodgedLaws.{cell_read, cell_moved, stands, within}
 use Rattle.shard_entities.proofs.MoveLaws.{of_stop_posted, keeps_stop_posted}
-use Rattle.shard_entities.proofs.RestlessLaws.{goes_on, put_read, rests, shard_there, place_there}
+use Rattle.shard_entities.proofs.RestlessLaws.{goes_on, rests, shard_there, place_there}
 use Rattle.shard_entities.proofs.shards.Shards.post_stop.Goals as goal
+
+pub phase-now-requires : goal.phase-now-requires
+phase-now-requires c = rw (c.ask_stop.ensures c.args.self.now.state.who c.args.self.now.state.who c.args.place.now.entity) (subst (λ n. c.args.place.now.at < n) (sym (length-set c.self.inside.cells c.args.place.now.at (celled_after (celled_at c.self.inside.cells c.args.place.now.at) (post c.args.self.now.state.who c.args.self.now.state.who (body.StopEntity c.args.place.now.entity))))) (within c.self.invariant.kept.lodged c.self.view_is c.requires.place))
 
 pub note-requires-clause-shard : goal.note-requires-clause-shard
 note-requires-clause-shard c = shard_there c.self.invariant.kept.lodged c.self.view_is c.requires.place c.self.invariant.restless
@@ -13,12 +19,12 @@ pub note-requires-clause-inner : goal.note-requires-clause-inner
 note-requires-clause-inner c = place_there c.self.invariant.kept.lodged c.self.view_is c.requires.place c.self.invariant.restless
 
 pub invariant_of-self : goal.invariant_of-self
-invariant_of-self c = record {
-  kept = stays _ c.self.invariant.kept c.self.view_is c.requires.place c.index_mut.ensures.value (stop_leaves c.args.self.now.state.who c.args.self.now.state.who c.args.place.now.entity _ (c.ask_stop.ensures c.args.self.now.state.who c.args.self.now.state.who c.args.place.now.entity))
-      (stands (keeps_stop_posted c.args.self.now.state.who c.args.self.now.state.who c.args.place.now.entity) c.self.invariant.kept.lodged c.self.view_is c.requires.place c.index_mut.ensures.value (c.ask_stop.ensures c.args.self.now.state.who c.args.self.now.state.who c.args.place.now.entity));
+invariant_of-self c = rw (c.ask_stop.ensures c.args.self.now.state.who c.args.self.now.state.who c.args.place.now.entity) (record {
+  kept = stays (celled_after (celled_at c.self.inside.cells c.args.place.now.at) (post c.args.self.now.state.who c.args.self.now.state.who (body.StopEntity c.args.place.now.entity))) c.self.invariant.kept c.self.view_is c.requires.place (cell_read c.self.invariant.kept.lodged c.self.view_is c.requires.place) (stop_leaves c.args.self.now.state.who c.args.self.now.state.who c.args.place.now.entity (celled_at c.self.inside.cells c.args.place.now.at) refl)
+      (stands (keeps_stop_posted c.args.self.now.state.who c.args.self.now.state.who c.args.place.now.entity) c.self.invariant.kept.lodged c.self.view_is c.requires.place (cell_read c.self.invariant.kept.lodged c.self.view_is c.requires.place) refl);
   ready = c.self.invariant.ready;
-  restless = goes_on _ c.self.invariant.kept.lodged c.self.view_is c.requires.place (sym (ap is_restless c.phase-now.ensures ∙ ap rests (put_read c.self.inside.cells.items c.args.place.now.at (within c.self.invariant.kept.lodged c.self.view_is c.requires.place) c.index.ensures))) c.note.ensures c.self.invariant.restless;
-}
+  restless = goes_on (celled_after (celled_at c.self.inside.cells c.args.place.now.at) (post c.args.self.now.state.who c.args.self.now.state.who (body.StopEntity c.args.place.now.entity))) c.self.invariant.kept.lodged c.self.view_is c.requires.place (sym (ap is_restless c.phase-now.ensures ∙ ap rests (ap (λ l. celled_at l c.args.place.now.at) (c.ask_stop.ensures c.args.self.now.state.who c.args.self.now.state.who c.args.place.now.entity) ∙ get_or-set_same c.self.inside.cells c.args.place.now.at (celled_after (celled_at c.self.inside.cells c.args.place.now.at) (post c.args.self.now.state.who c.args.self.now.state.who (body.StopEntity c.args.place.now.entity))) (celled 0 0) (within c.self.invariant.kept.lodged c.self.view_is c.requires.place)))) c.note.ensures c.self.invariant.restless;
+})
 
 pub returns-clause-state : goal.returns-clause-state
-returns-clause-state c = cell_moved (of_stop_posted c.args.self.now.state.who c.args.self.now.state.who c.args.place.now.entity) c.self.invariant.kept.lodged c.self.view_is c.requires.place c.index_mut.ensures.value (c.ask_stop.ensures c.args.self.now.state.who c.args.self.now.state.who c.args.place.now.entity)
+returns-clause-state c = rw (c.ask_stop.ensures c.args.self.now.state.who c.args.self.now.state.who c.args.place.now.entity) (cell_moved (of_stop_posted c.args.self.now.state.who c.args.self.now.state.who c.args.place.now.entity) c.self.invariant.kept.lodged c.self.view_is c.requires.place (cell_read c.self.invariant.kept.lodged c.self.view_is c.requires.place) refl)

@@ -17,7 +17,7 @@ invariant_of-self c = record {
 }
 
 pub returns-clause-state : goal.returns-clause-state
-returns-clause-state c = reserved_seen c.self.inside.cells.items c.self.view_is c.reserve_each.ensures.kept
+returns-clause-state c = reserved_seen c.self.inside.cells c.self.view_is c.reserve_each.ensures.kept
 
 pub returns-clause-more : goal.returns-clause-more
-returns-clause-more c = reserved_more c.self.inside.cells.items c.self.view_is c.reserve_each.ensures.kept
+returns-clause-more c = reserved_more c.self.inside.cells c.self.view_is c.reserve_each.ensures.kept

@@ -1,12 +1,15 @@
-use Rattle.std.proofs.Common.{ap}
-use Rattle.shard_entities.proofs.CountLaws.{comes, count_fits, gone}
-use Rattle.shard_entities.proofs.LodgedLaws.{active_cell, cell_put, cell_moved_to}
+use Rattle.std.proofs.Common.{refl, sym, ◌∙◌}
+use Rattle.yard_model.specs.declared.fact.Fact.TheVariants as fact
+use Rattle.yard_model.specs.Move.{told}
+use Rattle.shard_entities.specs.Celled.{celled_at, celled_after}
+use Rattle.shard_entities.proofs.CountLaws.{comes, count_fits}
+use Rattle.shard_entities.proofs.LodgedLaws.{cell_read, window_is, pending_is, active_cell, cell_put, cell_moved_to}
 use Rattle.shard_entities.proofs.MoveLaws.{of_active}
-use Rattle.shard_entities.proofs.RestlessLaws.{goes_on, rests, shard_there, place_there}
+use Rattle.shard_entities.proofs.RestlessLaws.{goes_on, shard_there, place_there}
 use Rattle.shard_entities.proofs.shards.Shards.tell_active.Goals as goal
 
 pub count_in-requires : goal.count_in-requires
-count_in-requires c = count_fits c.self.invariant.kept c.self.view_is c.requires.place c.get.ensures.value c.index_mut-2.ensures.value
+count_in-requires c = count_fits c.self.invariant.kept c.self.view_is c.requires.place c.get.ensures.value c.index_mut.ensures.value
 
 pub note-requires-clause-shard : goal.note-requires-clause-shard
 note-requires-clause-shard c = shard_there c.self.invariant.kept.lodged c.self.view_is c.requires.place c.self.invariant.restless
@@ -15,12 +18,18 @@ pub note-requires-clause-inner : goal.note-requires-clause-inner
 note-requires-clause-inner c = place_there c.self.invariant.kept.lodged c.self.view_is c.requires.place c.self.invariant.restless
 
 pub invariant_of-self : goal.invariant_of-self
-invariant_of-self c = record {
-  kept = comes _ c.self.invariant.kept c.self.view_is c.requires.place (ap gone (c.activate.ensures.cell c.args.self.now.state.who c.args.place.now.entity c.args.number c.args.state.now)) c.exists-was.ensures c.get.ensures.value c.index_mut-2.ensures.value c.count_in.ensures
-      (cell_put c.self.invariant.kept.lodged c.self.view_is c.requires.place (active_cell c.args.self.now.state.who c.args.place.now.entity c.args.number c.args.state.now c.self.invariant.kept.lodged c.self.view_is c.requires.place c.index_mut.ensures.value (c.activate.ensures.cell c.args.self.now.state.who c.args.place.now.entity c.args.number c.args.state.now) c.requires.leads c.requires.valid));
+invariant_of-self c = rw (c.activate.ensures.cell c.args.self.now.state.who c.args.place.now.entity c.args.number c.args.state.now) (record {
+  kept = comes (record { cell = (celled_after (celled_at c.self.inside.cells c.args.place.now.at) (told (fact.Active c.args.self.now.state.who c.args.place.now.entity c.args.number c.args.state.now))).cell; state = c.args.state.now; window = (celled_at c.self.inside.cells c.args.place.now.at).window }) c.self.invariant.kept c.self.view_is c.requires.place refl c.exists-was.ensures c.get.ensures.value c.index_mut.ensures.value c.count_in.ensures
+      (cell_put c.self.invariant.kept.lodged c.self.view_is c.requires.place (active_cell c.args.self.now.state.who c.args.place.now.entity c.args.number c.args.state.now c.self.invariant.kept.lodged c.self.view_is c.requires.place (cell_read c.self.invariant.kept.lodged c.self.view_is c.requires.place) refl c.requires.leads c.requires.valid));
   ready = c.self.invariant.ready;
-  restless = goes_on _ c.self.invariant.kept.lodged c.self.view_is c.requires.place (ap rests (c.activate.ensures.cell c.args.self.now.state.who c.args.place.now.entity c.args.number c.args.state.now)) c.note.ensures c.self.invariant.restless;
-}
+  restless = goes_on (record { cell = (celled_after (celled_at c.self.inside.cells c.args.place.now.at) (told (fact.Active c.args.self.now.state.who c.args.place.now.entity c.args.number c.args.state.now))).cell; state = c.args.state.now; window = (celled_at c.self.inside.cells c.args.place.now.at).window }) c.self.invariant.kept.lodged c.self.view_is c.requires.place refl c.note.ensures c.self.invariant.restless;
+})
 
 pub returns-clause-state : goal.returns-clause-state
-returns-clause-state c = cell_moved_to c.args.state.now (of_active c.args.self.now.state.who c.args.place.now.entity c.args.number c.args.state.now) c.self.invariant.kept.lodged c.self.view_is c.requires.place c.index_mut.ensures.value (c.activate.ensures.cell c.args.self.now.state.who c.args.place.now.entity c.args.number c.args.state.now)
+returns-clause-state c = rw (c.activate.ensures.cell c.args.self.now.state.who c.args.place.now.entity c.args.number c.args.state.now) (cell_moved_to c.args.state.now (of_active c.args.self.now.state.who c.args.place.now.entity c.args.number c.args.state.now) c.self.invariant.kept.lodged c.self.view_is c.requires.place (cell_read c.self.invariant.kept.lodged c.self.view_is c.requires.place) refl)
+
+pub activate-requires-clause-window : goal.activate-requires-clause-window
+activate-requires-clause-window c = c.requires.window ∙ sym (window_is c.self.invariant.kept.lodged c.self.view_is c.requires.place)
+
+pub returns-clause-pending : goal.returns-clause-pending
+returns-clause-pending c = c.activate.ensures.pending ∙ pending_is c.self.invariant.kept.lodged c.self.view_is c.requires.place

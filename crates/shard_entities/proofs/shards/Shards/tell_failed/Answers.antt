@@ -1,12 +1,15 @@
-use Rattle.std.proofs.Common.{ap}
-use Rattle.shard_entities.proofs.CountLaws.{count_some, goes, gone}
-use Rattle.shard_entities.proofs.LodgedLaws.{cell_moved, stands}
+use Rattle.std.proofs.Common.{refl}
+use Rattle.yard_model.specs.declared.fact.Fact.TheVariants as fact
+use Rattle.yard_model.specs.Move.{told}
+use Rattle.shard_entities.specs.Celled.{celled_at, celled_after}
+use Rattle.shard_entities.proofs.CountLaws.{count_some, goes}
+use Rattle.shard_entities.proofs.LodgedLaws.{cell_read, cell_moved, stands}
 use Rattle.shard_entities.proofs.MoveLaws.{of_failed, keeps_failed}
-use Rattle.shard_entities.proofs.RestlessLaws.{goes_on, rests, shard_there, place_there}
+use Rattle.shard_entities.proofs.RestlessLaws.{goes_on, shard_there, place_there}
 use Rattle.shard_entities.proofs.shards.Shards.tell_failed.Goals as goal
 
 pub count_out-requires : goal.count_out-requires
-count_out-requires c = count_some c.self.invariant.kept c.self.view_is c.requires.place c.exists-was.ensures c.get.ensures.value c.index_mut-2.ensures.value
+count_out-requires c = count_some c.self.invariant.kept c.self.view_is c.requires.place c.exists-was.ensures c.get.ensures.value c.index_mut.ensures.value
 
 pub note-requires-clause-shard : goal.note-requires-clause-shard
 note-requires-clause-shard c = shard_there c.self.invariant.kept.lodged c.self.view_is c.requires.place c.self.invariant.restless
@@ -15,12 +18,12 @@ pub note-requires-clause-inner : goal.note-requires-clause-inner
 note-requires-clause-inner c = place_there c.self.invariant.kept.lodged c.self.view_is c.requires.place c.self.invariant.restless
 
 pub invariant_of-self : goal.invariant_of-self
-invariant_of-self c = record {
-  kept = goes _ c.self.invariant.kept c.self.view_is c.requires.place (ap gone (c.fail.ensures c.args.self.now.state.who c.args.place.now.entity)) c.exists-was.ensures c.get.ensures.value c.index_mut-2.ensures.value c.count_out.ensures
-      (stands (keeps_failed c.args.self.now.state.who c.args.place.now.entity) c.self.invariant.kept.lodged c.self.view_is c.requires.place c.index_mut.ensures.value (c.fail.ensures c.args.self.now.state.who c.args.place.now.entity));
+invariant_of-self c = rw (c.fail.ensures c.args.self.now.state.who c.args.place.now.entity) (record {
+  kept = goes (celled_after (celled_at c.self.inside.cells c.args.place.now.at) (told (fact.WriteFailed c.args.self.now.state.who c.args.place.now.entity))) c.self.invariant.kept c.self.view_is c.requires.place refl c.exists-was.ensures c.get.ensures.value c.index_mut.ensures.value c.count_out.ensures
+      (stands (keeps_failed c.args.self.now.state.who c.args.place.now.entity) c.self.invariant.kept.lodged c.self.view_is c.requires.place (cell_read c.self.invariant.kept.lodged c.self.view_is c.requires.place) refl);
   ready = c.self.invariant.ready;
-  restless = goes_on _ c.self.invariant.kept.lodged c.self.view_is c.requires.place (ap rests (c.fail.ensures c.args.self.now.state.who c.args.place.now.entity)) c.note.ensures c.self.invariant.restless;
-}
+  restless = goes_on (celled_after (celled_at c.self.inside.cells c.args.place.now.at) (told (fact.WriteFailed c.args.self.now.state.who c.args.place.now.entity))) c.self.invariant.kept.lodged c.self.view_is c.requires.place refl c.note.ensures c.self.invariant.restless;
+})
 
 pub returns-clause-state : goal.returns-clause-state
-returns-clause-state c = cell_moved (of_failed c.args.self.now.state.who c.args.place.now.entity) c.self.invariant.kept.lodged c.self.view_is c.requires.place c.index_mut.ensures.value (c.fail.ensures c.args.self.now.state.who c.args.place.now.entity)
+returns-clause-state c = rw (c.fail.ensures c.args.self.now.state.who c.args.place.now.entity) (cell_moved (of_failed c.args.self.now.state.who c.args.place.now.entity) c.self.invariant.kept.lodged c.self.view_is c.requires.place (cell_read c.self.invariant.kept.lodged c.self.view_is c.requires.place) refl)

@@ -15,4 +15,4 @@ invariant_of-self c = record {
 }
 
 pub returns-clause-state : goal.returns-clause-state
-returns-clause-state c = entry_moved c.self.inside.cells.items (entry_forgotten c.args.place.now.entity) c.self.invariant.kept.lodged c.self.view_is c.requires.place refl c.get.ensures.value c.index_mut.ensures.value c.write_forgotten.ensures
+returns-clause-state c = entry_moved c.self.inside.cells (entry_forgotten c.args.place.now.entity) c.self.invariant.kept.lodged c.self.view_is c.requires.place refl c.get.ensures.value c.index_mut.ensures.value c.write_forgotten.ensures

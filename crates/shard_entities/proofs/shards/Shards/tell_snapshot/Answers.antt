@@ -1,6 +1,6 @@
 use Rattle.std.proofs.Common.{refl}
 use Rattle.shard_entities.proofs.EntryLaws.{entry_snapshot, entry_stands, entry_moved, put_same, own_goes_on, own_cell, store_names, store_leads}
-use Rattle.shard_entities.proofs.LodgedLaws.{placed, within}
+use Rattle.shard_entities.proofs.LodgedLaws.{cell_read, placed, within}
 use Rattle.shard_entities.proofs.ReadyLaws.{touches}
 use Rattle.shard_entities.proofs.shards.Shards.tell_snapshot.Goals as goal
 
@@ -8,13 +8,13 @@ pub write_snapshot-requires-clause-name : goal.write_snapshot-requires-clause-na
 write_snapshot-requires-clause-name c = store_names c.self.invariant.kept.lodged c.self.view_is c.requires.place c.get.ensures.value c.index_mut.ensures.value c.requires.there.hosted_is
 
 pub write_snapshot-requires-clause-state : goal.write_snapshot-requires-clause-state
-write_snapshot-requires-clause-state c = store_leads c.self.invariant.kept.lodged c.self.view_is c.requires.place c.index.ensures c.get.ensures.value c.index_mut.ensures.value c.requires.there.hosted_is c.requires.active c.state-state.ensures
+write_snapshot-requires-clause-state c = store_leads c.self.invariant.kept.lodged c.self.view_is c.requires.place (cell_read c.self.invariant.kept.lodged c.self.view_is c.requires.place) c.get.ensures.value c.index_mut.ensures.value c.requires.there.hosted_is c.requires.active c.state-state.ensures
 
 pub invariant_of-self : goal.invariant_of-self
 invariant_of-self c = record {
   kept = record {
-    lodged = entry_stands (entry_snapshot c.args.place.now.entity c.args.number) c.self.invariant.kept.lodged c.self.view_is c.requires.place (put_same _ _ _ _ (within c.self.invariant.kept.lodged c.self.view_is c.requires.place) c.index.ensures) c.get.ensures.value c.index_mut.ensures.value c.write_snapshot.ensures
-        (own_goes_on _ (λ old. refl) (own_cell c.self.invariant.kept.lodged c.self.view_is c.requires.place c.index.ensures c.get.ensures.value c.index_mut.ensures.value));
+    lodged = entry_stands (entry_snapshot c.args.place.now.entity c.args.number) c.self.invariant.kept.lodged c.self.view_is c.requires.place (put_same _ _ _ _ (within c.self.invariant.kept.lodged c.self.view_is c.requires.place) (cell_read c.self.invariant.kept.lodged c.self.view_is c.requires.place)) c.get.ensures.value c.index_mut.ensures.value c.write_snapshot.ensures
+        (own_goes_on _ (λ old. refl) (own_cell c.self.invariant.kept.lodged c.self.view_is c.requires.place (cell_read c.self.invariant.kept.lodged c.self.view_is c.requires.place) c.get.ensures.value c.index_mut.ensures.value));
     counted = c.self.invariant.kept.counted;
   };
   ready = touches _ c.self.invariant.ready (placed c.self.invariant.kept.lodged c.self.view_is c.requires.place).shard_in c.get.ensures.value c.with-touched.ensures.it (λ t other. c.with-touched.ensures.others t other);
@@ -22,4 +22,4 @@ invariant_of-self c = record {
 }
 
 pub returns-clause-state : goal.returns-clause-state
-returns-clause-state c = entry_moved c.self.inside.cells.items (entry_snapshot c.args.place.now.entity c.args.number) c.self.invariant.kept.lodged c.self.view_is c.requires.place refl c.get.ensures.value c.index_mut.ensures.value c.write_snapshot.ensures
+returns-clause-state c = entry_moved c.self.inside.cells (entry_snapshot c.args.place.now.entity c.args.number) c.self.invariant.kept.lodged c.self.view_is c.requires.place refl c.get.ensures.value c.index_mut.ensures.value c.write_snapshot.ensures

@@ -1,0 +1,293 @@
+//! The cells of a node's entities, and what is stashed for each.
+ghost use Rattle.std.specs.Prelude.{◌≡◌, ℕ, ◌-◌, ◌*◌, ◌<◌, ◌≤◌, ◌↔◌, List, [], ◌∷◌, ◌++◌, length, drop, replicate, slice_set, slice_index_or, IfOk, MatchOption, IsNone, IfSome, IfNone};
+ghost use Rattle.yard_model.specs.declared.fact.Fact.TheVariants as fact;
+ghost use Rattle.yard_model.specs.declared.packet.Body.TheVariants as body;
+ghost use Rattle.yard_model.specs.declared.incarnation.Incarnation.{Incarnation};
+ghost use Rattle.yard_model.specs.declared.input.Phase.TheVariants as phase;
+ghost use Rattle.yard_model.specs.declared.state.State.{State};
+ghost use Rattle.yard_model.specs.Move.{told, post, passivates};
+ghost use Rattle.envelope_pool.specs.Keyed.{list_of};
+ghost use Rattle.shard_entities.specs.Celled.{celled, celled_after, celled_at};
+
+use crate::cell::Cell;
+use consumer_ctl::Stash;
+use envelope_pool::Pool;
+use std::alloc::{AllocError, Global};
+use std::marker::{Model, PhantomData};
+use yard_model::{Command, Keep, Message, Phase, ProducerNo, State};
+
+/// Where the entity of each name stands, by the place of the name, and what is stashed for it. All
+/// stashes lie in one pool, with room for a window of messages for each, so that none is ever in
+/// want of room for another's messages; memory that no stash has come to yet isn't touched.
+#[derive(Drop)]
+pub(crate) struct Cells {
+    cells: Vec<Cell>,
+    stashes: Pool<Message>,
+    window: u8,
+    holds: PhantomData<(Message, Command)>,
+}
+
+impl Model for Cells {
+    ghost use Rattle.std.specs.Prelude.{List};
+    ghost use Rattle.shard_entities.specs.Celled.{Celled, AreStashed, all_stashing};
+
+    ghost Value = { List Celled };
+
+    ghost view = { λ c. all_stashing c.window c.cells.items c.stashes.lists };
+
+    ghost invariant = { λ c. AreStashed c.window c.cells.items c.stashes };
+}
+
+impl Cells {
+    /// Of so many entities that weren't started yet, with so many producers, and room for a window
+    /// of messages for each. The only error is want of memory.
+    pub(crate) fn new(
+        alloc: Global,
+        count: usize,
+        producers: u8,
+        window: u8,
+    ) -> Result<Cells, AllocError>
+        requires few { count ≤ 1000 }
+        requires window { window ≤ 64 }
+        ensures { IfOk result (λ c. c ≡ replicate count (celled producers window)) }
+    {
+        let cells = new_cells(alloc, count, producers)?;
+        let room = room_for(count, window);
+        let stashes = Pool::new(alloc, room, count as u16)?;
+        Ok(Cells {
+            cells,
+            stashes,
+            window,
+            holds: PhantomData,
+        })
+    }
+
+    /// Where an entity is between its start and its end.
+    pub(crate) fn phase(&self, at: usize) -> Phase
+        requires { at < length self.now }
+        ensures { result ≡ (celled_at self.now at).cell.phase }
+    {
+        self.cells[at].phase()
+    }
+
+    /// Whether it asked for its stop.
+    pub(crate) fn is_passivating(&self, at: usize) -> bool
+        requires { at < length self.now }
+        ensures { result ≡ (celled_at self.now at).cell.passivating }
+    {
+        self.cells[at].is_passivating()
+    }
+
+    /// How its next write fails; None exactly where it isn't to fail.
+    pub(crate) fn armed(&self, at: usize) -> Option<Keep>
+        requires { at < length self.now }
+        ensures { result ≡ (celled_at self.now at).cell.armed }
+    {
+        self.cells[at].armed()
+    }
+
+    /// What its journal leads to, while it takes commands.
+    #[inline(always)]
+    pub(crate) fn state(&self, at: usize) -> State
+        requires { at < length self.now }
+        ensures { result ≡ (celled_at self.now at).state }
+    {
+        self.cells[at].state()
+    }
+
+    /// Its journal leads to this from now on.
+    #[inline(always)]
+    pub(crate) fn set_state(&mut self, at: usize, state: &State)
+        requires { at < length self.old }
+        ensures { self.new ≡ slice_set self.old at (record (celled_at self.old at) { state = state.now }) }
+    {
+        self.cells[at].set_state(state);
+    }
+
+    /// How many messages are stashed for it.
+    pub(crate) fn stashed(&self, at: usize) -> usize
+        requires { at < length self.now }
+        ensures count { result ≡ length (celled_at self.now at).cell.stash }
+        ensures fits { length (celled_at self.now at).cell.stash ≤ (celled_at self.now at).window }
+    {
+        self.stashes.len(at as u16) as usize
+    }
+
+    /// Up to which number a producer was asked.
+    pub(crate) fn reach(&self, at: usize, p: ProducerNo) -> u32
+        requires there { at < length self.now }
+        requires producer { p - 1 < length (celled_at self.now at).cell.reach }
+        ensures { result ≡ slice_index_or (celled_at self.now at).cell.reach (p - 1) 0 }
+    {
+        self.cells[at].reach(p)
+    }
+
+    /// It is started.
+    pub(crate) fn start(&mut self, at: usize)
+        requires { at < length self.old }
+        ensures { (x : Incarnation) (e : List ℕ) → self.new ≡ slice_set self.old at (celled_after (celled_at self.old at) (told (fact.Start x e))) }
+    {
+        self.cells[at].start();
+    }
+
+    /// It takes commands from now on, at this state; what was stashed goes into `pending`, an empty
+    /// stash.
+    pub(crate) fn activate(&mut self, at: usize, state: &State, pending: &mut Stash)
+        requires there { at < length self.old }
+        requires window { pending.old.window ≡ (celled_at self.old at).window }
+        requires empty { pending.old.messages ≡ [] }
+        ensures cell { (x : Incarnation) (e : List ℕ) (n : ℕ) (st : State) → self.new ≡ slice_set self.old at (record (celled_after (celled_at self.old at) (told (fact.Active x e n st))) { state = state.now }) }
+        ensures pending { pending.new ≡ record { messages = (celled_at self.old at).cell.stash; window = (celled_at self.old at).window } }
+    {
+        self.cells[at].activate(state);
+        move_out(&mut self.stashes, at as u16, pending);
+    }
+
+    /// It is stopped; what is stashed stays.
+    pub(crate) fn stop(&mut self, at: usize)
+        requires { at < length self.old }
+        ensures { (x : Incarnation) (e : List ℕ) → self.new ≡ slice_set self.old at (celled_after (celled_at self.old at) (told (fact.Stop x e))) }
+    {
+        self.cells[at].stop();
+    }
+
+    /// Its write failed, and it is gone; what is stashed stays.
+    pub(crate) fn fail(&mut self, at: usize)
+        requires { at < length self.old }
+        ensures { (x : Incarnation) (e : List ℕ) → self.new ≡ slice_set self.old at (celled_after (celled_at self.old at) (told (fact.WriteFailed x e))) }
+    {
+        self.cells[at].fail();
+    }
+
+    /// Its next write is to fail.
+    pub(crate) fn arm(&mut self, at: usize, keep: Keep)
+        requires { at < length self.old }
+        ensures { (e : List ℕ) → self.new ≡ slice_set self.old at (celled_after (celled_at self.old at) (told (fact.Armed e keep))) }
+    {
+        self.cells[at].arm(keep);
+    }
+
+    /// It passivates.
+    pub(crate) fn passivate(&mut self, at: usize)
+        requires { at < length self.old }
+        ensures { (e : List ℕ) → self.new ≡ slice_set self.old at (celled_after (celled_at self.old at) (passivates e)) }
+    {
+        self.cells[at].passivate();
+    }
+
+    /// It is told to stop, where it was started.
+    pub(crate) fn ask_stop(&mut self, at: usize)
+        requires { at < length self.old }
+        ensures { (x y : Incarnation) (e : List ℕ) → self.new ≡ slice_set self.old at (celled_after (celled_at self.old at) (post x y (body.StopEntity e))) }
+    {
+        self.cells[at].ask_stop();
+    }
+
+    /// A message is stashed for it, which there is room for.
+    pub(crate) fn put(&mut self, at: usize, message: Message)
+        requires there { at < length self.old }
+        requires room { length (celled_at self.old at).cell.stash < (celled_at self.old at).window }
+        ensures { (x : Incarnation) → self.new ≡ slice_set self.old at (celled_after (celled_at self.old at) (told (fact.Stashed x message))) }
+    {
+        match self.stashes.push(at as u16, message) {
+            Ok(()) => {}
+            Err(_) => unreachable!(),
+        }
+    }
+
+    /// The oldest message that is stashed for it is taken out, while it doesn't exist; None exactly
+    /// where there is none.
+    pub(crate) fn pop(&mut self, at: usize) -> Option<Message>
+        requires there { at < length self.old }
+        requires gone { (celled_at self.old at).cell.phase ≡ phase.Absent }
+        ensures empty { IsNone result ↔ ((celled_at self.old at).cell.stash ≡ []) }
+        ensures oldest { IfSome result (λ m. (celled_at self.old at).cell.stash ≡ m ∷ drop 1 (celled_at self.old at).cell.stash) }
+        ensures cell { IfSome result (λ m. (x : Incarnation) → celled_at self.new at ≡ celled_after (celled_at self.old at) (told (fact.Dropped x m))) }
+        ensures unchanged { IfNone result (celled_at self.new at ≡ celled_at self.old at) }
+        ensures others { self.new ≡ slice_set self.old at (celled_at self.new at) }
+    {
+        self.stashes.pop(at as u16)
+    }
+
+    /// Nothing is known of it any more.
+    pub(crate) fn clear(&mut self, at: usize)
+        requires { at < length self.old }
+        ensures { self.new ≡ slice_set self.old at (celled (length (celled_at self.old at).cell.reach) (celled_at self.old at).window) }
+    {
+        self.cells[at].clear();
+        drop_all(&mut self.stashes, at as u16);
+    }
+
+    /// A producer was asked up to this number.
+    pub(crate) fn ask(&mut self, at: usize, p: ProducerNo, up_to: u32)
+        requires there { at < length self.old }
+        requires producer { p - 1 < length (celled_at self.old at).cell.reach }
+        ensures { (x y : Incarnation) (e : List ℕ) (n : ℕ) → self.new ≡ slice_set self.old at (celled_after (celled_at self.old at) (post x y (body.Request p e n up_to))) }
+    {
+        self.cells[at].ask(p, up_to);
+    }
+}
+
+/// So many cells of entities that weren't started yet.
+fn new_cells(alloc: Global, count: usize, producers: u8) -> Result<Vec<Cell>, AllocError>
+    ensures { IfOk result (λ v. v.items ≡ replicate count (celled producers 0)) }
+{
+    let mut cells = Vec::with_capacity(alloc, count)?;
+    for _ in 0..count {
+        cells.push(Cell::new(alloc, producers)?)?;
+    }
+    Ok(cells)
+}
+
+/// A window of messages for each of so many.
+fn room_for(count: usize, window: u8) -> u16
+    requires few { count ≤ 1000 }
+    requires window { window ≤ 64 }
+    ensures { result ≡ count * window }
+{
+    count as u16 * u16::from(window)
+}
+
+/// The oldest message of a list goes behind those that are pending.
+fn move_one(stashes: &mut Pool<Message>, key: u16, pending: &mut Stash)
+    requires key { key < length stashes.old.lists }
+    requires some { 0 < length (list_of stashes.old key) }
+    requires room { length pending.old.messages < pending.old.window }
+    ensures lists { stashes.new.lists ≡ slice_set stashes.old.lists key (drop 1 (list_of stashes.old key)) }
+    ensures cells { stashes.new.cells ≡ stashes.old.cells }
+    ensures pending { pending.new.messages ++ drop 1 (list_of stashes.old key) ≡ pending.old.messages ++ list_of stashes.old key }
+    ensures window { pending.new.window ≡ pending.old.window }
+{
+    match stashes.pop(key) {
+        Some(message) => match pending.put(message) {
+            Ok(()) => {}
+            Err(_) => unreachable!(),
+        },
+        None => {}
+    }
+}
+
+/// All messages of a list go into an empty stash.
+fn move_out(stashes: &mut Pool<Message>, key: u16, pending: &mut Stash)
+    requires key { key < length stashes.old.lists }
+    requires empty { pending.old.messages ≡ [] }
+    requires room { length (list_of stashes.old key) ≤ pending.old.window }
+    ensures lists { stashes.new.lists ≡ slice_set stashes.old.lists key [] }
+    ensures cells { stashes.new.cells ≡ stashes.old.cells }
+    ensures pending { pending.new ≡ record { messages = list_of stashes.old key; window = pending.old.window } }
+{
+    for _ in 0..stashes.len(key) {
+        move_one(stashes, key, pending);
+    }
+}
+
+/// All messages of a list are dropped.
+fn drop_all(stashes: &mut Pool<Message>, key: u16)
+    requires { key < length stashes.old.lists }
+    ensures lists { stashes.new.lists ≡ slice_set stashes.old.lists key [] }
+    ensures cells { stashes.new.cells ≡ stashes.old.cells }
+{
+    for _ in 0..stashes.len(key) {
+        let _ = stashes.pop(key);
+    }
+}

@@ -105,6 +105,30 @@ impl<B: Behaviour + Drop> Node<B> {
     /// leases tell where they tell any, and with any leases for some lists, as it found them. Each
     /// fact is guarded by what the node has in hand, and each post is its own. It has no refusal. An
     /// input is handled whole before the next, a rule of this project's own.
+    pub fn handle<L: Leases>(
+        &mut self,
+        charter: &Charter,
+        input: &Input,
+        leases: &mut L,
+        out: &mut Out,
+    )
+        requires charter { charter.now ≡ self.old.script }
+        requires addressed { IfPacket input.now (IsFor (L.meaning leases.old) self.old.state.who) }
+        requires may { MayTake self.old.script (L.meaning leases.old).vouches self.old.state input.now }
+        requires produces { IfProduce input.now (λ p. (L.meaning leases.old).admits self.old.state.who.node (slot.Queue p) ≡ true) }
+        requires ready { IsReady self.old out.old.spare }
+        requires rests { Rests (L.meaning leases.old) self.old.script self.old.state }
+        ensures script { self.new.script ≡ self.old.script }
+        ensures who { self.new.state.who ≡ self.old.state.who }
+        ensures turned { Turned self.old.script (λ lists. turn (all_sends self.old.script) lists input.now self.old.state) (moment (L.meaning leases.old) self.old.state out.old.items) (moment (L.meaning leases.new) self.new.state out.new.items) }
+    {
+        turn_stands();
+        turn_viewed();
+        charter.config();
+        self.actors.input(charter, input, leases, out);
+    }
+
+    /// Handles an input, as `handle` does.
     pub fn turn<L: Leases>(
         &mut self,
         charter: &Charter,
@@ -122,10 +146,7 @@ impl<B: Behaviour + Drop> Node<B> {
         ensures who { self.new.state.who ≡ self.old.state.who }
         ensures turned { Turned self.old.script (λ lists. turn (all_sends self.old.script) lists input self.old.state) (moment (L.meaning leases.old) self.old.state out.old.items) (moment (L.meaning leases.new) self.new.state out.new.items) }
     {
-        turn_stands();
-        turn_viewed();
-        charter.config();
-        self.actors.input(charter, &input, leases, out);
+        self.handle(charter, &input, leases, out);
     }
 
     /// The node is gone: every slot that it held is freed, as its list stood.

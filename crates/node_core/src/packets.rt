@@ -1,5 +1,5 @@
 //! The packets of a node.
-ghost use Rattle.std.specs.Prelude.{◌≡◌, ◌≤◌, [], ◌∷◌, Bool, true, false, IsTrue, if◌then◌else◌};
+ghost use Rattle.std.specs.Prelude.{◌≡◌, ◌<◌, ◌≤◌, [], ◌∷◌, Bool, true, false, IsTrue, if◌then◌else◌};
 ghost use Rattle.yard_model.specs.declared.incarnation.Slot.{Slot};
 ghost use Rattle.yard_model.specs.declared.packet.Body.TheVariants as body;
 ghost use Rattle.yard_model.specs.declared.input.Phase.TheVariants as phase;
@@ -27,7 +27,7 @@ use actor_laws::producer::{producer_keeps, producer_routes};
 use actor_laws::region::{region_keeps, shards_are_there};
 use behaviour_core::Behaviour;
 use producer_ctl::rules_are_calls;
-use region_actor::laws::{route_room, same_law};
+use region_actor::laws::{away_room, same_law};
 use shard_extract::shard_of;
 use shard_lease::Leases;
 use yard_model::{Body, Charter, Incarnation, Item, Message, Out, Packet, ShardNo, Stamp};
@@ -199,24 +199,36 @@ impl<B: Behaviour + Drop> Actors<B> {
         ensures taken { TookRoom (shard_of self.old.state.set message.now.entity) (if is_in_phase phase.Active self.old.state.entities message.now.entity then 2 else 0) self.old self.new }
         ensures pending { self.new.pending ≡ self.old.pending }
     {
-        if self.is_local(message) {
+        let s = self.shard_of(message);
+        if self.is_local(s, message) {
             self.deliver(*message, out);
         } else {
-            self.route_away(message, out);
+            self.route_away(s, message, out);
         }
     }
 
-    /// Whether the shard of a message is running here, and here is its home.
-    fn is_local(&self, message: &Message) -> bool
+    /// The shard of a message.
+    fn shard_of(&self, message: &Message) -> ShardNo
+        ensures shard { result ≡ shard_of self.now.state.set message.now.entity }
+        ensures range { result < self.now.script.config.shards }
+    {
+        shard_of(&message.entity, self.region.shards())
+    }
+
+    /// Whether this shard, which is that of the message, is running here, and here is its home.
+    fn is_local(&self, s: ShardNo, message: &Message) -> bool
+        requires shard { s ≡ shard_of self.now.state.set message.now.entity }
+        requires range { s < self.now.script.config.shards }
         ensures { result ≡ is_local message.now self.now.state }
     {
-        let shards = self.region.shards();
-        let s = shard_of(&message.entity, shards);
+        let _ = message;
         self.region.is_home(s) && self.entities.running().has(s)
     }
 
-    /// A message that isn't for here is routed away.
-    fn route_away(&mut self, message: &Message, out: &mut Out)
+    /// A message of this shard that isn't for here is routed away.
+    fn route_away(&mut self, s: ShardNo, message: &Message, out: &mut Out)
+        requires shard { s ≡ shard_of self.old.state.set message.now.entity }
+        requires range { s < self.old.script.config.shards }
         requires genuine { is_genuine self.old.script message.now ≡ true }
         requires away { is_local message.now self.old.state ≡ false }
         requires room { 2 ≤ out.old.spare }
@@ -224,11 +236,10 @@ impl<B: Behaviour + Drop> Actors<B> {
         ensures rooms { self.new.rooms ≡ self.old.rooms }
         ensures pending { self.new.pending ≡ self.old.pending }
     {
-        route_room();
+        away_room();
         same_law();
-        shards_are_there();
         self.region.shards();
-        self.region.route(*message, self.entities.running(), out);
+        self.region.route_away(s, message, out);
     }
 }
 

@@ -1,5 +1,5 @@
 -- What items tell, item by item.
-use Rattle.std.proofs.Common.{◌≡◌, ℕ, ◌+◌, ◌<◌, ◌≤◌, Bool, true, false, ◌||◌, List, [], ◌∷◌, ◌++◌, length, refl, ap, sym, ◌∙◌, subst, arith, zero, suc, nat_lt, cond, fold, append_assoc}
+use Rattle.std.proofs.Common.{◌≡◌, ℕ, ◌+◌, ◌<◌, ◌≤◌, Bool, true, false, ◌||◌, List, [], ◌∷◌, ◌++◌, drop, length, refl, ap, sym, ◌∙◌, subst, arith, zero, suc, nat_lt, cond, fold, append_assoc}
 use Rattle.std.specs.List.{list_all}
 use Rattle.std.proofs.lemmas.Bool.{and_parts}
 use Rattle.std.proofs.lemmas.Bool.Decides.{nat_tests}
@@ -12,6 +12,8 @@ use Rattle.yard_model.specs.declared.out.Item.TheVariants as item
 use Rattle.yard_model.specs.declared.packet.Packet.{Packet}
 use Rattle.yard_model.specs.Words.{numbers}
 use Rattle.yard_model.specs.World.{numbered, count_posts, wire_step, fresh_step, full_step}
+use Rattle.yard_model.specs.Spared.{Spared}
+use Rattle.world_sim.specs.Lending.{with_items}
 use Rattle.world_sim.specs.Mail.{Mails, ToldSome, fresh_of, is_past, posts_of, with_posts}
 use Rattle.world_sim.specs.Told.{FactsLaw, ToldLaw, ToldTo, all_told, is_own, is_own_item}
 use Rattle.world_sim.proofs.FreshLaws.{fresh_more, lt_true, lt_false}
@@ -140,6 +142,15 @@ pub past_kept : (limit : ℕ) (whole : Bool) (before m after : Mails) (i : Item)
 past_kept limit whole before m after i past over b h o a r =
     let start : (past || is_past limit (length m.packets) (i ∷ m.items)) ≡ whole = subst (λ (x : Mails). (past || is_past limit (length x.packets) x.items) ≡ whole) b r in
     rw (o, a) (past_next limit m i past h ∙ start)
+
+-- the oldest item of a list, where it stands
+pub first_of : (m : Mails) (old rest : Spared Item) (i : Item) → old.items ≡ i ∷ drop 1 old.items → rest.items ≡ drop 1 old.items → rest.spare ≡ old.spare → with_items m old ≡ first i (with_items m rest)
+first_of m old rest i is left same =
+    let items : old.items ≡ i ∷ rest.items = is ∙ ap (λ l. i ∷ l) (sym left) in
+    ap (λ (l : List Item). with_items m (record { items = l; spare = old.spare })) items ∙ ap (λ (n : ℕ). with_items m (record { items = i ∷ rest.items; spare = n })) (sym same)
+
+pub posts_with : (limit : ℕ) (m after : Mails) (o : Spared Item) (i : Item) → after ≡ with_posts m (posts_of limit (length m.packets) (i ∷ [])) → with_items after o ≡ with_posts (with_items m o) (posts_of limit (length m.packets) (i ∷ []))
+posts_with limit m after o i e = ap (λ (x : Mails). with_items x o) e
 
 -- A packet posted on the wire.
 

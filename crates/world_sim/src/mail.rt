@@ -7,12 +7,13 @@ ghost use Rattle.yard_model.specs.Words.{is_empty, numbers};
 ghost use Rattle.yard_model.specs.World.{numbered, wire_limit};
 ghost use Rattle.wire_packet.specs.Wire.{packet_at};
 ghost use Rattle.world_sim.specs.Mail.{Heads, ToldSome, facts_of, is_past, posts_of, with_posts};
-ghost use Rattle.world_sim.specs.Lending.{LendsOut};
+ghost use Rattle.world_sim.specs.Lending.{LendsOut, with_items};
 ghost use Rattle.world_sim.specs.Told.{all_told};
 
 use crate::runs::{after_run, reach};
 use std::alloc::{AllocError, Global};
 use std::marker::Model;
+use std::mem;
 use wire_packet::{Wire, WireFault};
 use yard_model::{Charter, Fact, Facts, Item, Out, Packet};
 
@@ -26,6 +27,7 @@ pub struct Mail {
     full: bool,
     base: u32,
     reached: u32,
+    alloc: Global,
 }
 
 impl Model for Mail {
@@ -55,6 +57,7 @@ impl Mail {
             full: false,
             base: 0,
             reached: 0,
+            alloc,
         })
     }
 
@@ -207,20 +210,29 @@ impl Mail {
         ensures past { IfOk result (λ past. past ≡ is_past wire_limit (length self.old.packets) self.old.items) }
         ensures told { OnErr result (ToldSome facts.old facts.new (numbered wire_limit (length self.old.packets) self.old.items)) }
     {
-        let mut past = false;
-        while let Some(item) = self.take() {
-            let over = self.tell_item(&item, facts)?;
-            past = past || over;
-        }
+        let mut out = mem::replace(&mut self.out, Out::new(self.alloc));
+        let past = self.tell_each(&mut out, facts)?;
+        self.out = out;
         Ok(past)
     }
 
-    /// The oldest item, taken out.
-    fn take(&mut self) -> Option<Item>
-        ensures fits { length self.old.packets ≤ wire_limit }
-        ensures item { MatchOption result ((self.old.items ≡ []) × (self.new ≡ self.old)) (λ item. self.old ≡ record self.new { items = item ∷ self.new.items }) }
+    /// Tells the items of this list, oldest first, each where it stands, and answers whether some post was
+    /// past the limit; none is left in the list.
+    fn tell_each(&mut self, out: &mut Out, facts: &mut Facts) -> Result<bool, AllocError>
+        ensures facts { OnOk result (facts.new ≡ facts.old ++ numbered wire_limit (length self.old.packets) out.old.items) }
+        ensures ok { OnOk result (with_items self.new out.new ≡ all_told wire_limit (with_items self.old out.old)) }
+        ensures past { IfOk result (λ past. past ≡ is_past wire_limit (length self.old.packets) out.old.items) }
+        ensures told { OnErr result (ToldSome facts.old facts.new (numbered wire_limit (length self.old.packets) out.old.items)) }
     {
-        self.out.take()
+        let mut past = false;
+        while let Some(item) = out.first() {
+            let _posted = self.len();
+            let over = self.tell_item(item, facts)?;
+            out.drop_first();
+            past = past || over;
+        }
+        let _posted = self.len();
+        Ok(past)
     }
 
     /// Tells an item, and answers whether it is a post past the limit.

@@ -39,7 +39,7 @@ fn hand_roomy<B: Behaviour + Drop>(
     requires ready { IsReady node.old mail.old.spare }
     ensures { Handled input.now book.old book.new mail.old mail.new node.old node.new }
 {
-    node.turn(charter, *input, book, mail.out());
+    node.handle(charter, input, book, mail.out());
 }
 
 /// A node handles an input. The only error is want of memory.

@@ -1,5 +1,6 @@
 pub mod Joined
 pub mod Decimal
+pub mod Overlap
 pub mod FoldLaws
 pub mod PlaceLaws
 pub mod JournalLaws

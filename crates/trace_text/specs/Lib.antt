@@ -2,6 +2,5 @@ pub mod Behind
 pub mod Foldable
 pub mod Json
 pub mod Places
-pub mod Room
 pub mod Rows
 pub mod Slots

@@ -3,6 +3,7 @@ ghost use Rattle.std.specs.Prelude.{◌≡◌, ◌++◌, ◌∷◌, [], OnOk, de
 ghost use Rattle.yard_model.specs.Text.{words};
 
 use crate::number::put_wide;
+use crate::room::push_cells;
 use std::alloc::AllocError;
 
 /// Appends these bytes.
@@ -16,9 +17,9 @@ pub(crate) fn push(text: &mut Vec<u8>, bytes: &[u8]) -> Result<(), AllocError>
 pub(crate) fn push_number(text: &mut Vec<u8>, n: u64) -> Result<(), AllocError>
     ensures { OnOk result (text.new.items ≡ text.old.items ++ decimal n) }
 {
-    text.reserve(20)?;
-    put_wide(text, n);
-    Ok(())
+    let mut cells = [0; 20];
+    let end = put_wide(&mut cells, 0, n);
+    push_cells(text, &cells, end)
 }
 
 /// Appends a word and a number.

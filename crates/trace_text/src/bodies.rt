@@ -1,231 +1,299 @@
 //! What packets say.
-ghost use Rattle.std.specs.Prelude.{◌≡◌, ◌+◌, ◌*◌, ◌<◌, ◌≤◌, ◌++◌, ◌∷◌, [], codes, decimal, length, map};
+ghost use Rattle.std.specs.Prelude.{◌≡◌, ◌+◌, ◌*◌, ◌<◌, ◌≤◌, ◌++◌, ◌∷◌, [], codes, decimal, length, map, take};
 ghost use Rattle.std.specs.List.{join_with_byte};
 ghost use Rattle.yard_model.specs.Text.{words, body_words, command_text, incarnation_text, stamp_text};
 ghost use Rattle.trace_text.specs.Behind.{behind, members_text};
-ghost use Rattle.trace_text.specs.Room.{spare};
 
-use crate::number::{put_number, put_small};
+use crate::number::{Spelled, put_number, put_small, put_spelled, spell, spell_next};
 use crate::room::{put, put_word};
 use crate::values::{put_command, put_counted, put_incarnation, put_name, put_stamp};
 use yard_model::{Body, EntityName, Incarnation, Message, ProducerNo, ShardNo, Stamp};
 
-pub(crate) fn put_body(text: &mut Vec<u8>, body: &Body)
-    requires { 256 ≤ spare text.old }
-    ensures items { text.new.items ≡ text.old.items ++ words (body_words body.now) }
-    ensures spare { spare text.old ≤ spare text.new + 256 }
+pub(crate) fn put_body(cells: &mut [u8], at: usize, body: &Body) -> usize
+    requires { at + 256 ≤ length cells.old }
+    ensures items { take result cells.new ≡ take at cells.old ++ words (body_words body.now) }
+    ensures end { result ≤ at + 256 }
 {
     match body {
-        Body::View { version, members } => put_view(text, *version, members.as_slice()),
-        Body::Register => put_word(text, b"register"),
-        Body::RegisterAck => put_word(text, b"registerack"),
-        Body::GetShardHome(s) => put_with_shard(text, b"getshardhome ", *s),
-        Body::ShardHome(s, home, stamp) => put_shard_home(text, *s, home, stamp),
-        Body::HostShard(s, stamp) => put_with_stamp(text, b"hostshard ", *s, stamp),
-        Body::ShardStarted(s) => put_with_shard(text, b"shardstarted ", *s),
-        Body::BeginHandOff(s, stamp) => put_with_stamp(text, b"beginhandoff ", *s, stamp),
-        Body::BeginHandOffAck(s, stamp) => put_with_stamp(text, b"beginhandoffack ", *s, stamp),
-        Body::HandOff(s, stamp) => put_with_stamp(text, b"handoff ", *s, stamp),
-        Body::ShardStopped(s, stamp) => put_with_stamp(text, b"shardstopped ", *s, stamp),
-        Body::GracefulShutdownReq => put_word(text, b"gracefulshutdownreq"),
-        Body::StopEntity(entity) => put_with_name(text, b"stopentity ", entity),
-        Body::Recovered(entity) => put_with_name(text, b"recovered ", entity),
-        Body::Passivate(entity) => put_with_name(text, b"passivate ", entity),
-        Body::Sequenced(message) => put_sequenced(text, message),
+        Body::View { version, members } => put_view(cells, at, *version, members.as_slice()),
+        Body::Register => put_word(cells, at, b"register"),
+        Body::RegisterAck => put_word(cells, at, b"registerack"),
+        Body::GetShardHome(s) => put_with_shard(cells, at, b"getshardhome ", *s),
+        Body::ShardHome(s, home, stamp) => put_shard_home(cells, at, *s, home, stamp),
+        Body::HostShard(s, stamp) => put_with_stamp(cells, at, b"hostshard ", *s, stamp),
+        Body::ShardStarted(s) => put_with_shard(cells, at, b"shardstarted ", *s),
+        Body::BeginHandOff(s, stamp) => put_with_stamp(cells, at, b"beginhandoff ", *s, stamp),
+        Body::BeginHandOffAck(s, stamp) => put_with_stamp(
+            cells,
+            at,
+            b"beginhandoffack ",
+            *s,
+            stamp,
+        ),
+        Body::HandOff(s, stamp) => put_with_stamp(cells, at, b"handoff ", *s, stamp),
+        Body::ShardStopped(s, stamp) => put_with_stamp(cells, at, b"shardstopped ", *s, stamp),
+        Body::GracefulShutdownReq => put_word(cells, at, b"gracefulshutdownreq"),
+        Body::StopEntity(entity) => put_with_name(cells, at, b"stopentity ", entity),
+        Body::Recovered(entity) => put_with_name(cells, at, b"recovered ", entity),
+        Body::Passivate(entity) => put_with_name(cells, at, b"passivate ", entity),
+        Body::Sequenced(message) => put_sequenced(cells, at, message),
         Body::Request {
             producer,
             entity,
             confirmed,
             up_to,
-        } => put_request(text, *producer, entity, *confirmed, *up_to),
+        } => put_request(cells, at, *producer, entity, *confirmed, *up_to),
         Body::Resend {
             producer,
             entity,
             from,
-        } => put_with_pair(text, b"resend ", *producer, entity, *from),
+        } => put_with_pair(cells, at, b"resend ", *producer, entity, *from),
         Body::Ack {
             producer,
             entity,
             confirmed,
-        } => put_with_pair(text, b"ack ", *producer, entity, *confirmed),
+        } => put_with_pair(cells, at, b"ack ", *producer, entity, *confirmed),
     }
 }
 
 /// A word with a space at its end, and a shard.
 #[inline(always)]
-pub(crate) fn put_with_shard<const N: usize>(text: &mut Vec<u8>, word: &[u8; N], s: ShardNo)
-    requires { N + 10 ≤ spare text.old }
-    ensures items { text.new.items ≡ text.old.items ++ (word.now ++ decimal s) }
-    ensures spare { spare text.old ≤ spare text.new + (N + 10) }
+pub(crate) fn put_with_shard<const N: usize>(
+    cells: &mut [u8],
+    at: usize,
+    word: &[u8; N],
+    s: ShardNo,
+) -> usize
+    requires { at + (N + 10) ≤ length cells.old }
+    ensures items { take result cells.new ≡ take at cells.old ++ (word.now ++ decimal s) }
+    ensures end { result ≤ at + (N + 10) }
 {
-    put_counted(text, word, u32::from(s.get()));
+    put_counted(cells, at, word, u32::from(s.get()))
 }
 
 /// A word with a space at its end, a shard and a stamp.
 #[inline(always)]
 pub(crate) fn put_with_stamp<const N: usize>(
-    text: &mut Vec<u8>,
+    cells: &mut [u8],
+    at: usize,
     word: &[u8; N],
     s: ShardNo,
     stamp: &Stamp,
-)
-    requires { N + 32 ≤ spare text.old }
-    ensures items { text.new.items ≡ text.old.items ++ (word.now ++ (decimal s ++ 32 ∷ stamp_text stamp.now)) }
-    ensures spare { spare text.old ≤ spare text.new + (N + 32) }
+) -> usize
+    requires { at + (N + 32) ≤ length cells.old }
+    ensures items { take result cells.new ≡ take at cells.old ++ (word.now ++ (decimal s ++ 32 ∷ stamp_text stamp.now)) }
+    ensures end { result ≤ at + (N + 32) }
 {
-    put_with_shard(text, word, s);
-    put(text, b' ');
-    put_stamp(text, stamp);
+    let at = put_with_shard(cells, at, word, s);
+    let at = put(cells, at, b' ');
+    put_stamp(cells, at, stamp)
 }
 
 /// A word with a space at its end, and a name.
 #[inline(always)]
-pub(crate) fn put_with_name<const N: usize>(text: &mut Vec<u8>, word: &[u8; N], entity: &EntityName)
-    requires { N + 32 ≤ spare text.old }
-    ensures items { text.new.items ≡ text.old.items ++ (word.now ++ entity.now) }
-    ensures spare { spare text.old ≤ spare text.new + (N + 32) }
+pub(crate) fn put_with_name<const N: usize>(
+    cells: &mut [u8],
+    at: usize,
+    word: &[u8; N],
+    entity: &EntityName,
+) -> usize
+    requires { at + (N + 32) ≤ length cells.old }
+    ensures items { take result cells.new ≡ take at cells.old ++ (word.now ++ entity.now) }
+    ensures end { result ≤ at + (N + 32) }
 {
-    put_word(text, word);
-    put_name(text, entity);
+    let at = put_word(cells, at, word);
+    put_name(cells, at, entity)
 }
 
 /// A producer and an entity.
 #[inline(always)]
-pub(crate) fn put_ends(text: &mut Vec<u8>, producer: ProducerNo, entity: &EntityName)
-    requires { 35 ≤ spare text.old }
-    ensures items { text.new.items ≡ text.old.items ++ words (decimal producer ∷ entity.now ∷ []) }
-    ensures spare { spare text.old ≤ spare text.new + 35 }
+pub(crate) fn put_ends(
+    cells: &mut [u8],
+    at: usize,
+    producer: ProducerNo,
+    entity: &EntityName,
+) -> usize
+    requires { at + 35 ≤ length cells.old }
+    ensures items { take result cells.new ≡ take at cells.old ++ words (decimal producer ∷ entity.now ∷ []) }
+    ensures end { result ≤ at + 35 }
 {
-    put_small(text, u32::from(producer.get()));
-    put(text, b' ');
-    put_name(text, entity);
+    let at = put_small(cells, at, u32::from(producer.get()));
+    let at = put(cells, at, b' ');
+    put_name(cells, at, entity)
 }
 
 /// A producer, an entity, and a number of that pair.
 #[inline(always)]
-fn put_pair_of(text: &mut Vec<u8>, producer: ProducerNo, entity: &EntityName, number: u32)
-    requires { 46 ≤ spare text.old }
-    ensures items { text.new.items ≡ text.old.items ++ words (decimal producer ∷ entity.now ∷ decimal number ∷ []) }
-    ensures spare { spare text.old ≤ spare text.new + 46 }
+fn put_pair_of(
+    cells: &mut [u8],
+    at: usize,
+    producer: ProducerNo,
+    entity: &EntityName,
+    number: u32,
+) -> usize
+    requires { at + 46 ≤ length cells.old }
+    ensures items { take result cells.new ≡ take at cells.old ++ words (decimal producer ∷ entity.now ∷ decimal number ∷ []) }
+    ensures end { result ≤ at + 46 }
 {
-    put_ends(text, producer, entity);
-    put(text, b' ');
-    put_number(text, number);
+    let at = put_ends(cells, at, producer, entity);
+    let at = put(cells, at, b' ');
+    put_number(cells, at, number)
 }
 
 /// A word with a space at its end, a producer, an entity, and a number of that pair.
 #[inline(always)]
 pub(crate) fn put_with_pair<const N: usize>(
-    text: &mut Vec<u8>,
+    cells: &mut [u8],
+    at: usize,
     word: &[u8; N],
     producer: ProducerNo,
     entity: &EntityName,
     number: u32,
-)
-    requires { N + 46 ≤ spare text.old }
-    ensures items { text.new.items ≡ text.old.items ++ (word.now ++ words (decimal producer ∷ entity.now ∷ decimal number ∷ [])) }
-    ensures spare { spare text.old ≤ spare text.new + (N + 46) }
+) -> usize
+    requires { at + (N + 46) ≤ length cells.old }
+    ensures items { take result cells.new ≡ take at cells.old ++ (word.now ++ words (decimal producer ∷ entity.now ∷ decimal number ∷ [])) }
+    ensures end { result ≤ at + (N + 46) }
 {
-    put_word(text, word);
-    put_pair_of(text, producer, entity, number);
+    let at = put_word(cells, at, word);
+    put_pair_of(cells, at, producer, entity, number)
 }
 
-fn put_shard_home(text: &mut Vec<u8>, s: ShardNo, home: &Incarnation, stamp: &Stamp)
-    requires { 56 ≤ spare text.old }
-    ensures items { text.new.items ≡ text.old.items ++ words (codes "shardhome" ∷ decimal s ∷ incarnation_text home.now ∷ stamp_text stamp.now ∷ []) }
-    ensures spare { spare text.old ≤ spare text.new + 56 }
+fn put_shard_home(
+    cells: &mut [u8],
+    at: usize,
+    s: ShardNo,
+    home: &Incarnation,
+    stamp: &Stamp,
+) -> usize
+    requires { at + 56 ≤ length cells.old }
+    ensures items { take result cells.new ≡ take at cells.old ++ words (codes "shardhome" ∷ decimal s ∷ incarnation_text home.now ∷ stamp_text stamp.now ∷ []) }
+    ensures end { result ≤ at + 56 }
 {
-    put_with_shard(text, b"shardhome ", s);
-    put(text, b' ');
-    put_incarnation(text, home);
-    put(text, b' ');
-    put_stamp(text, stamp);
+    let at = put_with_shard(cells, at, b"shardhome ", s);
+    let at = put(cells, at, b' ');
+    let at = put_incarnation(cells, at, home);
+    let at = put(cells, at, b' ');
+    put_stamp(cells, at, stamp)
 }
 
 #[inline(always)]
-fn put_sequenced(text: &mut Vec<u8>, message: &Message)
-    requires { 101 ≤ spare text.old }
-    ensures items { text.new.items ≡ text.old.items ++ words (body_words (Body.Sequenced message.now)) }
-    ensures spare { spare text.old ≤ spare text.new + 101 }
+fn put_sequenced(cells: &mut [u8], at: usize, message: &Message) -> usize
+    requires { at + 101 ≤ length cells.old }
+    ensures items { take result cells.new ≡ take at cells.old ++ words (body_words (Body.Sequenced message.now)) }
+    ensures end { result ≤ at + 101 }
 {
-    put_with_pair(
-        text,
-        b"sequenced ",
-        message.producer,
-        &message.entity,
-        message.number,
-    );
-    put_behind_pair(text, message);
+    let at = put_word(cells, at, b"sequenced ");
+    let at = put_pair_of(cells, at, message.producer, &message.entity, message.number);
+    put_behind_pair(cells, at, message)
 }
 
 /// To whom a message is acknowledged, and its command.
 #[inline(always)]
-fn put_behind_pair(text: &mut Vec<u8>, message: &Message)
-    requires { 45 ≤ spare text.old }
-    ensures items { text.new.items ≡ text.old.items ++ 32 ∷ words (incarnation_text message.now.origin ∷ command_text message.now.command ∷ []) }
-    ensures spare { spare text.old ≤ spare text.new + 45 }
+fn put_behind_pair(cells: &mut [u8], at: usize, message: &Message) -> usize
+    requires { at + 45 ≤ length cells.old }
+    ensures items { take result cells.new ≡ take at cells.old ++ 32 ∷ words (incarnation_text message.now.origin ∷ command_text message.now.command ∷ []) }
+    ensures end { result ≤ at + 45 }
 {
-    put(text, b' ');
-    put_incarnation(text, &message.origin);
-    put(text, b' ');
-    put_command(text, &message.command);
+    let at = put(cells, at, b' ');
+    let at = put_incarnation(cells, at, &message.origin);
+    let at = put(cells, at, b' ');
+    put_command(cells, at, &message.command)
 }
 
 fn put_request(
-    text: &mut Vec<u8>,
+    cells: &mut [u8],
+    at: usize,
     producer: ProducerNo,
     entity: &EntityName,
     confirmed: u32,
     up_to: u32,
-)
-    requires { 65 ≤ spare text.old }
-    ensures items { text.new.items ≡ text.old.items ++ words (codes "request" ∷ decimal producer ∷ entity.now ∷ decimal confirmed ∷ decimal up_to ∷ []) }
-    ensures spare { spare text.old ≤ spare text.new + 65 }
+) -> usize
+    requires { at + 65 ≤ length cells.old }
+    ensures items { take result cells.new ≡ take at cells.old ++ words (codes "request" ∷ decimal producer ∷ entity.now ∷ decimal confirmed ∷ decimal up_to ∷ []) }
+    ensures end { result ≤ at + 65 }
 {
-    put_with_pair(text, b"request ", producer, entity, confirmed);
-    put(text, b' ');
-    put_number(text, up_to);
+    let at = put_with_pair(cells, at, b"request ", producer, entity, confirmed);
+    let at = put(cells, at, b' ');
+    put_number(cells, at, up_to)
 }
 
-fn put_view(text: &mut Vec<u8>, version: u32, members: &[Incarnation])
+fn put_view(cells: &mut [u8], at: usize, version: u32, members: &[Incarnation]) -> usize
     requires few { length members.now < 17 }
-    requires room { 256 ≤ spare text.old }
-    ensures items { text.new.items ≡ text.old.items ++ words (codes "view" ∷ decimal version ∷ join_with_byte 44 (map incarnation_text members.now) ∷ []) }
-    ensures spare { spare text.old ≤ spare text.new + 256 }
+    requires room { at + 256 ≤ length cells.old }
+    ensures items { take result cells.new ≡ take at cells.old ++ words (codes "view" ∷ decimal version ∷ join_with_byte 44 (map incarnation_text members.now) ∷ []) }
+    ensures end { result ≤ at + 256 }
 {
-    put_counted(text, b"view ", version);
-    put(text, b' ');
-    put_members(text, members);
+    let at = put_counted(cells, at, b"view ", version);
+    let at = put(cells, at, b' ');
+    put_members(cells, at, members)
 }
 
 #[tactic(auto, using(crate::proofs::Joined::members_behind))]
-fn put_members(text: &mut Vec<u8>, members: &[Incarnation])
+fn put_members(cells: &mut [u8], at: usize, members: &[Incarnation]) -> usize
     requires few { length members.now < 17 }
-    requires room { 240 ≤ spare text.old }
-    ensures items { text.new.items ≡ text.old.items ++ members_text members.now }
-    ensures spare { spare text.old ≤ spare text.new + 240 }
+    requires room { at + 240 ≤ length cells.old }
+    ensures items { take result cells.new ≡ take at cells.old ++ members_text members.now }
+    ensures end { result ≤ at + 240 }
 {
-    if let Some((first, others)) = members.split_first() {
-        put_joined_members(text, first, others);
+    match members.split_first() {
+        Some((first, others)) => put_joined_members(cells, at, first, others),
+        None => at,
     }
 }
 
-fn put_joined_members(text: &mut Vec<u8>, first: &Incarnation, others: &[Incarnation])
-    requires { 13 + 14 * length others.now ≤ spare text.old }
-    ensures items { text.new.items ≡ text.old.items ++ (incarnation_text first.now ++ behind (44 ∷ []) incarnation_text others.now) }
-    ensures spare { spare text.old ≤ spare text.new + (13 + 14 * length others.now) }
+fn put_joined_members(
+    cells: &mut [u8],
+    at: usize,
+    first: &Incarnation,
+    others: &[Incarnation],
+) -> usize
+    requires { at + (13 + 14 * length others.now) ≤ length cells.old }
+    ensures items { take result cells.new ≡ take at cells.old ++ (incarnation_text first.now ++ behind (44 ∷ []) incarnation_text others.now) }
+    ensures end { result ≤ at + (13 + 14 * length others.now) }
 {
-    put_incarnation(text, first);
-    put_members_behind(text, others);
+    let at = put_incarnation(cells, at, first);
+    put_members_behind(cells, at, others)
 }
 
-fn put_members_behind(text: &mut Vec<u8>, members: &[Incarnation])
-    requires { 14 * length members.now ≤ spare text.old }
-    ensures items { text.new.items ≡ text.old.items ++ behind (44 ∷ []) incarnation_text members.now }
-    ensures spare { spare text.old ≤ spare text.new + 14 * length members.now }
+fn put_members_behind(cells: &mut [u8], at: usize, members: &[Incarnation]) -> usize
+    requires { at + (14 * length members.now) ≤ length cells.old }
+    ensures items { take result cells.new ≡ take at cells.old ++ behind (44 ∷ []) incarnation_text members.now }
+    ensures end { result ≤ at + 14 * length members.now }
 {
+    let mut end = at;
+    let mut known = spell(0);
     for member in members {
-        put(text, b',');
-        put_incarnation(text, member);
+        known = spell_next(known, member.number);
+        end = put_next_member(cells, end, member, &known);
     }
+    end
+}
+
+/// A member behind another. Most have the same number, which is spelled once.
+#[inline(always)]
+fn put_next_member(cells: &mut [u8], at: usize, member: &Incarnation, known: &Spelled) -> usize
+    requires digits { take known.now.len known.now.digits ≡ decimal known.now.number }
+    requires len { known.now.len ≤ 4 }
+    requires room { at + 14 ≤ length cells.old }
+    ensures items { take result cells.new ≡ take at cells.old ++ (44 ∷ [] ++ incarnation_text member.now) }
+    ensures end { result ≤ at + 14 }
+{
+    let at = put(cells, at, b',');
+    put_member(cells, at, member, known)
+}
+
+#[inline(always)]
+fn put_member(cells: &mut [u8], at: usize, member: &Incarnation, known: &Spelled) -> usize
+    requires digits { take known.now.len known.now.digits ≡ decimal known.now.number }
+    requires len { known.now.len ≤ 4 }
+    requires room { at + 13 ≤ length cells.old }
+    ensures items { take result cells.new ≡ take at cells.old ++ incarnation_text member.now }
+    ensures end { result ≤ at + 13 }
+{
+    if member.number != known.number {
+        return put_incarnation(cells, at, member);
+    }
+    let at = put_small(cells, at, u32::from(member.node.get()));
+    let at = put(cells, at, b'.');
+    put_spelled(cells, at, known)
 }

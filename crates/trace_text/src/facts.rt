@@ -1,14 +1,14 @@
 //! The line of a fact.
-ghost use Rattle.std.specs.Prelude.{◌≡◌, ◌+◌, ◌≤◌, ◌++◌, ◌∷◌, [], OnOk, codes, decimal};
+ghost use Rattle.std.specs.Prelude.{◌≡◌, ◌+◌, ◌≤◌, ◌++◌, ◌∷◌, [], IfOk, OnOk, codes, decimal, take, length};
+ghost use Rattle.std.specs.List.{flat_map};
 ghost use Rattle.yard_model.specs.Text.{words, fact_line, fact_words, incarnation_text, slot_text, message_words};
-ghost use Rattle.trace_text.specs.Room.{spare};
 
 use crate::bodies::{
     put_body, put_ends, put_with_name, put_with_pair, put_with_shard, put_with_stamp,
 };
 use crate::number::put_number;
 use crate::records::{put_message, put_record};
-use crate::room::{put, put_word};
+use crate::room::{make_cells, push_cells, put, put_word};
 use crate::values::{
     put_cause, put_command, put_counted, put_incarnation, put_keep, put_name, put_slot, put_state,
 };
@@ -18,338 +18,493 @@ use yard_model::{
     Record, ShardNo, Slot, State,
 };
 
-/// How much room is made for a line. None is longer.
-const LONGEST: usize = 512;
-
 /// Appends the line of a fact. The only error is want of memory; what the text then is stays open.
 pub fn push_fact(text: &mut Vec<u8>, fact: &Fact) -> Result<(), AllocError>
     ensures { OnOk result (text.new.items ≡ text.old.items ++ fact_line fact.now) }
 {
-    text.reserve(LONGEST)?;
-    put_fact_words(text, fact);
-    put(text, b'\n');
+    match fact {
+        Fact::Got(number) => push_got(text, *number),
+        Fact::View(x, version) => push_seen(text, x, *version),
+        Fact::Sent(number, packet) => push_sent(text, *number, packet),
+        _ => push_other(text, fact),
+    }
+}
+
+/// How many cells the lines of several facts are spelled into before they are appended.
+const SHEET: usize = 2048;
+
+/// The longest line that is spelled.
+const LONGEST: usize = 512;
+
+/// Appends the lines of these facts. The only error is want of memory; what the text then is stays
+/// open.
+pub fn push_facts(text: &mut Vec<u8>, facts: &[Fact]) -> Result<(), AllocError>
+    ensures { OnOk result (text.new.items ≡ text.old.items ++ flat_map fact_line facts.now) }
+{
+    let mut cells = [0; SHEET];
+    let mut at = 0;
+    for fact in facts {
+        at = push_next(text, &mut cells, at, fact)?;
+    }
+    push_cells(text, &cells, at)
+}
+
+/// The line of one fact more, behind the text and what waits in the cells; where they end then.
+#[inline(always)]
+fn push_next(
+    text: &mut Vec<u8>,
+    cells: &mut [u8; SHEET],
+    at: usize,
+    fact: &Fact,
+) -> Result<usize, AllocError>
+    requires { at ≤ 2048 }
+    ensures text { IfOk result (λ end. text.new.items ++ take end cells.new ≡ text.old.items ++ (take at cells.old ++ fact_line fact.now)) }
+    ensures end { IfOk result (λ end. end ≤ 2048) }
+{
+    if at > SHEET - LONGEST {
+        push_cells(text, cells, at)?;
+        return Ok(put_fact(cells, 0, fact));
+    }
+    Ok(put_fact(cells, at, fact))
+}
+
+/// The line of a packet that came.
+#[inline(always)]
+fn push_got(text: &mut Vec<u8>, number: u32) -> Result<(), AllocError>
+    ensures { OnOk result (text.new.items ≡ text.old.items ++ fact_line (Fact.Got number)) }
+{
+    let at = make_cells(text, 16)?;
+    let end = put_got(text.as_mut_slice(), at, number);
+    text.truncate(end);
     Ok(())
 }
 
-fn put_fact_words(text: &mut Vec<u8>, fact: &Fact)
-    requires { 500 ≤ spare text.old }
-    ensures items { text.new.items ≡ text.old.items ++ words (fact_words fact.now) }
-    ensures spare { spare text.old ≤ spare text.new + 500 }
+fn put_got(cells: &mut [u8], at: usize, number: u32) -> usize
+    requires { at + 16 ≤ length cells.old }
+    ensures items { take result cells.new ≡ take at cells.old ++ fact_line (Fact.Got number) }
+    ensures end { result ≤ at + 16 }
+{
+    let at = put_counted(cells, at, b"got ", number);
+    put_end(cells, at)
+}
+
+/// The line of members that a node heard of.
+#[inline(always)]
+fn push_seen(text: &mut Vec<u8>, x: &Incarnation, version: u32) -> Result<(), AllocError>
+    ensures { OnOk result (text.new.items ≡ text.old.items ++ fact_line (Fact.View x.now version)) }
+{
+    let at = make_cells(text, 32)?;
+    let end = put_seen(text.as_mut_slice(), at, x, version);
+    text.truncate(end);
+    Ok(())
+}
+
+fn put_seen(cells: &mut [u8], at: usize, x: &Incarnation, version: u32) -> usize
+    requires { at + 32 ≤ length cells.old }
+    ensures items { take result cells.new ≡ take at cells.old ++ fact_line (Fact.View x.now version) }
+    ensures end { result ≤ at + 32 }
+{
+    let at = put_numbered(cells, at, b"view ", x, version);
+    put_end(cells, at)
+}
+
+/// The line of a packet that is posted.
+#[inline(always)]
+fn push_sent(text: &mut Vec<u8>, number: u32, packet: &Packet) -> Result<(), AllocError>
+    ensures { OnOk result (text.new.items ≡ text.old.items ++ fact_line (Fact.Sent number packet.now)) }
+{
+    let at = make_cells(text, 304)?;
+    let end = put_sent_line(text.as_mut_slice(), at, number, packet);
+    text.truncate(end);
+    Ok(())
+}
+
+fn put_sent_line(cells: &mut [u8], at: usize, number: u32, packet: &Packet) -> usize
+    requires { at + 304 ≤ length cells.old }
+    ensures items { take result cells.new ≡ take at cells.old ++ fact_line (Fact.Sent number packet.now) }
+    ensures end { result ≤ at + 304 }
+{
+    let at = put_sent(cells, at, number, packet);
+    put_end(cells, at)
+}
+
+/// The line of any fact.
+#[inline(never)]
+fn push_other(text: &mut Vec<u8>, fact: &Fact) -> Result<(), AllocError>
+    ensures { OnOk result (text.new.items ≡ text.old.items ++ fact_line fact.now) }
+{
+    let at = make_cells(text, 512)?;
+    let end = put_fact(text.as_mut_slice(), at, fact);
+    text.truncate(end);
+    Ok(())
+}
+
+fn put_fact(cells: &mut [u8], at: usize, fact: &Fact) -> usize
+    requires { at + 512 ≤ length cells.old }
+    ensures items { take result cells.new ≡ take at cells.old ++ fact_line fact.now }
+    ensures end { result ≤ at + 512 }
+{
+    let at = put_fact_words(cells, at, fact);
+    put_end(cells, at)
+}
+
+/// The end of a line.
+#[inline(always)]
+fn put_end(cells: &mut [u8], at: usize) -> usize
+    requires { at + 1 ≤ length cells.old }
+    ensures items { take result cells.new ≡ take at cells.old ++ 10 ∷ [] }
+    ensures end { result ≡ at + 1 }
+{
+    put(cells, at, b'\n')
+}
+
+fn put_fact_words(cells: &mut [u8], at: usize, fact: &Fact) -> usize
+    requires { at + 500 ≤ length cells.old }
+    ensures items { take result cells.new ≡ take at cells.old ++ words (fact_words fact.now) }
+    ensures end { result ≤ at + 500 }
 {
     match fact {
-        Fact::At(line) => put_counted(text, b"at ", *line),
-        Fact::Nothing => put_word(text, b"nothing"),
-        Fact::WireFull => put_word(text, b"wirefull"),
-        Fact::Settled => put_word(text, b"settled"),
-        Fact::Up(x) => put_with_incarnation(text, b"up ", x),
-        Fact::Gone(x) => put_with_incarnation(text, b"gone ", x),
-        Fact::View(x, version) => put_numbered(text, b"view ", x, *version),
-        Fact::Sent(number, packet) => put_sent(text, *number, packet),
-        Fact::Got(number) => put_counted(text, b"got ", *number),
-        Fact::Granted(slot, epoch, x) => put_granted(text, slot, *epoch, x),
-        Fact::Freed(slot, epoch, cause) => put_freed(text, slot, *epoch, cause),
-        Fact::Held(slot, x, node) => put_held(text, slot, x, *node),
-        Fact::Registered(region) => put_with_incarnation(text, b"registered ", region),
-        Fact::Terminated(region) => put_with_incarnation(text, b"terminated ", region),
-        Fact::Allocated(s, region) => put_allocated(text, *s, region),
-        Fact::Deallocated(s) => put_with_shard(text, b"deallocated ", *s),
-        Fact::Moving(s, stamp) => put_with_stamp(text, b"moving ", *s, stamp),
-        Fact::Home(x, s, home) => put_home(text, x, *s, home),
-        Fact::Forget(x, s) => put_numbered(text, b"forget ", x, u32::from(s.get())),
-        Fact::Kept(x, message) => put_with_message(text, b"kept ", x, message),
-        Fact::Dropped(x, message) => put_with_message(text, b"dropped ", x, message),
-        Fact::Stashed(x, message) => put_with_message(text, b"stashed ", x, message),
-        Fact::Start(x, entity) => put_with_entity(text, b"start ", x, entity),
+        Fact::At(line) => put_counted(cells, at, b"at ", *line),
+        Fact::Nothing => put_word(cells, at, b"nothing"),
+        Fact::WireFull => put_word(cells, at, b"wirefull"),
+        Fact::Settled => put_word(cells, at, b"settled"),
+        Fact::Up(x) => put_with_incarnation(cells, at, b"up ", x),
+        Fact::Gone(x) => put_with_incarnation(cells, at, b"gone ", x),
+        Fact::View(x, version) => put_numbered(cells, at, b"view ", x, *version),
+        Fact::Sent(number, packet) => put_sent(cells, at, *number, packet),
+        Fact::Got(number) => put_counted(cells, at, b"got ", *number),
+        Fact::Granted(slot, epoch, x) => put_granted(cells, at, slot, *epoch, x),
+        Fact::Freed(slot, epoch, cause) => put_freed(cells, at, slot, *epoch, cause),
+        Fact::Held(slot, x, node) => put_held(cells, at, slot, x, *node),
+        Fact::Registered(region) => put_with_incarnation(cells, at, b"registered ", region),
+        Fact::Terminated(region) => put_with_incarnation(cells, at, b"terminated ", region),
+        Fact::Allocated(s, region) => put_allocated(cells, at, *s, region),
+        Fact::Deallocated(s) => put_with_shard(cells, at, b"deallocated ", *s),
+        Fact::Moving(s, stamp) => put_with_stamp(cells, at, b"moving ", *s, stamp),
+        Fact::Home(x, s, home) => put_home(cells, at, x, *s, home),
+        Fact::Forget(x, s) => put_numbered(cells, at, b"forget ", x, u32::from(s.get())),
+        Fact::Kept(x, message) => put_with_message(cells, at, b"kept ", x, message),
+        Fact::Dropped(x, message) => put_with_message(cells, at, b"dropped ", x, message),
+        Fact::Stashed(x, message) => put_with_message(cells, at, b"stashed ", x, message),
+        Fact::Start(x, entity) => put_with_entity(cells, at, b"start ", x, entity),
         Fact::Active {
             who,
             entity,
             records,
             state,
-        } => put_active(text, who, entity, *records, state),
-        Fact::Stop(x, entity) => put_with_entity(text, b"stop ", x, entity),
-        Fact::WriteFailed(x, entity) => put_with_entity(text, b"writefailed ", x, entity),
-        Fact::Armed(entity, keep) => put_armed(text, entity, keep),
-        Fact::Wrote(entity, written) => put_wrote(text, entity, written),
-        Fact::Snapshot(entity, records) => put_snapshot(text, entity, *records),
-        Fact::Remembered(entity) => put_with_name(text, b"remembered ", entity),
-        Fact::Forgotten(entity) => put_with_name(text, b"forgotten ", entity),
-        Fact::Waits(p, entity, command) => put_waits(text, *p, entity, command),
-        Fact::Queued(p, entity, n, command) => put_queued(text, *p, entity, *n, command),
-        Fact::Confirmed(p, entity, n) => put_with_pair(text, b"confirmed ", *p, entity, *n),
-        Fact::Reshard(shards, epoch) => put_reshard(text, *shards, *epoch),
-        Fact::Resharded(_, shards, epoch) => put_reshard(text, *shards, *epoch),
-        Fact::Upgrade(version) => put_counted(text, b"upgrade ", u32::from(*version)),
-        Fact::SentAsk(number, x) => put_sent_ask(text, *number, x),
-        Fact::SentJob(number, x, entity) => put_sent_job(text, *number, b" job ", x, entity),
-        Fact::SentDone(number, x, entity) => put_sent_job(text, *number, b" done ", x, entity),
-        Fact::Given(entity, x) => put_given(text, entity, x),
-        Fact::Did(x, entity) => put_with_entity(text, b"did ", x, entity),
+        } => put_active(cells, at, who, entity, *records, state),
+        Fact::Stop(x, entity) => put_with_entity(cells, at, b"stop ", x, entity),
+        Fact::WriteFailed(x, entity) => put_with_entity(cells, at, b"writefailed ", x, entity),
+        Fact::Armed(entity, keep) => put_armed(cells, at, entity, keep),
+        Fact::Wrote(entity, written) => put_wrote(cells, at, entity, written),
+        Fact::Snapshot(entity, records) => put_snapshot(cells, at, entity, *records),
+        Fact::Remembered(entity) => put_with_name(cells, at, b"remembered ", entity),
+        Fact::Forgotten(entity) => put_with_name(cells, at, b"forgotten ", entity),
+        Fact::Waits(p, entity, command) => put_waits(cells, at, *p, entity, command),
+        Fact::Queued(p, entity, n, command) => put_queued(cells, at, *p, entity, *n, command),
+        Fact::Confirmed(p, entity, n) => put_with_pair(cells, at, b"confirmed ", *p, entity, *n),
+        Fact::Reshard(shards, epoch) => put_reshard(cells, at, *shards, *epoch),
+        Fact::Resharded(_, shards, epoch) => put_reshard(cells, at, *shards, *epoch),
+        Fact::Upgrade(version) => put_counted(cells, at, b"upgrade ", u32::from(*version)),
+        Fact::SentAsk(number, x) => put_sent_ask(cells, at, *number, x),
+        Fact::SentJob(number, x, entity) => put_sent_job(cells, at, *number, b" job ", x, entity),
+        Fact::SentDone(number, x, entity) => put_sent_job(cells, at, *number, b" done ", x, entity),
+        Fact::Given(entity, x) => put_given(cells, at, entity, x),
+        Fact::Did(x, entity) => put_with_entity(cells, at, b"did ", x, entity),
     }
 }
 
 /// A word with a space at its end, and an incarnation.
 #[inline(always)]
-fn put_with_incarnation<const N: usize>(text: &mut Vec<u8>, word: &[u8; N], x: &Incarnation)
-    requires { N + 13 ≤ spare text.old }
-    ensures items { text.new.items ≡ text.old.items ++ (word.now ++ incarnation_text x.now) }
-    ensures spare { spare text.old ≤ spare text.new + (N + 13) }
+fn put_with_incarnation<const N: usize>(
+    cells: &mut [u8],
+    at: usize,
+    word: &[u8; N],
+    x: &Incarnation,
+) -> usize
+    requires { at + (N + 13) ≤ length cells.old }
+    ensures items { take result cells.new ≡ take at cells.old ++ (word.now ++ incarnation_text x.now) }
+    ensures end { result ≤ at + (N + 13) }
 {
-    put_word(text, word);
-    put_incarnation(text, x);
+    let at = put_word(cells, at, word);
+    put_incarnation(cells, at, x)
 }
 
 /// A word with a space at its end, an incarnation and a number.
 #[inline(always)]
-fn put_numbered<const N: usize>(text: &mut Vec<u8>, word: &[u8; N], x: &Incarnation, n: u32)
-    requires { N + 24 ≤ spare text.old }
-    ensures items { text.new.items ≡ text.old.items ++ (word.now ++ words (incarnation_text x.now ∷ decimal n ∷ [])) }
-    ensures spare { spare text.old ≤ spare text.new + (N + 24) }
+fn put_numbered<const N: usize>(
+    cells: &mut [u8],
+    at: usize,
+    word: &[u8; N],
+    x: &Incarnation,
+    n: u32,
+) -> usize
+    requires { at + (N + 24) ≤ length cells.old }
+    ensures items { take result cells.new ≡ take at cells.old ++ (word.now ++ words (incarnation_text x.now ∷ decimal n ∷ [])) }
+    ensures end { result ≤ at + (N + 24) }
 {
-    put_with_incarnation(text, word, x);
-    put(text, b' ');
-    put_number(text, n);
+    let at = put_with_incarnation(cells, at, word, x);
+    let at = put(cells, at, b' ');
+    put_number(cells, at, n)
 }
 
 /// A word with a space at its end, an incarnation and an entity.
 #[inline(always)]
 fn put_with_entity<const N: usize>(
-    text: &mut Vec<u8>,
+    cells: &mut [u8],
+    at: usize,
     word: &[u8; N],
     x: &Incarnation,
     entity: &EntityName,
-)
-    requires { N + 46 ≤ spare text.old }
-    ensures items { text.new.items ≡ text.old.items ++ (word.now ++ words (incarnation_text x.now ∷ entity.now ∷ [])) }
-    ensures spare { spare text.old ≤ spare text.new + (N + 46) }
+) -> usize
+    requires { at + (N + 46) ≤ length cells.old }
+    ensures items { take result cells.new ≡ take at cells.old ++ (word.now ++ words (incarnation_text x.now ∷ entity.now ∷ [])) }
+    ensures end { result ≤ at + (N + 46) }
 {
-    put_with_incarnation(text, word, x);
-    put(text, b' ');
-    put_name(text, entity);
+    let at = put_with_incarnation(cells, at, word, x);
+    let at = put(cells, at, b' ');
+    put_name(cells, at, entity)
 }
 
 /// A word with a space at its end, an incarnation, and whose message it is.
 #[inline(always)]
 fn put_with_message<const N: usize>(
-    text: &mut Vec<u8>,
+    cells: &mut [u8],
+    at: usize,
     word: &[u8; N],
     x: &Incarnation,
     message: &Message,
-)
-    requires { N + 60 ≤ spare text.old }
-    ensures items { text.new.items ≡ text.old.items ++ (word.now ++ words (incarnation_text x.now ∷ message_words message.now)) }
-    ensures spare { spare text.old ≤ spare text.new + (N + 60) }
+) -> usize
+    requires { at + (N + 60) ≤ length cells.old }
+    ensures items { take result cells.new ≡ take at cells.old ++ (word.now ++ words (incarnation_text x.now ∷ message_words message.now)) }
+    ensures end { result ≤ at + (N + 60) }
 {
-    put_with_incarnation(text, word, x);
-    put(text, b' ');
-    put_message(text, message);
+    let at = put_with_incarnation(cells, at, word, x);
+    let at = put(cells, at, b' ');
+    put_message(cells, at, message)
 }
 
 /// A word with a space at its end, a slot and an epoch.
 #[inline(always)]
-fn put_with_slot<const N: usize>(text: &mut Vec<u8>, word: &[u8; N], slot: &Slot, epoch: u32)
-    requires { N + 27 ≤ spare text.old }
-    ensures items { text.new.items ≡ text.old.items ++ (word.now ++ words (slot_text slot.now ∷ decimal epoch ∷ [])) }
-    ensures spare { spare text.old ≤ spare text.new + (N + 27) }
+fn put_with_slot<const N: usize>(
+    cells: &mut [u8],
+    at: usize,
+    word: &[u8; N],
+    slot: &Slot,
+    epoch: u32,
+) -> usize
+    requires { at + (N + 27) ≤ length cells.old }
+    ensures items { take result cells.new ≡ take at cells.old ++ (word.now ++ words (slot_text slot.now ∷ decimal epoch ∷ [])) }
+    ensures end { result ≤ at + (N + 27) }
 {
-    put_word(text, word);
-    put_slot(text, slot);
-    put(text, b' ');
-    put_number(text, epoch);
+    let at = put_word(cells, at, word);
+    let at = put_slot(cells, at, slot);
+    let at = put(cells, at, b' ');
+    put_number(cells, at, epoch)
 }
 
 #[tactic(auto, using(crate::proofs::Joined::words_of_body))]
-fn put_sent(text: &mut Vec<u8>, number: u32, packet: &Packet)
-    requires { 300 ≤ spare text.old }
-    ensures items { text.new.items ≡ text.old.items ++ words (fact_words (Fact.Sent number packet.now)) }
-    ensures spare { spare text.old ≤ spare text.new + 300 }
+fn put_sent(cells: &mut [u8], at: usize, number: u32, packet: &Packet) -> usize
+    requires { at + 300 ≤ length cells.old }
+    ensures items { take result cells.new ≡ take at cells.old ++ words (fact_words (Fact.Sent number packet.now)) }
+    ensures end { result ≤ at + 300 }
 {
-    put_sent_head(text, number, packet);
-    put(text, b' ');
-    put_body(text, &packet.body);
+    let at = put_sent_head(cells, at, number, packet);
+    let at = put(cells, at, b' ');
+    put_body(cells, at, &packet.body)
 }
 
 /// A packet's number, from whom it comes, and to whom it goes.
 #[inline(always)]
-fn put_sent_head(text: &mut Vec<u8>, number: u32, packet: &Packet)
-    requires { 43 ≤ spare text.old }
-    ensures items { text.new.items ≡ text.old.items ++ words (codes "sent" ∷ decimal number ∷ incarnation_text packet.now.from ∷ incarnation_text packet.now.to ∷ []) }
-    ensures spare { spare text.old ≤ spare text.new + 43 }
+fn put_sent_head(cells: &mut [u8], at: usize, number: u32, packet: &Packet) -> usize
+    requires { at + 43 ≤ length cells.old }
+    ensures items { take result cells.new ≡ take at cells.old ++ words (codes "sent" ∷ decimal number ∷ incarnation_text packet.now.from ∷ incarnation_text packet.now.to ∷ []) }
+    ensures end { result ≤ at + 43 }
 {
-    put_counted(text, b"sent ", number);
-    put(text, b' ');
-    put_incarnation(text, &packet.from);
-    put(text, b' ');
-    put_incarnation(text, &packet.to);
+    let at = put_counted(cells, at, b"sent ", number);
+    let at = put(cells, at, b' ');
+    let at = put_incarnation(cells, at, &packet.from);
+    let at = put(cells, at, b' ');
+    put_incarnation(cells, at, &packet.to)
 }
 
-fn put_granted(text: &mut Vec<u8>, slot: &Slot, epoch: u32, x: &Incarnation)
-    requires { 60 ≤ spare text.old }
-    ensures items { text.new.items ≡ text.old.items ++ words (fact_words (Fact.Granted slot.now epoch x.now)) }
-    ensures spare { spare text.old ≤ spare text.new + 60 }
+fn put_granted(cells: &mut [u8], at: usize, slot: &Slot, epoch: u32, x: &Incarnation) -> usize
+    requires { at + 60 ≤ length cells.old }
+    ensures items { take result cells.new ≡ take at cells.old ++ words (fact_words (Fact.Granted slot.now epoch x.now)) }
+    ensures end { result ≤ at + 60 }
 {
-    put_with_slot(text, b"granted ", slot, epoch);
-    put(text, b' ');
-    put_incarnation(text, x);
+    let at = put_with_slot(cells, at, b"granted ", slot, epoch);
+    let at = put(cells, at, b' ');
+    put_incarnation(cells, at, x)
 }
 
-fn put_freed(text: &mut Vec<u8>, slot: &Slot, epoch: u32, cause: &Cause)
-    requires { 60 ≤ spare text.old }
-    ensures items { text.new.items ≡ text.old.items ++ words (fact_words (Fact.Freed slot.now epoch cause.now)) }
-    ensures spare { spare text.old ≤ spare text.new + 60 }
+fn put_freed(cells: &mut [u8], at: usize, slot: &Slot, epoch: u32, cause: &Cause) -> usize
+    requires { at + 60 ≤ length cells.old }
+    ensures items { take result cells.new ≡ take at cells.old ++ words (fact_words (Fact.Freed slot.now epoch cause.now)) }
+    ensures end { result ≤ at + 60 }
 {
-    put_with_slot(text, b"freed ", slot, epoch);
-    put(text, b' ');
-    put_cause(text, cause);
+    let at = put_with_slot(cells, at, b"freed ", slot, epoch);
+    let at = put(cells, at, b' ');
+    put_cause(cells, at, cause)
 }
 
-fn put_held(text: &mut Vec<u8>, slot: &Slot, x: &Incarnation, node: NodeNo)
-    requires { 60 ≤ spare text.old }
-    ensures items { text.new.items ≡ text.old.items ++ words (fact_words (Fact.Held slot.now x.now node)) }
-    ensures spare { spare text.old ≤ spare text.new + 60 }
+fn put_held(cells: &mut [u8], at: usize, slot: &Slot, x: &Incarnation, node: NodeNo) -> usize
+    requires { at + 60 ≤ length cells.old }
+    ensures items { take result cells.new ≡ take at cells.old ++ words (fact_words (Fact.Held slot.now x.now node)) }
+    ensures end { result ≤ at + 60 }
 {
-    put_word(text, b"held ");
-    put_slot(text, slot);
-    put(text, b' ');
-    put_incarnation(text, x);
-    put_counted(text, b" by ", u32::from(node.get()));
+    let at = put_word(cells, at, b"held ");
+    let at = put_slot(cells, at, slot);
+    let at = put(cells, at, b' ');
+    let at = put_incarnation(cells, at, x);
+    put_counted(cells, at, b" by ", u32::from(node.get()))
 }
 
-fn put_allocated(text: &mut Vec<u8>, s: ShardNo, region: &Incarnation)
-    requires { 40 ≤ spare text.old }
-    ensures items { text.new.items ≡ text.old.items ++ words (fact_words (Fact.Allocated s region.now)) }
-    ensures spare { spare text.old ≤ spare text.new + 40 }
+fn put_allocated(cells: &mut [u8], at: usize, s: ShardNo, region: &Incarnation) -> usize
+    requires { at + 40 ≤ length cells.old }
+    ensures items { take result cells.new ≡ take at cells.old ++ words (fact_words (Fact.Allocated s region.now)) }
+    ensures end { result ≤ at + 40 }
 {
-    put_with_shard(text, b"allocated ", s);
-    put(text, b' ');
-    put_incarnation(text, region);
+    let at = put_with_shard(cells, at, b"allocated ", s);
+    let at = put(cells, at, b' ');
+    put_incarnation(cells, at, region)
 }
 
-fn put_home(text: &mut Vec<u8>, x: &Incarnation, s: ShardNo, home: &Incarnation)
-    requires { 50 ≤ spare text.old }
-    ensures items { text.new.items ≡ text.old.items ++ words (fact_words (Fact.Home x.now s home.now)) }
-    ensures spare { spare text.old ≤ spare text.new + 50 }
+fn put_home(cells: &mut [u8], at: usize, x: &Incarnation, s: ShardNo, home: &Incarnation) -> usize
+    requires { at + 50 ≤ length cells.old }
+    ensures items { take result cells.new ≡ take at cells.old ++ words (fact_words (Fact.Home x.now s home.now)) }
+    ensures end { result ≤ at + 50 }
 {
-    put_numbered(text, b"home ", x, u32::from(s.get()));
-    put(text, b' ');
-    put_incarnation(text, home);
+    let at = put_numbered(cells, at, b"home ", x, u32::from(s.get()));
+    let at = put(cells, at, b' ');
+    put_incarnation(cells, at, home)
 }
 
 fn put_active(
-    text: &mut Vec<u8>,
+    cells: &mut [u8],
+    at: usize,
     who: &Incarnation,
     entity: &EntityName,
     records: u32,
     state: &State,
-)
-    requires { 430 ≤ spare text.old }
-    ensures items { text.new.items ≡ text.old.items ++ words (fact_words (Fact.Active who.now entity.now records state.now)) }
-    ensures spare { spare text.old ≤ spare text.new + 430 }
+) -> usize
+    requires { at + 430 ≤ length cells.old }
+    ensures items { take result cells.new ≡ take at cells.old ++ words (fact_words (Fact.Active who.now entity.now records state.now)) }
+    ensures end { result ≤ at + 430 }
 {
-    put_with_entity(text, b"active ", who, entity);
-    put(text, b' ');
-    put_number(text, records);
-    put(text, b' ');
-    put_state(text, state);
+    let at = put_with_entity(cells, at, b"active ", who, entity);
+    let at = put(cells, at, b' ');
+    let at = put_number(cells, at, records);
+    let at = put(cells, at, b' ');
+    put_state(cells, at, state)
 }
 
-fn put_armed(text: &mut Vec<u8>, entity: &EntityName, keep: &Keep)
-    requires { 50 ≤ spare text.old }
-    ensures items { text.new.items ≡ text.old.items ++ words (fact_words (Fact.Armed entity.now keep.now)) }
-    ensures spare { spare text.old ≤ spare text.new + 50 }
+fn put_armed(cells: &mut [u8], at: usize, entity: &EntityName, keep: &Keep) -> usize
+    requires { at + 50 ≤ length cells.old }
+    ensures items { take result cells.new ≡ take at cells.old ++ words (fact_words (Fact.Armed entity.now keep.now)) }
+    ensures end { result ≤ at + 50 }
 {
-    put_with_name(text, b"armed ", entity);
-    put(text, b' ');
-    put_keep(text, keep);
+    let at = put_with_name(cells, at, b"armed ", entity);
+    let at = put(cells, at, b' ');
+    put_keep(cells, at, keep)
 }
 
-fn put_wrote(text: &mut Vec<u8>, entity: &EntityName, written: &Record)
-    requires { 300 ≤ spare text.old }
-    ensures items { text.new.items ≡ text.old.items ++ words (fact_words (Fact.Wrote entity.now written.now)) }
-    ensures spare { spare text.old ≤ spare text.new + 300 }
+fn put_wrote(cells: &mut [u8], at: usize, entity: &EntityName, written: &Record) -> usize
+    requires { at + 300 ≤ length cells.old }
+    ensures items { take result cells.new ≡ take at cells.old ++ words (fact_words (Fact.Wrote entity.now written.now)) }
+    ensures end { result ≤ at + 300 }
 {
-    put_with_name(text, b"wrote ", entity);
-    put(text, b' ');
-    put_record(text, written);
+    let at = put_with_name(cells, at, b"wrote ", entity);
+    let at = put(cells, at, b' ');
+    put_record(cells, at, written)
 }
 
-fn put_snapshot(text: &mut Vec<u8>, entity: &EntityName, records: u32)
-    requires { 52 ≤ spare text.old }
-    ensures items { text.new.items ≡ text.old.items ++ words (fact_words (Fact.Snapshot entity.now records)) }
-    ensures spare { spare text.old ≤ spare text.new + 52 }
+fn put_snapshot(cells: &mut [u8], at: usize, entity: &EntityName, records: u32) -> usize
+    requires { at + 52 ≤ length cells.old }
+    ensures items { take result cells.new ≡ take at cells.old ++ words (fact_words (Fact.Snapshot entity.now records)) }
+    ensures end { result ≤ at + 52 }
 {
-    put_with_name(text, b"snapshot ", entity);
-    put(text, b' ');
-    put_number(text, records);
+    let at = put_with_name(cells, at, b"snapshot ", entity);
+    let at = put(cells, at, b' ');
+    put_number(cells, at, records)
 }
 
-fn put_waits(text: &mut Vec<u8>, p: ProducerNo, entity: &EntityName, command: &Command)
-    requires { 72 ≤ spare text.old }
-    ensures items { text.new.items ≡ text.old.items ++ words (fact_words (Fact.Waits p entity.now command.now)) }
-    ensures spare { spare text.old ≤ spare text.new + 72 }
+fn put_waits(
+    cells: &mut [u8],
+    at: usize,
+    p: ProducerNo,
+    entity: &EntityName,
+    command: &Command,
+) -> usize
+    requires { at + 72 ≤ length cells.old }
+    ensures items { take result cells.new ≡ take at cells.old ++ words (fact_words (Fact.Waits p entity.now command.now)) }
+    ensures end { result ≤ at + 72 }
 {
-    put_word(text, b"waits ");
-    put_ends(text, p, entity);
-    put(text, b' ');
-    put_command(text, command);
+    let at = put_word(cells, at, b"waits ");
+    let at = put_ends(cells, at, p, entity);
+    let at = put(cells, at, b' ');
+    put_command(cells, at, command)
 }
 
 fn put_queued(
-    text: &mut Vec<u8>,
+    cells: &mut [u8],
+    at: usize,
     p: ProducerNo,
     entity: &EntityName,
     number: u32,
     command: &Command,
-)
-    requires { 84 ≤ spare text.old }
-    ensures items { text.new.items ≡ text.old.items ++ words (fact_words (Fact.Queued p entity.now number command.now)) }
-    ensures spare { spare text.old ≤ spare text.new + 84 }
+) -> usize
+    requires { at + 84 ≤ length cells.old }
+    ensures items { take result cells.new ≡ take at cells.old ++ words (fact_words (Fact.Queued p entity.now number command.now)) }
+    ensures end { result ≤ at + 84 }
 {
-    put_with_pair(text, b"queued ", p, entity, number);
-    put(text, b' ');
-    put_command(text, command);
+    let at = put_with_pair(cells, at, b"queued ", p, entity, number);
+    let at = put(cells, at, b' ');
+    put_command(cells, at, command)
 }
 
-fn put_reshard(text: &mut Vec<u8>, shards: u8, epoch: u32)
-    requires { 29 ≤ spare text.old }
-    ensures items { text.new.items ≡ text.old.items ++ words (fact_words (Fact.Reshard shards epoch)) }
-    ensures spare { spare text.old ≤ spare text.new + 29 }
+fn put_reshard(cells: &mut [u8], at: usize, shards: u8, epoch: u32) -> usize
+    requires { at + 29 ≤ length cells.old }
+    ensures items { take result cells.new ≡ take at cells.old ++ words (fact_words (Fact.Reshard shards epoch)) }
+    ensures end { result ≤ at + 29 }
 {
-    put_counted(text, b"reshard ", u32::from(shards));
-    put(text, b' ');
-    put_number(text, epoch);
+    let at = put_counted(cells, at, b"reshard ", u32::from(shards));
+    let at = put(cells, at, b' ');
+    put_number(cells, at, epoch)
 }
 
-fn put_sent_ask(text: &mut Vec<u8>, number: u32, x: &Incarnation)
-    requires { 33 ≤ spare text.old }
-    ensures items { text.new.items ≡ text.old.items ++ words (fact_words (Fact.SentAsk number x.now)) }
-    ensures spare { spare text.old ≤ spare text.new + 33 }
+fn put_sent_ask(cells: &mut [u8], at: usize, number: u32, x: &Incarnation) -> usize
+    requires { at + 33 ≤ length cells.old }
+    ensures items { take result cells.new ≡ take at cells.old ++ words (fact_words (Fact.SentAsk number x.now)) }
+    ensures end { result ≤ at + 33 }
 {
-    put_counted(text, b"sent ", number);
-    put_with_incarnation(text, b" ask ", x);
+    let at = put_counted(cells, at, b"sent ", number);
+    put_with_incarnation(cells, at, b" ask ", x)
 }
 
 /// A packet of a worker's, a word between spaces, to or from whom, and the job.
 fn put_sent_job<const N: usize>(
-    text: &mut Vec<u8>,
+    cells: &mut [u8],
+    at: usize,
     number: u32,
     word: &[u8; N],
     x: &Incarnation,
     entity: &EntityName,
-)
-    requires { N + 61 ≤ spare text.old }
-    ensures items { text.new.items ≡ text.old.items ++ (words (codes "sent" ∷ decimal number ∷ []) ++ (word.now ++ words (incarnation_text x.now ∷ entity.now ∷ []))) }
-    ensures spare { spare text.old ≤ spare text.new + (N + 61) }
+) -> usize
+    requires { at + (N + 61) ≤ length cells.old }
+    ensures items { take result cells.new ≡ take at cells.old ++ (words (codes "sent" ∷ decimal number ∷ []) ++ (word.now ++ words (incarnation_text x.now ∷ entity.now ∷ []))) }
+    ensures end { result ≤ at + (N + 61) }
 {
-    put_counted(text, b"sent ", number);
-    put_with_entity(text, word, x, entity);
+    let at = put_counted(cells, at, b"sent ", number);
+    put_with_entity(cells, at, word, x, entity)
 }
 
-fn put_given(text: &mut Vec<u8>, entity: &EntityName, x: &Incarnation)
-    requires { 52 ≤ spare text.old }
-    ensures items { text.new.items ≡ text.old.items ++ words (fact_words (Fact.Given entity.now x.now)) }
-    ensures spare { spare text.old ≤ spare text.new + 52 }
+fn put_given(cells: &mut [u8], at: usize, entity: &EntityName, x: &Incarnation) -> usize
+    requires { at + 52 ≤ length cells.old }
+    ensures items { take result cells.new ≡ take at cells.old ++ words (fact_words (Fact.Given entity.now x.now)) }
+    ensures end { result ≤ at + 52 }
 {
-    put_with_name(text, b"given ", entity);
-    put(text, b' ');
-    put_incarnation(text, x);
+    let at = put_with_name(cells, at, b"given ", entity);
+    let at = put(cells, at, b' ');
+    put_incarnation(cells, at, x)
 }

@@ -1,8 +1,8 @@
 //! What is printed: facts and the report, appended to a text byte by byte as `yard_model` defines it;
 //! the lists of slots; and the report as JSON.
 //!
-//! A line of a fact is spelled into room that is made for it once: functions named `put` ask for
-//! room and can't fail, those named `push` make it.
+//! A line of a fact is spelled into cells and then appended at once: functions named `put` write into
+//! the cells and can't fail, those named `push` append.
 #![tactic(auto)]
 
 mod basics;
@@ -22,6 +22,6 @@ mod slots;
 mod text_rows;
 mod values;
 
-pub use facts::push_fact;
+pub use facts::{push_fact, push_facts};
 pub use report::{push_json, push_report, report_value};
 pub use slots::push_lists;

@@ -1,10 +1,9 @@
 //! Records and messages.
-ghost use Rattle.std.specs.Prelude.{◌≡◌, ◌+◌, ◌≤◌, ◌++◌, ◌∷◌, [], OnOk, codes, decimal};
+ghost use Rattle.std.specs.Prelude.{◌≡◌, ◌+◌, ◌≤◌, ◌++◌, ◌∷◌, [], OnOk, codes, decimal, take, length};
 ghost use Rattle.yard_model.specs.Text.{words, record_words, message_words, events_text, reply_text};
-ghost use Rattle.trace_text.specs.Room.{spare};
 
 use crate::number::{put_number, put_small};
-use crate::room::{put, put_word};
+use crate::room::{push_cells, put, put_word};
 use crate::values::{put_command, put_counted, put_events, put_name, put_reply};
 use std::alloc::AllocError;
 use yard_model::{Message, Record};
@@ -13,57 +12,57 @@ use yard_model::{Message, Record};
 pub(crate) fn push_record(text: &mut Vec<u8>, written: &Record) -> Result<(), AllocError>
     ensures { OnOk result (text.new.items ≡ text.old.items ++ words (record_words written.now)) }
 {
-    text.reserve(260)?;
-    put_record(text, written);
-    Ok(())
+    let mut cells = [0; 260];
+    let end = put_record(&mut cells, 0, written);
+    push_cells(text, &cells, end)
 }
 
-pub(crate) fn put_record(text: &mut Vec<u8>, written: &Record)
-    requires { 260 ≤ spare text.old }
-    ensures items { text.new.items ≡ text.old.items ++ words (record_words written.now) }
-    ensures spare { spare text.old ≤ spare text.new + 260 }
+pub(crate) fn put_record(cells: &mut [u8], at: usize, written: &Record) -> usize
+    requires { at + 260 ≤ length cells.old }
+    ensures items { take result cells.new ≡ take at cells.old ++ words (record_words written.now) }
+    ensures end { result ≤ at + 260 }
 {
-    put_record_head(text, written);
-    put(text, b' ');
-    put_command(text, &written.command);
-    put_outcome(text, written);
+    let at = put_record_head(cells, at, written);
+    let at = put(cells, at, b' ');
+    let at = put_command(cells, at, &written.command);
+    put_outcome(cells, at, written)
 }
 
 /// What its command led to, and what was answered.
-fn put_outcome(text: &mut Vec<u8>, written: &Record)
-    requires { 185 ≤ spare text.old }
-    ensures items { text.new.items ≡ text.old.items ++ words ([] ∷ codes "/" ∷ events_text written.now.events ∷ codes "/" ∷ reply_text written.now.reply ∷ []) }
-    ensures spare { spare text.old ≤ spare text.new + 185 }
+fn put_outcome(cells: &mut [u8], at: usize, written: &Record) -> usize
+    requires { at + 185 ≤ length cells.old }
+    ensures items { take result cells.new ≡ take at cells.old ++ words ([] ∷ codes "/" ∷ events_text written.now.events ∷ codes "/" ∷ reply_text written.now.reply ∷ []) }
+    ensures end { result ≤ at + 185 }
 {
-    put_word(text, b" / ");
-    put_events(text, written.events.as_slice());
-    put_word(text, b" / ");
-    put_reply(text, &written.reply);
+    let at = put_word(cells, at, b" / ");
+    let at = put_events(cells, at, written.events.as_slice());
+    let at = put_word(cells, at, b" / ");
+    put_reply(cells, at, &written.reply)
 }
 
 /// Its number, its epoch, and whose command it answers.
-fn put_record_head(text: &mut Vec<u8>, written: &Record)
-    requires { 44 ≤ spare text.old }
-    ensures items { text.new.items ≡ text.old.items ++ words (decimal written.now.number ∷ codes "epoch" ∷ decimal written.now.epoch ∷ codes "by" ∷ (decimal written.now.producer ++ 58 ∷ decimal written.now.place) ∷ []) }
-    ensures spare { spare text.old ≤ spare text.new + 44 }
+fn put_record_head(cells: &mut [u8], at: usize, written: &Record) -> usize
+    requires { at + 44 ≤ length cells.old }
+    ensures items { take result cells.new ≡ take at cells.old ++ words (decimal written.now.number ∷ codes "epoch" ∷ decimal written.now.epoch ∷ codes "by" ∷ (decimal written.now.producer ++ 58 ∷ decimal written.now.place) ∷ []) }
+    ensures end { result ≤ at + 44 }
 {
-    put_number(text, written.number);
-    put_counted(text, b" epoch ", written.epoch);
-    put_word(text, b" by ");
-    put_small(text, u32::from(written.producer.get()));
-    put(text, b':');
-    put_number(text, written.place);
+    let at = put_number(cells, at, written.number);
+    let at = put_counted(cells, at, b" epoch ", written.epoch);
+    let at = put_word(cells, at, b" by ");
+    let at = put_small(cells, at, u32::from(written.producer.get()));
+    let at = put(cells, at, b':');
+    put_number(cells, at, written.place)
 }
 
 /// A message that is kept, dropped or stashed: its producer, entity and number.
-pub(crate) fn put_message(text: &mut Vec<u8>, message: &Message)
-    requires { 46 ≤ spare text.old }
-    ensures items { text.new.items ≡ text.old.items ++ words (message_words message.now) }
-    ensures spare { spare text.old ≤ spare text.new + 46 }
+pub(crate) fn put_message(cells: &mut [u8], at: usize, message: &Message) -> usize
+    requires { at + 46 ≤ length cells.old }
+    ensures items { take result cells.new ≡ take at cells.old ++ words (message_words message.now) }
+    ensures end { result ≤ at + 46 }
 {
-    put_small(text, u32::from(message.producer.get()));
-    put(text, b' ');
-    put_name(text, &message.entity);
-    put(text, b' ');
-    put_number(text, message.number);
+    let at = put_small(cells, at, u32::from(message.producer.get()));
+    let at = put(cells, at, b' ');
+    let at = put_name(cells, at, &message.entity);
+    let at = put(cells, at, b' ');
+    put_number(cells, at, message.number)
 }

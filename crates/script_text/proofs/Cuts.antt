@@ -1,6 +1,6 @@
 -- Cutting bytes into lines, and a line into words.
 use Rattle.std.proofs.Common.{◌≡◌, ℕ, ◌+◌, ◌-◌, ◌<◌, ◌≤◌, Bool, true, false, not, List, [], ◌∷◌, length, get_or, take, drop, refl, sym, ap, ◌∙◌, arith, length-drop, length-take-le, get_or-drop, zero, suc}
-use Rattle.std.specs.Prelude.{Some, None, cond, nat_lt, filter, slice_index, ◌==◌}
+use Rattle.std.specs.Prelude.{Option, Some, None, cond, nat_lt, nat_eq, filter, slice_index, codes, ◌==◌, ◌&&◌}
 use Rattle.std.specs.List.{position, position_or_len, slice_split, onto_first}
 use Rattle.std.specs.Str.Lines.{lines, lines_of_parts, strip_carriage_return}
 use Rattle.std.proofs.lemmas.List.{take_all, drop_all}
@@ -8,7 +8,9 @@ use Rattle.std.proofs.lemmas.List.Sums.{fails_before_first, passes_at_first}
 use Rattle.std.proofs.lemmas.List.Splits.{slice_split_none, slice_split_first, slice_split-cons_yes, slice_split-cons_no}
 use Rattle.std.proofs.lemmas.Bool.Decides.{nat_tests}
 use Rattle.std.proofs.lemmas.Bool.{false≢true}
-use Rattle.script_text.specs.Words.{is_gap, is_some_word, words}
+use Rattle.std.specs.Cmp.Lexicographic.{pointwise}
+use Rattle.script_text.specs.Words.{is_gap, is_some_word, words, is_blank, is_text, begins_comment}
+use Rattle.script_text.specs.Reading.{is_config_line}
 
 -- the end of a slice
 pub rest_is : {X : Type 0} (xs : List X) (i : ℕ) → take (length xs - i) (drop i xs) ≡ drop i xs
@@ -120,3 +122,28 @@ end_is {X} xs = rest_is xs (length xs) ∙ drop_all (length xs) xs (omega arith)
 pub words_of_none : [] ≡ words []
 unfolding words
 words_of_none = refl
+
+-- where a line begins with a word, that is its first, and its first byte the line's
+pub word_first_of : (xs : List ℕ) → is_gap (slice_index xs 0) ≡ false → 0 < length xs → (w : List ℕ) × (ws : List (List ℕ)) × (words xs ≡ w ∷ ws) × (slice_index w 0 ≡ slice_index xs 0)
+word_first_of xs n h = step (position is_gap xs) refl
+  where
+    at : (ys : List ℕ) (i : ℕ) → position is_gap ys ≡ Some i → is_gap (slice_index ys 0) ≡ false → 0 < length ys → slice_index (take i ys) 0 ≡ slice_index ys 0
+    at [] i e n h = absurd (omega arith)
+    at (y ∷ ys) zero e n h = absurd (false≢true (sym n ∙ passes is_gap (y ∷ ys) 0 0 e))
+    at (y ∷ ys) (suc i) e n h = refl
+
+    step : (o : Option ℕ) → position is_gap xs ≡ o → (w : List ℕ) × (ws : List (List ℕ)) × (words xs ≡ w ∷ ws) × (slice_index w 0 ≡ slice_index xs 0)
+    step None e = (xs, [], words_last xs e h, refl)
+    step (Some i) e = (take i xs, words (drop (i + 1) xs), words_cut xs i e n, at xs i e n h)
+
+-- a line that begins with a word is blank where it begins with a #
+pub blank_first : (xs : List ℕ) → is_gap (slice_index xs 0) ≡ false → 0 < length xs → is_blank (words xs) ≡ begins_comment xs
+blank_first xs n h = let f = word_first_of xs n h in ap is_blank f.2 ∙ ap (λ b. b == 35) f.3
+
+not_config : (w : List ℕ) → (slice_index w 0 == 99) ≡ false → is_text w (codes "config") ≡ false
+not_config [] e = refl
+not_config (y ∷ ys) e = ap (λ b. b && pointwise nat_eq ys (codes "onfig")) e
+
+-- no config begins with another byte
+pub config_first : (xs : List ℕ) → is_gap (slice_index xs 0) ≡ false → 0 < length xs → (slice_index xs 0 == 99) ≡ false → is_config_line (words xs) ≡ false
+config_first xs n h other = let f = word_first_of xs n h in ap is_config_line f.2 ∙ not_config f.0 (ap (λ b. b == 99) f.3 ∙ other)

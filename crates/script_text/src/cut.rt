@@ -61,8 +61,8 @@ fn first_word(text: &[u8]) -> (&[u8], &[u8])
     }
 }
 
-/// The line from its first word on.
-fn word_start(line: &[u8]) -> Option<&[u8]>
+/// The line from its first word on; None where there is none.
+pub fn word_start(line: &[u8]) -> Option<&[u8]>
     ensures words { MatchOption result (words line.now ≡ []) (λ text. words line.now ≡ words text.now) }
     ensures first { IfSome result (λ text. is_gap (slice_index text.now 0) ≡ false) }
     ensures some { IfSome result (λ text. 0 < length text.now) }

@@ -9,6 +9,9 @@ use std::alloc::{AllocError, Global};
 use std::marker::{Model, PhantomData};
 use yard_model::{Charter, Command, Config, Counts, Line, Order};
 
+/// The most orders of a script.
+const MOST_ORDERS: usize = 20_000;
+
 /// What was read so far; seen as a script. It keeps at hand the names and the pairs of producer
 /// and entity that the orders bring.
 #[derive(Drop)]
@@ -32,18 +35,18 @@ impl Model for Draft {
 }
 
 impl Draft {
-    /// No orders yet.
-    pub fn new(alloc: Global, config: Config) -> Draft
+    /// No orders yet; there is room for all that a script may have. The only error is want of memory.
+    pub fn new(alloc: Global, config: Config) -> Result<Draft, AllocError>
         requires { IsTrue (is_config config) }
-        ensures { result ≡ record { config = config; orders = [] } }
+        ensures { IfOk result (λ d. d ≡ record { config = config; orders = [] }) }
     {
-        Draft {
+        Ok(Draft {
             config,
-            orders: Vec::new(alloc),
+            orders: Vec::with_capacity(alloc, MOST_ORDERS)?,
             counts: Counts::new(alloc),
             pairs: 0,
             holds: PhantomData,
-        }
+        })
     }
 
     /// The settings.

@@ -1,11 +1,11 @@
 //! Reading a script, line by line.
-ghost use Rattle.std.specs.Prelude.{◌≡◌, ℕ, ◌+◌, ◌≤◌, ◌≢◌, IfOk, IfErr, length, false, Some};
+ghost use Rattle.std.specs.Prelude.{◌≡◌, ◌==◌, ℕ, ◌+◌, ◌≤◌, ◌≢◌, IfOk, IfErr, length, false, Some, slice_index};
 ghost use Rattle.script_text.specs.declared.fault.Mode.TheVariants as mode;
 ghost use Rattle.script_text.specs.Faults.{Gives};
 ghost use Rattle.script_text.specs.Words.{words};
 ghost use Rattle.script_text.specs.Reading.{Reading, Spelled, Refused, reading, line_read, first_line, next_line, is_over, takes, is_config_line, plain, ended, TellsFault, IsWithin, stopped_at};
 
-use crate::cut::{next_line, next_word};
+use crate::cut::{next_line, next_word, word_start};
 use crate::draft::Draft;
 use crate::fault::{Mode, ScriptFault, Stop, Why};
 use crate::orders::order;
@@ -119,7 +119,7 @@ fn read_first(alloc: Global, number: u32, line: &[u8]) -> Result<Draft, Stop>
     if number == LATE_LINE {
         return Err(Stop::Refused(Why::TooManyLines));
     }
-    Ok(Draft::new(alloc, config))
+    Ok(Draft::new(alloc, config)?)
 }
 
 /// Another line that isn't blank.
@@ -151,7 +151,7 @@ fn read_next(mode: Mode, draft: Draft, number: u32, line: &[u8]) -> Result<Draft
 fn check_text(line: &[u8]) -> Result<(), Why>
     ensures { result ≡ plain line.now }
 {
-    if !is_comment(line) && !is_plain_text(line) {
+    if !is_plain_text(line) && !is_comment(line) {
         return Err(Why::NotText);
     }
     if line.len() > 256 {
@@ -164,7 +164,24 @@ fn check_text(line: &[u8]) -> Result<(), Why>
 fn is_config_line(line: &[u8]) -> bool
     ensures { result ≡ is_config_line (words line.now) }
 {
-    match next_word(line) {
+    let Some(text) = word_start(line) else {
+        return false;
+    };
+    begins_as_config(text) && begins_with_config(text)
+}
+
+/// Whether the first byte is that of `config`.
+fn begins_as_config(text: &[u8]) -> bool
+    ensures { result ≡ (slice_index text.now 0 == 99) }
+{
+    !text.is_empty() && text[0] == b'c'
+}
+
+/// Whether the first word is `config`, cut out and compared.
+fn begins_with_config(text: &[u8]) -> bool
+    ensures { result ≡ is_config_line (words text.now) }
+{
+    match next_word(text) {
         None => false,
         Some((word, _)) => is(word, "config"),
     }

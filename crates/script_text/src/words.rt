@@ -6,7 +6,7 @@ ghost use Rattle.script_text.specs.Faults.{Reads, earlier, ◌&◌};
 ghost use Rattle.script_text.specs.Words.{words, is_text, is_digit, is_number, value_of, is_blank, begins_comment, is_comment, is_plain};
 ghost use Rattle.script_text.specs.Orders.{first, no_more, only, number, only_number, name};
 
-use crate::cut::next_word;
+use crate::cut::{next_word, word_start};
 use crate::fault::Why;
 use yard_model::EntityName;
 
@@ -141,9 +141,9 @@ pub fn is(word: &[u8], text: &str) -> bool
 pub fn is_blank(line: &[u8]) -> bool
     ensures { result ≡ is_blank (words line.now) }
 {
-    match next_word(line) {
+    match word_start(line) {
         None => true,
-        Some((word, _)) => begins_comment(word),
+        Some(text) => begins_comment(text),
     }
 }
 

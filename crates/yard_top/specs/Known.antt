@@ -1,58 +1,46 @@
--- What the engine of `solo` keeps of each entity, and what it stands for.
-use Rattle.std.specs.Prelude.{◌≡◌, ℕ, ◌+◌, ◌-◌, ◌<◌, ◌≤◌, ◌==◌, List, [], length, replicate, slice_index_or, Option, Some, None, if◌then◌else◌, IsTrue}
-use Rattle.std.specs.List.{list_all}
-use Rattle.std.specs.Ordering.{nat_cmp}
-use Rattle.std.specs.Cmp.Lexicographic.{slice_cmp}
-use Rattle.std.specs.BTreeMap.{BTreeMap, get}
+-- What the engine of `solo` keeps of one entity.
+use Rattle.std.specs.Prelude.{◌≡◌, ℕ, ◌+◌, ◌-◌, ◌==◌, List, length, replicate, slice_index_or, slice_set, Option, Some, None, if◌then◌else◌, IsTrue}
 use Rattle.yard_model.specs.declared.event.Kind.{Kind}
-use Rattle.yard_model.specs.declared.fact.Fact.{Fact}
+use Rattle.yard_model.specs.declared.event.Decision.{Decision}
 use Rattle.yard_model.specs.declared.packet.Message.{Message}
 use Rattle.yard_model.specs.declared.packet.Record.{Record}
 use Rattle.yard_model.specs.declared.state.State.{State}
-use Rattle.yard_model.specs.declared.charter.Config.{Config}
-use Rattle.yard_model.specs.Behaviour.{folded, is_valid, is_of_kind}
-use Rattle.yard_model.specs.Shard.{shard}
-use Rattle.yard_model.specs.SlotReads.{journal, position}
-use Rattle.yard_model.specs.Solo.{count_of_pair, next_record}
+use Rattle.yard_model.specs.Behaviour.{after_record, empty_state, decide, is_valid}
 
--- of an entity: how many commands each producer has sent to it, and its journal
+-- of an entity: how many commands each producer has sent to it, how many of them are recorded, how many records there
+-- are, and the state that they lead to
 pub record Known : Type 0 where
   pub kind : Kind
   pub sent : List ℕ
-  pub records : List Record
+  pub taken : List ℕ
+  pub count : ℕ
+  pub state : State
 
--- how it is kept: with the state that the journal leads to
-pub record IsKept (k : Known) (state : State) : Type 0 where
+-- how it is kept
+pub record IsKept (k : Known) : Type 0 where
   pub width : length k.sent ≡ 32
-  pub state_is : state ≡ folded k.kind k.records
-  pub valid : IsTrue (is_valid k.kind state)
+  pub places : length k.taken ≡ 32
+  pub valid : IsTrue (is_valid k.kind k.state)
 
--- how many commands producer p has sent
+-- what stands at the place of producer p
 abbrev pub sent_at : List ℕ → ℕ → ℕ
 sent_at sent p = slice_index_or sent (p - 1) 0
 
 -- nothing sent, nothing recorded
 abbrev pub unknown : Kind → Known
-unknown kind = record { kind = kind; sent = replicate 32 0; records = [] }
+unknown kind = record { kind = kind; sent = replicate 32 0; taken = replicate 32 0; count = 0; state = empty_state kind }
 
-abbrev pub known_or : Kind → Option Known → Known
-known_or kind None = unknown kind
-known_or kind (Some k) = k
+-- the record of a message after what is known of its entity
+abbrev pub record_after : Known → Message → Record
+record_after k m =
+    let d : Decision = decide 1 k.state m.command in
+    record { number = k.count + 1; epoch = 1; producer = m.producer; place = m.number; command = m.command; events = d.events; reply = d.reply }
 
 -- the record of a message that is the next of its pair
-abbrev pub taken_as : Known → Message → Option Record
-taken_as k m = if m.number == position m.producer k.records + 1 then Some (next_record k.kind k.records m) else None
+abbrev pub taken_by : Known → Message → Option Record
+taken_by k m = if m.number == sent_at k.taken m.producer + 1 then Some (record_after k m) else None
 
--- what is known of e is what was posted to it and what is recorded of it
-pub record Knows (kind : Kind) (e : List ℕ) (posted : List Message) (records : List Record) (k : Known) : Type 0 where
-  pub kind_is : k.kind ≡ kind
-  pub sent_is : (p : ℕ) → 0 < p → p ≤ 32 → sent_at k.sent p ≡ count_of_pair p e posted
-  pub records_are : k.records ≡ records
-
--- of each entity
-pub record KnowsAll (config : Config) (posted : List Message) (lists : List (List Fact)) (entities : BTreeMap (List ℕ) Known) : Type 0 where
-  pub each : (e : List ℕ) → Knows config.kind e posted (journal e (slice_index_or lists (shard config.shards e) [])) (known_or config.kind (get (slice_cmp nat_cmp) entities e))
-  pub wide : length lists ≡ config.shards
-  pub some : 1 ≤ config.shards
-  pub most : config.shards ≤ 128
-  pub commands : IsTrue (list_all (λ (m : Message). is_of_kind config.kind m.command) posted)
+-- with one record more, if there is one
+abbrev pub after_taken : Known → Option Record → Known
+after_taken k None = k
+after_taken k (Some r) = record { kind = k.kind; sent = k.sent; taken = slice_set k.taken (r.producer - 1) r.place; count = k.count + 1; state = after_record k.state r }

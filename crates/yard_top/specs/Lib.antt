@@ -1,5 +1,6 @@
 pub mod Ends
 pub mod Facts
+pub mod Knowledge
 pub mod Known
 pub mod LiveText
 pub mod Replays

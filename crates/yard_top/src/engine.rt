@@ -1,29 +1,25 @@
 //! The engine of `solo`: one incarnation that numbers sends and records what is delivered.
-ghost use Rattle.std.specs.Prelude.{◌≡◌, ◌+◌, ◌-◌, ◌<◌, ◌≤◌, ℕ, List, [], ◌∷◌, ◌++◌, length, map, slice_set, slice_index_or, IfOk, OnOk, IsTrue, None, cond, slice_get, fold};
+ghost use Rattle.std.specs.Prelude.{◌≡◌, ◌+◌, ◌-◌, ◌<◌, ◌≤◌, ℕ, List, [], ◌∷◌, ◌++◌, length, map, slice_set, slice_index_or, IfOk, OnOk, IsTrue, slice_get, fold};
 ghost use Rattle.std.specs.List.{list_all};
-ghost use Rattle.std.specs.Ordering.{nat_cmp};
-ghost use Rattle.std.specs.Cmp.Lexicographic.{slice_cmp};
-ghost use Rattle.std.specs.BTreeMap.{get, is_at, Updates};
 ghost use Rattle.yard_model.specs.Behaviour.{is_of_kind};
 ghost use Rattle.yard_model.specs.Shard.{shard};
 ghost use Rattle.yard_model.specs.Solo.{next_message, after_order, after_line, alone, start};
 ghost use Rattle.yard_model.specs.SlotReads.{journal};
-ghost use Rattle.yard_top.specs.Known.{Known, known_or, KnowsAll, sent_at};
+ghost use Rattle.yard_top.specs.Knowledge.{KnowsAll};
 ghost use Rattle.yard_top.specs.Facts.{facts_of, with_fact, with_taken, with_one, held, state_of, bare};
 ghost use Rattle.yard_model.specs.declared.entry.ShardEntry.TheVariants as entry;
 ghost use Rattle.yard_model.specs.Words.{numbers};
 ghost use Rattle.yard_model.specs.Script.{is_order};
 ghost use Rattle.yard_model.specs.declared.fact.Fact.TheVariants as fact;
 
-use crate::entity::Entity;
+use crate::entities::Entities;
 use crate::posts::Posts;
 use behaviour_core::Behaviour;
 use shard_extract::shard_of;
 use std::alloc::{AllocError, Global};
-use std::collections::BTreeMap;
 use yard_model::{
-    Command, Config, CoordEntry, EntityName, Incarnation, Kind, Line, Lists, Message, NodeNo,
-    Order, ProducerNo, QueueEntry, Record, ShardEntry, ShardNo,
+    Command, Config, CoordEntry, EntityName, Incarnation, Line, Lists, Message, NodeNo, Order,
+    ProducerNo, QueueEntry, Record, ShardEntry, ShardNo,
 };
 
 /// The one incarnation, which posts to itself and holds every shard.
@@ -37,14 +33,14 @@ const ALONE: Incarnation = Incarnation {
 pub struct Engine {
     pub config: Config,
     pub posted: Posts,
-    pub entities: BTreeMap<EntityName, Entity>,
+    pub entities: Entities,
     pub lists: Vec<Vec<ShardEntry>>,
 }
 
 impl Engine {
-    /// An engine that holds every shard and to which nothing was posted. The only error is want of
-    /// memory.
-    pub fn new(alloc: Global, config: &Config) -> Result<Engine, AllocError>
+    /// An engine that holds every shard and to which nothing was posted, with room for so many orders.
+    /// The only error is want of memory.
+    pub fn new(alloc: Global, config: &Config, orders: usize) -> Result<Engine, AllocError>
         requires some { 1 ≤ config.now.shards }
         requires most { config.now.shards ≤ 128 }
         ensures knows { IfOk result (λ e. KnowsAll e.config e.posted (facts_of e.lists.items) e.entities) }
@@ -52,11 +48,12 @@ impl Engine {
         ensures lists { IfOk result (λ e. facts_of e.lists.items ≡ map held (numbers 0 config.now.shards)) }
         ensures config { IfOk result (λ e. e.config ≡ config.now) }
     {
-        let lists = held_lists(alloc, config.shards)?;
+        let lists = held_lists(alloc, config.shards, orders / config.shards as usize)?;
+        let posted = Posts::with_room(alloc, orders)?;
         Ok(Engine {
             config: *config,
-            posted: Posts::new(alloc),
-            entities: BTreeMap::new(alloc),
+            posted,
+            entities: Entities::new(alloc),
             lists,
         })
     }
@@ -149,9 +146,9 @@ impl Engine {
         ensures lists { OnOk result (self.new.lists ≡ self.old.lists) }
         ensures config { self.new.config ≡ self.old.config }
     {
-        let mut known = take_out(alloc, &mut self.entities, entity, self.config.kind)?;
+        let place = self.entities.place(alloc, self.config.kind, entity)?;
+        let known = &mut self.entities.kept[place];
         let number = known.send(producer);
-        self.entities.insert(*entity, known)?;
         let message = Message {
             producer,
             entity: *entity,
@@ -180,9 +177,11 @@ impl Engine {
         ensures lists { OnOk result (facts_of self.new.lists.items ≡ with_taken self.old.config (facts_of self.old.lists.items) message.now) }
         ensures config { self.new.config ≡ self.old.config }
     {
-        let mut known = take_out(alloc, &mut self.entities, &message.entity, self.config.kind)?;
-        let taken = known.take(message, behaviour)?;
-        self.entities.insert(message.entity, known)?;
+        let place = self
+            .entities
+            .place(alloc, self.config.kind, &message.entity)?;
+        let known = &mut self.entities.kept[place];
+        let taken = known.take(message, behaviour);
         match taken {
             Some(entry) => push_record(
                 &mut self.lists,
@@ -195,22 +194,22 @@ impl Engine {
     }
 }
 
-/// The list of a shard that is held and has no records.
-fn held_list(alloc: Global) -> Result<Vec<ShardEntry>, AllocError>
+/// The list of a shard that is held and has no records, with room for so many entries.
+fn held_list(alloc: Global, room: usize) -> Result<Vec<ShardEntry>, AllocError>
     ensures { IfOk result (λ list. list.items ≡ entry.Granted 1 alone ∷ []) }
 {
-    let mut list = Vec::new(alloc);
+    let mut list = Vec::with_capacity(alloc, room)?;
     list.push(ShardEntry::Granted(1, ALONE))?;
     Ok(list)
 }
 
-/// The lists of so many shards that are held and have no records.
-fn held_lists(alloc: Global, shards: u8) -> Result<Vec<Vec<ShardEntry>>, AllocError>
+/// The lists of so many shards that are held and have no records, each with room for so many entries.
+fn held_lists(alloc: Global, shards: u8, room: usize) -> Result<Vec<Vec<ShardEntry>>, AllocError>
     ensures { IfOk result (λ lists. facts_of lists.items ≡ map held (numbers 0 shards)) }
 {
     let mut lists = Vec::new(alloc);
     for _ in 0..shards {
-        lists.push(held_list(alloc)?)?;
+        lists.push(held_list(alloc, room)?)?;
     }
     Ok(lists)
 }
@@ -231,20 +230,4 @@ fn push_record(
     let list = &mut lists[place];
     list.push(ShardEntry::Wrote(*entity, *entry))?;
     Ok(())
-}
-
-/// What is known of a name, taken out of the map. The only error is want of memory.
-fn take_out(
-    alloc: Global,
-    entities: &mut BTreeMap<EntityName, Entity>,
-    entity: &EntityName,
-    kind: Kind,
-) -> Result<Entity, AllocError>
-    ensures known { IfOk result (λ known. known ≡ known_or kind (get (slice_cmp nat_cmp) entities.old entity.now)) }
-    ensures rest { Updates (slice_cmp nat_cmp) entities.old entities.new entity.now None }
-{
-    match entities.remove(entity) {
-        Some(known) => Ok(known),
-        None => Entity::new(alloc, kind),
-    }
 }

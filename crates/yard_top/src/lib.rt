@@ -5,6 +5,7 @@
 mod bulk;
 mod course;
 mod engine;
+mod entities;
 mod entity;
 mod following;
 mod json;

@@ -1,5 +1,5 @@
 //! The posts of `solo`: messages that one incarnation posts to itself.
-ghost use Rattle.std.specs.Prelude.{◌≡◌, ◌-◌, ◌<◌, [], ◌∷◌, ◌++◌, slice_get, OnOk, OnErr};
+ghost use Rattle.std.specs.Prelude.{◌≡◌, ◌-◌, ◌<◌, [], ◌∷◌, ◌++◌, slice_get, IfOk, OnOk, OnErr};
 
 use std::alloc::{AllocError, Global};
 use std::marker::{Model, PhantomData};
@@ -22,14 +22,14 @@ impl Model for Posts {
 }
 
 impl Posts {
-    /// Nothing was posted. It takes no memory.
-    pub fn new(alloc: Global) -> Posts
-        ensures { result ≡ [] }
+    /// Nothing was posted; there is room for so many messages. The only error is want of memory.
+    pub fn with_room(alloc: Global, room: usize) -> Result<Posts, AllocError>
+        ensures { IfOk result (λ posts. posts ≡ []) }
     {
-        Posts {
-            messages: Vec::new(alloc),
+        Ok(Posts {
+            messages: Vec::with_capacity(alloc, room)?,
             holds: PhantomData,
-        }
+        })
     }
 
     /// Posts a message. The only error is want of memory.

@@ -26,12 +26,12 @@ use play_laws::play::{replay_is_safe, trace_is_safe};
 use settle_laws::worlds::settle_line_settles;
 use shard_store::Stores;
 use std::alloc::{AllocError, Global};
-use trace_text::{push_fact, push_report};
+use trace_text::{push_facts, push_report};
 use world_sim::World;
 use world_sim::laws::made_law;
 use yard_io::Sink;
 use yard_model::laws::{command_law, decision_law};
-use yard_model::{Charter, Fact, Facts, Kind, Line};
+use yard_model::{Charter, Facts, Kind, Line};
 
 /// Plays a script, and writes its trace and its report: the lines of each order before the next is
 /// played. The line with which the trace stops, where it does. Nothing is flushed.
@@ -159,17 +159,6 @@ fn write_facts<K: Sink>(desk: &mut Desk, sink: &mut K) -> Result<(), WriteError>
     desk.lines.clear();
     push_facts(&mut desk.lines, desk.facts.as_slice())?;
     write_part(sink, desk.lines.as_slice())
-}
-
-/// Appends the lines of these facts. The only error is want of memory; what the text then is stays
-/// open.
-fn push_facts(text: &mut Vec<u8>, facts: &[Fact]) -> Result<(), AllocError>
-    ensures { OnOk result (text.new.items ≡ text.old.items ++ flat_map fact_line facts.now) }
-{
-    for fact in facts {
-        push_fact(text, fact)?;
-    }
-    Ok(())
 }
 
 /// Appends the report of a world that is through with its script. The only error is want of memory;

@@ -1,5 +1,5 @@
 //! `solo`: from a script to its report.
-ghost use Rattle.std.specs.Prelude.{◌≡◌, IfOk, List, ℕ};
+ghost use Rattle.std.specs.Prelude.{◌≡◌, IfOk, List, [], ℕ};
 ghost use Rattle.yard_model.specs.Solo.{solo, solo_text};
 ghost use Rattle.yard_top.specs.Facts.{facts_of, lists_of};
 ghost use Rattle.yard_top.specs.Sound.{IsSound, solo_journal};
@@ -22,8 +22,17 @@ pub fn solo_report(alloc: Global, charter: &Charter) -> Result<Vec<u8>, AllocErr
     charter.config();
     let engine = engine_after(alloc, charter)?;
     let played = Played::new(charter, engine);
-    let mut text = Vec::new(alloc);
+    let mut text = new_text(alloc, charter.orders().len())?;
     push_report(&mut text, charter, &played)?;
+    Ok(text)
+}
+
+/// A text with room for the report of so many orders, by a guess: it moves to new room where that is too
+/// little. The only error is want of memory.
+fn new_text(alloc: Global, orders: usize) -> Result<Vec<u8>, AllocError>
+    ensures { IfOk result (λ text. text.items ≡ []) }
+{
+    let text = Vec::with_capacity(alloc, orders.saturating_mul(32))?;
     Ok(text)
 }
 
@@ -50,7 +59,8 @@ fn played<B: Behaviour>(
     ensures config { IfOk result (λ e. e.config ≡ charter.now.config) }
     ensures lists { IfOk result (λ e. lists_of e.config (facts_of e.lists.items) ≡ (solo charter.now).lists) }
 {
-    let mut engine = Engine::new(alloc, charter.config())?;
-    engine.play(alloc, charter.orders(), behaviour)?;
+    let orders = charter.orders();
+    let mut engine = Engine::new(alloc, charter.config(), orders.len())?;
+    engine.play(alloc, orders, behaviour)?;
     Ok(engine)
 }

@@ -16,4 +16,4 @@ push_report-requires c =
 pub returns-clause-text : goal.returns-clause-text
 returns-clause-text c =
     let lists : SlotLists = lists_of c.new-played.result.charter.now.config (facts_of c.new-played.result.lists.items) in
-    c.in_ok-push_report.ensures ∙ (ap (λ l. l ++ report (setting c.args.charter.now) lists) c.new-text.ensures.items ∙ ap (report (setting c.args.charter.now)) c.new-played.ensures)
+    c.in_ok-push_report.ensures ∙ (ap (λ l. l ++ report (setting c.args.charter.now) lists) c.in_ok-text.ensures ∙ ap (report (setting c.args.charter.now)) c.new-played.ensures)

@@ -6,7 +6,7 @@ use Rattle.yard_model.specs.Script.{is_order}
 use Rattle.yard_model.specs.Shard.{shard}
 use Rattle.yard_model.specs.SlotReads.{journal}
 use Rattle.yard_model.specs.Solo.{after_line, start}
-use Rattle.yard_top.specs.Known.{KnowsAll}
+use Rattle.yard_top.specs.Knowledge.{KnowsAll}
 use Rattle.yard_top.specs.Facts.{facts_of, state_of, bare}
 use Rattle.yard_top.proofs.engine.Engine.play.Given as goal
 

@@ -138,8 +138,7 @@ fn hash_of(bytes: &[u8]) -> u32 {
     for at in 0..count / 8 {
         hash = hash_with(hash, word_at(bytes, at * 8));
     }
-    let hash = hash_with(hash, word_at(bytes, count - 8));
-    (hash >> 32) as u32
+    folded(hash_with(hash, word_at(bytes, count - 8)))
 }
 
 /// The same of less than a word: its first four bytes and its last, or its first, middle and last one.
@@ -153,12 +152,18 @@ fn hash_of_few(bytes: &[u8]) -> u32 {
     } else {
         u64::from(half_at(bytes, 0)) << 32 | u64::from(half_at(bytes, count - 4))
     };
-    (hash_with(count as u64, word) >> 32) as u32
+    folded(hash_with(count as u64, word))
 }
 
 /// A word more. The factor is an odd number near 2^64 divided by the golden ratio.
 fn hash_with(hash: u64, word: u64) -> u64 {
     (hash.rotate_left(29) ^ word).wrapping_mul(0x9e37_79b9_7f4a_7c15)
+}
+
+/// Its higher half, the highest bits of which are put over the lowest: a product's highest bits hang on all
+/// of its factors' bits, and the table takes the lowest.
+fn folded(hash: u64) -> u32 {
+    (hash >> 32) as u32 ^ (hash >> 48) as u32
 }
 
 /// The number that eight bytes from a place on spell.

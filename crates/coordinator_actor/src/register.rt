@@ -71,6 +71,6 @@ impl Coordinator {
     {
         self.store().entries();
         let members = view.members();
-        members.as_slice();
+        members.len();
     }
 }

@@ -62,7 +62,7 @@ impl View {
     pub fn has(&self, who: Incarnation) -> bool
         ensures { result ≡ is_among who self.now.members }
     {
-        is_in(self.members.as_slice(), &who)
+        self.members.has(&who)
     }
 
     /// The members, oldest first.
@@ -76,13 +76,6 @@ impl View {
     pub fn oldest(&self) -> Option<Incarnation>
         ensures { result ≡ slice_get self.now.members 0 }
     {
-        self.members.as_slice().first().copied()
+        self.members.get(0)
     }
-}
-
-/// Whether this incarnation is among them.
-fn is_in(members: &[Incarnation], who: &Incarnation) -> bool
-    ensures { result ≡ is_among who.now members.now }
-{
-    members.iter().any(|member| who == member)
 }

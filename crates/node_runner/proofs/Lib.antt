@@ -8,7 +8,6 @@ pub mod Dues
 pub mod Freed
 pub mod Queueing
 pub mod Stepping
-pub mod MembersLaws
 pub mod RosterLaws
 pub mod ParcelLaws
 pub mod SendLaws

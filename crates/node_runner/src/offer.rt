@@ -112,7 +112,7 @@ fn are_apart(body: &Body)
     ensures { AreApart body.now }
 {
     if let Body::View { members, .. } = body {
-        members.as_slice();
+        members.len();
     }
 }
 

@@ -6,7 +6,7 @@ ghost use Rattle.node_runner.specs.Parcels.{table_of_note, is_shown, is_confirmi
 
 use lease_table::Note;
 use std::marker::{Brand, PhantomData};
-use yard_model::{Body, Incarnation, NodeNo, Packet};
+use yard_model::{Body, Members, NodeNo, Packet};
 
 /// No incarnation of a live run has a greater number.
 const LIMIT: u32 = 4_000_000_000;
@@ -125,7 +125,7 @@ fn is_body_within(body: &Body) -> bool
         Body::View {
             version: _,
             members,
-        } => are_within(members.as_slice()),
+        } => are_within(members),
         Body::ShardHome(_, home, _) => home.number <= LIMIT,
         Body::Sequenced(message) => message.origin.number <= LIMIT,
         _ => true,
@@ -133,10 +133,10 @@ fn is_body_within(body: &Body) -> bool
 }
 
 /// Whether none of these has a greater number.
-fn are_within(members: &[Incarnation]) -> bool
+fn are_within(members: &Members) -> bool
     ensures { result ≡ are_within_limit members.now }
 {
-    members.iter().all(|member| member.number <= LIMIT)
+    members.have_numbers_to(LIMIT)
 }
 
 /// A view tells members of different nodes. It does nothing.
@@ -148,6 +148,6 @@ fn different_members(body: &Body)
         members,
     } = body
     {
-        members.as_slice();
+        members.len();
     }
 }

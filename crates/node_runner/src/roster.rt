@@ -64,7 +64,7 @@ impl<J: Run> Roster<J> {
         ensures version { self.new.version ≡ next_version self.old.version }
         ensures views { (result.members ≡ self.new.members) × (result.version ≡ self.new.version) }
     {
-        self.members = but(&self.members, &who);
+        self.members = self.members.without(&who);
         self.version = self.version.saturating_add(1);
         self.views()
     }
@@ -96,15 +96,10 @@ impl<J: Run> Views<J> {
         ensures within { IfSome result (λ p. is_within_packet p ≡ true) }
         ensures plain { IfSome result (λ p. is_confirming p.body ≡ false) }
     {
-        let members = self.members.as_slice();
-        if place >= members.len() {
-            return None;
-        }
-        let from = members[place];
-        let to = members[place];
+        let member = self.members.get(place)?;
         Some(Packet {
-            from,
-            to,
+            from: member,
+            to: member,
             body: Body::View {
                 version: self.version,
                 members: self.members,
@@ -135,33 +130,12 @@ pub(crate) fn all_let_go<J: Run, R: Wait>(rt: &R, roster: &Mutex<Roster<J>>) -> 
     roster.lock(rt).unshown
 }
 
-/// Whether a member is of this node.
-fn is_there(members: &[Incarnation], node: NodeNo) -> bool
-    ensures { result ≡ has_node node members.now }
-{
-    members.iter().any(|member| member.node == node)
-}
-
 /// These members and a younger one, where none is of its node and there is room.
 fn with(members: &Members, who: Incarnation) -> Members
     ensures { result ≡ entered members.now who }
 {
-    let there = members.as_slice();
-    if is_there(there, who.node) || there.len() >= 16 {
+    if members.has_node(who.node) || members.len() >= 16 {
         return *members;
     }
     (*members).with(who)
-}
-
-/// The members but this one.
-fn but(members: &Members, who: &Incarnation) -> Members
-    ensures { result ≡ without who.now members.now }
-{
-    let mut rest = Members::empty();
-    for member in members.as_slice() {
-        if *who != *member {
-            rest = rest.with(*member);
-        }
-    }
-    rest
 }

@@ -7,7 +7,7 @@ ghost use Rattle.trace_text.specs.Behind.{behind, members_text};
 use crate::number::{Spelled, put_number, put_small, put_spelled, spell, spell_next};
 use crate::room::{put, put_word};
 use crate::values::{put_command, put_counted, put_incarnation, put_name, put_stamp};
-use yard_model::{Body, EntityName, Incarnation, Message, ProducerNo, ShardNo, Stamp};
+use yard_model::{Body, EntityName, Incarnation, Members, Message, ProducerNo, ShardNo, Stamp};
 
 pub(crate) fn put_body(cells: &mut [u8], at: usize, body: &Body) -> usize
     requires { at + 256 ≤ length cells.old }
@@ -15,7 +15,7 @@ pub(crate) fn put_body(cells: &mut [u8], at: usize, body: &Body) -> usize
     ensures end { result ≤ at + 256 }
 {
     match body {
-        Body::View { version, members } => put_view(cells, at, *version, members.as_slice()),
+        Body::View { version, members } => put_view(cells, at, *version, members),
         Body::Register => put_word(cells, at, b"register"),
         Body::RegisterAck => put_word(cells, at, b"registerack"),
         Body::GetShardHome(s) => put_with_shard(cells, at, b"getshardhome ", *s),
@@ -217,8 +217,7 @@ fn put_request(
     put_number(cells, at, up_to)
 }
 
-fn put_view(cells: &mut [u8], at: usize, version: u32, members: &[Incarnation]) -> usize
-    requires few { length members.now < 17 }
+fn put_view(cells: &mut [u8], at: usize, version: u32, members: &Members) -> usize
     requires room { at + 256 ≤ length cells.old }
     ensures items { take result cells.new ≡ take at cells.old ++ words (codes "view" ∷ decimal version ∷ join_with_byte 44 (map incarnation_text members.now) ∷ []) }
     ensures end { result ≤ at + 256 }
@@ -229,14 +228,13 @@ fn put_view(cells: &mut [u8], at: usize, version: u32, members: &[Incarnation]) 
 }
 
 #[tactic(auto, using(crate::proofs::Joined::members_behind))]
-fn put_members(cells: &mut [u8], at: usize, members: &[Incarnation]) -> usize
-    requires few { length members.now < 17 }
+fn put_members(cells: &mut [u8], at: usize, members: &Members) -> usize
     requires room { at + 240 ≤ length cells.old }
     ensures items { take result cells.new ≡ take at cells.old ++ members_text members.now }
     ensures end { result ≤ at + 240 }
 {
-    match members.split_first() {
-        Some((first, others)) => put_joined_members(cells, at, first, others),
+    match members.get(0) {
+        Some(first) => put_joined_members(cells, at, &first, members),
         None => at,
     }
 }
@@ -245,26 +243,31 @@ fn put_joined_members(
     cells: &mut [u8],
     at: usize,
     first: &Incarnation,
-    others: &[Incarnation],
+    members: &Members,
 ) -> usize
-    requires { at + (13 + 14 * length others.now) ≤ length cells.old }
-    ensures items { take result cells.new ≡ take at cells.old ++ (incarnation_text first.now ++ behind (44 ∷ []) incarnation_text others.now) }
-    ensures end { result ≤ at + (13 + 14 * length others.now) }
+    requires { at + (13 + 14 * length members.now) ≤ length cells.old }
+    ensures items { take result cells.new ≡ take at cells.old ++ (incarnation_text first.now ++ behind (44 ∷ []) incarnation_text (drop 1 members.now)) }
+    ensures end { result ≤ at + (13 + 14 * length members.now) }
 {
     let at = put_incarnation(cells, at, first);
-    put_members_behind(cells, at, others)
+    put_members_behind(cells, at, members)
 }
 
-fn put_members_behind(cells: &mut [u8], at: usize, members: &[Incarnation]) -> usize
+fn put_members_behind(cells: &mut [u8], at: usize, members: &Members) -> usize
     requires { at + (14 * length members.now) ≤ length cells.old }
-    ensures items { take result cells.new ≡ take at cells.old ++ behind (44 ∷ []) incarnation_text members.now }
+    ensures items { take result cells.new ≡ take at cells.old ++ behind (44 ∷ []) incarnation_text (drop 1 members.now) }
     ensures end { result ≤ at + 14 * length members.now }
 {
     let mut end = at;
     let mut known = spell(0);
-    for member in members {
-        known = spell_next(known, member.number);
-        end = put_next_member(cells, end, member, &known);
+    for place in 1..members.len() {
+        match members.get(place) {
+            Some(member) => {
+                known = spell_next(known, member.number);
+                end = put_next_member(cells, end, &member, &known);
+            }
+            None => unreachable!(),
+        }
     }
     end
 }

@@ -7,7 +7,6 @@ ghost use Rattle.world_sim.specs.Steps.{marked};
 ghost use Rattle.world_sim.specs.Yard.{IsSound, IsSoundFor, IsSoundTo, IsBacked, Delivers, Drains};
 
 use crate::laws::standing_is_kept;
-use crate::members::has;
 use crate::yard::Yard;
 use behaviour_core::Behaviour;
 use std::alloc::AllocError;
@@ -68,7 +67,7 @@ impl<B: Behaviour + Copy + Drop> Yard<B> {
         if number <= self.past {
             return Ok(());
         }
-        if !has(&self.members, &packet.to) {
+        if !self.members.has(&packet.to) {
             return Ok(());
         }
         self.give(packet.to.node, &Input::Packet(*packet), facts)

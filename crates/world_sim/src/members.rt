@@ -5,36 +5,7 @@ ghost use Rattle.yard_model.specs.Words.{is_among, without};
 ghost use Rattle.world_sim.specs.Steps.{view_item};
 
 use crate::mail::Mail;
-use yard_model::{Body, Incarnation, Item, Members, Packet};
-
-/// Whether this incarnation is a member.
-pub(crate) fn has(members: &Members, who: &Incarnation) -> bool
-    ensures { result ≡ is_among who.now members.now }
-{
-    members.as_slice().iter().any(|member| *who == *member)
-}
-
-/// One member more, of a node that has none.
-pub(crate) fn with(members: &Members, who: Incarnation) -> Members
-    requires other { has_node who.node members.now ≡ false }
-    requires room { length members.now < 16 }
-    ensures { result ≡ members.now ++ who ∷ [] }
-{
-    (*members).with(who)
-}
-
-/// The members but this one.
-pub(crate) fn without(members: &Members, who: &Incarnation) -> Members
-    ensures { result ≡ without who.now members.now }
-{
-    let mut rest = Members::empty();
-    for member in members.as_slice() {
-        if *who != *member {
-            rest = rest.with(*member);
-        }
-    }
-    rest
-}
+use yard_model::{Body, Item, Members, Packet};
 
 /// A view of these members, of this version, is to be posted to each of them.
 pub(crate) fn post_views(mail: &mut Mail, members: &Members, version: u32)
@@ -44,7 +15,7 @@ pub(crate) fn post_views(mail: &mut Mail, members: &Members, version: u32)
     ensures fresh { mail.new.fresh ≡ mail.old.fresh }
     ensures full { mail.new.full ≡ mail.old.full }
 {
-    for place in 0..members.as_slice().len() {
+    for place in 0..members.len() {
         post_view(mail, members, version, place);
     }
 }
@@ -59,10 +30,13 @@ fn post_view(mail: &mut Mail, members: &Members, version: u32, place: usize)
     ensures full { mail.new.full ≡ mail.old.full }
     ensures spare { mail.new.spare + 1 ≡ mail.old.spare }
 {
-    let member = &members.as_slice()[place];
+    let member = match members.get(place) {
+        Some(member) => member,
+        None => unreachable!(),
+    };
     mail.push(Item::Post(Packet {
-        from: *member,
-        to: *member,
+        from: member,
+        to: member,
         body: Body::View {
             version,
             members: *members,

@@ -1,4 +1,4 @@
-use Rattle.std.proofs.Common.{◌≡◌, ◌+◌, ◌<◌, ◌++◌, suc, length, map, take, drop, ap, sym, ◌∙◌, subst, arith, append_assoc}
+use Rattle.std.proofs.Common.{◌≡◌, ◌+◌, ◌<◌, ◌++◌, suc, length, map, take, drop, ap, sym, ◌∙◌, arith, append_assoc}
 use Rattle.world_sim.specs.Steps.{view_item}
 use Rattle.world_sim.proofs.MembersLaws.{map_one_more}
 use Rattle.world_sim.proofs.members.post_views.Goals as goal
@@ -8,7 +8,7 @@ loop-place-preserved c =
     let k = c.loop-place.place in
     let xs = c.args.members.now in
     let f = view_item c.args.version xs in
-    let less : k < length xs = subst (λ ys. k < length ys) c.as_slice-place-end.ensures.items c.loop-place-test.true in
+    let less : k < length xs = omega (arith, c.loop-place-test.true, c.len-place-end.ensures.len) in
     let one : k + 1 ≡ suc k = omega arith in
     let i = c.loop-place.invariant in
     let p = c.post_view.ensures in

@@ -14,8 +14,9 @@ use yard_model::{Charter, EntityName};
 
 /// Names in the order of their bytes, each once; seen as their list.
 ///
-/// A name is looked for where the hash of its bytes says, and what stands there is compared with it;
-/// only where that is another, it is searched for. So nothing is required of the hash.
+/// A name is looked for where the hash of its bytes says and in the cells behind it, and what stands there
+/// is compared with it; only where all of that is another, it is searched for. So nothing is required of the
+/// hash.
 #[derive(Drop)]
 pub struct NameIndex {
     names: Vec<EntityName>,
@@ -42,7 +43,15 @@ impl NameIndex {
         ensures names { IfOk result (λ n. n ≡ names_in charter.now.orders) }
         ensures sorted { IfOk result (λ n. IsStrictlySortedBy (slice_cmp nat_cmp) n) }
     {
-        let names = Vec::from_slice(alloc, charter.names())?;
+        NameIndex::of_names(alloc, charter.names())
+    }
+
+    /// Names in order, each once. The only error is want of memory.
+    pub fn of_names(alloc: Global, names: &[EntityName]) -> Result<NameIndex, AllocError>
+        requires { IsStrictlySortedBy (slice_cmp nat_cmp) names.now }
+        ensures { IfOk result (λ n. n ≡ names.now) }
+    {
+        let names = Vec::from_slice(alloc, names)?;
         let mask = mask_for(names.len());
         let hints = hints_of(alloc, names.as_slice(), mask)?;
         Ok(NameIndex { names, hints, mask })
@@ -92,21 +101,26 @@ impl NameIndex {
         }
     }
 
-    /// The place that the hash of a name says, where the name stands there.
+    /// The place that a hint says from where the hash of a name says on, where the name stands there.
     fn hinted(&self, name: &EntityName) -> Option<usize>
         ensures { IfSome result (λ k. (k < length self.now) × (slice_index_or self.now k [] ≡ name.now)) }
     {
-        let place = hint_in(
-            self.hints.as_slice(),
-            hash_of(name.bytes()) as usize & self.mask,
-        );
-        if stands_at(self.names.as_slice(), place, name) {
-            Some(place)
-        } else {
-            None
+        let from = hash_of(name.bytes()) as usize;
+        for step in 0..NEAR {
+            let hint = hint_in(self.hints.as_slice(), from + step & self.mask);
+            if hint == 0 {
+                return None;
+            }
+            if stands_at(self.names.as_slice(), hint - 1, name) {
+                return Some(hint - 1);
+            }
         }
+        None
     }
 }
+
+/// In how many cells one behind the other a name's hint may stand.
+const NEAR: usize = 4;
 
 /// Whether a name stands at this place.
 fn stands_at(names: &[EntityName], place: usize, name: &EntityName) -> bool
@@ -120,10 +134,10 @@ fn stands_at(names: &[EntityName], place: usize, name: &EntityName) -> bool
     }
 }
 
-/// The hint at a place; 0 where there is none.
+/// The hint in a cell: a place and 1, or 0 where there is none.
 fn hint_in(hints: &[u16], at: usize) -> usize {
     match hints.get(at) {
-        Some(place) => *place as usize,
+        Some(hint) => *hint as usize,
         None => 0,
     }
 }
@@ -205,25 +219,31 @@ fn mask_for(names: usize) -> usize
     }
 }
 
-/// For each hash the place of the last name that has it.
+/// Of each name a hint, where a cell near its hash was free.
 fn hints_of(alloc: Global, names: &[EntityName], mask: usize) -> Result<Vec<u16>, AllocError>
     requires { mask < 65536 }
 {
     let mut hints = vec![in alloc; 0u16; mask + 1]?;
     for place in 0..names.len() {
-        let at = hash_of(names[place].bytes()) as usize & mask;
-        set_hint(&mut hints, at, place);
+        let from = hash_of(names[place].bytes()) as usize;
+        if let Ok(hint) = u16::try_from(place + 1) {
+            set_hint(&mut hints, from, mask, hint);
+        }
     }
     Ok(hints)
 }
 
-/// The hint at a place is this one, where 16 bits hold it.
-fn set_hint(hints: &mut Vec<u16>, at: usize, place: usize) {
-    let Ok(place) = u16::try_from(place) else {
-        return;
-    };
-    if let Some(hint) = hints.get_mut(at) {
-        *hint = place;
+/// A hint goes into the first free cell from here on, where one of a few is.
+fn set_hint(hints: &mut Vec<u16>, from: usize, mask: usize, hint: u16)
+    requires { from < 4294967296 }
+{
+    for step in 0..NEAR {
+        if let Some(cell) = hints.get_mut(from + step & mask) {
+            if *cell == 0 {
+                *cell = hint;
+                return;
+            }
+        }
     }
 }
 

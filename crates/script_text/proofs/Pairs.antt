@@ -4,8 +4,7 @@ use Rattle.std.specs.Prelude.{◌==◌, ◌&&◌, ◌||◌, if◌then◌else◌,
 use Rattle.std.specs.List.{list_any}
 use Rattle.std.proofs.lemmas.Bool.Decides.{nat_tests, Decides-eqb}
 use Rattle.std.proofs.lemmas.Slice.Eq.{slice_eq-Decides}
-use Rattle.yard_model.specs.declared.counts.Counts.{Counts}
-use Rattle.yard_model.specs.Counts.{count_of, CountsOneMore, CountsTheSame}
+use Rattle.yard_model.specs.Counts.{Counted, count_of, CountsNone, CountsOneMore, CountsTheSame}
 use Rattle.yard_model.specs.Script.{Pair, is_pair, is_name}
 use Rattle.script_text.proofs.Names.{and_true}
 use Rattle.script_text.specs.Drafts.{KeepsPairs}
@@ -26,8 +25,12 @@ list_any_push test (y ∷ ys) x = ap (λ b. test y || b) (list_any_push test ys 
     or_assoc true b c = refl
     or_assoc false b c = refl
 
+-- no pairs
+pub pairs_none : (c : Counted) → CountsNone c → KeepsPairs c 0 []
+pairs_none c n = record { count = refl; same = λ p e. ap (λ k. nat_lt 0 k) (n.each p e) }
+
 -- no pair more
-pub pairs_same : (old new : Counts) (number : ℕ) (known : List Pair) → KeepsPairs old number known → CountsTheSame old new → KeepsPairs new number known
+pub pairs_same : (old new : Counted) (number : ℕ) (known : List Pair) → KeepsPairs old number known → CountsTheSame old new → KeepsPairs new number known
 pairs_same old new number known k t = record { count = k.count; same = λ p e. ap (λ n. nat_lt 0 n) (t.each p e) ∙ k.same p e }
 
 -- numbers of sends, told by the count
@@ -47,7 +50,7 @@ seen : (old n : ℕ) → n ≡ min (old + 1) 4294967295 → nat_lt 0 n ≡ true
 seen old n e = let more : 0 < n = omega arith in grind (arith, nat_tests)
 
 -- one send more of a pair
-pub pairs_more : (old new : Counts) (number count : ℕ) (known : List Pair) (p : ℕ) (e : List ℕ) → KeepsPairs old number known → CountsOneMore old new p e → count ≡ count_of new p e
+pub pairs_more : (old new : Counted) (number count : ℕ) (known : List Pair) (p : ℕ) (e : List ℕ) → KeepsPairs old number known → CountsOneMore old new p e → count ≡ count_of new p e
     → KeepsPairs new (if count == 1 then min (number + 1) 4294967295 else number) (if list_any (is_pair p e) known then known else known ++ record { producer = p; entity = e } ∷ [])
 pairs_more old new number count known p e k more is = step (list_any (is_pair p e) known) refl
   where

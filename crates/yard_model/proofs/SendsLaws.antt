@@ -1,6 +1,6 @@
 -- The sends of each producer, order by order.
 use Rattle.std.proofs.Common.{◌≡◌, ◌≢◌, ◌<◌, ◌≤◌, ℕ, zero, suc, ◌+◌, ◌-◌, sym, ap, ap₂, ◌∙◌, refl, subst, eqb-true, arith, length, length-append, get_or, set}
-use Rattle.std.specs.Prelude.{Bool, true, false, ◌==◌, ◌&&◌, if◌then◌else◌, List, [], ◌∷◌, ◌++◌, fold, map, replicate}
+use Rattle.std.specs.Prelude.{Bool, true, false, ◌==◌, ◌&&◌, if◌then◌else◌, List, [], ◌∷◌, ◌++◌, fold, map, replicate, Some}
 use Rattle.std.specs.Ordering.{nat_cmp}
 use Rattle.std.specs.Cmp.Lexicographic.{slice_cmp}
 use Rattle.std.specs.BTreeSet.{insert_key}
@@ -12,10 +12,9 @@ use Rattle.yard_model.specs.declared.charter.Line.{Line}
 use Rattle.yard_model.specs.declared.charter.Order.{Order}
 use Rattle.yard_model.specs.declared.charter.Order.TheVariants as order
 use Rattle.yard_model.specs.declared.charter.Sending.{Sending}
-use Rattle.yard_model.specs.declared.counts.Counts.{Counts}
 use Rattle.yard_model.specs.declared.event.Command.{Command}
 use Rattle.yard_model.specs.Charter.{KeepsSends}
-use Rattle.yard_model.specs.Counts.{names, count_of, CountsNone, CountsOneMore}
+use Rattle.yard_model.specs.Counts.{Counted, names, count_of, CountsNone, CountsOneMore, CountsTheSame}
 use Rattle.yard_model.specs.Script.{is_name, names_in, sends_in, count_to, with_order, with_send, with_send_of, with_name_of, with_brought, brought}
 use Rattle.yard_model.specs.Words.{numbers}
 use Rattle.yard_model.proofs.CharterLaws.{count_within, count_more, same_name, sends_at}
@@ -57,7 +56,7 @@ sends_within p orders = omega (arith, grown orders [])
     grown [] xs = omega arith
     grown (l ∷ rest) xs = omega (arith, grown rest (with_order p xs l.order), one xs l.order)
 
-pub keeps_none : (c : Counts) → CountsNone c → KeepsSends c (replicate 32 []) []
+pub keeps_none : (c : Counted) → CountsNone c → KeepsSends c (replicate 32 []) []
 keeps_none c n = record { names = n.names; long = refl; sends = λ i h. get_or-replicate 32 i [] [] h; counts = λ i e h. n.each (i + 1) e }
 
 other_place : (p j : ℕ) → (p == j) ≡ false → p ≢ j
@@ -67,7 +66,7 @@ and_false : (a : Bool) → (a && false) ≡ false
 and_false true = refl
 and_false false = refl
 
-module _ (c new : Counts) (sent : List (List Sending)) (done : List Line) (i p n : ℕ) (e : List ℕ) (k : Command) (keeps : KeepsSends c sent done) (more : CountsOneMore c new p e)
+module _ (c new : Counted) (sent : List (List Sending)) (done : List Line) (i p n : ℕ) (e : List ℕ) (k : Command) (keeps : KeepsSends c sent done) (more : CountsOneMore c new p e)
     (counted : n ≡ count_of new p e) (is : p ≡ i + 1) (within : i < 32) (few : length done < 200000) where
   -- the number of the send
   numbered : n ≡ count_to e (sends_in (i + 1) done) + 1
@@ -102,7 +101,7 @@ module _ (c new : Counts) (sent : List (List Sending)) (done : List Line) (i p n
   tallied j f h false t = more.others (j + 1) f (ap (λ b. b && is_name e f) t) ∙ keeps.counts j f h
 
 -- a send
-pub keeps_send : (c new : Counts) (sent sent' : List (List Sending)) (done : List Line) (number p n : ℕ) (e : List ℕ) (k : Command) → KeepsSends c sent done → CountsOneMore c new p e
+pub keeps_send : (c new : Counted) (sent sent' : List (List Sending)) (done : List Line) (number p n : ℕ) (e : List ℕ) (k : Command) → KeepsSends c sent done → CountsOneMore c new p e
     → names new ≡ insert_key (slice_cmp nat_cmp) (names c) e → n ≡ count_of new p e → (0 < p) × (p ≤ 32) → length done < 200000
     → sent' ≡ set sent (p - 1) (get_or sent (p - 1) [] ++ record { entity = e; number = n; command = k } ∷ [])
     → KeepsSends new sent' (done ++ record { number = number; order = order.Send p e k } ∷ [])
@@ -118,6 +117,19 @@ keeps_send c new sent sent' done number p n e k keeps more named counted range f
           ∙ ap (count_to f) (sym (sends_push (j + 1) done (record { number = number; order = order.Send p e k })));
     }
 
+-- an order that brings a name and sends nothing
+pub keeps_name : (c new : Counted) (sent : List (List Sending)) (done : List Line) (number : ℕ) (e : List ℕ) (o : Order) → ((p : ℕ) (xs : List Sending) → with_order p xs o ≡ xs) → brought o ≡ Some e
+    → KeepsSends c sent done → CountsTheSame c new → names new ≡ insert_key (slice_cmp nat_cmp) (names c) e → KeepsSends new sent (done ++ record { number = number; order = o } ∷ [])
+keeps_name c new sent done number e o none brings keeps same named = record {
+  names = named ∙ (ap (λ l. insert_key (slice_cmp nat_cmp) l e) keeps.names ∙ (ap (with_brought (names_in done)) (sym brings) ∙ sym (names_push done (record { number = number; order = o }))));
+  long = keeps.long;
+  sends = λ i h. keeps.sends i h ∙ sym (stays (i + 1));
+  counts = λ i f h. same.each (i + 1) f ∙ (keeps.counts i f h ∙ ap (count_to f) (sym (stays (i + 1))));
+}
+  where
+    stays : (p : ℕ) → sends_in p (done ++ record { number = number; order = o } ∷ []) ≡ sends_in p done
+    stays p = sends_push p done (record { number = number; order = o }) ∙ none p (sends_in p done)
+
 -- what is at a place within a list is there whatever the default
 pub get_or_any : {A : Type 0} (xs : List A) (i : ℕ) (d e : A) → i < length xs → get_or xs i d ≡ get_or xs i e
 get_or_any [] i d e h = absurd (omega arith)
@@ -125,7 +137,7 @@ get_or_any (x ∷ xs) zero d e h = refl
 get_or_any (x ∷ xs) (suc i) d e h = get_or_any xs i d e (omega arith)
 
 -- the lists at the end
-pub keeps_all : (c : Counts) (sent : List (List Sending)) (orders : List Line) → KeepsSends c sent orders → sent ≡ map (λ p. sends_in p orders) (numbers 1 32)
+pub keeps_all : (c : Counted) (sent : List (List Sending)) (orders : List Line) → KeepsSends c sent orders → sent ≡ map (λ p. sends_in p orders) (numbers 1 32)
 keeps_all c sent orders k =
     same_lists sent (map (λ p. sends_in p orders) (numbers 1 32)) (k.long ∙ refl)
     (λ i d h. let within : i < 32 = omega (arith, k.long) in get_or_any sent i d [] h ∙ (k.sends i within ∙ sym (sends_at orders i d within)))

@@ -5,8 +5,7 @@ use Rattle.std.specs.Cmp.Lexicographic.{slice_cmp}
 use Rattle.std.specs.List.Sorted.{IsStrictlySortedBy}
 use Rattle.yard_model.specs.declared.charter.Line.{Line}
 use Rattle.yard_model.specs.declared.charter.Sending.{Sending}
-use Rattle.yard_model.specs.declared.counts.Counts.{Counts}
-use Rattle.yard_model.specs.Counts.{names, count_of}
+use Rattle.yard_model.specs.Counts.{Counted, names, count_of}
 use Rattle.yard_model.specs.Words.{numbers}
 use Rattle.yard_model.specs.Script.{Script, IsScript, names_in, sends_in, count_to}
 
@@ -17,7 +16,7 @@ pub record IsCharter (c : Script) (kept : List (List ℕ)) (sent : List (List Se
   pub sends : sent ≡ map (λ p. sends_in p c.orders) (numbers 1 32)
 
 -- the counts and the lists of sends are those of the orders so far
-pub record KeepsSends (c : Counts) (sent : List (List Sending)) (done : List Line) : Type 0 where
+pub record KeepsSends (c : Counted) (sent : List (List Sending)) (done : List Line) : Type 0 where
   pub names : names c ≡ names_in done
   pub long : length sent ≡ 32
   pub sends : (i : ℕ) → i < 32 → slice_index_or sent i [] ≡ sends_in (i + 1) done

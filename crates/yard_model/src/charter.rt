@@ -263,8 +263,14 @@ fn add_order(
             };
             add_send(all, *producer, &sending)
         }
-        Order::Passivate(entity) => counts.add_name(entity),
-        Order::FailWrite(entity, _) => counts.add_name(entity),
+        Order::Passivate(entity) => {
+            counts.add_name(entity)?;
+            Ok(())
+        }
+        Order::FailWrite(entity, _) => {
+            counts.add_name(entity)?;
+            Ok(())
+        }
         _ => Ok(()),
     }
 }

@@ -1,22 +1,47 @@
 //! How many sends each producer has to each name.
-ghost use Rattle.std.specs.Prelude.{◌≡◌, ◌≢◌, ℕ, ◌+◌, ◌<◌, length, min, nat_eq, slice_index, IfOk, OnOk};
+ghost use Rattle.std.specs.Prelude.{◌≡◌, ◌+◌, ◌<◌, ◌≤◌, ◌^◌, length, min, nat_eq, slice_index, slice_index_or, slice_set, IfOk, IfSome, OnOk, Some, None, true};
 ghost use Rattle.std.specs.Ordering.{nat_cmp};
 ghost use Rattle.std.specs.Cmp.Lexicographic.{slice_cmp};
 ghost use Rattle.std.specs.BTreeSet.{insert_key};
 ghost use Rattle.std.specs.List.Sorted.{IsStrictlySortedBy};
-ghost use Rattle.yard_model.specs.Counts.{names, count_of, CountsNone, CountsOneMore, CountsTheSame};
+ghost use Rattle.yard_model.specs.Counts.{names, count_of, place_of, no_row, with_count, IsCounted, CountsNone, CountsOneMore, CountsTheSame};
 
+use crate::laws::name_law;
 use crate::name::EntityName;
 use crate::number::ProducerNo;
 use std::alloc::{AllocError, Global};
 use std::collections::BTreeMap;
+use std::marker::Model;
 
 /// Names, and for each of them how many sends each producer has to it. A count stays at
 /// 4,294,967,295 once it is there.
+///
+/// The counts of a name stand where the tree says. A hint by the first and the last bytes of the name says
+/// the same most of the time, and the name that stands there is compared; so nothing is required of hints.
 #[derive(Drop)]
 pub struct Counts {
+    places: BTreeMap<EntityName, usize>,
+    rows: Vec<Row>,
+    // a place and 1, or 0 where there is none
+    hints: Vec<u16>,
+}
+
+/// A name and its counts.
+#[derive(Clone, Copy)]
+struct Row {
+    name: EntityName,
     // at the producer's number; place 0 stays 0
-    rows: BTreeMap<EntityName, [u32; 33]>,
+    counts: [u32; 33],
+}
+
+impl Model for Counts {
+    ghost use Rattle.yard_model.specs.Counts.{Counted, IsCounted};
+
+    ghost Value = { Counted };
+
+    ghost view = { λ c. record { places = c.places.entries; rows = c.rows.items } };
+
+    ghost invariant = { λ c. IsCounted (record { places = c.places.entries; rows = c.rows.items }) };
 }
 
 impl Counts {
@@ -25,7 +50,9 @@ impl Counts {
         ensures { CountsNone result }
     {
         Counts {
-            rows: BTreeMap::new(alloc),
+            places: BTreeMap::new(alloc),
+            rows: Vec::new(alloc),
+            hints: Vec::new(alloc),
         }
     }
 
@@ -33,14 +60,14 @@ impl Counts {
     pub fn len(&self) -> usize
         ensures { result ≡ length (names self.now) }
     {
-        self.rows.len()
+        self.places.len()
     }
 
     /// Whether there are no names.
     pub fn is_empty(&self) -> bool
         ensures { result ≡ nat_eq 0 (length (names self.now)) }
     {
-        self.rows.len() == 0
+        self.places.len() == 0
     }
 
     /// One send more of a producer to a name, and how many there are now. The only error is want of
@@ -50,12 +77,8 @@ impl Counts {
         ensures counts { OnOk result (CountsOneMore self.old self.new producer entity.now) }
         ensures names { OnOk result (names self.new ≡ insert_key (slice_cmp nat_cmp) (names self.old) entity.now) }
     {
-        let place = producer.get() as usize;
-        if let Some(row) = self.rows.get_mut(entity) {
-            return Ok(one_more(row, place));
-        }
-        self.rows.insert(*entity, first_of(place))?;
-        Ok(1)
+        let place = self.place(entity)?;
+        Ok(self.raise(place, producer.get() as usize))
     }
 
     /// A name more. The only error is want of memory.
@@ -63,11 +86,75 @@ impl Counts {
         ensures counts { OnOk result (CountsTheSame self.old self.new) }
         ensures names { OnOk result (names self.new ≡ insert_key (slice_cmp nat_cmp) (names self.old) entity.now) }
     {
-        if let Some(_) = self.rows.get_mut(entity) {
-            return Ok(());
-        }
-        self.rows.insert(*entity, [0; 33])?;
+        self.place(entity)?;
         Ok(())
+    }
+
+    /// One more at a place, of this producer, and how many there are now.
+    fn raise(&mut self, place: usize, producer: usize) -> u32
+        requires place { place < length self.old.rows }
+        requires producer { producer < 33 }
+        ensures places { self.new.places ≡ self.old.places }
+        ensures rows { self.new.rows ≡ with_count self.old.rows place producer }
+        ensures count { result ≡ slice_index (slice_index_or self.new.rows place no_row).counts producer }
+        ensures more { result ≡ min (slice_index (slice_index_or self.old.rows place no_row).counts producer + 1) 4294967295 }
+    {
+        one_more(&mut self.rows[place].counts, producer)
+    }
+
+    /// The place of a name, which is entered where it is new. The only error is want of memory.
+    fn place(&mut self, entity: &EntityName) -> Result<usize, AllocError>
+        ensures place { IfOk result (λ i. place_of self.new entity.now ≡ Some i) }
+        ensures stands { OnOk result (IsCounted self.new) }
+        ensures counts { OnOk result (CountsTheSame self.old self.new) }
+        ensures names { OnOk result (names self.new ≡ insert_key (slice_cmp nat_cmp) (names self.old) entity.now) }
+    {
+        if let Some(place) = self.hinted(entity) {
+            return Ok(place);
+        }
+        if let Some(place) = self.places.get(entity) {
+            return Ok(*place);
+        }
+        self.begin(entity)
+    }
+
+    /// The place that a hint says, where the name stands there.
+    fn hinted(&self, entity: &EntityName) -> Option<usize>
+        ensures { IfSome result (λ i. place_of self.now entity.now ≡ Some i) }
+    {
+        let from = hash_of(entity.bytes());
+        for step in 0..NEAR {
+            let hint = hint_in(self.hints.as_slice(), from + step);
+            if hint == 0 {
+                return None;
+            }
+            if stands_at(self.rows.as_slice(), hint - 1, entity) {
+                return Some(hint - 1);
+            }
+        }
+        None
+    }
+
+    /// A place for a name that has none. The only error is want of memory.
+    fn begin(&mut self, entity: &EntityName) -> Result<usize, AllocError>
+        requires { place_of self.old entity.now ≡ None }
+        ensures place { IfOk result (λ i. place_of self.new entity.now ≡ Some i) }
+        ensures stands { OnOk result (IsCounted self.new) }
+        ensures counts { OnOk result (CountsTheSame self.old self.new) }
+        ensures names { OnOk result (names self.new ≡ insert_key (slice_cmp nat_cmp) (names self.old) entity.now) }
+    {
+        make_hints(&mut self.hints)?;
+        let place = self.rows.len();
+        self.rows.push(Row {
+            name: *entity,
+            counts: [0; 33],
+        })?;
+        if let Err(_) = self.places.insert(*entity, place) {
+            self.rows.pop();
+            return Err(AllocError);
+        }
+        set_hint(&mut self.hints, hash_of(entity.bytes()), place);
+        Ok(place)
     }
 
     /// The names, in the order of their bytes. The only error is want of memory.
@@ -75,29 +162,108 @@ impl Counts {
         ensures names { IfOk result (λ kept. kept.items ≡ names self) }
         ensures sorted { IfOk result (λ kept. IsStrictlySortedBy (slice_cmp nat_cmp) kept.items) }
     {
-        self.rows.into_keys().collect(alloc)
+        self.places.into_keys().collect(alloc)
     }
 }
 
 /// One more at this place, and how many there are now.
-fn one_more(row: &mut [u32; 33], place: usize) -> u32
+fn one_more(counts: &mut [u32; 33], place: usize) -> u32
     requires { place < 33 }
-    ensures count { result ≡ min (slice_index row.old place + 1) 4294967295 }
-    ensures here { slice_index row.new place ≡ result }
-    ensures others { (q : ℕ) → q ≢ place → slice_index row.new q ≡ slice_index row.old q }
+    ensures count { result ≡ min (slice_index counts.old place + 1) 4294967295 }
+    ensures counts { counts.new ≡ slice_set counts.old place result }
 {
-    let count = row[place].saturating_add(1);
-    row[place] = count;
+    let count = counts[place].saturating_add(1);
+    counts[place] = count;
     count
 }
 
-/// One at this place, and none elsewhere.
-fn first_of(place: usize) -> [u32; 33]
-    requires { place < 33 }
-    ensures here { slice_index result place ≡ 1 }
-    ensures others { (q : ℕ) → q ≢ place → slice_index result q ≡ 0 }
+/// How many hints there are: a power of two, four times as many as a script may have names.
+const HINTS: usize = 4096;
+
+/// In how many cells one behind the other a name's hint may stand.
+const NEAR: usize = 4;
+
+/// Whether a name stands at this place.
+fn stands_at(rows: &[Row], place: usize, name: &EntityName) -> bool
+    ensures within { result ≡ true → place < length rows.now }
+    ensures it { result ≡ true → (slice_index_or rows.now place no_row).name ≡ name.now }
 {
-    let mut row = [0; 33];
-    row[place] = 1;
-    row
+    name_law();
+    match rows.get(place) {
+        Some(row) => row.name == *name,
+        None => false,
+    }
+}
+
+/// The hint in a cell, counted round; 0 where there is none.
+fn hint_in(hints: &[u16], at: usize) -> usize {
+    match hints.get(at & HINTS - 1) {
+        Some(hint) => *hint as usize,
+        None => 0,
+    }
+}
+
+/// There are cells for hints. The only error is want of memory.
+fn make_hints(hints: &mut Vec<u16>) -> Result<(), AllocError> {
+    if hints.is_empty() {
+        hints.resize(HINTS, 0)?;
+    }
+    Ok(())
+}
+
+/// The hint at a place goes into the first free cell from here on, where one of a few is, and where 16 bits
+/// hold it.
+fn set_hint(hints: &mut Vec<u16>, from: usize, place: usize)
+    requires from { from < 4294967296 }
+    requires place { place + 1 < 2 ^ 64 }
+{
+    if let Ok(hint) = u16::try_from(place + 1) {
+        put_hint(hints, from, hint);
+    }
+}
+
+fn put_hint(hints: &mut Vec<u16>, from: usize, hint: u16)
+    requires { from < 4294967296 }
+{
+    for step in 0..NEAR {
+        if let Some(cell) = hints.get_mut(from + step & HINTS - 1) {
+            if *cell == 0 {
+                *cell = hint;
+                return;
+            }
+        }
+    }
+}
+
+/// A number for these bytes, of their first eight and their last eight.
+fn hash_of(bytes: &[u8]) -> usize
+    ensures { result < 4294967296 }
+{
+    let count = bytes.len();
+    let mut word = count as u64;
+    if count < 8 {
+        for byte in bytes {
+            word = word << 8 | u64::from(*byte);
+        }
+    } else {
+        word = word_at(bytes, 0).rotate_left(29) ^ word_at(bytes, count - 8);
+    }
+    let product = word.wrapping_mul(0x9e37_79b9_7f4a_7c15);
+    (product >> 32) as usize ^ (product >> 48) as usize
+}
+
+/// The number that eight bytes from a place on spell.
+fn word_at(bytes: &[u8], at: usize) -> u64
+    requires { at + 8 ≤ length bytes.now }
+{
+    u64::from_le_bytes([
+        bytes[at],
+        bytes[at + 1],
+        bytes[at + 2],
+        bytes[at + 3],
+        bytes[at + 4],
+        bytes[at + 5],
+        bytes[at + 6],
+        bytes[at + 7],
+    ])
 }

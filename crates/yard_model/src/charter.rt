@@ -224,20 +224,32 @@ fn sends_of_all(
     ensures sends { IfOk result (λ all. map (λ v. v.items) all.items ≡ map (λ p. sends_in p orders.now) (numbers 1 32)) }
     ensures names { OnOk result (names counts.new ≡ names_in orders.now) }
 {
-    let mut all = no_sends(alloc)?;
+    let mut all = no_sends(alloc, &sends_of_each(orders))?;
     for line in orders {
         add_order(&mut all, counts, &line.order)?;
     }
     Ok(all)
 }
 
-/// No sends of each producer that there can be.
-fn no_sends(alloc: Global) -> Result<Vec<Vec<Sending>>, AllocError>
+/// How many sends each producer has, at its number.
+fn sends_of_each(orders: &[Line]) -> [usize; 33] {
+    let mut counts = [0usize; 33];
+    for line in orders {
+        if let Order::Send(producer, _, _) = &line.order {
+            let place = producer.get() as usize;
+            counts[place] = counts[place].saturating_add(1);
+        }
+    }
+    counts
+}
+
+/// No sends of each producer that there can be, with room for so many of each, at its number.
+fn no_sends(alloc: Global, room: &[usize; 33]) -> Result<Vec<Vec<Sending>>, AllocError>
     ensures { IfOk result (λ all. map (λ v. v.items) all.items ≡ replicate 32 []) }
 {
-    let mut all = Vec::new(alloc);
-    for _ in 0..32u32 {
-        all.push(Vec::new(alloc))?;
+    let mut all = Vec::with_capacity(alloc, 32)?;
+    for place in 0..32usize {
+        all.push(Vec::with_capacity(alloc, room[place + 1])?)?;
     }
     Ok(all)
 }

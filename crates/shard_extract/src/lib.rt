@@ -25,10 +25,28 @@ pub fn shard_of(name: &EntityName, shards: u8) -> ShardNo
     requires most { shards ≤ 128 }
     ensures { result ≡ shard shards name.now }
 {
-    let place = java_hash(name).unsigned_abs() % u32::from(shards);
+    let place = place_in(java_hash(name).unsigned_abs(), shards);
     match ShardNo::new(place as u8, shards) {
         Some(s) => s,
         None => unreachable!(),
+    }
+}
+
+/// The remainder by a number of shards; by a power of two it takes no division.
+fn place_in(hash: u32, shards: u8) -> u32
+    requires { 1 ≤ shards }
+    ensures { result ≡ hash % shards }
+{
+    match shards {
+        1 => 0,
+        2 => hash % 2,
+        4 => hash % 4,
+        8 => hash % 8,
+        16 => hash % 16,
+        32 => hash % 32,
+        64 => hash % 64,
+        128 => hash % 128,
+        _ => hash % u32::from(shards),
     }
 }
 

@@ -389,7 +389,13 @@ impl Region {
         out.push(Item::Post(Packet {
             from: self.who,
             to: *to,
-            body: Body::Sequenced(*message),
+            body: Body::Sequenced(Message {
+                producer: message.producer,
+                entity: message.entity,
+                number: message.number,
+                command: message.command,
+                origin: message.origin,
+            }),
         }));
     }
 

@@ -239,12 +239,7 @@ fn put_members(cells: &mut [u8], at: usize, members: &Members) -> usize
     }
 }
 
-fn put_joined_members(
-    cells: &mut [u8],
-    at: usize,
-    first: &Incarnation,
-    members: &Members,
-) -> usize
+fn put_joined_members(cells: &mut [u8], at: usize, first: &Incarnation, members: &Members) -> usize
     requires { at + (13 + 14 * length members.now) ≤ length cells.old }
     ensures items { take result cells.new ≡ take at cells.old ++ (incarnation_text first.now ++ behind (44 ∷ []) incarnation_text (drop 1 members.now)) }
     ensures end { result ≤ at + (13 + 14 * length members.now) }

@@ -96,15 +96,17 @@ impl<J: Run> Views<J> {
         ensures within { IfSome result (λ p. is_within_packet p ≡ true) }
         ensures plain { IfSome result (λ p. is_confirming p.body ≡ false) }
     {
-        let member = self.members.get(place)?;
-        Some(Packet {
-            from: member,
-            to: member,
-            body: Body::View {
-                version: self.version,
-                members: self.members,
-            },
-        })
+        match self.members.get(place) {
+            Some(member) => Some(Packet {
+                from: member,
+                to: member,
+                body: Body::View {
+                    version: self.version,
+                    members: self.members,
+                },
+            }),
+            None => None,
+        }
     }
 }
 

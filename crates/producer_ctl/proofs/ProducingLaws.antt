@@ -14,6 +14,7 @@ use Rattle.yard_model.specs.Move.{Move, made, took}
 use Rattle.yard_model.specs.Node.{producer_by}
 use Rattle.yard_model.specs.Producer.{Producer, producer_after}
 use Rattle.yard_model.specs.Script.{Script, Setting, setting}
+use Rattle.yard_model.specs.Setting.{place}
 use Rattle.yard_model.specs.Words.{at}
 use Rattle.plain_laws.proofs.Booleans.{true_is_not_false, and_both}
 use Rattle.plain_laws.proofs.Lists.{by_place, of_write, some_is, none_is_not_some}
@@ -23,7 +24,7 @@ use Rattle.producer_ctl.specs.declared.producers.Pending.{Pending}
 use Rattle.producer_ctl.specs.declared.place.Place.{Place}
 use Rattle.producer_ctl.specs.Paired.{IsPlace, numbers_of}
 use Rattle.producer_ctl.specs.Produced.{Produced, Gives, moved, produced_after, room_step}
-use Rattle.producer_ctl.specs.Producing.{Producing, Routing, producing, producing_after, IsProducing, IsHeld, IsPending, IsQueued, IsSent, HasPlaces, state_of, room_of, routing, moved_by, of_held, stepped, held}
+use Rattle.producer_ctl.specs.Producing.{Producing, Routing, producing, producing_after, IsProducing, IsHeld, IsPending, IsQueued, IsSent, HasPlaces, state_of, room_of, place_at, routing, moved_by, of_held, stepped, held}
 
 -- The place of a producer.
 
@@ -93,8 +94,12 @@ new_none : (f : Producer → Gives) (o new : Option Produced) → new ≡ option
 new_none f None new is none = refl
 new_none f (Some x) new is none = absurd (none_is_not_some (moved x (f x.state).moves) (sym none ∙ is))
 
+-- where a name stands, which is that of its place
+placed : (c : Script) (w : Place) → IsPlace c w → IsPlace c (place_at c w.at)
+placed c w k = record { within = k.within; it = refl; at_is = k.at_is ∙ ap (place (setting c)) (sym k.it) }
+
 pub sent_stands : (p : ℕ) (w : Place) (f : Producer → Gives) {c : Script} {who : Incarnation} {names : List (List ℕ)} {items : List (Option Produced)} {tables : List (Option (List Pair))} {pending : Option Pending} {v : Producing} {i : ℕ} {o new : Option Produced} {sends : Option Sends} {pend : Option Pending} → ((st : Producer) → (f st).entity ≡ w.entity) → IsPlace v.script w
-    → IsProducing c who names items tables pending → producing c who items pending ≡ v → is_producer v.script p ≡ true → i ≡ p - 1 → o ≡ slice_index_or items i o → IsSent f o new sends → pend ≡ option_map (λ (s : Sends). record { producer = p; place = w; sends = s }) sends
+    → IsProducing c who names items tables pending → producing c who items pending ≡ v → is_producer v.script p ≡ true → i ≡ p - 1 → o ≡ slice_index_or items i o → IsSent f o new sends → pend ≡ option_map (λ (s : Sends). record { producer = p; at = w.at; sends = s }) sends
     → IsProducing c who names (slice_set items i new) tables pend
 sent_stands p w f {c} {who} {names} {items} {tables} {pending} {v} {i} {o} {new} {sends} {pend} to stands k seen its same read sent pend_is =
     item_put i new tables pend k here.0 (new_held f c who (i + 1) o new sent.held_is (subst (λ x. IfSome x (IsHeld c who (i + 1))) here.1 (k.each i))) refl (λ j apart. refl)
@@ -104,16 +109,19 @@ sent_stands p w f {c} {who} {names} {items} {tables} {pending} {v} {i} {o} {new}
     here : (i < length items) × (at items i ≡ o)
     here = item_read p k seen its same read
 
+    placed_here : IsPlace c w
+    placed_here = subst (λ (s : Script). IsPlace s w) (ap (λ (v : Producing). v.script) (sym seen)) stands
+
     entity_is : (o : Option Produced) (s : Sends) → option_map numbers_of (Some s) ≡ option_map (λ k. (f k.state).numbers) o → option_map (λ k. (f k.state).entity) o ≡ Some w.entity
     entity_is None s is = absurd (none_is_not_some (numbers_of s) (sym is))
     entity_is (Some x) s is = ap Some (to x.state)
 
     at_sends : (sends : Option Sends) → option_map numbers_of sends ≡ option_map (λ k. (f k.state).numbers) o → ((e : List ℕ) → option_map (λ k. (f k.state).entity) o ≡ Some e → IfSome sends (λ s. s.after < s.last → IsQueued e s.last new))
-        → IfSome (option_map (λ (s : Sends). record { producer = p; place = w; sends = s }) sends) (IsPending c (slice_set items i new))
+        → IfSome (option_map (λ (s : Sends). record { producer = p; at = w.at; sends = s }) sends) (IsPending c (slice_set items i new))
     at_sends None is there = tt
     at_sends (Some s) is there = record {
-      stands = subst (λ (s : Script). IsPlace s w) (ap (λ (v : Producing). v.script) (sym seen)) stands;
-      there = λ some. subst (IsQueued w.entity s.last) (sym (ap (at (slice_set items i new)) (sym same) ∙ get_or-set_same items i new None here.0)) (there w.entity (entity_is o s is) some);
+      stands = placed c w placed_here;
+      there = λ some. subst (λ e. IsQueued e s.last (at (slice_set items i new) (p - 1))) (sym placed_here.it) (subst (IsQueued w.entity s.last) (sym (ap (at (slice_set items i new)) (sym same) ∙ get_or-set_same items i new None here.0)) (there w.entity (entity_is o s is) some));
     }
 
 -- Moves of one of them.
@@ -161,10 +169,10 @@ pub routing_moved : (p : ℕ) (r : Routing) (v : Producing) (ms : List Move) →
 routing_moved p r v [] = refl
 routing_moved p r v (m ∷ ms) = routing_moved p r (producing_after p v m) ms
 
-pub sent_moved : (p : ℕ) (w : Place) (f : Producer → Gives) {c : Script} {who : Incarnation} {names : List (List ℕ)} {items : List (Option Produced)} {tables : List (Option (List Pair))} {pending : Option Pending} {v : Producing} {i : ℕ} {o new : Option Produced} {sends : Option Sends} {pend : Option Pending} → ((st : Producer) → (f st).entity ≡ w.entity) → ((st : Producer) → list_all is_plain (f st).moves ≡ true)
-    → IsProducing c who names items tables pending → producing c who items pending ≡ v → is_producer v.script p ≡ true → i ≡ p - 1 → o ≡ slice_index_or items i o → IsSent f o new sends → pend ≡ option_map (λ (s : Sends). record { producer = p; place = w; sends = s }) sends
+pub sent_moved : (p : ℕ) (w : Place) (f : Producer → Gives) {c : Script} {who : Incarnation} {names : List (List ℕ)} {items : List (Option Produced)} {tables : List (Option (List Pair))} {pending : Option Pending} {v : Producing} {i : ℕ} {o new : Option Produced} {sends : Option Sends} {pend : Option Pending} → ((st : Producer) → (f st).entity ≡ w.entity) → ((st : Producer) → list_all is_plain (f st).moves ≡ true) → IsPlace v.script w
+    → IsProducing c who names items tables pending → producing c who items pending ≡ v → is_producer v.script p ≡ true → i ≡ p - 1 → o ≡ slice_index_or items i o → IsSent f o new sends → pend ≡ option_map (λ (s : Sends). record { producer = p; at = w.at; sends = s }) sends
     → producing c who (slice_set items i new) pend ≡ stepped p v (of_held f p v)
-sent_moved p w f {c} {who} {names} {items} {tables} {pending} {v} {i} {o} {new} {sends} {pend} to plain k seen its same read sent pend_is =
+sent_moved p w f {c} {who} {names} {items} {tables} {pending} {v} {i} {o} {new} {sends} {pend} to plain stands k seen its same read sent pend_is =
     subst (λ x. producing c who (slice_set items i new) pend ≡ stepped p v x) (sym (ap (option_map f) (held_is p k seen its same read)))
     (subst (λ (v : Producing). producing c who (slice_set items i new) pend ≡ stepped p v (option_map f (option_map state_of o))) seen
     (subst (λ n. producing c who (slice_set items n new) pend ≡ stepped p (producing c who items pending) (option_map f (option_map state_of o))) (sym same)
@@ -176,7 +184,10 @@ sent_moved p w f {c} {who} {names} {items} {tables} {pending} {v} {i} {o} {new} 
     inside : p - 1 < length items
     inside = subst (λ n. n < length items) same here.0
 
-    at_held : (o : Option Produced) (sends : Option Sends) → at items (p - 1) ≡ o → new ≡ option_map (λ k. moved k (f k.state).moves) o → option_map numbers_of sends ≡ option_map (λ k. (f k.state).numbers) o → pend ≡ option_map (λ (s : Sends). record { producer = p; place = w; sends = s }) sends
+    placed_here : IsPlace c w
+    placed_here = subst (λ (s : Script). IsPlace s w) (ap (λ (v : Producing). v.script) (sym seen)) stands
+
+    at_held : (o : Option Produced) (sends : Option Sends) → at items (p - 1) ≡ o → new ≡ option_map (λ k. moved k (f k.state).moves) o → option_map numbers_of sends ≡ option_map (λ k. (f k.state).numbers) o → pend ≡ option_map (λ (s : Sends). record { producer = p; at = w.at; sends = s }) sends
         → producing c who (slice_set items (p - 1) new) pend ≡ stepped p (producing c who items pending) (option_map f (option_map state_of o))
     at_held None None is new_is numbers pend_is =
         ap (λ x. producing c who (slice_set items (p - 1) new) x) pend_is ∙ ap (λ l. producing c who l None) (ap (slice_set items (p - 1)) (new_is ∙ sym is) ∙ set-get_or items (p - 1) None)
@@ -184,10 +195,11 @@ sent_moved p w f {c} {who} {names} {items} {tables} {pending} {v} {i} {o} {new} 
     at_held (Some x) None is new_is numbers pend_is = absurd (none_is_not_some (f x.state).numbers numbers)
     at_held (Some x) (Some s) is new_is numbers pend_is =
         ap (λ y. producing c who (slice_set items (p - 1) new) y) pend_is
-        ∙ (ap (λ y. producing c who (slice_set items (p - 1) y) (Some (record { producer = p; place = w; sends = s }))) new_is
+        ∙ (ap (λ y. producing c who (slice_set items (p - 1) y) (Some (record { producer = p; at = w.at; sends = s }))) new_is
+        ∙ (ap (λ (g : List ℕ). seen_as c who (slice_set items (p - 1) (Some (moved x (f x.state).moves))) (record { producer = p; entity = g; numbers = numbers_of s })) placed_here.it
         ∙ (ap (λ (g : List ℕ). seen_as c who (slice_set items (p - 1) (Some (moved x (f x.state).moves))) (record { producer = p; entity = g; numbers = numbers_of s })) (sym (to x.state))
         ∙ (ap (λ (g : List ℕ). seen_as c who (slice_set items (p - 1) (Some (moved x (f x.state).moves))) (record { producer = p; entity = (f x.state).entity; numbers = g })) (some_is (numbers_of s) (f x.state).numbers numbers)
-        ∙ (lifted c who p items x (f x.state).moves _ inside is (plain x.state) ∙ routing_moved p _ (producing c who items pending) (f x.state).moves))))
+        ∙ (lifted c who p items x (f x.state).moves _ inside is (plain x.state) ∙ routing_moved p _ (producing c who items pending) (f x.state).moves)))))
 
 -- no call changes the script
 pub moved_by_script : (p : ℕ) (v : Producing) (ms : List Move) → (moved_by p v ms).script ≡ v.script

@@ -17,7 +17,7 @@ use Rattle.producer_ctl.specs.declared.pair.Pair.{Pair}
 use Rattle.producer_ctl.specs.declared.producers.Pending.{Pending}
 use Rattle.producer_ctl.specs.Paired.{IsPair, IsPlace, name_at, no_pair, numbers_of, progress_of}
 use Rattle.producer_ctl.specs.Produced.{Produced, IsProduced, StandsAs, produced, queueing}
-use Rattle.producer_ctl.specs.Producing.{Producing, producing, IsProducing, IsHeld, IsPending, IsQueued, IsReserved, IsBounded, Stands, AreMore, after_message, first_of, held, next_message, no_routing, rest_of, room_of, sending, state_of, with_room}
+use Rattle.producer_ctl.specs.Producing.{Producing, producing, IsProducing, IsHeld, IsPending, IsQueued, IsReserved, IsBounded, Stands, AreMore, after_message, first_of, held, next_message, no_routing, place_at, rest_of, room_of, sending, state_of, with_room}
 use Rattle.producer_ctl.proofs.ProducingLaws.{item_read, held_is, numbered}
 use Rattle.producer_ctl.proofs.SentLaws.{sent_is_brought}
 use Rattle.producer_ctl.proofs.StoreLaws.{no_room}
@@ -32,42 +32,56 @@ numbers_step after last some = ap (numbers (after + 1)) (less after last some)
 
 -- the one that is read, where something is still to be routed
 pub pending_read : {c : Script} {who : Incarnation} {names : List (List ℕ)} {items : List (Option Produced)} {tables : List (Option (List Pair))} {pending : Option Pending} {x : Pending} {i : ℕ} {o : Option Produced}
-    → IsProducing c who names items tables pending → pending ≡ Some x → x.sends.after < x.sends.last → i ≡ x.producer - 1 → o ≡ slice_index_or items i o → (at items i ≡ o) × IsQueued x.place.entity x.sends.last o
+    → IsProducing c who names items tables pending → pending ≡ Some x → x.sends.after < x.sends.last → i ≡ x.producer - 1 → o ≡ slice_index_or items i o → (at items i ≡ o) × IsQueued (name_at (setting c).names x.at) x.sends.last o
 pending_read {c} {who} {names} {items} {tables} {pending} {x} {i} {o} k some below same read =
     let here : at items i ≡ o = in_items items i o there_at read in
-    (here, subst (IsQueued x.place.entity x.sends.last) here there_at)
+    (here, subst (IsQueued (name_at (setting c).names x.at) x.sends.last) here there_at)
   where
     p : IsPending c items x
     p = subst (λ y. IfSome y (IsPending c items)) some k.pending_is
 
-    there_at : IsQueued x.place.entity x.sends.last (at items i)
-    there_at = subst (λ n. IsQueued x.place.entity x.sends.last (at items n)) (sym same) (p.there below)
+    there_at : IsQueued (name_at (setting c).names x.at) x.sends.last (at items i)
+    there_at = subst (λ n. IsQueued (name_at (setting c).names x.at) x.sends.last (at items n)) (sym same) (p.there below)
 
-    in_items : (items : List (Option Produced)) (i : ℕ) (o : Option Produced) → IsQueued x.place.entity x.sends.last (at items i) → o ≡ slice_index_or items i o → at items i ≡ o
+    in_items : (items : List (Option Produced)) (i : ℕ) (o : Option Produced) → IsQueued (name_at (setting c).names x.at) x.sends.last (at items i) → o ≡ slice_index_or items i o → at items i ≡ o
     in_items [] i o q read = absurd q
     in_items (y ∷ items) zero o q read = sym read
     in_items (y ∷ items) (suc i) o q read = in_items items i o q read
 
-pub pending_queued : {c : Script} {who : Incarnation} {names : List (List ℕ)} {items : List (Option Produced)} {tables : List (Option (List Pair))} {pending : Option Pending} {x : Pending} {i : ℕ} {o : Option Produced}
-    → IsProducing c who names items tables pending → pending ≡ Some x → x.sends.after < x.sends.last → i ≡ x.producer - 1 → o ≡ slice_index_or items i o → IsQueued x.place.entity (x.sends.after + 1) o
-pending_queued {c} {who} {names} {items} {tables} {pending} {x} {i} {o} k some below same read = weaker o (pending_read k some below same read).1
-  where
-    weaker : (o : Option Produced) → IsQueued x.place.entity x.sends.last o → IsQueued x.place.entity (x.sends.after + 1) o
-    weaker None q = q
-    weaker (Some k) q = omega (arith, q, below)
+-- the name that is lent is the one that is to be routed to
+pub pending_named : (e : List ℕ) (n : ℕ) {c : Script} {who : Incarnation} {names : List (List ℕ)} {items : List (Option Produced)} {tables : List (Option (List Pair))} {pending : Option Pending}
+    → IsProducing c who names items tables pending → e ≡ name_at names n → e ≡ name_at (setting c).names n
+pending_named e n k is = is ∙ ap (λ l. name_at l n) k.names_are
 
--- its place is one of the script of the producer that is read
-pub pending_placed : {c : Script} {who : Incarnation} {names : List (List ℕ)} {items : List (Option Produced)} {tables : List (Option (List Pair))} {pending : Option Pending} {x : Pending} {i : ℕ} {o : Option Produced}
-    → IsProducing c who names items tables pending → pending ≡ Some x → x.sends.after < x.sends.last → i ≡ x.producer - 1 → o ≡ slice_index_or items i o → IfSome o (λ k. IsPlace k.script x.place)
-pending_placed {c} {who} {names} {items} {tables} {pending} {x} {i} {o} k some below same read =
-    by o (subst (λ y. IfSome y (IsHeld c who (i + 1))) (pending_read k some below same read).0 (k.each i))
+pub pending_within : {c : Script} {who : Incarnation} {names : List (List ℕ)} {items : List (Option Produced)} {tables : List (Option (List Pair))} {pending : Option Pending} {x : Pending}
+    → IsProducing c who names items tables pending → pending ≡ Some x → x.at < length names
+pending_within {c} {who} {names} {items} {tables} {pending} {x} k some = subst (λ (l : List (List ℕ)). x.at < length l) (sym k.names_are) p.stands.within
   where
     p : IsPending c items x
     p = subst (λ y. IfSome y (IsPending c items)) some k.pending_is
 
-    by : (o : Option Produced) → IfSome o (IsHeld c who (i + 1)) → IfSome o (λ k. IsPlace k.script x.place)
+pub pending_queued : (e : List ℕ) {c : Script} {who : Incarnation} {names : List (List ℕ)} {items : List (Option Produced)} {tables : List (Option (List Pair))} {pending : Option Pending} {x : Pending} {i : ℕ} {o : Option Produced}
+    → IsProducing c who names items tables pending → pending ≡ Some x → x.sends.after < x.sends.last → i ≡ x.producer - 1 → o ≡ slice_index_or items i o → e ≡ name_at names x.at → IsQueued e (x.sends.after + 1) o
+pending_queued e {c} {who} {names} {items} {tables} {pending} {x} {i} {o} k some below same read is =
+    subst (λ f. IsQueued f (x.sends.after + 1) o) (sym (pending_named e x.at k is)) (weaker o (pending_read k some below same read).1)
+  where
+    weaker : (o : Option Produced) → IsQueued (name_at (setting c).names x.at) x.sends.last o → IsQueued (name_at (setting c).names x.at) (x.sends.after + 1) o
+    weaker None q = q
+    weaker (Some k) q = omega (arith, q, below)
+
+-- its place is one of the script of the producer that is read
+pub pending_placed : (e : List ℕ) {c : Script} {who : Incarnation} {names : List (List ℕ)} {items : List (Option Produced)} {tables : List (Option (List Pair))} {pending : Option Pending} {x : Pending} {i : ℕ} {o : Option Produced}
+    → IsProducing c who names items tables pending → pending ≡ Some x → x.sends.after < x.sends.last → i ≡ x.producer - 1 → o ≡ slice_index_or items i o → e ≡ name_at names x.at → IfSome o (λ k. IsPlace k.script (record { entity = e; at = x.at }))
+pending_placed e {c} {who} {names} {items} {tables} {pending} {x} {i} {o} k some below same read is =
+    subst (λ f. IfSome o (λ k. IsPlace k.script (record { entity = f; at = x.at }))) (sym (pending_named e x.at k is))
+    (by o (subst (λ y. IfSome y (IsHeld c who (i + 1))) (pending_read k some below same read).0 (k.each i)))
+  where
+    p : IsPending c items x
+    p = subst (λ y. IfSome y (IsPending c items)) some k.pending_is
+
+    by : (o : Option Produced) → IfSome o (IsHeld c who (i + 1)) → IfSome o (λ k. IsPlace k.script (place_at c x.at))
     by None h = tt
-    by (Some k) h = subst (λ (s : Script). IsPlace s x.place) (sym h.script_is) p.stands
+    by (Some k) h = subst (λ (s : Script). IsPlace s (place_at c x.at)) (sym h.script_is) p.stands
 
 at_map : (items : List (Option Produced)) (i : ℕ) → at (map (option_map state_of) items) i ≡ option_map state_of (at items i)
 at_map [] i = refl
@@ -75,23 +89,23 @@ at_map (y ∷ items) zero = refl
 at_map (y ∷ items) (suc i) = at_map items i
 
 pub after_is : (items : List (Option Produced)) (pending : Option Pending) {c : Script} {who : Incarnation} {v : Producing} {x : Pending} → producing c who items pending ≡ v → pending ≡ Some x → x.sends.after < x.sends.last
-    → producing c who items (Some (record { producer = x.producer; place = x.place; sends = record { after = x.sends.after + 1; last = x.sends.last } })) ≡ after_message v
+    → producing c who items (Some (record { producer = x.producer; at = x.at; sends = record { after = x.sends.after + 1; last = x.sends.last } })) ≡ after_message v
 after_is items pending {c} {who} {v} {x} seen some below =
-    subst (λ (v : Producing). producing c who items (Some (record { producer = x.producer; place = x.place; sends = record { after = x.sends.after + 1; last = x.sends.last } })) ≡ after_message v) seen
-    (subst (λ y. producing c who items (Some (record { producer = x.producer; place = x.place; sends = record { after = x.sends.after + 1; last = x.sends.last } })) ≡ after_message (producing c who items y)) (sym some)
-    (ap (λ l. record { script = c; who = who; producers = map (option_map state_of) items; rooms = map room_of items; pending = record { producer = x.producer; entity = x.place.entity; numbers = l } }) (sym (ap rest_of (numbers_step x.sends.after x.sends.last below)))))
+    subst (λ (v : Producing). producing c who items (Some (record { producer = x.producer; at = x.at; sends = record { after = x.sends.after + 1; last = x.sends.last } })) ≡ after_message v) seen
+    (subst (λ y. producing c who items (Some (record { producer = x.producer; at = x.at; sends = record { after = x.sends.after + 1; last = x.sends.last } })) ≡ after_message (producing c who items y)) (sym some)
+    (ap (λ l. record { script = c; who = who; producers = map (option_map state_of) items; rooms = map room_of items; pending = record { producer = x.producer; entity = (name_at (setting c).names x.at); numbers = l } }) (sym (ap rest_of (numbers_step x.sends.after x.sends.last below)))))
 
-pub message_is : {c : Script} {who : Incarnation} {names : List (List ℕ)} {items : List (Option Produced)} {tables : List (Option (List Pair))} {pending : Option Pending} {v : Producing} {x : Pending} {i : ℕ} {o : Option Produced} {m : Message}
-    → IsProducing c who names items tables pending → producing c who items pending ≡ v → pending ≡ Some x → x.sends.after < x.sends.last → i ≡ x.producer - 1 → o ≡ slice_index_or items i o → option_map (λ k. message_of x.place.entity k.state (x.sends.after + 1)) o ≡ Some m → Some m ≡ next_message v
-message_is {c} {who} {names} {items} {tables} {pending} {v} {x} {i} {o} {m} k seen some below same read made =
+pub message_is : (e : List ℕ) {c : Script} {who : Incarnation} {names : List (List ℕ)} {items : List (Option Produced)} {tables : List (Option (List Pair))} {pending : Option Pending} {v : Producing} {x : Pending} {i : ℕ} {o : Option Produced} {m : Message}
+    → IsProducing c who names items tables pending → producing c who items pending ≡ v → pending ≡ Some x → x.sends.after < x.sends.last → i ≡ x.producer - 1 → o ≡ slice_index_or items i o → e ≡ name_at names x.at → option_map (λ k. message_of e k.state (x.sends.after + 1)) o ≡ Some m → Some m ≡ next_message v
+message_is e {c} {who} {names} {items} {tables} {pending} {v} {x} {i} {o} {m} k seen some below same read is made =
     subst (λ (v : Producing). Some m ≡ next_message v) seen
     (subst (λ y. Some m ≡ next_message (producing c who items y)) (sym some)
-    (sym (ap (λ l. option_and_then (λ n. option_map (λ st. message_of x.place.entity st n) (at (map (option_map state_of) items) (x.producer - 1))) (first_of l)) (numbers_step x.sends.after x.sends.last below)
-    ∙ (ap (λ n. option_map (λ st. message_of x.place.entity st (x.sends.after + 1)) (at (map (option_map state_of) items) n)) (sym same)
-    ∙ (ap (option_map (λ st. message_of x.place.entity st (x.sends.after + 1))) (at_map items i ∙ ap (option_map state_of) (pending_read k some below same read).0)
-    ∙ (both o ∙ made))))))
+    (sym (ap (λ l. option_and_then (λ n. option_map (λ st. message_of (name_at (setting c).names x.at) st n) (at (map (option_map state_of) items) (x.producer - 1))) (first_of l)) (numbers_step x.sends.after x.sends.last below)
+    ∙ (ap (λ n. option_map (λ st. message_of (name_at (setting c).names x.at) st (x.sends.after + 1)) (at (map (option_map state_of) items) n)) (sym same)
+    ∙ (ap (option_map (λ st. message_of (name_at (setting c).names x.at) st (x.sends.after + 1))) (at_map items i ∙ ap (option_map state_of) (pending_read k some below same read).0)
+    ∙ (both o ∙ (ap (λ f. option_map (λ k. message_of f k.state (x.sends.after + 1)) o) (sym (pending_named e x.at k is)) ∙ made)))))))
   where
-    both : (o : Option Produced) → option_map (λ st. message_of x.place.entity st (x.sends.after + 1)) (option_map state_of o) ≡ option_map (λ k. message_of x.place.entity k.state (x.sends.after + 1)) o
+    both : (o : Option Produced) → option_map (λ st. message_of (name_at (setting c).names x.at) st (x.sends.after + 1)) (option_map state_of o) ≡ option_map (λ k. message_of (name_at (setting c).names x.at) k.state (x.sends.after + 1)) o
     both None = refl
     both (Some k) = refl
 
@@ -211,7 +225,7 @@ reserved_stands {c} {who} {names} {items} {new} {tables} {pending} k size all = 
   where
     pend : (y : Option Pending) → IfSome y (IsPending c items) → IfSome y (IsPending c new)
     pend None h = tt
-    pend (Some x) h = record { stands = h.stands; there = λ some. reserved_queued x.place.entity x.sends.last (at items (x.producer - 1)) (at new (x.producer - 1)) (all (x.producer - 1)) (h.there some) }
+    pend (Some x) h = record { stands = h.stands; there = λ some. reserved_queued (name_at (setting c).names x.at) x.sends.last (at items (x.producer - 1)) (at new (x.producer - 1)) (all (x.producer - 1)) (h.there some) }
 
 pub reserved_seen : (items new : List (Option Produced)) (pending : Option Pending) {c : Script} {who : Incarnation} {v : Producing} → producing c who items pending ≡ v → length new ≡ length items → AllReserved items new
     → producing c who new pending ≡ record { script = v.script; who = v.who; producers = v.producers; rooms = map room_of new; pending = v.pending }

@@ -17,6 +17,7 @@ use Rattle.yard_model.specs.Words.{at}
 use Rattle.durable_queue.specs.Queue.{Queue}
 use Rattle.producer_ctl.specs.declared.pair.Pair.{Pair}
 use Rattle.producer_ctl.specs.declared.pair.Sends.{Sends}
+use Rattle.producer_ctl.specs.declared.place.Place.{Place}
 use Rattle.producer_ctl.specs.declared.producers.Pending.{Pending}
 use Rattle.producer_ctl.specs.Paired.{IsPlace, name_at, numbers_of}
 use Rattle.producer_ctl.specs.Produced.{Produced, Gives, moved, room_step, queueing, waits_to}
@@ -124,12 +125,16 @@ abbrev pub room_of : Option Produced → ℕ
 room_of None = 0
 room_of (Some k) = k.room
 
-abbrev pub routing_of : Option Pending → Routing
-routing_of None = no_routing
-routing_of (Some x) = record { producer = x.producer; entity = x.place.entity; numbers = numbers_of x.sends }
+-- the name at a place of the script's, and its place
+abbrev pub place_at : Script → ℕ → Place
+place_at c i = record { entity = name_at (setting c).names i; at = i }
+
+abbrev pub routing_of : Script → Option Pending → Routing
+routing_of c None = no_routing
+routing_of c (Some x) = record { producer = x.producer; entity = name_at (setting c).names x.at; numbers = numbers_of x.sends }
 
 abbrev pub producing : Script → Incarnation → List (Option Produced) → Option Pending → Producing
-producing c who items pending = record { script = c; who = who; producers = map (option_map state_of) items; rooms = map room_of items; pending = routing_of pending }
+producing c who items pending = record { script = c; who = who; producers = map (option_map state_of) items; rooms = map room_of items; pending = routing_of c pending }
 
 -- the producer p of this script and node
 pub record IsHeld (c : Script) (who : Incarnation) (p : ℕ) (k : Produced) : Type 0 where
@@ -150,8 +155,8 @@ IsQueued e n (Some k) = n ≤ queued e k.state.entries
 
 -- what is to be routed is queued, to a name of the script
 pub record IsPending (c : Script) (items : List (Option Produced)) (x : Pending) : Type 0 where
-  pub stands : IsPlace c x.place
-  pub there : x.sends.after < x.sends.last → IsQueued x.place.entity x.sends.last (at items (x.producer - 1))
+  pub stands : IsPlace c (place_at c x.at)
+  pub there : x.sends.after < x.sends.last → IsQueued (name_at (setting c).names x.at) x.sends.last (at items (x.producer - 1))
 
 pub record IsProducing (c : Script) (who : Incarnation) (names : List (List ℕ)) (items : List (Option Produced)) (tables : List (Option (List Pair))) (pending : Option Pending) : Type 0 where
   pub names_are : names ≡ (setting c).names

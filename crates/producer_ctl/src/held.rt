@@ -12,7 +12,7 @@ use crate::pair::Sends;
 use crate::place::Place;
 use crate::producer::Producer;
 use std::alloc::AllocError;
-use yard_model::{Charter, Message, Out, Sending};
+use yard_model::{Charter, EntityName, Message, Out, Sending};
 
 /// The send is queued, where the queue is held.
 pub(crate) fn queue_in(
@@ -126,14 +126,19 @@ pub(crate) fn next_in(held: &Option<Producer>, charter: &Charter) -> Option<Send
 }
 
 /// The message of a queued number of a producer whose queue is held.
-pub(crate) fn message_in(held: &Option<Producer>, place: &Place, number: u32) -> Message
-    requires place { IfSome held.now (λ k. IsPlace k.script place.now) }
+pub(crate) fn message_in(
+    held: &Option<Producer>,
+    at: usize,
+    entity: &EntityName,
+    number: u32,
+) -> Message
+    requires place { IfSome held.now (λ k. IsPlace k.script (record { entity = entity.now; at = at })) }
     requires some { 0 < number }
-    requires queued { IsQueued place.now.entity number held.now }
-    ensures { option_map (λ k. message_of place.now.entity k.state number) held.now ≡ Some result }
+    requires queued { IsQueued entity.now number held.now }
+    ensures { option_map (λ k. message_of entity.now k.state number) held.now ≡ Some result }
 {
     match held {
-        Some(producer) => producer.message(place, number),
+        Some(producer) => producer.message(at, entity, number),
         None => unreachable!(),
     }
 }

@@ -17,7 +17,9 @@ use crate::table::Table;
 use durable_queue::QueueStore;
 use std::alloc::AllocError;
 use std::marker::{Model, PhantomData};
-use yard_model::{Charter, Command, Fact, Incarnation, Item, Message, Out, ProducerNo, Sending};
+use yard_model::{
+    Charter, Command, EntityName, Fact, Incarnation, Item, Message, Out, ProducerNo, Sending,
+};
 
 /// A producer whose queue the node holds: the queue and, of each name of the script, what was
 /// demanded and sent, with what is queued and confirmed at hand. Contracts see it as the definition's
@@ -152,16 +154,16 @@ impl Producer {
     }
 
     /// The message of a queued number.
-    pub(crate) fn message(&self, place: &Place, number: u32) -> Message
-        requires place { IsPlace self.now.script place.now }
+    pub(crate) fn message(&self, at: usize, entity: &EntityName, number: u32) -> Message
+        requires place { IsPlace self.now.script (record { entity = entity.now; at = at }) }
         requires some { 0 < number }
-        requires queued { number ≤ queued place.now.entity self.now.state.entries }
-        ensures { result ≡ message_of place.now.entity self.now.state number }
+        requires queued { number ≤ queued entity.now self.now.state.entries }
+        ensures { result ≡ message_of entity.now self.now.state number }
     {
-        match self.store.command_at(place.at, number) {
+        match self.store.command_at(at, number) {
             Some(command) => Message {
                 producer: self.number,
-                entity: place.entity,
+                entity: *entity,
                 number,
                 command,
                 origin: self.who,

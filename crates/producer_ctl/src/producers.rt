@@ -46,8 +46,8 @@ const ROOM: u32 = 300;
 pub(crate) struct Pending {
     /// The producer.
     pub producer: ProducerNo,
-    /// To whom.
-    pub place: Place,
+    /// The place of the name to which they go.
+    pub at: usize,
     /// The numbers.
     pub sends: Sends,
 }
@@ -240,9 +240,9 @@ impl Producers {
         ensures state { self.new ≡ stepped p self.old (of_held (queueing sending.now) p self.old) }
         ensures out { out.new ≡ given out.old (moves_of (of_held (queueing sending.now) p self.old)) }
     {
-        let at = self.find(&sending.entity);
-        let sends = queue_in(&mut self.held[place_of(p)], &at, charter, sending, out);
-        self.pending = pending_of(p, &at, sends);
+        let place = self.find(&sending.entity);
+        let sends = queue_in(&mut self.held[place_of(p)], &place, charter, sending, out);
+        self.pending = pending_of(p, place.at, sends);
     }
 
     /// Request: what is confirmed is noted; the entity asks for more, up to a number; what may be sent
@@ -264,9 +264,9 @@ impl Producers {
         ensures state { self.new ≡ stepped p self.old (of_held (asking entity.now confirmed up_to) p self.old) }
         ensures out { out.new ≡ given out.old (moves_of (of_held (asking entity.now confirmed up_to) p self.old)) }
     {
-        let at = self.find(entity);
-        let sends = demand_in(&mut self.held[place_of(p)], &at, confirmed, up_to, out);
-        self.pending = pending_of(p, &at, sends);
+        let place = self.find(entity);
+        let sends = demand_in(&mut self.held[place_of(p)], &place, confirmed, up_to, out);
+        self.pending = pending_of(p, place.at, sends);
     }
 
     /// Ack: what is confirmed is noted; what may be sent to the entity and wasn't yet is to be routed.
@@ -279,9 +279,9 @@ impl Producers {
         ensures state { self.new ≡ stepped p self.old (of_held (acking entity.now confirmed) p self.old) }
         ensures out { out.new ≡ given out.old (moves_of (of_held (acking entity.now confirmed) p self.old)) }
     {
-        let at = self.find(entity);
-        let sends = ack_in(&mut self.held[place_of(p)], &at, confirmed, out);
-        self.pending = pending_of(p, &at, sends);
+        let place = self.find(entity);
+        let sends = ack_in(&mut self.held[place_of(p)], &place, confirmed, out);
+        self.pending = pending_of(p, place.at, sends);
     }
 
     /// Resend: what may be sent to the entity from this number on, and isn't confirmed, is to be routed
@@ -291,9 +291,9 @@ impl Producers {
         requires name { is_brought self.old.script entity.now ≡ true }
         ensures { self.new ≡ stepped p self.old (of_held (resending entity.now from) p self.old) }
     {
-        let at = self.find(entity);
-        let sends = resend_in(&self.held[place_of(p)], &at, from);
-        self.pending = pending_of(p, &at, sends);
+        let place = self.find(entity);
+        let sends = resend_in(&self.held[place_of(p)], &place, from);
+        self.pending = pending_of(p, place.at, sends);
     }
 
     /// The tick of one producer and the name at a place: the first queued number that isn't confirmed
@@ -303,9 +303,9 @@ impl Producers {
         requires within { at < length (setting self.old.script).names }
         ensures { self.new ≡ stepped p self.old (of_held (repeating (name_at (setting self.old.script).names at)) p self.old) }
     {
-        let at = self.nth(at);
-        let sends = tick_in(&mut self.held[place_of(p)], &at);
-        self.pending = pending_of(p, &at, sends);
+        let place = self.nth(at);
+        let sends = tick_in(&mut self.held[place_of(p)], &place);
+        self.pending = pending_of(p, place.at, sends);
     }
 
     /// The next message that is to be routed; None exactly where none is left.
@@ -320,7 +320,8 @@ impl Producers {
                 }
                 let number = pending.sends.after + 1;
                 let place = place_of(pending.producer);
-                let message = message_in(&self.held[place], &pending.place, number);
+                let entity = name_in(&self.names, pending.at);
+                let message = message_in(&self.held[place], pending.at, entity, number);
                 pending.sends.after = number;
                 Some(message)
             }
@@ -351,6 +352,14 @@ impl Producers {
             at,
         }
     }
+}
+
+/// The name at a place.
+fn name_in(names: &NameIndex, at: usize) -> &EntityName
+    requires { at < length names.now }
+    ensures { result.now ≡ name_at names.now at }
+{
+    &names.as_slice()[at]
 }
 
 /// The place of a producer, from 0.
@@ -423,13 +432,13 @@ fn tell_freed(p: ProducerNo, store: &Option<QueueStore>, out: &mut Out)
 }
 
 /// What is to be routed, if anything.
-fn pending_of(p: ProducerNo, place: &Place, sends: Option<Sends>) -> Option<Pending>
-    ensures { result ≡ option_map (λ (s : Sends). record { producer = p; place = place.now; sends = s }) sends }
+fn pending_of(p: ProducerNo, at: usize, sends: Option<Sends>) -> Option<Pending>
+    ensures { result ≡ option_map (λ (s : Sends). record { producer = p; at = at; sends = s }) sends }
 {
     match sends {
         Some(sends) => Some(Pending {
             producer: p,
-            place: *place,
+            at,
             sends,
         }),
         None => None,

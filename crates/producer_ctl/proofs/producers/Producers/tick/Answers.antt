@@ -6,7 +6,7 @@ use Rattle.producer_ctl.proofs.PlainLaws.{plain_repeating}
 use Rattle.producer_ctl.proofs.producers.Producers.tick.Goals as goal
 
 pub invariant_of-self : goal.invariant_of-self
-invariant_of-self c = sent_stands c.args.p c.nth-at.result (repeating c.nth-at.result.entity) (λ st. refl) c.nth-at.ensures.place c.self.invariant c.self.view_is c.requires.producer c.place_of.ensures c.index_mut.ensures.value c.tick_in-sends.ensures.sent c.pending_of-self-inside.ensures
+invariant_of-self c = sent_stands c.args.p c.nth-place.result (repeating c.nth-place.result.entity) (λ st. refl) c.nth-place.ensures.place c.self.invariant c.self.view_is c.requires.producer c.place_of.ensures c.index_mut.ensures.value c.tick_in-sends.ensures.sent c.pending_of-self-inside.ensures
 
 pub returns : goal.returns
-returns c = sent_moved c.args.p c.nth-at.result (repeating c.nth-at.result.entity) (λ st. refl) (plain_repeating c.nth-at.result.entity) c.self.invariant c.self.view_is c.requires.producer c.place_of.ensures c.index_mut.ensures.value c.tick_in-sends.ensures.sent c.pending_of-self-inside.ensures ∙ ap (λ e. stepped c.args.p c.args.self.now (of_held (repeating e) c.args.p c.args.self.now)) c.nth-at.ensures.entity
+returns c = sent_moved c.args.p c.nth-place.result (repeating c.nth-place.result.entity) (λ st. refl) (plain_repeating c.nth-place.result.entity) c.nth-place.ensures.place c.self.invariant c.self.view_is c.requires.producer c.place_of.ensures c.index_mut.ensures.value c.tick_in-sends.ensures.sent c.pending_of-self-inside.ensures ∙ ap (λ e. stepped c.args.p c.args.self.now (of_held (repeating e) c.args.p c.args.self.now)) c.nth-place.ensures.entity

@@ -13,12 +13,14 @@ use Rattle.yard_model.specs.declared.event.Kind.{Kind}
 use Rattle.yard_model.specs.declared.fact.Fact.{Fact}
 use Rattle.yard_model.specs.declared.fact.Fact.TheVariants as fact
 use Rattle.yard_model.specs.declared.packet.Record.{Record}
-use Rattle.yard_model.specs.Script.{is_name}
+use Rattle.yard_model.specs.Script.{Script, is_name}
 use Rattle.yard_model.specs.SlotReads.{journal, journal_step, last_snapshot, snapshot_step, is_remembered, remembered_step}
 use Rattle.yard_model.specs.Spared.{Spared}
 use Rattle.entity_snapshot.specs.declared.snapshot.Snapshot.{Snapshot}
 use Rattle.entity_snapshot.specs.Kept.{Kept, last_of}
-use Rattle.shard_store.specs.Shelved.{no_journal, no_snapshots, name_at, IsJournal, IsSnapshot, IsLatest, AreKept, AreReserved, latest}
+use Rattle.shard_store.specs.Planned.{sent_to}
+use Rattle.shard_store.specs.Reshaped.{AreEach}
+use Rattle.shard_store.specs.Shelved.{no_journal, no_snapshots, name_at, IsJournal, IsSnapshot, IsLatest, AreKept, latest}
 use Rattle.shard_store.proofs.DifferentLaws.{another_name, name_itself}
 
 same : (n p : ℕ) → (n == p) ≡ true → n ≡ p
@@ -42,18 +44,15 @@ snapshot_more e list f = fold-append (snapshot_step e) 0 list (f ∷ [])
 mark_more : (e : List ℕ) (list : List Fact) (f : Fact) → is_remembered e (list ++ f ∷ []) ≡ remembered_step e (is_remembered e list) f
 mark_more e list f = fold-append (remembered_step e) false list (f ∷ [])
 
-less_spare : (records : List Record) (spare : ℕ) (kept : Spared Record) → IsJournal records spare kept → IsJournal records (spare - 1) kept
-less_spare records spare kept k = record { records_are = k.records_are; spare_is = omega (arith, k.spare_is) }
-
-pub kept_none : (kind : Kind) (names : List (List ℕ)) (list : List Fact) (spare : ℕ) (journals : List (Spared Record)) (snapshots : List Kept) (marks : List Bool) (f : Fact) → IsOfNone f
-    → AreKept kind names list spare journals snapshots marks → AreKept kind names (list ++ f ∷ []) (spare - 1) journals snapshots marks
-kept_none kind names list spare journals snapshots marks f none k = record {
+pub kept_none : (c : Script) (names : List (List ℕ)) (list : List Fact) (journals : List (Spared Record)) (snapshots : List Kept) (marks : List Bool) (f : Fact) → IsOfNone f
+    → AreKept c names list journals snapshots marks → AreKept c names (list ++ f ∷ []) journals snapshots marks
+kept_none c names list journals snapshots marks f none k = record {
   journals_there = k.journals_there;
   snapshots_there = k.snapshots_there;
   marks_there = k.marks_there;
-  journal_is = λ i within. subst (λ rs. IsJournal rs (spare - 1) (slice_index_or journals i no_journal)) (sym (same_journal i)) (less_spare (journal (name_at names i) list) spare (slice_index_or journals i no_journal) (k.journal_is i within));
-  latest_is = λ i within. subst (λ rs. IsLatest kind rs (last_snapshot (name_at names i) (list ++ f ∷ [])) (slice_index_or snapshots i no_snapshots)) (sym (same_journal i))
-      (subst (λ m. IsLatest kind (journal (name_at names i) list) m (slice_index_or snapshots i no_snapshots)) (sym (snapshot_more (name_at names i) list f ∙ none.snapshot_is (name_at names i) (last_snapshot (name_at names i) list))) (k.latest_is i within));
+  journal_is = λ i within. subst (λ rs. IsJournal rs (sent_to (name_at names i) c.orders) (slice_index_or journals i no_journal)) (sym (same_journal i)) (k.journal_is i within);
+  latest_is = λ i within. subst (λ rs. IsLatest c.config.kind rs (last_snapshot (name_at names i) (list ++ f ∷ [])) (slice_index_or snapshots i no_snapshots)) (sym (same_journal i))
+      (subst (λ m. IsLatest c.config.kind (journal (name_at names i) list) m (slice_index_or snapshots i no_snapshots)) (sym (snapshot_more (name_at names i) list f ∙ none.snapshot_is (name_at names i) (last_snapshot (name_at names i) list))) (k.latest_is i within));
   mark_is = λ i within. k.mark_is i within ∙ sym (mark_more (name_at names i) list f ∙ none.mark_is (name_at names i) (is_remembered (name_at names i) list));
 }
   where
@@ -85,14 +84,14 @@ latest_still kind records r m kept k = (k.0, at (latest kept) k.1)
 
 -- A record more.
 
-journal_wrote : (x e : List ℕ) (list : List Fact) (r : Record) (b : Bool) → is_name x e ≡ b → journal e (list ++ fact.Wrote x r ∷ []) ≡ cond b (journal e list ++ r ∷ []) (journal e list)
+pub journal_wrote : (x e : List ℕ) (list : List Fact) (r : Record) (b : Bool) → is_name x e ≡ b → journal e (list ++ fact.Wrote x r ∷ []) ≡ cond b (journal e list ++ r ∷ []) (journal e list)
 journal_wrote x e list r b h = journal_more e list (fact.Wrote x r) ∙ ap (λ t. cond t (journal e list ++ r ∷ []) (journal e list)) h
 
-pub kept_wrote : (kind : Kind) (names : List (List ℕ)) (list : List Fact) (spare : ℕ) (journals : List (Spared Record)) (snapshots : List Kept) (marks : List Bool) (x : List ℕ) (r : Record) (k : ℕ) (new : Spared Record)
+pub kept_wrote : (c : Script) (names : List (List ℕ)) (list : List Fact) (journals : List (Spared Record)) (snapshots : List Kept) (marks : List Bool) (x : List ℕ) (r : Record) (k : ℕ) (new : Spared Record)
     → IsStrictlySortedBy (slice_cmp nat_cmp) names → k < length names → name_at names k ≡ x
     → new.items ≡ (slice_index_or journals k no_journal).items ++ r ∷ [] → new.spare + 1 ≡ (slice_index_or journals k no_journal).spare
-    → AreKept kind names list spare journals snapshots marks → AreKept kind names (list ++ fact.Wrote x r ∷ []) (spare - 1) (slice_set journals k new) snapshots marks
-kept_wrote kind names list spare journals snapshots marks x r k new sorted inside it items less kept = record {
+    → AreKept c names list journals snapshots marks → AreKept c names (list ++ fact.Wrote x r ∷ []) (slice_set journals k new) snapshots marks
+kept_wrote c names list journals snapshots marks x r k new sorted inside it items less kept = record {
   journals_there = length-set journals k new ∙ kept.journals_there;
   snapshots_there = kept.snapshots_there;
   marks_there = kept.marks_there;
@@ -101,32 +100,32 @@ kept_wrote kind names list spare journals snapshots marks x r k new sorted insid
   mark_is = λ i within. kept.mark_is i within ∙ sym (mark_more (name_at names i) list (fact.Wrote x r));
 }
   where
-    journal_at : (i : ℕ) → i < length names → (b : Bool) → (i == k) ≡ b → IsJournal (journal (name_at names i) (list ++ fact.Wrote x r ∷ [])) (spare - 1) (slice_index_or (slice_set journals k new) i no_journal)
+    journal_at : (i : ℕ) → i < length names → (b : Bool) → (i == k) ≡ b → IsJournal (journal (name_at names i) (list ++ fact.Wrote x r ∷ [])) (sent_to (name_at names i) c.orders) (slice_index_or (slice_set journals k new) i no_journal)
     journal_at i within true e =
         let here : i ≡ k = same i k e in
         let named : is_name x (name_at names i) ≡ true = ap (is_name x) (ap (name_at names) here ∙ it) ∙ name_itself x in
-        let old : IsJournal (journal (name_at names i) list) spare (slice_index_or journals i no_journal) = kept.journal_is i within in
+        let old : IsJournal (journal (name_at names i) list) (sent_to (name_at names i) c.orders) (slice_index_or journals i no_journal) = kept.journal_is i within in
         let found : slice_index_or (slice_set journals k new) i no_journal ≡ new = ap (λ n. slice_index_or (slice_set journals k new) n no_journal) here ∙ get_or-set_same journals k new no_journal (omega (arith, kept.journals_there)) in
         let was : new.spare + 1 ≡ (slice_index_or journals i no_journal).spare = less ∙ ap (λ n. (slice_index_or journals n no_journal).spare) (sym here) in
-        subst (IsJournal (journal (name_at names i) (list ++ fact.Wrote x r ∷ [])) (spare - 1)) (sym found) (record {
+        subst (IsJournal (journal (name_at names i) (list ++ fact.Wrote x r ∷ [])) (sent_to (name_at names i) c.orders)) (sym found) (record {
           records_are = items ∙ (ap (λ n. (slice_index_or journals n no_journal).items ++ r ∷ []) (sym here) ∙ (ap (λ rs. rs ++ r ∷ []) old.records_are ∙ sym (journal_wrote x (name_at names i) list r true named)));
-          spare_is = omega (arith, old.spare_is, was);
+          room_is = subst (λ rs. sent_to (name_at names i) c.orders ≤ length rs + new.spare) (sym (journal_wrote x (name_at names i) list r true named)) (omega (arith, old.room_is, was, length-append (journal (name_at names i) list) (r ∷ [])));
         })
     journal_at i within false e =
         let apart : is_name x (name_at names i) ≡ false = another_name names x k i sorted inside within it (other i k e) in
-        subst (IsJournal (journal (name_at names i) (list ++ fact.Wrote x r ∷ [])) (spare - 1)) (sym (get_or-set_other journals k i new no_journal (other i k e)))
-        (subst (λ rs. IsJournal rs (spare - 1) (slice_index_or journals i no_journal)) (sym (journal_wrote x (name_at names i) list r false apart)) (less_spare (journal (name_at names i) list) spare (slice_index_or journals i no_journal) (kept.journal_is i within)))
+        subst (IsJournal (journal (name_at names i) (list ++ fact.Wrote x r ∷ [])) (sent_to (name_at names i) c.orders)) (sym (get_or-set_other journals k i new no_journal (other i k e)))
+        (subst (λ rs. IsJournal rs (sent_to (name_at names i) c.orders) (slice_index_or journals i no_journal)) (sym (journal_wrote x (name_at names i) list r false apart)) (kept.journal_is i within))
 
-    latest_at : (i : ℕ) → i < length names → (b : Bool) → (i == k) ≡ b → IsLatest kind (journal (name_at names i) (list ++ fact.Wrote x r ∷ [])) (last_snapshot (name_at names i) (list ++ fact.Wrote x r ∷ [])) (slice_index_or snapshots i no_snapshots)
+    latest_at : (i : ℕ) → i < length names → (b : Bool) → (i == k) ≡ b → IsLatest c.config.kind (journal (name_at names i) (list ++ fact.Wrote x r ∷ [])) (last_snapshot (name_at names i) (list ++ fact.Wrote x r ∷ [])) (slice_index_or snapshots i no_snapshots)
     latest_at i within true e =
         let named : is_name x (name_at names i) ≡ true = ap (is_name x) (ap (name_at names) (same i k e) ∙ it) ∙ name_itself x in
-        subst (λ rs. IsLatest kind rs (last_snapshot (name_at names i) (list ++ fact.Wrote x r ∷ [])) (slice_index_or snapshots i no_snapshots)) (sym (journal_wrote x (name_at names i) list r true named))
-        (subst (λ m. IsLatest kind (journal (name_at names i) list ++ r ∷ []) m (slice_index_or snapshots i no_snapshots)) (sym (snapshot_more (name_at names i) list (fact.Wrote x r)))
-        (latest_still kind (journal (name_at names i) list) r (last_snapshot (name_at names i) list) (slice_index_or snapshots i no_snapshots) (kept.latest_is i within)))
+        subst (λ rs. IsLatest c.config.kind rs (last_snapshot (name_at names i) (list ++ fact.Wrote x r ∷ [])) (slice_index_or snapshots i no_snapshots)) (sym (journal_wrote x (name_at names i) list r true named))
+        (subst (λ m. IsLatest c.config.kind (journal (name_at names i) list ++ r ∷ []) m (slice_index_or snapshots i no_snapshots)) (sym (snapshot_more (name_at names i) list (fact.Wrote x r)))
+        (latest_still c.config.kind (journal (name_at names i) list) r (last_snapshot (name_at names i) list) (slice_index_or snapshots i no_snapshots) (kept.latest_is i within)))
     latest_at i within false e =
         let apart : is_name x (name_at names i) ≡ false = another_name names x k i sorted inside within it (other i k e) in
-        subst (λ rs. IsLatest kind rs (last_snapshot (name_at names i) (list ++ fact.Wrote x r ∷ [])) (slice_index_or snapshots i no_snapshots)) (sym (journal_wrote x (name_at names i) list r false apart))
-        (subst (λ m. IsLatest kind (journal (name_at names i) list) m (slice_index_or snapshots i no_snapshots)) (sym (snapshot_more (name_at names i) list (fact.Wrote x r))) (kept.latest_is i within))
+        subst (λ rs. IsLatest c.config.kind rs (last_snapshot (name_at names i) (list ++ fact.Wrote x r ∷ [])) (slice_index_or snapshots i no_snapshots)) (sym (journal_wrote x (name_at names i) list r false apart))
+        (subst (λ m. IsLatest c.config.kind (journal (name_at names i) list) m (slice_index_or snapshots i no_snapshots)) (sym (snapshot_more (name_at names i) list (fact.Wrote x r))) (kept.latest_is i within))
 
 -- A snapshot more.
 
@@ -143,21 +142,21 @@ last_is n xs x some =
 snapshot_saved : (x e : List ℕ) (n : ℕ) (list : List Fact) (b : Bool) → is_name x e ≡ b → last_snapshot e (list ++ fact.Snapshot x n ∷ []) ≡ cond b n (last_snapshot e list)
 snapshot_saved x e n list b h = snapshot_more e list (fact.Snapshot x n) ∙ ap (λ t. cond t n (last_snapshot e list)) h
 
-pub kept_saved : (kind : Kind) (names : List (List ℕ)) (list : List Fact) (spare : ℕ) (journals : List (Spared Record)) (snapshots : List Kept) (marks : List Bool) (x : List ℕ) (n k : ℕ) (s : Snapshot) (new : Kept)
+pub kept_saved : (c : Script) (names : List (List ℕ)) (list : List Fact) (journals : List (Spared Record)) (snapshots : List Kept) (marks : List Bool) (x : List ℕ) (n k : ℕ) (s : Snapshot) (new : Kept)
     → IsStrictlySortedBy (slice_cmp nat_cmp) names → k < length names → name_at names k ≡ x
     → new.snapshots ≡ last_of (slice_index_or snapshots k no_snapshots).keep ((slice_index_or snapshots k no_snapshots).snapshots ++ s ∷ []) → new.keep ≡ (slice_index_or snapshots k no_snapshots).keep
-    → IsSnapshot kind (journal x list) n s
-    → AreKept kind names list spare journals snapshots marks → AreKept kind names (list ++ fact.Snapshot x n ∷ []) (spare - 1) journals (slice_set snapshots k new) marks
-kept_saved kind names list spare journals snapshots marks x n k s new sorted inside it saved keeps is kept = record {
+    → IsSnapshot c.config.kind (journal x list) n s
+    → AreKept c names list journals snapshots marks → AreKept c names (list ++ fact.Snapshot x n ∷ []) journals (slice_set snapshots k new) marks
+kept_saved c names list journals snapshots marks x n k s new sorted inside it saved keeps is kept = record {
   journals_there = kept.journals_there;
   snapshots_there = length-set snapshots k new ∙ kept.snapshots_there;
   marks_there = kept.marks_there;
-  journal_is = λ i within. subst (λ rs. IsJournal rs (spare - 1) (slice_index_or journals i no_journal)) (sym (journal_more (name_at names i) list (fact.Snapshot x n))) (less_spare (journal (name_at names i) list) spare (slice_index_or journals i no_journal) (kept.journal_is i within));
-  latest_is = λ i within. subst (λ rs. IsLatest kind rs (last_snapshot (name_at names i) (list ++ fact.Snapshot x n ∷ [])) (slice_index_or (slice_set snapshots k new) i no_snapshots)) (sym (journal_more (name_at names i) list (fact.Snapshot x n))) (latest_at i within (i == k) refl);
+  journal_is = λ i within. subst (λ rs. IsJournal rs (sent_to (name_at names i) c.orders) (slice_index_or journals i no_journal)) (sym (journal_more (name_at names i) list (fact.Snapshot x n))) (kept.journal_is i within);
+  latest_is = λ i within. subst (λ rs. IsLatest c.config.kind rs (last_snapshot (name_at names i) (list ++ fact.Snapshot x n ∷ [])) (slice_index_or (slice_set snapshots k new) i no_snapshots)) (sym (journal_more (name_at names i) list (fact.Snapshot x n))) (latest_at i within (i == k) refl);
   mark_is = λ i within. kept.mark_is i within ∙ sym (mark_more (name_at names i) list (fact.Snapshot x n));
 }
   where
-    latest_at : (i : ℕ) → i < length names → (b : Bool) → (i == k) ≡ b → IsLatest kind (journal (name_at names i) list) (last_snapshot (name_at names i) (list ++ fact.Snapshot x n ∷ [])) (slice_index_or (slice_set snapshots k new) i no_snapshots)
+    latest_at : (i : ℕ) → i < length names → (b : Bool) → (i == k) ≡ b → IsLatest c.config.kind (journal (name_at names i) list) (last_snapshot (name_at names i) (list ++ fact.Snapshot x n ∷ [])) (slice_index_or (slice_set snapshots k new) i no_snapshots)
     latest_at i within true e =
         let here : i ≡ k = same i k e in
         let at_x : name_at names i ≡ x = ap (name_at names) here ∙ it in
@@ -165,13 +164,13 @@ kept_saved kind names list spare journals snapshots marks x n k s new sorted ins
         let found : slice_index_or (slice_set snapshots k new) i no_snapshots ≡ new = ap (λ j. slice_index_or (slice_set snapshots k new) j no_snapshots) here ∙ get_or-set_same snapshots k new no_snapshots (omega (arith, kept.snapshots_there)) in
         let some : 0 < (slice_index_or snapshots k no_snapshots).keep = (kept.latest_is k inside).0 in
         let last : latest new ≡ Some s = ap (λ l. slice_get l (length l - 1)) saved ∙ last_is (slice_index_or snapshots k no_snapshots).keep (slice_index_or snapshots k no_snapshots).snapshots s some in
-        subst (IsLatest kind (journal (name_at names i) list) (last_snapshot (name_at names i) (list ++ fact.Snapshot x n ∷ []))) (sym found)
-        (subst (λ m. IsLatest kind (journal (name_at names i) list) m new) (sym (snapshot_saved x (name_at names i) n list true named))
-        (subst (λ j. 0 < j) (sym keeps) some, subst (λ o. MatchOption o (n ≡ 0) (IsSnapshot kind (journal (name_at names i) list) n)) (sym last) (subst (λ e. IsSnapshot kind (journal e list) n s) (sym at_x) is)))
+        subst (IsLatest c.config.kind (journal (name_at names i) list) (last_snapshot (name_at names i) (list ++ fact.Snapshot x n ∷ []))) (sym found)
+        (subst (λ m. IsLatest c.config.kind (journal (name_at names i) list) m new) (sym (snapshot_saved x (name_at names i) n list true named))
+        (subst (λ j. 0 < j) (sym keeps) some, subst (λ o. MatchOption o (n ≡ 0) (IsSnapshot c.config.kind (journal (name_at names i) list) n)) (sym last) (subst (λ e. IsSnapshot c.config.kind (journal e list) n s) (sym at_x) is)))
     latest_at i within false e =
         let apart : is_name x (name_at names i) ≡ false = another_name names x k i sorted inside within it (other i k e) in
-        subst (IsLatest kind (journal (name_at names i) list) (last_snapshot (name_at names i) (list ++ fact.Snapshot x n ∷ []))) (sym (get_or-set_other snapshots k i new no_snapshots (other i k e)))
-        (subst (λ m. IsLatest kind (journal (name_at names i) list) m (slice_index_or snapshots i no_snapshots)) (sym (snapshot_saved x (name_at names i) n list false apart)) (kept.latest_is i within))
+        subst (IsLatest c.config.kind (journal (name_at names i) list) (last_snapshot (name_at names i) (list ++ fact.Snapshot x n ∷ []))) (sym (get_or-set_other snapshots k i new no_snapshots (other i k e)))
+        (subst (λ m. IsLatest c.config.kind (journal (name_at names i) list) m (slice_index_or snapshots i no_snapshots)) (sym (snapshot_saved x (name_at names i) n list false apart)) (kept.latest_is i within))
 
 -- A name that is remembered, or forgotten.
 
@@ -181,16 +180,16 @@ pub record Marks (x : List ℕ) (mark : Bool) (f : Fact) : Type 0 where
   pub snapshot_is : (e : List ℕ) (old : ℕ) → snapshot_step e old f ≡ old
   pub mark_is : (e : List ℕ) (old : Bool) → remembered_step e old f ≡ cond (is_name x e) mark old
 
-pub kept_marked : (kind : Kind) (names : List (List ℕ)) (list : List Fact) (spare : ℕ) (journals : List (Spared Record)) (snapshots : List Kept) (marks : List Bool) (x : List ℕ) (k : ℕ) (mark : Bool) (f : Fact)
+pub kept_marked : (c : Script) (names : List (List ℕ)) (list : List Fact) (journals : List (Spared Record)) (snapshots : List Kept) (marks : List Bool) (x : List ℕ) (k : ℕ) (mark : Bool) (f : Fact)
     → IsStrictlySortedBy (slice_cmp nat_cmp) names → k < length names → name_at names k ≡ x → Marks x mark f
-    → AreKept kind names list spare journals snapshots marks → AreKept kind names (list ++ f ∷ []) (spare - 1) journals snapshots (slice_set marks k mark)
-kept_marked kind names list spare journals snapshots marks x k mark f sorted inside it is kept = record {
+    → AreKept c names list journals snapshots marks → AreKept c names (list ++ f ∷ []) journals snapshots (slice_set marks k mark)
+kept_marked c names list journals snapshots marks x k mark f sorted inside it is kept = record {
   journals_there = kept.journals_there;
   snapshots_there = kept.snapshots_there;
   marks_there = length-set marks k mark ∙ kept.marks_there;
-  journal_is = λ i within. subst (λ rs. IsJournal rs (spare - 1) (slice_index_or journals i no_journal)) (sym (same_journal i)) (less_spare (journal (name_at names i) list) spare (slice_index_or journals i no_journal) (kept.journal_is i within));
-  latest_is = λ i within. subst (λ rs. IsLatest kind rs (last_snapshot (name_at names i) (list ++ f ∷ [])) (slice_index_or snapshots i no_snapshots)) (sym (same_journal i))
-      (subst (λ m. IsLatest kind (journal (name_at names i) list) m (slice_index_or snapshots i no_snapshots)) (sym (snapshot_more (name_at names i) list f ∙ is.snapshot_is (name_at names i) (last_snapshot (name_at names i) list))) (kept.latest_is i within));
+  journal_is = λ i within. subst (λ rs. IsJournal rs (sent_to (name_at names i) c.orders) (slice_index_or journals i no_journal)) (sym (same_journal i)) (kept.journal_is i within);
+  latest_is = λ i within. subst (λ rs. IsLatest c.config.kind rs (last_snapshot (name_at names i) (list ++ f ∷ [])) (slice_index_or snapshots i no_snapshots)) (sym (same_journal i))
+      (subst (λ m. IsLatest c.config.kind (journal (name_at names i) list) m (slice_index_or snapshots i no_snapshots)) (sym (snapshot_more (name_at names i) list f ∙ is.snapshot_is (name_at names i) (last_snapshot (name_at names i) list))) (kept.latest_is i within));
   mark_is = λ i within. mark_at i within (i == k) refl;
 }
   where
@@ -209,26 +208,15 @@ kept_marked kind names list spare journals snapshots marks x k mark f sorted ins
         let apart : is_name x (name_at names i) ≡ false = another_name names x k i sorted inside within it (other i k e) in
         get_or-set_other marks k i mark false (other i k e) ∙ (kept.mark_is i within ∙ sym (marked i false apart))
 
--- More spare, and nothing yet.
+-- Nothing yet.
 
-pub kept_reserved : (kind : Kind) (names : List (List ℕ)) (list : List Fact) (spare more : ℕ) (journals new : List (Spared Record)) (snapshots : List Kept) (marks : List Bool) → AreReserved journals new
-    → ((i : ℕ) → i < length names → more ≤ (slice_index_or new i no_journal).spare)
-    → AreKept kind names list spare journals snapshots marks → AreKept kind names list more new snapshots marks
-kept_reserved kind names list spare more journals new snapshots marks grown enough kept = record {
-  journals_there = grown.there ∙ kept.journals_there;
-  snapshots_there = kept.snapshots_there;
-  marks_there = kept.marks_there;
-  journal_is = λ i within. record { records_are = grown.records_are i ∙ (kept.journal_is i within).records_are; spare_is = enough i within };
-  latest_is = kept.latest_is;
-  mark_is = kept.mark_is;
-}
-
-pub kept_new : (kind : Kind) (names : List (List ℕ)) (keep : ℕ) → 0 < keep → AreKept kind names [] 0 (replicate (length names) no_journal) (replicate (length names) (record { snapshots = []; keep = keep })) (replicate (length names) false)
-kept_new kind names keep some = record {
-  journals_there = length-replicate (length names) no_journal;
+pub kept_new : (c : Script) (names : List (List ℕ)) (journals : List (Spared Record)) → 0 < c.config.keep → AreEach no_journal (λ i. IsJournal [] (sent_to (name_at names i) c.orders)) journals (length names)
+    → AreKept c names [] journals (replicate (length names) (record { snapshots = []; keep = c.config.keep })) (replicate (length names) false)
+kept_new c names journals some js = record {
+  journals_there = js.count;
   snapshots_there = length-replicate (length names) _;
   marks_there = length-replicate (length names) false;
-  journal_is = λ i within. subst (IsJournal [] 0) (sym (get_or-replicate (length names) i no_journal no_journal within)) (record { records_are = refl; spare_is = omega arith });
-  latest_is = λ i within. subst (IsLatest kind [] 0) (sym (get_or-replicate (length names) i (record { snapshots = []; keep = keep }) no_snapshots within)) (some, refl);
+  journal_is = js.each;
+  latest_is = λ i within. subst (IsLatest c.config.kind [] 0) (sym (get_or-replicate (length names) i (record { snapshots = []; keep = c.config.keep }) no_snapshots within)) (some, refl);
   mark_is = λ i within. get_or-replicate (length names) i false false within;
 }

@@ -2,6 +2,8 @@ mod NamesLaws
 mod PositionsLaws
 mod DifferentLaws
 mod KeptLaws
+mod RoomLaws
+mod SendCountLaws
 mod ShelfLaws
 mod StoresLaws
 mod ReshapeLaws

@@ -31,7 +31,8 @@ use Rattle.entity_snapshot.specs.Kept.{Kept}
 use Rattle.era_laws.proofs.ShapeLaws.{Reads, journal_reads, base_same, reshaped_list}
 use Rattle.era_laws.proofs.ReshapeLaws.{snapshot_reads, remembered_reads, shard_begun}
 use Rattle.shard_store.specs.Reshaped.{slot_lists, list_of, next_lists, MayGoOver, is_entry_of, AreEach, IsJournalOf, IsLatestOf, IsMarkOf}
-use Rattle.shard_store.specs.Shelved.{no_journal, no_snapshots, name_at, IsLatest, IsShelf}
+use Rattle.shard_store.specs.Planned.{sent_to}
+use Rattle.shard_store.specs.Shelved.{no_journal, no_snapshots, name_at, IsJournal, IsLatest, IsShelf}
 use Rattle.shard_store.specs.Stores.{Shelves}
 
 -- Something of each place.
@@ -197,7 +198,7 @@ shelf_by x n k s names entries journals snapshots marks low own_are within are s
     journals_there = js.count;
     snapshots_there = ss.count;
     marks_there = ms.count;
-    journal_is = λ i h. record { records_are = js.each i h ∙ sym (journal_is i h); spare_is = omega arith };
+    journal_is = λ i h. subst (λ rs. IsJournal rs (sent_to (name_at names i) x.script.orders) (slice_index_or journals i no_journal)) (sym (journal_is i h)) (js.each i h);
     latest_is = λ i h. subst (λ rs. IsLatest x.script.config.kind rs (last_snapshot (name_at names i) entries) (slice_index_or snapshots i no_snapshots)) (sym (journal_is i h))
         (subst (λ m. IsLatest x.script.config.kind (journal (name_at names i) (list_of x (name_at names i))) m (slice_index_or snapshots i no_snapshots)) (sym (snapshot_is i h)) (ss.each i h));
     mark_is = λ i h. ms.each i h ∙ sym (mark_is i h);

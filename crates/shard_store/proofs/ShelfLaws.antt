@@ -7,7 +7,6 @@ use Rattle.std.specs.Ordering.{nat_cmp}
 use Rattle.std.specs.Cmp.Lexicographic.{slice_cmp}
 use Rattle.std.proofs.lemmas.Bool.Decides.{nat_tests, Decides-eqb}
 use Rattle.std.proofs.lemmas.List.{take_all, get_or_default}
-use Rattle.std.proofs.Math.Nat.{max-le}
 use Rattle.yard_model.specs.declared.fact.Fact.{Fact}
 use Rattle.yard_model.specs.declared.fact.Fact.TheVariants as fact
 use Rattle.yard_model.specs.declared.incarnation.Cause.{Cause}
@@ -25,11 +24,15 @@ use Rattle.yard_model.specs.SlotReads.{epoch, journal, journal_step, position, l
 use Rattle.yard_model.specs.Spared.{Spared}
 use Rattle.entity_snapshot.specs.declared.snapshot.Snapshot.{Snapshot}
 use Rattle.entity_snapshot.specs.Kept.{Kept, last_of}
+use Rattle.shard_store.specs.Planned.{sent_to}
+use Rattle.shard_store.specs.Reshaped.{AreEach}
 use Rattle.shard_store.specs.Shelf.{Shelf, slot_of, may}
-use Rattle.shard_store.specs.Shelved.{no_journal, no_snapshots, name_at, IsSnapshot, IsNamed, IsThere, AreKept, AreReserved, IsShelf}
+use Rattle.shard_store.specs.Shelved.{no_journal, no_snapshots, name_at, IsSnapshot, IsNamed, IsThere, IsJournal, AreKept, IsShelf}
 use Rattle.yard_model.proofs.FollowLaws.{own_more}
 use Rattle.shard_store.proofs.NamesLaws.{same_name}
-use Rattle.shard_store.proofs.KeptLaws.{kept_none, kept_wrote, kept_saved, kept_marked, kept_reserved, kept_new}
+use Rattle.shard_store.proofs.DifferentLaws.{name_itself}
+use Rattle.shard_store.proofs.KeptLaws.{journal_wrote, kept_none, kept_wrote, kept_saved, kept_marked, kept_new}
+use Rattle.shard_store.proofs.RoomLaws.{records_few}
 
 abbrev pub SameSlot : Type 0
 SameSlot = (a b : Slot) → IsTrue (is_slot a b) ↔ (a ≡ b)
@@ -99,7 +102,7 @@ there {s} {v} {ls} {names} e i k seen within it = subst (λ ns. IsNamed ns i e) 
 
 pub shelf_next : (s : Shelf) {ls new_shard : ℕ} {names : List (List ℕ)} {journals new_journals : List (Spared Record)} {snapshots new_snapshots : List Kept} {marks new_marks : List Bool} {entries : List Fact} {spare : ℕ} (f : Fact)
     → IsShelf s ls names journals snapshots marks → may s f ≡ true → entries ≡ s.entries ++ f ∷ [] → spare ≡ s.spare - 1 → new_shard ≡ ls
-    → AreKept s.script.config.kind names (s.entries ++ f ∷ []) (s.spare - 1) new_journals new_snapshots new_marks
+    → AreKept s.script names (s.entries ++ f ∷ []) new_journals new_snapshots new_marks
     → IsShelf (record { script = s.script; shard = s.shard; entries = entries; spare = spare }) new_shard names new_journals new_snapshots new_marks
 shelf_next s {ls} {new_shard} {names} {journals} {new_journals} {snapshots} {new_snapshots} {marks} {new_marks} {entries} {spare} f k m e less shard kept = record {
   own_is = ap (own s.script (slot_of s)) e ∙ own_more s.script (slot_of s) s.entries f k.own_is m;
@@ -108,7 +111,7 @@ shelf_next s {ls} {new_shard} {names} {journals} {new_journals} {snapshots} {new
   names_are = k.names_are;
   few_names = k.few_names;
   sorted = k.sorted;
-  kept_is = subst (λ l. AreKept s.script.config.kind names l spare new_journals new_snapshots new_marks) (sym e) (subst (λ n. AreKept s.script.config.kind names (s.entries ++ f ∷ []) n new_journals new_snapshots new_marks) (sym less) kept);
+  kept_is = subst (λ l. AreKept s.script names l new_journals new_snapshots new_marks) (sym e) kept;
 }
 
 -- of a grant, whose epoch and slot are told by the list
@@ -119,7 +122,7 @@ pub shelf_granted : (s : Shelf) {ls new_shard n : ℕ} {names : List (List ℕ)}
 shelf_granted s {ls} {new_shard} {n} {names} {journals} {snapshots} {marks} {entries} {spare} who same_slot k free node now e less shard =
     let f : Fact = fact.Granted (slot.Shard ls) n who in
     let next : may s f ≡ true = ap (λ x. may s (fact.Granted (slot.Shard x) n who)) k.list_is ∙ (ap (λ i. may s (fact.Granted (slot_of s) i who)) now ∙ may_grant s who same_slot free node) in
-    shelf_next s f k next e less shard (kept_none s.script.config.kind names s.entries s.spare journals snapshots marks f (record { journal_is = λ x old. refl; snapshot_is = λ x old. refl; mark_is = λ x old. refl }) k.kept_is)
+    shelf_next s f k next e less shard (kept_none s.script names s.entries journals snapshots marks f (record { journal_is = λ x old. refl; snapshot_is = λ x old. refl; mark_is = λ x old. refl }) k.kept_is)
 
 pub shelf_freed : (s : Shelf) {ls new_shard : ℕ} {names : List (List ℕ)} {journals : List (Spared Record)} {snapshots : List Kept} {marks : List Bool} {entries : List Fact} {spare : ℕ} (why : Cause)
     → SameSlot → IsShelf s ls names journals snapshots marks → is_held s.entries ≡ true
@@ -128,7 +131,7 @@ pub shelf_freed : (s : Shelf) {ls new_shard : ℕ} {names : List (List ℕ)} {jo
 shelf_freed s {ls} {new_shard} {names} {journals} {snapshots} {marks} {entries} {spare} why same_slot k held e less shard =
     let f : Fact = fact.Freed (slot.Shard ls) (epoch s.entries) why in
     let next : may s f ≡ true = ap (λ x. may s (fact.Freed (slot.Shard x) (epoch s.entries) why)) k.list_is ∙ may_free s why same_slot held in
-    shelf_next s f k next e less shard (kept_none s.script.config.kind names s.entries s.spare journals snapshots marks f (record { journal_is = λ x old. refl; snapshot_is = λ x old. refl; mark_is = λ x old. refl }) k.kept_is)
+    shelf_next s f k next e less shard (kept_none s.script names s.entries journals snapshots marks f (record { journal_is = λ x old. refl; snapshot_is = λ x old. refl; mark_is = λ x old. refl }) k.kept_is)
 
 -- A record.
 
@@ -163,7 +166,7 @@ pub shelf_wrote : (s : Shelf) {ls new_shard : ℕ} {names : List (List ℕ)} {jo
 shelf_wrote s {ls} {new_shard} {names} {journals} {snapshots} {marks} e r k old new shelf m inside it was items less is one shard =
     let here : slice_index_or journals k no_journal ≡ old = (journal_there s e k old shelf inside it was).0 in
     shelf_next s (fact.Wrote e r) shelf m is one shard
-    (kept_wrote s.script.config.kind names s.entries s.spare journals snapshots marks e r k new shelf.sorted inside it (items ∙ ap (λ (x : Spared Record). x.items ++ r ∷ []) (sym here)) (less ∙ ap (λ (x : Spared Record). x.spare) (sym here)) shelf.kept_is)
+    (kept_wrote s.script names s.entries journals snapshots marks e r k new shelf.sorted inside it (items ∙ ap (λ (x : Spared Record). x.items ++ r ∷ []) (sym here)) (less ∙ ap (λ (x : Spared Record). x.spare) (sym here)) shelf.kept_is)
 
 pub shelf_saved : (s : Shelf) {ls new_shard : ℕ} {names : List (List ℕ)} {journals : List (Spared Record)} {snapshots : List Kept} {marks : List Bool} {entries : List Fact} {spare : ℕ} (e : List ℕ) (n k : ℕ) (j : Spared Record) (p : Snapshot) (old new : Kept)
     → IsShelf s ls names journals snapshots marks → is_held s.entries ≡ true → is_of_shard s.script s.shard e ≡ true → last_snapshot e s.entries < length (journal e s.entries) → k < length names → name_at names k ≡ e → j ≡ slice_index_or journals k j → n ≡ length j.items → old ≡ slice_index_or snapshots k old
@@ -185,7 +188,7 @@ shelf_saved s {ls} {new_shard} {names} {journals} {snapshots} {marks} {entries} 
       state_is = state ∙ ap (folded s.script.config.kind) (sym all);
       positions_are = λ q a b. positions q a b ∙ ap (position q) (here ∙ sym all);
     } in
-    shelf_next s (fact.Snapshot e n) shelf next is one shard (kept_saved s.script.config.kind names s.entries s.spare journals snapshots marks e n k p new shelf.sorted inside it
+    shelf_next s (fact.Snapshot e n) shelf next is one shard (kept_saved s.script names s.entries journals snapshots marks e n k p new shelf.sorted inside it
     (saved ∙ ap (λ (x : Kept). last_of x.keep (x.snapshots ++ p ∷ [])) (sym kept)) (keeps ∙ ap (λ (x : Kept). x.keep) (sym kept)) snapped shelf.kept_is)
 
 -- A mark.
@@ -195,16 +198,16 @@ pub shelf_remembered : (s : Shelf) {ls new_shard : ℕ} {names : List (List ℕ)
     → new_marks ≡ slice_set marks k true → entries ≡ s.entries ++ fact.Remembered e ∷ [] → spare ≡ s.spare - 1 → new_shard ≡ ls
     → IsShelf (record { script = s.script; shard = s.shard; entries = entries; spare = spare }) new_shard names journals snapshots new_marks
 shelf_remembered s {ls} {new_shard} {names} {journals} {snapshots} {marks} {new_marks} e k shelf held of new inside it marked is one shard =
-    shelf_next s (fact.Remembered e) shelf (may_remember s e held of new) is one shard (subst (AreKept s.script.config.kind names (s.entries ++ fact.Remembered e ∷ []) (s.spare - 1) journals snapshots) (sym marked)
-    (kept_marked s.script.config.kind names s.entries s.spare journals snapshots marks e k true (fact.Remembered e) shelf.sorted inside it (record { journal_is = λ x old. refl; snapshot_is = λ x old. refl; mark_is = λ x old. refl }) shelf.kept_is))
+    shelf_next s (fact.Remembered e) shelf (may_remember s e held of new) is one shard (subst (AreKept s.script names (s.entries ++ fact.Remembered e ∷ []) journals snapshots) (sym marked)
+    (kept_marked s.script names s.entries journals snapshots marks e k true (fact.Remembered e) shelf.sorted inside it (record { journal_is = λ x old. refl; snapshot_is = λ x old. refl; mark_is = λ x old. refl }) shelf.kept_is))
 
 pub shelf_forgotten : (s : Shelf) {ls new_shard : ℕ} {names : List (List ℕ)} {journals : List (Spared Record)} {snapshots : List Kept} {marks new_marks : List Bool} {entries : List Fact} {spare : ℕ} (e : List ℕ) (k : ℕ)
     → IsShelf s ls names journals snapshots marks → is_held s.entries ≡ true → is_of_shard s.script s.shard e ≡ true → is_remembered e s.entries ≡ true → k < length names → name_at names k ≡ e
     → new_marks ≡ slice_set marks k false → entries ≡ s.entries ++ fact.Forgotten e ∷ [] → spare ≡ s.spare - 1 → new_shard ≡ ls
     → IsShelf (record { script = s.script; shard = s.shard; entries = entries; spare = spare }) new_shard names journals snapshots new_marks
 shelf_forgotten s {ls} {new_shard} {names} {journals} {snapshots} {marks} {new_marks} e k shelf held of known inside it marked is one shard =
-    shelf_next s (fact.Forgotten e) shelf (may_forget s e held of known) is one shard (subst (AreKept s.script.config.kind names (s.entries ++ fact.Forgotten e ∷ []) (s.spare - 1) journals snapshots) (sym marked)
-    (kept_marked s.script.config.kind names s.entries s.spare journals snapshots marks e k false (fact.Forgotten e) shelf.sorted inside it (record { journal_is = λ x old. refl; snapshot_is = λ x old. refl; mark_is = λ x old. refl }) shelf.kept_is))
+    shelf_next s (fact.Forgotten e) shelf (may_forget s e held of known) is one shard (subst (AreKept s.script names (s.entries ++ fact.Forgotten e ∷ []) journals snapshots) (sym marked)
+    (kept_marked s.script names s.entries journals snapshots marks e k false (fact.Forgotten e) shelf.sorted inside it (record { journal_is = λ x old. refl; snapshot_is = λ x old. refl; mark_is = λ x old. refl }) shelf.kept_is))
 
 -- A new store, and more spare.
 
@@ -216,7 +219,7 @@ keep_above c k = at_least (and_both _ (is_in 1 10 c.config.keep) k.config).1
 
 pub shelf_new : (c : Script) (s n : ℕ) (names : List (List ℕ)) (journals : List (Spared Record)) (snapshots : List Kept) (marks : List Bool) → IsScript c → s < c.config.shards
     → names ≡ names_of (setting c) s → IsStrictlySortedBy (slice_cmp nat_cmp) names → length names ≤ 1000 → n ≡ length names
-    → journals ≡ replicate n no_journal → snapshots ≡ replicate n (record { snapshots = []; keep = c.config.keep }) → marks ≡ replicate n false
+    → AreEach no_journal (λ i. IsJournal [] (sent_to (name_at names i) c.orders)) journals (length names) → snapshots ≡ replicate n (record { snapshots = []; keep = c.config.keep }) → marks ≡ replicate n false
     → IsShelf (record { script = c; shard = s; entries = []; spare = 0 }) s names journals snapshots marks
 shelf_new c s n names journals snapshots marks script inside names_are sorted few count js ss ms = record {
   own_is = refl;
@@ -225,31 +228,35 @@ shelf_new c s n names journals snapshots marks script inside names_are sorted fe
   names_are = names_are;
   few_names = few;
   sorted = sorted;
-  kept_is = subst (λ j. AreKept c.config.kind names [] 0 j snapshots marks) (sym (js ∙ ap (λ i. replicate i no_journal) count))
-      (subst (λ k. AreKept c.config.kind names [] 0 (replicate (length names) no_journal) k marks) (sym (ss ∙ ap (λ i. replicate i (record { snapshots = []; keep = c.config.keep })) count))
-      (subst (λ m. AreKept c.config.kind names [] 0 (replicate (length names) no_journal) (replicate (length names) (record { snapshots = []; keep = c.config.keep })) m) (sym (ms ∙ ap (λ i. replicate i false) count))
-      (kept_new c.config.kind names c.config.keep (keep_above c script))));
+  kept_is = subst (λ k. AreKept c names [] journals k marks) (sym (ss ∙ ap (λ i. replicate i (record { snapshots = []; keep = c.config.keep })) count))
+      (subst (AreKept c names [] journals (replicate (length names) (record { snapshots = []; keep = c.config.keep }))) (sym (ms ∙ ap (λ i. replicate i false) count))
+      (kept_new c names journals (keep_above c script) js));
 }
 
-pub shelf_reserved : (s : Shelf) {ls new_shard n : ℕ} {names : List (List ℕ)} {journals new : List (Spared Record)} {snapshots : List Kept} {marks : List Bool} {entries : List Fact} {spare : ℕ}
-    → IsShelf s ls names journals snapshots marks → AreReserved journals new → ((i : ℕ) → i < length new → n ≤ (slice_index_or new i no_journal).spare) → spare ≤ max s.spare n → entries ≡ s.entries → new_shard ≡ ls
-    → IsShelf (record { script = s.script; shard = s.shard; entries = entries; spare = spare }) new_shard names new snapshots marks
-shelf_reserved s {ls} {new_shard} {n} {names} {journals} {new} {snapshots} {marks} {entries} {spare} k grown enough most same_list shard = record {
+pub shelf_reserved : (s : Shelf) {ls new_shard : ℕ} {names : List (List ℕ)} {journals : List (Spared Record)} {snapshots : List Kept} {marks : List Bool} {entries : List Fact} {spare : ℕ}
+    → IsShelf s ls names journals snapshots marks → entries ≡ s.entries → new_shard ≡ ls
+    → IsShelf (record { script = s.script; shard = s.shard; entries = entries; spare = spare }) new_shard names journals snapshots marks
+shelf_reserved s {ls} {new_shard} {names} {journals} {snapshots} {marks} k same_list shard = record {
   own_is = ap (own s.script (slot_of s)) same_list ∙ k.own_is;
   shard_is = k.shard_is;
   list_is = shard ∙ k.list_is;
   names_are = k.names_are;
   few_names = k.few_names;
   sorted = k.sorted;
-  kept_is = subst (λ l. AreKept s.script.config.kind names l spare new snapshots marks) (sym same_list) (kept_reserved s.script.config.kind names s.entries s.spare spare journals new snapshots marks grown both_spares k.kept_is);
+  kept_is = subst (λ l. AreKept s.script names l journals snapshots marks) (sym same_list) k.kept_is;
 }
-  where
-    both_spares : (i : ℕ) → i < length names → spare ≤ (slice_index_or new i no_journal).spare
-    both_spares i within =
-        let old_is : s.spare ≤ (slice_index_or new i no_journal).spare = omega (arith, (k.kept_is.journal_is i within).spare_is, grown.spare_is i) in
-        let new_is : n ≤ (slice_index_or new i no_journal).spare = enough i (omega (arith, within, grown.there, k.kept_is.journals_there)) in
-        let all : max s.spare n ≤ (slice_index_or new i no_journal).spare = max-le old_is new_is in
-        omega (arith, most, all)
+
+-- there is room for a record that may come next
+pub journal_room : (s : Shelf) {ls : ℕ} {names : List (List ℕ)} {journals : List (Spared Record)} {snapshots : List Kept} {marks : List Bool} (e : List ℕ) (r : Record) (k : ℕ) (j : Spared Record)
+    → IsShelf s ls names journals snapshots marks → may s (fact.Wrote e r) ≡ true → k < length names → name_at names k ≡ e → j ≡ slice_index_or journals k j → 0 < j.spare
+journal_room s {ls} {names} {journals} e r k j shelf m inside it is =
+    let next : List Fact = s.entries ++ fact.Wrote e r ∷ [] in
+    let few : length (journal e next) ≤ sent_to e s.script.orders = records_few s.script s.shard e next (own_more s.script (slot_of s) s.entries (fact.Wrote e r) shelf.own_is m) in
+    let grown : journal e next ≡ journal e s.entries ++ r ∷ [] = journal_wrote e e s.entries r true (name_itself e) in
+    let more : length (journal e next) ≡ length (journal e s.entries) + 1 = ap length grown ∙ length-append (journal e s.entries) (r ∷ []) in
+    let here : slice_index_or journals k no_journal ≡ j = (journal_there s e k j shelf inside it is).0 in
+    let room : sent_to e s.script.orders ≤ length (journal e s.entries) + j.spare = subst (λ (x : Spared Record). sent_to e s.script.orders ≤ length (journal e s.entries) + x.spare) here (subst (λ n. sent_to n s.script.orders ≤ length (journal n s.entries) + (slice_index_or journals k no_journal).spare) it (shelf.kept_is.journal_is k inside).room_is) in
+    omega (arith, few, more, room)
 
 -- there are no more records than entries
 journal_few_from : (e : List ℕ) (so_far : List Record) (list : List Fact) → length (fold (journal_step e) so_far list) ≤ length so_far + length list

@@ -1,4 +1,5 @@
 pub mod Leased
+pub mod Planned
 pub mod Reshaped
 pub mod Shelf
 pub mod Shelved

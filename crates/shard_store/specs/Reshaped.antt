@@ -17,7 +17,8 @@ use Rattle.yard_model.specs.Spared.{Spared}
 use Rattle.yard_model.specs.Trace.{list_at}
 use Rattle.entity_snapshot.specs.Kept.{Kept}
 use Rattle.shard_store.specs.declared.store.Store.{Store}
-use Rattle.shard_store.specs.Shelved.{name_at, IsLatest}
+use Rattle.shard_store.specs.Planned.{sent_to}
+use Rattle.shard_store.specs.Shelved.{name_at, IsJournal, IsLatest}
 use Rattle.shard_store.specs.Stores.{Shelves, lists_at, script_of, slot_of, entries_of, IsHome}
 
 -- the lists of the stores
@@ -55,7 +56,7 @@ pub record AreEach {A : Type 0} (d : A) (P : ℕ → A → Type 0) (xs : List A)
 -- of each name, what is read of it in the list of its shard
 
 abbrev pub IsJournalOf : Shelves → List (List ℕ) → ℕ → Spared Record → Type 0
-IsJournalOf x names i j = j.items ≡ journal (name_at names i) (list_of x (name_at names i))
+IsJournalOf x names i j = IsJournal (journal (name_at names i) (list_of x (name_at names i))) (sent_to (name_at names i) x.script.orders) j
 
 abbrev pub IsLatestOf : Shelves → List (List ℕ) → ℕ → Kept → Type 0
 IsLatestOf x names i k = IsLatest x.script.config.kind (journal (name_at names i) (list_of x (name_at names i))) (last_snapshot (name_at names i) (list_of x (name_at names i))) k

@@ -1,5 +1,5 @@
 -- How a shard's store is kept: beside the list, of each name of the shard its journal, its snapshots and whether it is remembered.
-use Rattle.std.specs.Prelude.{◌≡◌, ℕ, ◌-◌, ◌<◌, ◌≤◌, Bool, true, false, List, [], length, take, slice_get, slice_index_or, Option, MatchOption}
+use Rattle.std.specs.Prelude.{◌≡◌, ℕ, ◌+◌, ◌-◌, ◌<◌, ◌≤◌, Bool, true, false, List, [], length, take, slice_get, slice_index_or, Option, MatchOption}
 use Rattle.std.specs.List.Sorted.{IsStrictlySortedBy}
 use Rattle.std.specs.Ordering.{nat_cmp}
 use Rattle.std.specs.Cmp.Lexicographic.{slice_cmp}
@@ -9,12 +9,13 @@ use Rattle.yard_model.specs.declared.packet.Record.{Record}
 use Rattle.yard_model.specs.Behaviour.{folded}
 use Rattle.yard_model.specs.Genuine.{is_shard}
 use Rattle.yard_model.specs.Lawful.{own}
-use Rattle.yard_model.specs.Script.{setting}
+use Rattle.yard_model.specs.Script.{Script, setting}
 use Rattle.yard_model.specs.Setting.{names_of}
 use Rattle.yard_model.specs.SlotReads.{journal, position, last_snapshot, is_remembered}
 use Rattle.yard_model.specs.Spared.{Spared}
 use Rattle.entity_snapshot.specs.declared.snapshot.Snapshot.{Snapshot}
 use Rattle.entity_snapshot.specs.Kept.{Kept}
+use Rattle.shard_store.specs.Planned.{sent_to}
 use Rattle.shard_store.specs.Shelf.{Shelf, slot_of}
 
 abbrev pub no_journal : Spared Record
@@ -35,16 +36,10 @@ pub record IsNamed (names : List (List ℕ)) (i : ℕ) (e : List ℕ) : Type 0 w
 abbrev pub IsThere : Shelf → ℕ → List ℕ → Type 0
 IsThere s i e = IsNamed (names_of (setting s.script) s.shard) i e
 
--- what is kept of the journal of the name at a place: its records, and at least this spare
-pub record IsJournal (records : List Record) (spare : ℕ) (kept : Spared Record) : Type 0 where
+-- what is kept of a journal: its records, and room for so many in all
+pub record IsJournal (records : List Record) (most : ℕ) (kept : Spared Record) : Type 0 where
   pub records_are : kept.items ≡ records
-  pub spare_is : spare ≤ kept.spare
-
--- the same records, with no less spare
-pub record AreReserved (old new : List (Spared Record)) : Type 0 where
-  pub there : length new ≡ length old
-  pub records_are : (i : ℕ) → (slice_index_or new i no_journal).items ≡ (slice_index_or old i no_journal).items
-  pub spare_is : (i : ℕ) → (slice_index_or old i no_journal).spare ≤ (slice_index_or new i no_journal).spare
+  pub room_is : most ≤ length records + kept.spare
 
 -- the snapshot after the first m of these records
 pub record IsSnapshot (kind : Kind) (records : List Record) (m : ℕ) (s : Snapshot) : Type 0 where
@@ -61,13 +56,13 @@ latest k = slice_get k.snapshots (length k.snapshots - 1)
 abbrev pub IsLatest : Kind → List Record → ℕ → Kept → Type 0
 IsLatest kind records m kept = (0 < kept.keep) × MatchOption (latest kept) (m ≡ 0) (IsSnapshot kind records m)
 
--- at each place, what is kept of its name
-pub record AreKept (kind : Kind) (names : List (List ℕ)) (list : List Fact) (spare : ℕ) (journals : List (Spared Record)) (snapshots : List Kept) (marks : List Bool) : Type 0 where
+-- at each place, what is kept of its name: of its journal there is room for all that is sent to it
+pub record AreKept (c : Script) (names : List (List ℕ)) (list : List Fact) (journals : List (Spared Record)) (snapshots : List Kept) (marks : List Bool) : Type 0 where
   pub journals_there : length journals ≡ length names
   pub snapshots_there : length snapshots ≡ length names
   pub marks_there : length marks ≡ length names
-  pub journal_is : (i : ℕ) → i < length names → IsJournal (journal (name_at names i) list) spare (slice_index_or journals i no_journal)
-  pub latest_is : (i : ℕ) → i < length names → IsLatest kind (journal (name_at names i) list) (last_snapshot (name_at names i) list) (slice_index_or snapshots i no_snapshots)
+  pub journal_is : (i : ℕ) → i < length names → IsJournal (journal (name_at names i) list) (sent_to (name_at names i) c.orders) (slice_index_or journals i no_journal)
+  pub latest_is : (i : ℕ) → i < length names → IsLatest c.config.kind (journal (name_at names i) list) (last_snapshot (name_at names i) list) (slice_index_or snapshots i no_snapshots)
   pub mark_is : (i : ℕ) → i < length names → slice_index_or marks i false ≡ is_remembered (name_at names i) list
 
 pub record IsShelf (s : Shelf) (list_shard : ℕ) (names : List (List ℕ)) (journals : List (Spared Record)) (snapshots : List Kept) (marks : List Bool) : Type 0 where
@@ -77,4 +72,4 @@ pub record IsShelf (s : Shelf) (list_shard : ℕ) (names : List (List ℕ)) (jou
   pub names_are : names ≡ names_of (setting s.script) s.shard
   pub few_names : length names ≤ 1000
   pub sorted : IsStrictlySortedBy (slice_cmp nat_cmp) names
-  pub kept_is : AreKept s.script.config.kind names s.entries s.spare journals snapshots marks
+  pub kept_is : AreKept s.script names s.entries journals snapshots marks

@@ -6,6 +6,7 @@ mod list;
 mod names;
 mod positions;
 mod reshape;
+mod sends;
 mod shelf;
 mod store;
 mod stores;

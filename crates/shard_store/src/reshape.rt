@@ -12,12 +12,14 @@ ghost use Rattle.yard_model.specs.SlotLists.{shard_list};
 ghost use Rattle.yard_model.specs.SlotReads.{journal, last_snapshot};
 ghost use Rattle.yard_model.specs.Words.{at};
 ghost use Rattle.yard_model.specs.World.{greatest_epoch};
+ghost use Rattle.shard_store.specs.Planned.{sent_to};
 ghost use Rattle.shard_store.specs.Reshaped.{slot_lists, next_lists, MayGoOver, is_entry_of, AreEach, IsJournalOf, IsLatestOf, IsMarkOf, IsAfter, IsAfterAt, going_on, is_of_shards};
-ghost use Rattle.shard_store.specs.Shelved.{no_journal, no_snapshots, IsLatest};
+ghost use Rattle.shard_store.specs.Shelved.{no_journal, no_snapshots, IsJournal, IsLatest};
 ghost use Rattle.shard_store.specs.Stores.{AreHomes, lists_at, slot_at, script_of, slot_of, entries_of, entries_at, spare_of};
 
 use crate::list::SlotList;
 use crate::names::Names;
+use crate::sends::Sends;
 use crate::shelf::ShardStore;
 use crate::store::Store;
 use crate::stores::{Parts, SPARE, Stores};
@@ -62,9 +64,10 @@ fn shards_after(
     ensures { IfOk result (λ places. AreEach None (λ k. IsAfterAt charter.now (next_lists stores.now charter.now.config.shards epoch) (slot.Shard k)) places.items charter.now.config.shards) }
 {
     let shards = charter.config().shards;
+    let sends = Sends::new(alloc, charter)?;
     let mut places = Vec::new(alloc);
     for s in 0..shards {
-        let store = shard_after(alloc, stores, charter, s, epoch)?;
+        let store = shard_after(alloc, stores, charter, &sends, s, epoch)?;
         places.push(Some(store))?;
     }
     Ok(places)
@@ -75,10 +78,12 @@ fn shard_after(
     alloc: Global,
     stores: &Stores,
     charter: &Charter,
+    sends: &Sends,
     s: u8,
     epoch: u32,
 ) -> Result<Store, AllocError>
     requires over { MayGoOver stores.now charter.now epoch }
+    requires sends { sends.now ≡ charter.now }
     requires within { s < charter.now.config.shards }
     ensures { IfOk result (IsAfter charter.now (slot.Shard s) (shard_list (next_lists stores.now charter.now.config.shards epoch) s)) }
 {
@@ -86,7 +91,7 @@ fn shard_after(
     let Some(shard) = ShardNo::new(s, shards) else {
         unreachable!()
     };
-    let mut store = shelf_after(alloc, stores, charter, shard, epoch)?;
+    let mut store = shelf_after(alloc, stores, charter, sends, shard, epoch)?;
     store.reserve(SPARE)?;
     Ok(Store::Shard(store))
 }
@@ -96,16 +101,18 @@ fn shelf_after(
     alloc: Global,
     stores: &Stores,
     charter: &Charter,
+    sends: &Sends,
     s: ShardNo,
     epoch: u32,
 ) -> Result<ShardStore, AllocError>
     requires over { MayGoOver stores.now charter.now epoch }
+    requires sends { sends.now ≡ charter.now }
     requires within { s < charter.now.config.shards }
     ensures { IfOk result (λ x. x ≡ record { script = charter.now; shard = s; entries = shard_list (next_lists stores.now charter.now.config.shards epoch) s; spare = 0 }) }
 {
     let names = Names::of_shard(alloc, charter, s)?;
     let list = list_after(alloc, stores, charter, &names, s, epoch)?;
-    let journals = journals_of(alloc, stores, names.as_slice())?;
+    let journals = journals_of(alloc, stores, sends, names.as_slice())?;
     let snapshots = snapshots_of(alloc, stores, names.as_slice(), charter.config().keep)?;
     let remembered = marks_of(alloc, stores, names.as_slice())?;
     Ok(ShardStore::begun(charter, list, names, journals, snapshots, remembered, s))
@@ -175,29 +182,50 @@ fn is_of(entry: &ShardEntry, name: &EntityName) -> bool
     }
 }
 
-/// The journals of these names. The only error is want of memory.
+/// The journals of these names, with room for all that is sent to them. The only error is want of
+/// memory.
 fn journals_of(
     alloc: Global,
     stores: &Stores,
+    sends: &Sends,
     names: &[EntityName],
 ) -> Result<Vec<Journal>, AllocError>
-    requires { list_all (is_brought stores.now.script) names.now ≡ true }
+    requires names { list_all (is_brought stores.now.script) names.now ≡ true }
+    requires sends { sends.now.orders ≡ stores.now.script.orders }
     ensures { IfOk result (λ v. AreEach no_journal (IsJournalOf stores.now names.now) v.items (length names.now)) }
 {
     let mut journals = Vec::new(alloc);
     for name in names {
-        let journal = journal_of(alloc, stores.store_of(name).journal(name))?;
+        let journal = journal_in(alloc, stores.store_of(name), name, sends.to(name))?;
         journals.push(journal)?;
     }
     Ok(journals)
 }
 
-/// A journal of the same records. The only error is want of memory.
-fn journal_of(alloc: Global, journal: &Journal) -> Result<Journal, AllocError>
-    ensures { IfOk result (λ j. j.items ≡ journal.now.items) }
+/// A journal of the same records as that of an entity, with room for so many in all as are sent to it.
+/// The only error is want of memory.
+fn journal_in(
+    alloc: Global,
+    store: &ShardStore,
+    name: &EntityName,
+    room: u32,
+) -> Result<Journal, AllocError>
+    requires name { IsTrue (is_of_shard store.now.script store.now.shard name.now) }
+    requires room { room ≡ sent_to name.now store.now.script.orders }
+    ensures { IfOk result (IsJournal (journal name.now store.now.entries) room) }
 {
+    store.entries();
+    journal_of(alloc, store.journal(name), room)
+}
+
+/// A journal of the same records, with room for so many in all. The only error is want of memory.
+fn journal_of(alloc: Global, journal: &Journal, room: u32) -> Result<Journal, AllocError>
+    requires { length journal.now.items ≤ room }
+    ensures { IfOk result (IsJournal journal.now.items room) }
+{
+    journal.len();
     let mut same = Journal::new(alloc);
-    same.reserve(journal.len())?;
+    same.reserve(room)?;
     for entry in journal.tail(0) {
         same.append(*entry);
     }

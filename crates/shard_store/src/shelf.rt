@@ -4,15 +4,19 @@ ghost use Rattle.yard_model.specs.declared.fact.Fact.TheVariants as fact;
 ghost use Rattle.yard_model.specs.declared.incarnation.Slot.TheVariants as slot;
 ghost use Rattle.yard_model.specs.Behaviour.{folded};
 ghost use Rattle.yard_model.specs.Entry.{shard_fact};
-ghost use Rattle.yard_model.specs.Genuine.{is_node};
+ghost use Rattle.std.specs.List.{list_all};
+ghost use Rattle.yard_model.specs.Genuine.{is_node, is_brought};
 ghost use Rattle.yard_model.specs.Lawful.{own, is_held, is_of_shard};
 ghost use Rattle.yard_model.specs.SlotReads.{epoch, journal, last_snapshot, is_remembered};
+ghost use Rattle.shard_store.specs.Planned.{sent_to};
+ghost use Rattle.shard_store.specs.Reshaped.{AreEach};
 ghost use Rattle.shard_store.specs.Shelf.{Shelf, slot_of, may, with_entry};
-ghost use Rattle.shard_store.specs.Shelved.{IsSnapshot, IsThere, IsShelf, no_journal, AreReserved};
+ghost use Rattle.shard_store.specs.Shelved.{IsJournal, IsSnapshot, IsThere, IsShelf, name_at, no_journal};
 
 use crate::list::SlotList;
 use crate::names::Names;
 use crate::positions::positions_of;
+use crate::sends::Sends;
 use entity_journal::Journal;
 use entity_snapshot::{Positions, Snapshot, Snapshots};
 use remember_store::Remembered;
@@ -55,9 +59,24 @@ impl ShardStore {
         requires { s < charter.now.config.shards }
         ensures { IfOk result (λ x. x ≡ record { script = charter.now; shard = s; entries = []; spare = 0 }) }
     {
+        let sends = Sends::new(alloc, charter)?;
+        ShardStore::with_sends(alloc, charter, &sends, s)
+    }
+
+    /// The same, with the sends of this charter.
+    pub(crate) fn with_sends(
+        alloc: Global,
+        charter: &Charter,
+        sends: &Sends,
+        s: ShardNo,
+    ) -> Result<ShardStore, AllocError>
+        requires shard { s < charter.now.config.shards }
+        requires sends { sends.now ≡ charter.now }
+        ensures { IfOk result (λ x. x ≡ record { script = charter.now; shard = s; entries = []; spare = 0 }) }
+    {
         let names = Names::of_shard(alloc, charter, s)?;
         let count = names.len();
-        let journals = no_journals(alloc, count)?;
+        let journals = new_journals(alloc, sends, names.as_slice())?;
         let snapshots = no_snapshots(alloc, count, charter.config().keep)?;
         let remembered = Remembered::new(alloc, count as u16)?;
         Ok(ShardStore {
@@ -110,7 +129,6 @@ impl ShardStore {
             return Ok(());
         }
         let wanted = twice(n, self.list.entries().len() as u32, self.list.epoch());
-        reserve_each(&mut self.journals, wanted)?;
         self.list.reserve(wanted)
     }
 
@@ -346,15 +364,31 @@ impl ShardStore {
     }
 }
 
-/// So many empty journals.
-fn no_journals(alloc: Global, count: usize) -> Result<Vec<Journal>, AllocError>
-    ensures { IfOk result (λ v. v.items ≡ replicate count no_journal) }
+/// The empty journal of each of these names, with room for all that is sent to it. The only error is
+/// want of memory.
+fn new_journals(
+    alloc: Global,
+    sends: &Sends,
+    names: &[EntityName],
+) -> Result<Vec<Journal>, AllocError>
+    requires { list_all (is_brought sends.now) names.now ≡ true }
+    ensures { IfOk result (λ v. AreEach no_journal (λ i. IsJournal [] (sent_to (name_at names.now i) sends.now.orders)) v.items (length names.now)) }
 {
     let mut journals = Vec::new(alloc);
-    for _ in 0..count {
-        journals.push(Journal::new(alloc))?;
+    for name in names {
+        let journal = new_journal(alloc, sends.to(name))?;
+        journals.push(journal)?;
     }
     Ok(journals)
+}
+
+/// An empty journal with room for so many records. The only error is want of memory.
+fn new_journal(alloc: Global, room: u32) -> Result<Journal, AllocError>
+    ensures { IfOk result (IsJournal [] room) }
+{
+    let mut journal = Journal::new(alloc);
+    journal.reserve(room)?;
+    Ok(journal)
 }
 
 /// So many lists without a snapshot, of which the last `keep` will stay.
@@ -378,15 +412,4 @@ fn twice(n: u32, len: u32, epoch: u32) -> u32
     } else {
         n
     }
-}
-
-/// Makes the spare of each journal at least `n`. The only error is want of memory.
-fn reserve_each(journals: &mut Vec<Journal>, n: u32) -> Result<(), AllocError>
-    ensures kept { AreReserved journals.old.items journals.new.items }
-    ensures ok { OnOk result ((i : ℕ) → i < length journals.new.items → n ≤ (slice_index_or journals.new.items i no_journal).spare) }
-{
-    for place in 0..journals.len() {
-        journals[place].reserve(n)?;
-    }
-    Ok(())
 }

@@ -1,12 +1,16 @@
 use Rattle.std.proofs.Common.{ℕ, List, ◌∙◌, ap, subst, false, length}
+use Rattle.yard_model.specs.Script.{Script}
 use Rattle.shard_store.specs.Leased.{Listed}
 use Rattle.shard_store.specs.Reshaped.{AreEach, IsJournalOf, IsLatestOf, IsMarkOf}
 use Rattle.shard_store.specs.Shelved.{no_journal, no_snapshots}
 use Rattle.shard_store.proofs.ReshapeLaws.{all_brought, shelf_begun}
 use Rattle.shard_store.proofs.reshape.shelf_after.Goals as goal
 
-pub journals_of-requires : goal.journals_of-requires
-journals_of-requires c = all_brought c.args.stores.now.script c.args.charter.now c.args.charter.now.config.shards c.args.s c.as_slice.result.now c.requires.over.script_is (c.as_slice.ensures ∙ c.in_ok-names.ensures.names)
+pub journals_of-requires-clause-names : goal.journals_of-requires-clause-names
+journals_of-requires-clause-names c = all_brought c.args.stores.now.script c.args.charter.now c.args.charter.now.config.shards c.args.s c.as_slice.result.now c.requires.over.script_is (c.as_slice.ensures ∙ c.in_ok-names.ensures.names)
+
+pub journals_of-requires-clause-sends : goal.journals_of-requires-clause-sends
+journals_of-requires-clause-sends c = ap (λ (y : Script). y.orders) (c.requires.sends ∙ c.requires.over.script_is)
 
 pub snapshots_of-requires-clause-names : goal.snapshots_of-requires-clause-names
 snapshots_of-requires-clause-names c = all_brought c.args.stores.now.script c.args.charter.now c.args.charter.now.config.shards c.args.s c.as_slice-2.result.now c.requires.over.script_is (c.as_slice-2.ensures ∙ c.in_ok-names.ensures.names)

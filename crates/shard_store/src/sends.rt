@@ -1,0 +1,97 @@
+//! How many sends go to each name.
+ghost use Rattle.std.specs.Prelude.{◌≡◌, [], length, true, IfOk};
+ghost use Rattle.std.specs.List.Sorted.{IsStrictlySortedBy};
+ghost use Rattle.std.specs.Ordering.{nat_cmp};
+ghost use Rattle.std.specs.Cmp.Lexicographic.{slice_cmp};
+ghost use Rattle.yard_model.specs.Genuine.{is_brought};
+ghost use Rattle.yard_model.specs.Script.{is_name};
+ghost use Rattle.shard_store.specs.Planned.{is_send_to, sent_to, AreCountedBut, AreFew, AreMore};
+
+use name_index::NameIndex;
+use std::alloc::{AllocError, Global};
+use std::marker::{Model, PhantomData};
+use std::snapshot::Snapshot as Ghost;
+use yard_model::{Charter, Command, EntityName, Line, Order};
+
+/// How many sends of a charter go to each of its names; seen as the charter's script.
+#[derive(Drop)]
+pub(crate) struct Sends {
+    script: Ghost<Charter>,
+    names: NameIndex,
+    counts: Vec<u32>,
+    holds: PhantomData<(Order, Command)>,
+}
+
+impl Model for Sends {
+    ghost use Rattle.yard_model.specs.Script.{Script};
+    ghost use Rattle.shard_store.specs.Planned.{AreCounted};
+
+    ghost Value = { Script };
+
+    ghost view = { λ s. s.script.value };
+
+    ghost invariant = { λ s. AreCounted s.script.value s.names s.counts.items };
+}
+
+impl Sends {
+    /// The counts of a charter. The only error is want of memory.
+    pub(crate) fn new(alloc: Global, charter: &Charter) -> Result<Sends, AllocError>
+        ensures { IfOk result (λ s. s ≡ charter.now) }
+    {
+        let names = NameIndex::new(alloc, charter)?;
+        let counts = counts_of(alloc, charter, &names)?;
+        Ok(Sends {
+            script: Ghost::of(charter),
+            names,
+            counts,
+            holds: PhantomData,
+        })
+    }
+
+    /// How many there are to a name that the charter brings.
+    pub(crate) fn to(&self, name: &EntityName) -> u32
+        requires { is_brought self.now name.now ≡ true }
+        ensures { result ≡ sent_to name.now self.now.orders }
+    {
+        self.counts[self.names.place(name)]
+    }
+}
+
+/// How many sends of a charter go to each of these names. The only error is want of memory.
+fn counts_of(alloc: Global, charter: &Charter, names: &NameIndex) -> Result<Vec<u32>, AllocError>
+    requires { IsStrictlySortedBy (slice_cmp nat_cmp) names.now }
+    ensures { IfOk result (λ counts. AreCountedBut charter.now names.now counts.items []) }
+{
+    let orders = charter.orders();
+    let mut counts = vec![in alloc; 0u32; names.len()]?;
+    for line in orders {
+        count(&mut counts, names, &line.order);
+    }
+    Ok(counts)
+}
+
+/// An order is counted, where it is a send to one of these names.
+fn count(counts: &mut Vec<u32>, names: &NameIndex, order: &Order)
+    requires sorted { IsStrictlySortedBy (slice_cmp nat_cmp) names.now }
+    requires there { length counts.old.items ≡ length names.now }
+    requires few { AreFew names.now (λ e. is_send_to e order.now) counts.old.items }
+    ensures { AreMore names.now (λ e. is_send_to e order.now) counts.old.items counts.new.items }
+{
+    match order {
+        Order::Send(_, name, _) => count_to(counts, names, name),
+        _ => {}
+    }
+}
+
+/// A send to this name is counted, where it is one of these.
+fn count_to(counts: &mut Vec<u32>, names: &NameIndex, name: &EntityName)
+    requires sorted { IsStrictlySortedBy (slice_cmp nat_cmp) names.now }
+    requires there { length counts.old.items ≡ length names.now }
+    requires few { AreFew names.now (is_name name.now) counts.old.items }
+    ensures { AreMore names.now (is_name name.now) counts.old.items counts.new.items }
+{
+    match names.find(name) {
+        Some(place) => counts[place] += 1,
+        None => {}
+    }
+}

@@ -1,6 +1,6 @@
 -- The names of a shard are in order, and each is found.
 use Rattle.std.proofs.Common.{◌≡◌, ◌≢◌, ℕ, ◌<◌, ◌≤◌, List, length, ◌+◌, sym, ap, subst, ◌∙◌, refl, true, false, nat_lt, arith, true≢false}
-use Rattle.std.specs.Prelude.{Bool, [], ◌∷◌, ◌||◌, ◌==◌, zero, suc, filter, count_by, slice_index_or, IsSorted}
+use Rattle.std.specs.Prelude.{Bool, [], ◌∷◌, ◌++◌, ◌||◌, ◌==◌, zero, suc, cond, drop, filter, map, count_by, slice_index_or, IsSorted}
 use Rattle.std.specs.List.{list_any, HoldsAt}
 use Rattle.std.specs.List.Sorted.{IsStrictlySortedBy, IsNonDecreasingBy, IsPartitionPoint}
 use Rattle.std.specs.Ordering.{nat_cmp, ordering_index, ordering_reverse, is_lt}
@@ -10,6 +10,7 @@ use Rattle.std.specs.Cmp.Lexicographic.{slice_cmp, nat_list_cmp_total}
 use Rattle.std.proofs.lemmas.Bool.Decides.{nat_tests, Decides-eqb}
 use Rattle.std.proofs.lemmas.Slice.Eq.{slice_eq-Decides}
 use Rattle.std.proofs.lemmas.Map.Lookups.{exact_bytes}
+use Rattle.std.proofs.lemmas.List.{append_assoc, append-nil, drop_more, get_or-map}
 use Rattle.std.proofs.lemmas.List.Sorted.{searchable_from_sorted}
 use Rattle.std.proofs.lemmas.Cmp.{tied_itself}
 use Rattle.std.proofs.lemmas.List.Kept.{IsStrictlySortedBy-filter}
@@ -82,3 +83,19 @@ not_missing names e i sorted place among =
       | true ↦ λ below. not_alike (slice_index_or names p.place e) e Less (point.0 p.place e (omega arith) (lt_of p.place i below)) (λ q. cc) p.it
       | false ↦ λ above. not_alike (slice_index_or names p.place e) e Greater (point.1 p.place e (le_of p.place i above) p.within) (λ q. cc) p.it
     ] refl
+
+-- one name more, picked where it is of the shard
+pub picked_next : (count s i t : ℕ) (names picked new : List (List ℕ)) (b : Bool) → i < length names → t ≡ slice_index_or (map (shard count) names) i t → b ≡ (t == s) → new ≡ picked ++ cond b (slice_index_or names i [] ∷ []) []
+    → picked ++ filter (λ e. shard count e == s) (drop i names) ≡ filter (λ e. shard count e == s) names → new ++ filter (λ e. shard count e == s) (drop (i + 1) names) ≡ filter (λ e. shard count e == s) names
+picked_next count s i t names picked new b inside is of next so_far =
+    let p : List ℕ → Bool = λ e. shard count e == s in
+    let e : List ℕ = slice_index_or names i [] in
+    let shard_is : t ≡ shard count e = is ∙ get_or-map (shard count) names i [] t inside in
+    let b_is : b ≡ p e = of ∙ ap (λ n. n == s) shard_is in
+    let rest : List (List ℕ) = filter p (drop (i + 1) names) in
+    let here : filter p (drop i names) ≡ cond (p e) (e ∷ rest) rest = ap (filter p) (drop_more names i [] inside) in
+    ap (λ l. l ++ rest) next ∙ (by b rest ∙ (ap (λ c. picked ++ cond c (e ∷ rest) rest) b_is ∙ (ap (λ l. picked ++ l) (sym here) ∙ so_far)))
+  where
+    by : (b : Bool) (rest : List (List ℕ)) → (picked ++ cond b (slice_index_or names i [] ∷ []) []) ++ rest ≡ picked ++ cond b (slice_index_or names i [] ∷ rest) rest
+    by true rest = append_assoc picked (slice_index_or names i [] ∷ []) rest
+    by false rest = ap (λ l. l ++ rest) (append-nil picked)

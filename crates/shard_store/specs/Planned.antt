@@ -1,9 +1,10 @@
--- How many sends go to a name: there are never more records of it.
-use Rattle.std.specs.Prelude.{◌≡◌, ℕ, ◌+◌, ◌<◌, Bool, true, false, List, [], ◌∷◌, length, slice_index_or, if◌then◌else◌}
+-- What is told of each name of a script: its shard, and how many sends go to it, which are never fewer than its records.
+use Rattle.std.specs.Prelude.{◌≡◌, ℕ, ◌+◌, ◌<◌, Bool, true, false, List, [], ◌∷◌, length, map, slice_index_or, if◌then◌else◌}
 use Rattle.yard_model.specs.declared.charter.Line.{Line}
 use Rattle.yard_model.specs.declared.charter.Order.{Order}
 use Rattle.yard_model.specs.declared.charter.Order.TheVariants as order
 use Rattle.yard_model.specs.Script.{Script, is_name, names_in}
+use Rattle.yard_model.specs.Shard.{shard}
 
 abbrev pub is_send_to : List ℕ → Order → Bool
 is_send_to e (order.Send p x c) = is_name x e
@@ -19,8 +20,10 @@ pub record AreCountedBut (c : Script) (names : List (List ℕ)) (counts : List �
   pub there : length counts ≡ length names
   pub each : (i : ℕ) → i < length names → slice_index_or counts i 0 + sent_to (slice_index_or names i []) left ≡ sent_to (slice_index_or names i []) c.orders
 
-pub record AreCounted (c : Script) (names : List (List ℕ)) (counts : List ℕ) : Type 0 where
+-- of each name of a script its shard, and how many sends go to it
+pub record IsTable (c : Script) (names : List (List ℕ)) (shards counts : List ℕ) : Type 0 where
   pub names_are : names ≡ names_in c.orders
+  pub shards_are : shards ≡ map (shard c.config.shards) names
   pub counted : AreCountedBut c names counts []
 
 -- the count of each name for which that is so may be one more

@@ -3,10 +3,10 @@
 #![tactic(auto)]
 
 mod list;
+mod name_table;
 mod names;
 mod positions;
 mod reshape;
-mod sends;
 mod shelf;
 mod store;
 mod stores;

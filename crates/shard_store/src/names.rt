@@ -1,5 +1,5 @@
 //! The names of a shard.
-ghost use Rattle.std.specs.Prelude.{◌≡◌, ◌<◌, length, true, slice_index_or, [], IfOk, filter, ◌==◌, ◌≤◌};
+ghost use Rattle.std.specs.Prelude.{◌≡◌, ◌<◌, length, true, slice_index_or, [], IfOk, filter, map, ◌==◌, ◌≤◌};
 ghost use Rattle.std.specs.List.{list_any};
 ghost use Rattle.std.specs.List.Sorted.{IsStrictlySortedBy};
 ghost use Rattle.std.specs.Ordering.{nat_cmp};
@@ -8,7 +8,7 @@ ghost use Rattle.yard_model.specs.Script.{is_name, setting};
 ghost use Rattle.yard_model.specs.Setting.{names_of};
 ghost use Rattle.yard_model.specs.Shard.{shard};
 
-use shard_extract::shard_of;
+use crate::name_table::NameTable;
 use std::alloc::{AllocError, Global};
 use std::marker::Model;
 use yard_model::{Charter, EntityName, ShardNo};
@@ -33,17 +33,20 @@ impl Model for Names {
 }
 
 impl Names {
-    /// The charter's names of this shard. The only error is want of memory.
+    /// The charter's names of this shard, by their table. The only error is want of memory.
     pub(crate) fn of_shard(
         alloc: Global,
         charter: &Charter,
+        table: &NameTable,
         s: ShardNo,
     ) -> Result<Names, AllocError>
+        requires { table.now ≡ charter.now }
         ensures names { IfOk result (λ n. n ≡ names_of (setting charter.now) s) }
         ensures few { IfOk result (λ n. length n ≤ 1000) }
         ensures sorted { IfOk result (λ n. IsStrictlySortedBy (slice_cmp nat_cmp) n) }
     {
-        let names = picked(alloc, charter.names(), charter.config().shards, s)?;
+        let count = charter.config().shards;
+        let names = picked(alloc, charter.names(), table.shards(), count, s)?;
         Ok(Names { names })
     }
 
@@ -71,21 +74,22 @@ impl Names {
     }
 }
 
-/// Those of these names that are of this shard.
+/// Those of these names that are of this shard, of so many; the shard of each stands at its place.
 fn picked(
     alloc: Global,
     names: &[EntityName],
-    shards: u8,
+    shards: &[ShardNo],
+    count: u8,
     s: ShardNo,
 ) -> Result<Vec<EntityName>, AllocError>
-    requires some { 1 ≤ shards }
-    requires most { shards ≤ 128 }
-    ensures { IfOk result (λ v. v.items ≡ filter (λ e. shard shards e == s) names.now) }
+    requires { shards.now ≡ map (shard count) names.now }
+    ensures { IfOk result (λ v. v.items ≡ filter (λ e. shard count e == s) names.now) }
 {
+    let _count = count;
     let mut picked = Vec::new(alloc);
-    for name in names {
-        if shard_of(name, shards) == s {
-            picked.push(*name)?;
+    for at in 0..names.len() {
+        if shards[at] == s {
+            picked.push(names[at])?;
         }
     }
     Ok(picked)

@@ -18,8 +18,8 @@ ghost use Rattle.shard_store.specs.Shelved.{no_journal, no_snapshots, IsJournal,
 ghost use Rattle.shard_store.specs.Stores.{AreHomes, lists_at, slot_at, script_of, slot_of, entries_of, entries_at, spare_of};
 
 use crate::list::SlotList;
+use crate::name_table::NameTable;
 use crate::names::Names;
-use crate::sends::Sends;
 use crate::shelf::ShardStore;
 use crate::store::Store;
 use crate::stores::{Parts, SPARE, Stores};
@@ -64,10 +64,10 @@ fn shards_after(
     ensures { IfOk result (λ places. AreEach None (λ k. IsAfterAt charter.now (next_lists stores.now charter.now.config.shards epoch) (slot.Shard k)) places.items charter.now.config.shards) }
 {
     let shards = charter.config().shards;
-    let sends = Sends::new(alloc, charter)?;
+    let table = NameTable::new(alloc, charter)?;
     let mut places = Vec::new(alloc);
     for s in 0..shards {
-        let store = shard_after(alloc, stores, charter, &sends, s, epoch)?;
+        let store = shard_after(alloc, stores, charter, &table, s, epoch)?;
         places.push(Some(store))?;
     }
     Ok(places)
@@ -78,12 +78,12 @@ fn shard_after(
     alloc: Global,
     stores: &Stores,
     charter: &Charter,
-    sends: &Sends,
+    table: &NameTable,
     s: u8,
     epoch: u32,
 ) -> Result<Store, AllocError>
     requires over { MayGoOver stores.now charter.now epoch }
-    requires sends { sends.now ≡ charter.now }
+    requires table { table.now ≡ charter.now }
     requires within { s < charter.now.config.shards }
     ensures { IfOk result (IsAfter charter.now (slot.Shard s) (shard_list (next_lists stores.now charter.now.config.shards epoch) s)) }
 {
@@ -91,7 +91,7 @@ fn shard_after(
     let Some(shard) = ShardNo::new(s, shards) else {
         unreachable!()
     };
-    let mut store = shelf_after(alloc, stores, charter, sends, shard, epoch)?;
+    let mut store = shelf_after(alloc, stores, charter, table, shard, epoch)?;
     store.reserve(SPARE)?;
     Ok(Store::Shard(store))
 }
@@ -101,18 +101,18 @@ fn shelf_after(
     alloc: Global,
     stores: &Stores,
     charter: &Charter,
-    sends: &Sends,
+    table: &NameTable,
     s: ShardNo,
     epoch: u32,
 ) -> Result<ShardStore, AllocError>
     requires over { MayGoOver stores.now charter.now epoch }
-    requires sends { sends.now ≡ charter.now }
+    requires table { table.now ≡ charter.now }
     requires within { s < charter.now.config.shards }
     ensures { IfOk result (λ x. x ≡ record { script = charter.now; shard = s; entries = shard_list (next_lists stores.now charter.now.config.shards epoch) s; spare = 0 }) }
 {
-    let names = Names::of_shard(alloc, charter, s)?;
+    let names = Names::of_shard(alloc, charter, table, s)?;
     let list = list_after(alloc, stores, charter, &names, s, epoch)?;
-    let journals = journals_of(alloc, stores, sends, names.as_slice())?;
+    let journals = journals_of(alloc, stores, table, names.as_slice())?;
     let snapshots = snapshots_of(alloc, stores, names.as_slice(), charter.config().keep)?;
     let remembered = marks_of(alloc, stores, names.as_slice())?;
     Ok(ShardStore::begun(charter, list, names, journals, snapshots, remembered, s))
@@ -187,16 +187,16 @@ fn is_of(entry: &ShardEntry, name: &EntityName) -> bool
 fn journals_of(
     alloc: Global,
     stores: &Stores,
-    sends: &Sends,
+    table: &NameTable,
     names: &[EntityName],
 ) -> Result<Vec<Journal>, AllocError>
     requires names { list_all (is_brought stores.now.script) names.now ≡ true }
-    requires sends { sends.now.orders ≡ stores.now.script.orders }
+    requires table { table.now.orders ≡ stores.now.script.orders }
     ensures { IfOk result (λ v. AreEach no_journal (IsJournalOf stores.now names.now) v.items (length names.now)) }
 {
     let mut journals = Vec::new(alloc);
     for name in names {
-        let journal = journal_in(alloc, stores.store_of(name), name, sends.to(name))?;
+        let journal = journal_in(alloc, stores.store_of(name), name, table.sends_to(name))?;
         journals.push(journal)?;
     }
     Ok(journals)

@@ -14,9 +14,9 @@ ghost use Rattle.shard_store.specs.Shelf.{Shelf, slot_of, may, with_entry};
 ghost use Rattle.shard_store.specs.Shelved.{IsJournal, IsSnapshot, IsThere, IsShelf, name_at, no_journal};
 
 use crate::list::SlotList;
+use crate::name_table::NameTable;
 use crate::names::Names;
 use crate::positions::positions_of;
-use crate::sends::Sends;
 use entity_journal::Journal;
 use entity_snapshot::{Positions, Snapshot, Snapshots};
 use remember_store::Remembered;
@@ -59,24 +59,24 @@ impl ShardStore {
         requires { s < charter.now.config.shards }
         ensures { IfOk result (λ x. x ≡ record { script = charter.now; shard = s; entries = []; spare = 0 }) }
     {
-        let sends = Sends::new(alloc, charter)?;
-        ShardStore::with_sends(alloc, charter, &sends, s)
+        let table = NameTable::new(alloc, charter)?;
+        ShardStore::with_table(alloc, charter, &table, s)
     }
 
-    /// The same, with the sends of this charter.
-    pub(crate) fn with_sends(
+    /// The same, with the table of the charter's names.
+    pub(crate) fn with_table(
         alloc: Global,
         charter: &Charter,
-        sends: &Sends,
+        table: &NameTable,
         s: ShardNo,
     ) -> Result<ShardStore, AllocError>
         requires shard { s < charter.now.config.shards }
-        requires sends { sends.now ≡ charter.now }
+        requires table { table.now ≡ charter.now }
         ensures { IfOk result (λ x. x ≡ record { script = charter.now; shard = s; entries = []; spare = 0 }) }
     {
-        let names = Names::of_shard(alloc, charter, s)?;
+        let names = Names::of_shard(alloc, charter, table, s)?;
         let count = names.len();
-        let journals = new_journals(alloc, sends, names.as_slice())?;
+        let journals = new_journals(alloc, table, names.as_slice())?;
         let snapshots = no_snapshots(alloc, count, charter.config().keep)?;
         let remembered = Remembered::new(alloc, count as u16)?;
         Ok(ShardStore {
@@ -368,15 +368,15 @@ impl ShardStore {
 /// want of memory.
 fn new_journals(
     alloc: Global,
-    sends: &Sends,
+    table: &NameTable,
     names: &[EntityName],
 ) -> Result<Vec<Journal>, AllocError>
-    requires { list_all (is_brought sends.now) names.now ≡ true }
-    ensures { IfOk result (λ v. AreEach no_journal (λ i. IsJournal [] (sent_to (name_at names.now i) sends.now.orders)) v.items (length names.now)) }
+    requires { list_all (is_brought table.now) names.now ≡ true }
+    ensures { IfOk result (λ v. AreEach no_journal (λ i. IsJournal [] (sent_to (name_at names.now i) table.now.orders)) v.items (length names.now)) }
 {
     let mut journals = Vec::new(alloc);
     for name in names {
-        let journal = new_journal(alloc, sends.to(name))?;
+        let journal = new_journal(alloc, table.sends_to(name))?;
         journals.push(journal)?;
     }
     Ok(journals)

@@ -14,7 +14,7 @@ ghost use Rattle.shard_store.specs.declared.store.Store.TheVariants as store;
 ghost use Rattle.shard_store.specs.Reshaped.{slot_lists, list_of, IsOwn};
 ghost use Rattle.shard_store.specs.Stores.{IsNew, AreNew, AreHomes, slot_at, lists_at, entries_at, entries_in};
 
-use crate::sends::Sends;
+use crate::name_table::NameTable;
 use crate::shelf::ShardStore;
 use crate::store::Store;
 use coordinator_state::CoordStore;
@@ -149,10 +149,10 @@ fn new_places(alloc: Global, charter: &Charter) -> Result<Vec<Option<Store>>, Al
 {
     let config = charter.config();
     let count = config.shards as u32 + config.producers as u32 + 1;
-    let sends = Sends::new(alloc, charter)?;
+    let table = NameTable::new(alloc, charter)?;
     let mut places = Vec::new(alloc);
     for place in 0..count {
-        let store = new_store(alloc, charter, &sends, place)?;
+        let store = new_store(alloc, charter, &table, place)?;
         places.push(Some(store))?;
     }
     Ok(places)
@@ -163,17 +163,17 @@ fn new_places(alloc: Global, charter: &Charter) -> Result<Vec<Option<Store>>, Al
 fn new_store(
     alloc: Global,
     charter: &Charter,
-    sends: &Sends,
+    table: &NameTable,
     place: u32,
 ) -> Result<Store, AllocError>
-    requires sends { sends.now ≡ charter.now }
+    requires table { table.now ≡ charter.now }
     requires place { place < charter.now.config.shards + charter.now.config.producers + 1 }
     ensures { IfOk result (IsNew charter.now (slot_at charter.now.config place)) }
 {
     let config = charter.config();
     let shards = config.shards as u32;
     if place < shards {
-        return new_shard(alloc, charter, sends, place as u8);
+        return new_shard(alloc, charter, table, place as u8);
     }
     if place == shards {
         return new_coordinator(alloc, charter);
@@ -182,8 +182,13 @@ fn new_store(
 }
 
 /// The empty store of a shard. The only error is want of memory.
-fn new_shard(alloc: Global, charter: &Charter, sends: &Sends, s: u8) -> Result<Store, AllocError>
-    requires sends { sends.now ≡ charter.now }
+fn new_shard(
+    alloc: Global,
+    charter: &Charter,
+    table: &NameTable,
+    s: u8,
+) -> Result<Store, AllocError>
+    requires table { table.now ≡ charter.now }
     requires shard { s < charter.now.config.shards }
     ensures { IfOk result (IsNew charter.now (slot.Shard s)) }
 {
@@ -191,7 +196,7 @@ fn new_shard(alloc: Global, charter: &Charter, sends: &Sends, s: u8) -> Result<S
     let Some(shard) = ShardNo::new(s, shards) else {
         unreachable!()
     };
-    let mut store = ShardStore::with_sends(alloc, charter, sends, shard)?;
+    let mut store = ShardStore::with_table(alloc, charter, table, shard)?;
     store.reserve(SPARE)?;
     Ok(Store::Shard(store))
 }

@@ -9,8 +9,8 @@ use Rattle.shard_store.proofs.reshape.shelf_after.Goals as goal
 pub journals_of-requires-clause-names : goal.journals_of-requires-clause-names
 journals_of-requires-clause-names c = all_brought c.args.stores.now.script c.args.charter.now c.args.charter.now.config.shards c.args.s c.as_slice.result.now c.requires.over.script_is (c.as_slice.ensures ∙ c.in_ok-names.ensures.names)
 
-pub journals_of-requires-clause-sends : goal.journals_of-requires-clause-sends
-journals_of-requires-clause-sends c = ap (λ (y : Script). y.orders) (c.requires.sends ∙ c.requires.over.script_is)
+pub journals_of-requires-clause-table : goal.journals_of-requires-clause-table
+journals_of-requires-clause-table c = ap (λ (y : Script). y.orders) (c.requires.table ∙ c.requires.over.script_is)
 
 pub snapshots_of-requires-clause-names : goal.snapshots_of-requires-clause-names
 snapshots_of-requires-clause-names c = all_brought c.args.stores.now.script c.args.charter.now c.args.charter.now.config.shards c.args.s c.as_slice-2.result.now c.requires.over.script_is (c.as_slice-2.ensures ∙ c.in_ok-names.ensures.names)

@@ -5,4 +5,4 @@ use Rattle.shard_store.specs.Shelved.{IsJournal, name_at, no_journal}
 use Rattle.shard_store.proofs.shelf.new_journals.Given as goal
 
 abbrev pub invariant-loop-name : goal.invariant-loop-name
-invariant-loop-name l = AreEach no_journal (λ i. IsJournal [] (sent_to (name_at l.fn.names i) l.fn.sends.orders)) l.journals.items l.name-index
+invariant-loop-name l = AreEach no_journal (λ i. IsJournal [] (sent_to (name_at l.fn.names i) l.fn.table.orders)) l.journals.items l.name-index

@@ -3,7 +3,7 @@ use Rattle.std.proofs.lemmas.List.{drop_more}
 use Rattle.yard_model.specs.declared.charter.Line.{Line}
 use Rattle.shard_store.specs.Planned.{AreCountedBut}
 use Rattle.shard_store.proofs.SendCountLaws.{counts_few}
-use Rattle.shard_store.proofs.sends.counts_of.Goals as goal
+use Rattle.shard_store.proofs.name_table.counts_of.Goals as goal
 
 pub count-requires-clause-few : goal.count-requires-clause-few
 count-requires-clause-few c =

@@ -1,60 +1,86 @@
-//! How many sends go to each name.
-ghost use Rattle.std.specs.Prelude.{◌≡◌, [], length, true, IfOk};
+//! What is told of each name of a charter at once.
+ghost use Rattle.std.specs.Prelude.{◌≡◌, ◌≤◌, [], length, map, true, IfOk};
 ghost use Rattle.std.specs.List.Sorted.{IsStrictlySortedBy};
 ghost use Rattle.std.specs.Ordering.{nat_cmp};
 ghost use Rattle.std.specs.Cmp.Lexicographic.{slice_cmp};
 ghost use Rattle.yard_model.specs.Genuine.{is_brought};
-ghost use Rattle.yard_model.specs.Script.{is_name};
+ghost use Rattle.yard_model.specs.Script.{is_name, setting};
+ghost use Rattle.yard_model.specs.Setting.{shard_of};
+ghost use Rattle.yard_model.specs.Shard.{shard};
 ghost use Rattle.shard_store.specs.Planned.{is_send_to, sent_to, AreCountedBut, AreFew, AreMore};
 
 use name_index::NameIndex;
+use shard_extract::shard_of;
 use std::alloc::{AllocError, Global};
 use std::marker::{Model, PhantomData};
 use std::snapshot::Snapshot as Ghost;
-use yard_model::{Charter, Command, EntityName, Line, Order};
+use yard_model::{Charter, Command, EntityName, Order, ShardNo};
 
-/// How many sends of a charter go to each of its names; seen as the charter's script.
+/// Of each name of a charter its shard, and how many sends go to it; seen as the charter's script.
 #[derive(Drop)]
-pub(crate) struct Sends {
+pub(crate) struct NameTable {
     script: Ghost<Charter>,
     names: NameIndex,
+    shards: Vec<ShardNo>,
     counts: Vec<u32>,
     holds: PhantomData<(Order, Command)>,
 }
 
-impl Model for Sends {
+impl Model for NameTable {
     ghost use Rattle.yard_model.specs.Script.{Script};
-    ghost use Rattle.shard_store.specs.Planned.{AreCounted};
+    ghost use Rattle.shard_store.specs.Planned.{IsTable};
 
     ghost Value = { Script };
 
     ghost view = { λ s. s.script.value };
 
-    ghost invariant = { λ s. AreCounted s.script.value s.names s.counts.items };
+    ghost invariant = { λ s. IsTable s.script.value s.names s.shards.items s.counts.items };
 }
 
-impl Sends {
-    /// The counts of a charter. The only error is want of memory.
-    pub(crate) fn new(alloc: Global, charter: &Charter) -> Result<Sends, AllocError>
+impl NameTable {
+    /// The table of a charter. The only error is want of memory.
+    pub(crate) fn new(alloc: Global, charter: &Charter) -> Result<NameTable, AllocError>
         ensures { IfOk result (λ s. s ≡ charter.now) }
     {
         let names = NameIndex::new(alloc, charter)?;
+        let shards = shards_of(alloc, names.as_slice(), charter.config().shards)?;
         let counts = counts_of(alloc, charter, &names)?;
-        Ok(Sends {
+        Ok(NameTable {
             script: Ghost::of(charter),
             names,
+            shards,
             counts,
             holds: PhantomData,
         })
     }
 
-    /// How many there are to a name that the charter brings.
-    pub(crate) fn to(&self, name: &EntityName) -> u32
+    /// The shard of each name, in the order of the names.
+    pub(crate) fn shards(&self) -> &[ShardNo]
+        ensures { result.now ≡ map (shard_of (setting self.now)) (setting self.now).names }
+    {
+        self.shards.as_slice()
+    }
+
+    /// How many sends go to a name that the charter brings.
+    pub(crate) fn sends_to(&self, name: &EntityName) -> u32
         requires { is_brought self.now name.now ≡ true }
         ensures { result ≡ sent_to name.now self.now.orders }
     {
         self.counts[self.names.place(name)]
     }
+}
+
+/// The shard of each of these names, of so many. The only error is want of memory.
+fn shards_of(alloc: Global, names: &[EntityName], count: u8) -> Result<Vec<ShardNo>, AllocError>
+    requires some { 1 ≤ count }
+    requires most { count ≤ 128 }
+    ensures { IfOk result (λ v. v.items ≡ map (shard count) names.now) }
+{
+    let mut shards = Vec::with_capacity(alloc, names.len())?;
+    for name in names {
+        shards.push(shard_of(name, count))?;
+    }
+    Ok(shards)
 }
 
 /// How many sends of a charter go to each of these names. The only error is want of memory.

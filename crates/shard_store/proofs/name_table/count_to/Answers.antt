@@ -1,6 +1,6 @@
 use Rattle.std.proofs.Common.{◌+◌, refl, arith}
 use Rattle.shard_store.proofs.SendCountLaws.{few_at, more_at}
-use Rattle.shard_store.proofs.sends.count_to.Goals as goal
+use Rattle.shard_store.proofs.name_table.count_to.Goals as goal
 
 pub overflow_add-index_mut : goal.overflow_add-index_mut
 overflow_add-index_mut c = omega (arith, few_at c.args.names.now c.args.name.now c.in-Some.place c.index_mut.result.now c.args.counts.now.items c.requires.few c.requires.there c.in-Some.ensures.0 c.in-Some.ensures.1 c.index_mut.ensures.value)

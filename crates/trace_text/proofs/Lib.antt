@@ -9,3 +9,4 @@ pub mod TallyLaws
 pub mod AsciiLaws
 pub mod PlainLaws
 pub mod SlotLaws
+pub mod ShardLaws

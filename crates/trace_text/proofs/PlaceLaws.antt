@@ -1,18 +1,14 @@
 -- What is kept at the places of names in order.
-use Rattle.std.proofs.Common.{◌≡◌, ◌≢◌, ℕ, ◌<◌, ◌≤◌, zero, suc, List, [], ◌∷◌, ◌++◌, length, sym, ap, ◌∙◌, refl, subst, arith, add-one}
-use Rattle.std.specs.Prelude.{true, false, nat_lt, map, slice_index_or, slice_set, IsSorted}
-use Rattle.std.specs.declared.cmp.Ordering.{Ordering}
-use Rattle.std.specs.declared.cmp.Ordering.TheVariants.{Less, Equal, Greater}
-use Rattle.std.specs.Ordering.{nat_cmp, ordering_index, ordering_reverse, is_eq, is_lt}
-use Rattle.std.specs.Cmp.Lexicographic.{slice_cmp, nat_list_cmp_total, texts_ties}
-use Rattle.std.specs.List.{HoldsAt, AllByRecursion}
+use Rattle.std.proofs.Common.{◌≡◌, ◌≢◌, ℕ, ◌<◌, zero, suc, List, [], ◌∷◌, ◌++◌, length, sym, ap, ◌∙◌, refl, subst, arith, true≢false}
+use Rattle.std.specs.Prelude.{Bool, true, false, ◌||◌, map, slice_index_or, slice_set}
+use Rattle.std.specs.declared.cmp.Ordering.TheVariants.{Less, Equal}
+use Rattle.std.specs.Ordering.{nat_cmp, is_eq}
+use Rattle.std.specs.Cmp.Lexicographic.{slice_cmp, nat_list_cmp_total, nat_list_eq_equiv, texts_ties}
+use Rattle.std.specs.List.{HoldsAt, AllByRecursion, list_any}
 use Rattle.std.specs.List.Sorted.{IsStrictlySortedBy}
-use Rattle.std.specs.List.Sorted.{IsNonDecreasingBy, IsPartitionPoint}
-use Rattle.std.proofs.lemmas.Bool.Decides.{nat_tests, Decides-eqb}
+use Rattle.std.proofs.lemmas.Bool.Decides.{Decides-eqb}
 use Rattle.std.proofs.lemmas.Slice.Eq.{slice_eq-Decides}
-use Rattle.std.proofs.lemmas.List.{map-set, get_or-map}
-use Rattle.std.proofs.lemmas.List.Sorted.{searchable_from_sorted}
-use Rattle.std.proofs.lemmas.Map.Lookups.{exact_bytes}
+use Rattle.std.proofs.lemmas.List.{map-set, get_or-map, get_or_default}
 use Rattle.std.proofs.lemmas.Cmp.{tied_itself}
 use Rattle.yard_model.specs.Script.{is_name}
 
@@ -69,37 +65,20 @@ put_nowhere f g e (x ∷ xs) none other =
     ap (λ z. z ∷ map g xs) (other x (off e x (none 0 (omega arith))))
     ∙ ap (λ l. f x ∷ l) (put_nowhere f g e xs (λ k h. none (suc k) (omega arith)) other)
 
-sorted_step : (names : List (List ℕ)) (k : ℕ) (d : List ℕ) → IsStrictlySortedBy (slice_cmp nat_cmp) names → suc k < length names
-    → is_lt (slice_cmp nat_cmp (slice_index_or names (suc k) d) (slice_index_or names k d)) ≡ false
-unfolding IsStrictlySortedBy
-sorted_step [] k d s h = absurd (omega arith)
-sorted_step (x ∷ []) zero d s h = absurd (omega arith)
-sorted_step (x ∷ y ∷ ys) zero d s h = ap is_lt (nat_list_cmp_total.antisymm y x) ∙ ap (λ r. is_lt (ordering_reverse r)) s.0.0
-sorted_step (x ∷ xs) (suc k) d s h = sorted_step xs k d s.1 (omega arith)
+-- what stands at a place stands there whatever the default
+pub found_at : (names : List (List ℕ)) (e : List ℕ) (i : ℕ) → i < length names → slice_index_or names i [] ≡ e → HoldsAt (λ y. y ≡ e) names i
+found_at names e i h it d = get_or_default names i d [] h ∙ it
 
-sorted_of : (names : List (List ℕ)) → IsStrictlySortedBy (slice_cmp nat_cmp) names → IsSorted (slice_cmp nat_cmp) names
-sorted_of names s = λ k d low h. rw add-one (sorted_step names k d s (omega arith))
-
--- what compares alike is the name
-pub found_at : (names : List (List ℕ)) (e : List ℕ) (i : ℕ) → HoldsAt (λ y. slice_cmp nat_cmp y e ≡ Equal) names i → HoldsAt (λ y. y ≡ e) names i
-found_at names e i h d = exact_bytes (slice_index_or names i d) e (h d)
-
-not_alike : (x e : List ℕ) (o : Ordering) → slice_cmp nat_cmp x e ≡ o → o ≢ Equal → x ≢ e
-not_alike x e o c other same = other (sym c ∙ (ap (λ y. slice_cmp nat_cmp y e) same ∙ tied_itself nat_list_cmp_total e))
-
-lt_of : (k i : ℕ) → nat_lt k i ≡ true → k < i
-lt_of k i e = grind (arith, nat_tests)
-
-le_of : (k i : ℕ) → nat_lt k i ≡ false → i ≤ k
-le_of k i e = grind (arith, nat_tests)
-
--- in sorted names the name is neither before the place of a search nor after it
-pub not_there : (names : List (List ℕ)) (e : List ℕ) (i : ℕ) → IsStrictlySortedBy (slice_cmp nat_cmp) names
-    → (IsNonDecreasingBy (λ y. ordering_index (slice_cmp nat_cmp y e)) names → IsPartitionPoint (λ y. slice_cmp nat_cmp y e ≡ Less) (λ y. slice_cmp nat_cmp y e ≡ Greater) names i)
-    → (k : ℕ) → k < length names → slice_index_or names k e ≢ e
-not_there names e i sorted place k within same =
-    let point : IsPartitionPoint (λ y. slice_cmp nat_cmp y e ≡ Less) (λ y. slice_cmp nat_cmp y e ≡ Greater) names i = place (searchable_from_sorted nat_list_cmp_total (λ n. n) names e (sorted_of names sorted)) in
-    elim (nat_lt k i) as (λ b. nat_lt k i ≡ b → ⊥) [
-      | true ↦ λ below. not_alike (slice_index_or names k e) e Less (point.0 k e (omega arith) (lt_of k i below)) (λ q. cc) same
-      | false ↦ λ above. not_alike (slice_index_or names k e) e Greater (point.1 k e (le_of k i above) within) (λ q. cc) same
-    ] refl
+-- a name that isn't among these stands at no place
+pub not_there : (names : List (List ℕ)) (e : List ℕ) → list_any (is_name e) names ≡ false → (k : ℕ) → k < length names → slice_index_or names k e ≢ e
+not_there [] e none k h same = omega arith
+not_there (x ∷ xs) e none zero h same = at (is_name e x) refl none
+  where
+    at : (b : Bool) → is_name e x ≡ b → (b || list_any (is_name e) xs) ≡ false → ⊥
+    at true t f = true≢false f
+    at false t f = true≢false (sym (ap (λ n. is_name e n) same ∙ nat_list_eq_equiv.refl e) ∙ t)
+not_there (x ∷ xs) e none (suc k) h same = not_there xs e (rest (is_name e x) none) k (omega arith) same
+  where
+    rest : (b : Bool) → (b || list_any (is_name e) xs) ≡ false → list_any (is_name e) xs ≡ false
+    rest true f = absurd (true≢false f)
+    rest false f = f

@@ -16,7 +16,7 @@ use Rattle.yard_model.specs.Text.{Bytes}
 use Rattle.trace_text.specs.Foldable.{are_foldable, is_foldable}
 use Rattle.trace_text.specs.declared.queues.Tally.{Tally}
 use Rattle.trace_text.specs.Places.{journals_of, tally_of, tallies_of}
-use Rattle.trace_text.specs.Rows.{rows, row_of, is_foldable_row, shard_rows, queue_rows}
+use Rattle.trace_text.specs.Rows.{rows, shard_rows, queue_rows}
 
 -- the first row of what is left
 pub rows_step : {A B C : Type 0} (show : A → B → List C) (xs : List A) (ys : List B) (i : ℕ) (d : A) (e : B) (done after whole : List C) → i < length xs → i < length ys
@@ -77,36 +77,6 @@ numbers_all test a (suc n) (suc i) all h =
 pub all_below : (test : ℕ → Bool) (n i : ℕ) → IsTrue (list_all test (numbers 0 n)) → i < n → IsTrue (test i)
 all_below test n i all h = let same : 0 + i ≡ i = omega arith in subst (λ k. IsTrue (test k)) same (numbers_all test 0 n i all h)
 
--- the journals of a shard's names
-pub shard_rows_are : {C : Type 0} (show : Setting → List ℕ → List Record → List C) (set : Setting) (s : ℕ) (list : List Fact) (names : List (List ℕ))
-    → flat_map (λ e. row_of show set s e (journal e list)) names ≡ flat_map (λ e. show set e (journal e list)) (filter (λ e. shard_of set e == s) names)
-shard_rows_are show set s list [] = refl
-shard_rows_are show set s list (e ∷ es) = one (shard_of set e == s) (shard_rows_are show set s list es)
-  where
-    one : (b : Bool) → flat_map (λ n. row_of show set s n (journal n list)) es ≡ flat_map (λ n. show set n (journal n list)) (filter (λ n. shard_of set n == s) es)
-        → cond b (show set e (journal e list)) [] ++ flat_map (λ n. row_of show set s n (journal n list)) es
-        ≡ flat_map (λ n. show set n (journal n list)) (cond b (e ∷ filter (λ n. shard_of set n == s) es) (filter (λ n. shard_of set n == s) es))
-    one true same = ap (λ l. show set e (journal e list) ++ l) same
-    one false same = same
-
--- each of them leads to a state
-pub foldable_rows : (set : Setting) (s : ℕ) (list : List Fact) (names : List (List ℕ)) (k : ℕ) (d : List ℕ)
-    → IsTrue (list_all (is_foldable set.config.kind list) (filter (λ e. shard_of set e == s) names)) → k < length names
-    → IsTrue (is_foldable_row set s (slice_index_or names k d) (journal (slice_index_or names k d) list))
-foldable_rows set s list [] k d all h = absurd (omega arith)
-foldable_rows set s list (e ∷ es) zero d all h = one (shard_of set e == s) all
-  where
-    one : (b : Bool) → IsTrue (list_all (is_foldable set.config.kind list) (cond b (e ∷ filter (λ n. shard_of set n == s) es) (filter (λ n. shard_of set n == s) es)))
-        → IsTrue (cond b (are_foldable (empty_state set.config.kind) (journal e list)) true)
-    one true each = first_of (is_foldable set.config.kind list e) _ each
-    one false each = refl
-foldable_rows set s list (e ∷ es) (suc k) d all h = foldable_rows set s list es k d (rest (shard_of set e == s) all) (omega arith)
-  where
-    rest : (b : Bool) → IsTrue (list_all (is_foldable set.config.kind list) (cond b (e ∷ filter (λ n. shard_of set n == s) es) (filter (λ n. shard_of set n == s) es)))
-        → IsTrue (list_all (is_foldable set.config.kind list) (filter (λ n. shard_of set n == s) es))
-    rest true each = second_of (is_foldable set.config.kind list e) _ each
-    rest false each = each
-
 -- a shard's names have their journals in its list
 pub shard_is : {C : Type 0} (show : Setting → List ℕ → List Record → List C) (set : Setting) (lists : SlotLists) (s : ℕ) (names : List (List ℕ))
     → flat_map (λ e. show set e (journal e (shard_list lists (shard_of set e)))) (filter (λ e. shard_of set e == s) names)
@@ -136,19 +106,39 @@ entities_are show set lists = each (shards set)
     each (s ∷ ss) = ap (λ l. l ++ flat_map (λ s. flat_map (λ e. show set e (journal e (shard_list lists (shard_of set e)))) (names_of set s)) ss) (shard_is show set lists s set.names)
         ∙ ap (λ l. shard_rows show set s (shard_list lists s) ++ l) (each ss)
 
--- the row of the journal at a place leads to a state
-pub foldable_row : (set : Setting) (s : ℕ) (list : List Fact) (names : List (List ℕ)) (kept : List (List Record)) (k : ℕ) → names ≡ set.names → kept ≡ journals_of names list
-    → IsTrue (list_all (is_foldable set.config.kind list) (names_of set s)) → k < length names → IsTrue (is_foldable_row set s (slice_index_or names k []) (slice_index_or kept k []))
-foldable_row set s list names kept k same is all h =
-    subst (λ r. IsTrue (is_foldable_row set s (slice_index_or names k []) r)) (sym (ap (λ r. slice_index_or r k []) is ∙ get_or-map (λ e. journal e list) names k [] [] h))
-    (foldable_rows set s list names k [] (subst (λ (ns : List (List ℕ)). IsTrue (list_all (is_foldable set.config.kind list) (filter (λ e. shard_of set e == s) ns))) (sym same) all) h)
+-- the journal at a place leads to a state
+pub foldable_at : (set : Setting) (list : List Fact) (names : List (List ℕ)) (kept : List (List Record)) (k : ℕ) → kept ≡ journals_of names list
+    → IsTrue (list_all (is_foldable set.config.kind list) names) → k < length names → IsTrue (are_foldable (empty_state set.config.kind) (slice_index_or kept k []))
+foldable_at set list names kept k is all h =
+    subst (λ r. IsTrue (are_foldable (empty_state set.config.kind) r)) (sym (ap (λ r. slice_index_or r k []) is ∙ get_or-map (λ e. journal e list) names k [] [] h)) (each names k all h)
+  where
+    each : (ns : List (List ℕ)) (i : ℕ) → IsTrue (list_all (is_foldable set.config.kind list) ns) → i < length ns → IsTrue (is_foldable set.config.kind list (slice_index_or ns i []))
+    each [] i a l = absurd (omega arith)
+    each (n ∷ ns) zero a l = first_of (is_foldable set.config.kind list n) _ a
+    each (n ∷ ns) (suc i) a l = each ns i (second_of (is_foldable set.config.kind list n) _ a) (omega arith)
 
--- the rows of a shard's journals are its entities
-pub rows_are : {C : Type 0} (show : Setting → List ℕ → List Record → List C) (set : Setting) (s : ℕ) (list : List Fact) (names : List (List ℕ)) (kept : List (List Record)) → names ≡ set.names → kept ≡ journals_of names list
-    → rows (row_of show set s) names kept ≡ shard_rows show set s list
+-- a name of a shard is of that shard
+pub in_shard : (set : Setting) (s : ℕ) (names : List (List ℕ)) (k : ℕ) → names ≡ names_of set s → k < length names → shard_of set (slice_index_or names k []) ≡ s
+in_shard set s names k is h = subst (λ (l : List (List ℕ)). shard_of set (slice_index_or l k []) ≡ s) (sym is) (each set.names k (subst (λ (l : List (List ℕ)). k < length l) is h))
+  where
+    same : (n : List ℕ) → shard_of set n == s ≡ true → shard_of set n ≡ s
+    same n t = grind (arith, nat_tests)
+
+    at : (n : List ℕ) (ns : List (List ℕ)) → ((j : ℕ) → j < length ns → shard_of set (slice_index_or ns j []) ≡ s) → (b : Bool) → shard_of set n == s ≡ b → (j : ℕ) → j < length (cond b (n ∷ ns) ns)
+        → shard_of set (slice_index_or (cond b (n ∷ ns) ns) j []) ≡ s
+    at n ns rest true t zero m = same n t
+    at n ns rest true t (suc j) m = rest j (omega arith)
+    at n ns rest false t j m = rest j m
+
+    each : (ns : List (List ℕ)) (i : ℕ) → i < length (filter (λ e. shard_of set e == s) ns) → shard_of set (slice_index_or (filter (λ e. shard_of set e == s) ns) i []) ≡ s
+    each [] i l = absurd (omega arith)
+    each (n ∷ ns) i l = at n (filter (λ e. shard_of set e == s) ns) (each ns) (shard_of set n == s) refl i l
+
+-- the rows of a shard's names with their journals
+pub rows_are : {C : Type 0} (show : Setting → List ℕ → List Record → List C) (set : Setting) (s : ℕ) (list : List Fact) (names : List (List ℕ)) (kept : List (List Record)) → names ≡ names_of set s → kept ≡ journals_of names list
+    → rows (show set) names kept ≡ shard_rows show set s list
 rows_are show set s list names kept same is =
-    ap (rows (row_of show set s) names) is ∙ (rows_map (row_of show set s) (λ e. journal e list) names
-    ∙ (ap (λ (ns : List (List ℕ)). flat_map (λ e. row_of show set s e (journal e list)) ns) same ∙ shard_rows_are show set s list set.names))
+    ap (rows (show set) names) is ∙ (rows_map (show set) (λ e. journal e list) names ∙ ap (flat_map (λ e. show set e (journal e list))) same)
 
 -- the rows of a queue's counts are its pairs
 pub tallies_are : {C : Type 0} (show : ℕ → List ℕ → Tally → List C) (p : ℕ) (list : List Fact) (all names : List (List ℕ)) (kept : List Tally) → names ≡ all → kept ≡ tallies_of names list
@@ -158,11 +148,3 @@ tallies_are show p list all names kept same is = ap (rows (show p) names) is ∙
 -- four parts, one behind the other
 pub four_parts : (start r f q e one two three : Bytes) → one ≡ start ++ r → two ≡ one ++ f → three ≡ two ++ q → three ++ e ≡ start ++ (r ++ f ++ q ++ e)
 four_parts start r f q e one two three first second third = rw (third, second, first) (simp append_assoc)
-
--- a name without a record shows nothing
-pub no_row : {C : Type 0} (show : Setting → List ℕ → List Record → List C) → ((set : Setting) (e : List ℕ) → show set e [] ≡ []) → (set : Setting) (s : ℕ) (e : List ℕ) → row_of show set s e [] ≡ []
-no_row show none set s e = one (shard_of set e == s)
-  where
-    one : (b : Bool) → cond b (show set e []) [] ≡ []
-    one true = none set e
-    one false = refl

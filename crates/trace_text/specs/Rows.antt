@@ -1,29 +1,19 @@
 -- Entities of a shard, with their journals beside their names; pairs, with their counts beside their names. What is shown of each is a list: of bytes, or of JSON values.
-use Rattle.std.specs.Prelude.{ℕ, Bool, true, ◌==◌, List, [], ◌∷◌, ◌++◌, if◌then◌else◌, codes, decimal}
+use Rattle.std.specs.Prelude.{ℕ, ◌==◌, List, [], ◌∷◌, ◌++◌, if◌then◌else◌, codes, decimal}
 use Rattle.std.specs.List.{flat_map}
 use Rattle.yard_model.specs.declared.fact.Fact.{Fact}
 use Rattle.yard_model.specs.declared.packet.Record.{Record}
-use Rattle.yard_model.specs.Behaviour.{empty_state}
 use Rattle.yard_model.specs.Script.{Setting}
-use Rattle.yard_model.specs.Setting.{shard_of, names_of}
+use Rattle.yard_model.specs.Setting.{names_of}
 use Rattle.yard_model.specs.SlotReads.{journal}
 use Rattle.yard_model.specs.Text.{Bytes, line}
 use Rattle.trace_text.specs.declared.queues.Tally.{Tally}
-use Rattle.trace_text.specs.Foldable.{are_foldable}
 use Rattle.trace_text.specs.Places.{tally_of}
 
 -- two lists of equal length, side by side
 abbrev pub rows : {A B C : Type 0} → (A → B → List C) → List A → List B → List C
 rows show (x ∷ xs) (y ∷ ys) = show x y ++ rows show xs ys
 rows show xs ys = []
-
--- what is shown of a name with this journal, where it is of this shard
-abbrev pub row_of : {C : Type 0} → (Setting → List ℕ → List Record → List C) → Setting → ℕ → List ℕ → List Record → List C
-row_of show set s e records = if shard_of set e == s then show set e records else []
-
--- its journal leads to a state, where it is of this shard
-abbrev pub is_foldable_row : Setting → ℕ → List ℕ → List Record → Bool
-is_foldable_row set s e records = if shard_of set e == s then are_foldable (empty_state set.config.kind) records else true
 
 -- what is shown of the entities of a shard that has this list
 abbrev pub shard_rows : {C : Type 0} → (Setting → List ℕ → List Record → List C) → Setting → ℕ → List Fact → List C

@@ -1,4 +1,5 @@
 //! An entity's lines in the report.
+ghost use Rattle.trace_text.specs.Places.{lent};
 ghost use Rattle.std.specs.Prelude.{◌≡◌, ◌++◌, ◌∷◌, [], OnOk, IsTrue, codes, decimal, fold, length};
 ghost use Rattle.std.specs.List.{flat_map};
 ghost use Rattle.yard_model.specs.Behaviour.{apply, are_applicable, after_record, empty_state, folded};
@@ -19,11 +20,11 @@ pub(crate) fn push_entity(
     charter: &Charter,
     s: ShardNo,
     name: &EntityName,
-    records: &[Record],
+    records: &[&Record],
 ) -> Result<(), AllocError>
     requires shard { shard_of (setting charter.now) name.now ≡ s }
-    requires foldable { IsTrue (are_foldable (empty_state charter.now.config.kind) records.now) }
-    ensures { OnOk result (text.new.items ≡ text.old.items ++ entity_lines (setting charter.now) name.now records.now) }
+    requires foldable { IsTrue (are_foldable (empty_state charter.now.config.kind) (lent records.now)) }
+    ensures { OnOk result (text.new.items ≡ text.old.items ++ entity_lines (setting charter.now) name.now (lent records.now)) }
 {
     if records.is_empty() {
         return Ok(());
@@ -37,10 +38,10 @@ fn push_entity_line(
     kind: Kind,
     s: ShardNo,
     name: &EntityName,
-    records: &[Record],
+    records: &[&Record],
 ) -> Result<(), AllocError>
-    requires { IsTrue (are_foldable (empty_state kind) records.now) }
-    ensures { OnOk result (text.new.items ≡ text.old.items ++ line (codes "entity" ∷ name.now ∷ codes "shard" ∷ decimal s ∷ codes "records" ∷ decimal (length records.now) ∷ codes "state" ∷ state_text (folded kind records.now) ∷ [])) }
+    requires { IsTrue (are_foldable (empty_state kind) (lent records.now)) }
+    ensures { OnOk result (text.new.items ≡ text.old.items ++ line (codes "entity" ∷ name.now ∷ codes "shard" ∷ decimal s ∷ codes "records" ∷ decimal (length (lent records.now)) ∷ codes "state" ∷ state_text (folded kind (lent records.now)) ∷ [])) }
 {
     push_entity_head(text, s, name)?;
     push_with_number(text, b" records", records.len() as u64)?;
@@ -57,8 +58,8 @@ fn push_entity_head(text: &mut Vec<u8>, s: ShardNo, name: &EntityName) -> Result
     push_with_number(text, b" shard", u64::from(s.get()))
 }
 
-fn push_records(text: &mut Vec<u8>, records: &[Record]) -> Result<(), AllocError>
-    ensures { OnOk result (text.new.items ≡ text.old.items ++ flat_map (λ x. line (codes "record" ∷ record_words x)) records.now) }
+fn push_records(text: &mut Vec<u8>, records: &[&Record]) -> Result<(), AllocError>
+    ensures { OnOk result (text.new.items ≡ text.old.items ++ flat_map (λ x. line (codes "record" ∷ record_words x)) (lent records.now)) }
 {
     for written in records {
         push_record_line(text, written)?;
@@ -76,9 +77,9 @@ fn push_record_line(text: &mut Vec<u8>, written: &Record) -> Result<(), AllocErr
 
 /// The state that a journal leads to.
 #[tactic(auto, using(crate::proofs::FoldLaws::foldable_first, crate::proofs::FoldLaws::foldable_next))]
-pub(crate) fn state_after(kind: Kind, records: &[Record]) -> State
-    requires { IsTrue (are_foldable (empty_state kind) records.now) }
-    ensures { result ≡ folded kind records.now }
+pub(crate) fn state_after(kind: Kind, records: &[&Record]) -> State
+    requires { IsTrue (are_foldable (empty_state kind) (lent records.now)) }
+    ensures { result ≡ folded kind (lent records.now) }
 {
     let mut state = State::empty(kind);
     for written in records {

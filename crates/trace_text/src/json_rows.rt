@@ -1,4 +1,5 @@
 //! The report as JSON: each entity and each pair as a value.
+ghost use Rattle.trace_text.specs.Places.{lent};
 ghost use Rattle.std.specs.Prelude.{◌≡◌, IfOk, IsTrue, map};
 ghost use Rattle.std.specs.Str.{IsUtf8};
 ghost use Rattle.serde_json.specs.Data.{string};
@@ -98,8 +99,8 @@ fn record_value(alloc: Global, written: &Record) -> Result<Value, AllocError>
 }
 
 /// A journal.
-fn records_value(alloc: Global, records: &[Record]) -> Result<Value, AllocError>
-    ensures { IfOk result (λ v. view v ≡ list_json (map record_json records.now)) }
+fn records_value(alloc: Global, records: &[&Record]) -> Result<Value, AllocError>
+    ensures { IfOk result (λ v. view v ≡ list_json (map record_json (lent records.now))) }
 {
     let mut values: Vec<Value> = Vec::new(alloc);
     for written in records {
@@ -114,10 +115,10 @@ fn entity_value(
     kind: Kind,
     s: ShardNo,
     name: &EntityName,
-    records: &[Record],
+    records: &[&Record],
 ) -> Result<Value, AllocError>
-    requires { IsTrue (are_foldable (empty_state kind) records.now) }
-    ensures { IfOk result (λ v. view v ≡ entity_value kind s name.now records.now) }
+    requires { IsTrue (are_foldable (empty_state kind) (lent records.now)) }
+    ensures { IfOk result (λ v. view v ≡ entity_value kind s name.now (lent records.now)) }
 {
     let entity = name_value(alloc, name)?;
     let journal = records_value(alloc, records)?;
@@ -173,7 +174,7 @@ impl ReportRows for Vec<Value> {
         charter: &Charter,
         s: ShardNo,
         name: &EntityName,
-        records: &[Record],
+        records: &[&Record],
     ) -> Result<(), AllocError> {
         if records.is_empty() {
             return Ok(());
@@ -196,6 +197,4 @@ impl ReportRows for Vec<Value> {
         let value = pair_value(alloc, p, name, tally)?;
         Ok(self.push(value)?)
     }
-
-    ghost no_records = { λ set e. refl };
 }

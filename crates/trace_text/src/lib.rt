@@ -18,6 +18,7 @@ mod records;
 mod report;
 mod report_rows;
 mod room;
+mod shards;
 mod slots;
 mod text_rows;
 mod values;

@@ -15,6 +15,7 @@ ghost use Rattle.trace_text.specs.Rows.{rows, queue_rows, tally_text};
 
 use crate::basics::{push, push_number, push_with_number};
 use crate::report_rows::ReportRows;
+use name_index::NameIndex;
 use std::alloc::{AllocError, Global};
 use yard_model::{Charter, EntityName, Lists, ProducerNo, QueueEntry};
 
@@ -43,8 +44,22 @@ pub(crate) fn push_queues<R: ReportRows, T: Lists>(
 ) -> Result<(), AllocError>
     ensures { OnOk result (R.parts out.new ≡ R.parts out.old ++ flat_map (λ p. queue_rows R.pair_parts p (queue_list (T.lists stores.now) p) (setting charter.now).names) (producers (setting charter.now))) }
 {
+    let names = NameIndex::new(alloc, charter)?;
+    push_each_queue(out, alloc, charter, &names, stores)
+}
+
+/// The pairs of all queues, of these names.
+fn push_each_queue<R: ReportRows, T: Lists>(
+    out: &mut R,
+    alloc: Global,
+    charter: &Charter,
+    names: &NameIndex,
+    stores: &T,
+) -> Result<(), AllocError>
+    ensures { OnOk result (R.parts out.new ≡ R.parts out.old ++ flat_map (λ p. queue_rows R.pair_parts p (queue_list (T.lists stores.now) p) names.now) (producers (setting charter.now))) }
+{
     for i in 0..charter.config().producers {
-        push_queue(out, alloc, charter, stores, i + 1)?;
+        push_queue(out, alloc, names, stores, i + 1)?;
     }
     Ok(())
 }
@@ -53,16 +68,16 @@ pub(crate) fn push_queues<R: ReportRows, T: Lists>(
 fn push_queue<R: ReportRows, T: Lists>(
     out: &mut R,
     alloc: Global,
-    charter: &Charter,
+    names: &NameIndex,
     stores: &T,
     i: u8,
 ) -> Result<(), AllocError>
     requires low { 0 < i }
     requires high { i < 33 }
-    ensures { OnOk result (R.parts out.new ≡ R.parts out.old ++ queue_rows R.pair_parts i (queue_list (T.lists stores.now) i) (setting charter.now).names) }
+    ensures { OnOk result (R.parts out.new ≡ R.parts out.old ++ queue_rows R.pair_parts i (queue_list (T.lists stores.now) i) names.now) }
 {
     match ProducerNo::new(i) {
-        Some(p) => push_queue_list(out, alloc, charter, p, stores.queue(p)),
+        Some(p) => push_queue_list(out, alloc, names, p, stores.queue(p)),
         None => unreachable!(),
     }
 }
@@ -70,15 +85,14 @@ fn push_queue<R: ReportRows, T: Lists>(
 fn push_queue_list<R: ReportRows>(
     out: &mut R,
     alloc: Global,
-    charter: &Charter,
+    names: &NameIndex,
     p: ProducerNo,
     list: &[QueueEntry],
 ) -> Result<(), AllocError>
-    ensures { OnOk result (R.parts out.new ≡ R.parts out.old ++ queue_rows R.pair_parts p (map (queue_fact p) list.now) (setting charter.now).names) }
+    ensures { OnOk result (R.parts out.new ≡ R.parts out.old ++ queue_rows R.pair_parts p (map (queue_fact p) list.now) names.now) }
 {
-    let names = charter.names();
     let tallies = tallies_of_list(alloc, names, list)?;
-    push_tallies(out, p, names, tallies.as_slice())
+    push_tallies(out, p, names.as_slice(), tallies.as_slice())
 }
 
 /// Each name with its counts, which stand at the places of the names.
@@ -131,13 +145,12 @@ fn push_pair_of_queue(
 /// The counts of these names, each at the place of its name.
 fn tallies_of_list(
     alloc: Global,
-    names: &[EntityName],
+    names: &NameIndex,
     list: &[QueueEntry],
 ) -> Result<Vec<Tally>, AllocError>
-    requires { IsStrictlySortedBy (slice_cmp nat_cmp) names.now }
     ensures { IfOk result (λ all. (p : ℕ) → all.items ≡ tallies_of names.now (map (queue_fact p) list.now)) }
 {
-    let mut tallies = no_tallies(alloc, names)?;
+    let mut tallies = no_tallies(alloc, names.as_slice())?;
     for entry in list {
         count_entry(&mut tallies, names, entry);
     }
@@ -148,7 +161,7 @@ fn tallies_of_list(
 fn no_tallies(alloc: Global, names: &[EntityName]) -> Result<Vec<Tally>, AllocError>
     ensures { IfOk result (λ all. all.items ≡ tallies_of names.now []) }
 {
-    let mut tallies = Vec::new(alloc);
+    let mut tallies = Vec::with_capacity(alloc, names.len())?;
     for _ in names {
         tallies.push(Tally::NONE)?;
     }
@@ -156,7 +169,7 @@ fn no_tallies(alloc: Global, names: &[EntityName]) -> Result<Vec<Tally>, AllocEr
 }
 
 /// One entry more, where its name is among them.
-fn count_entry(tallies: &mut Vec<Tally>, names: &[EntityName], entry: &QueueEntry)
+fn count_entry(tallies: &mut Vec<Tally>, names: &NameIndex, entry: &QueueEntry)
     requires sorted { IsStrictlySortedBy (slice_cmp nat_cmp) names.now }
     requires length { length tallies.old.items ≡ length names.now }
     requires room { (k : ℕ) (d : Tally) → k < length names.now → (slice_index_or tallies.old.items k d).queued + 1 < 2 ^ 64 }
@@ -165,12 +178,12 @@ fn count_entry(tallies: &mut Vec<Tally>, names: &[EntityName], entry: &QueueEntr
 {
     match entry {
         QueueEntry::Queued(name, _, _) => {
-            if let Ok(place) = names.binary_search(name) {
+            if let Some(place) = names.find(name) {
                 tallies[place].queued += 1;
             }
         }
         QueueEntry::Confirmed(name, number) => {
-            if let Ok(place) = names.binary_search(name) {
+            if let Some(place) = names.find(name) {
                 tallies[place].confirmed = *number;
             }
         }

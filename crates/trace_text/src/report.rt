@@ -1,24 +1,30 @@
 //! The report: what the lists of all slots come to, as a text and as JSON.
+ghost use Rattle.trace_text.specs.Places.{lent_all};
 ghost use Rattle.std.specs.Prelude.{◌≡◌, ℕ, ◌++◌, ◌<◌, [], IfOk, OnOk, IsTrue, length, map, slice_index_or, string_bytes};
 ghost use Rattle.std.specs.List.{flat_map, list_all};
+ghost use Rattle.std.specs.List.Sorted.{IsStrictlySortedBy};
+ghost use Rattle.std.specs.Ordering.{nat_cmp};
+ghost use Rattle.std.specs.Cmp.Lexicographic.{slice_cmp};
 ghost use Rattle.serde_json.specs.View.{view};
 ghost use Rattle.serde_json.specs.Written.{compact_text};
+ghost use Rattle.yard_model.specs.Behaviour.{empty_state};
 ghost use Rattle.yard_model.specs.Entry.{shard_fact};
 ghost use Rattle.yard_model.specs.Script.{setting};
-ghost use Rattle.yard_model.specs.Setting.{shards, names_of};
+ghost use Rattle.yard_model.specs.Setting.{shards, shard_of, names_of};
 ghost use Rattle.yard_model.specs.SlotLists.{shard_list};
 ghost use Rattle.yard_model.specs.Text.{report};
-ghost use Rattle.trace_text.specs.Foldable.{is_foldable, is_foldable_shard, is_foldable_in_all};
+ghost use Rattle.trace_text.specs.Foldable.{are_foldable, is_foldable, is_foldable_shard, is_foldable_in_all};
 ghost use Rattle.trace_text.specs.Json.{json_report, json_text};
-ghost use Rattle.trace_text.specs.Rows.{rows, row_of, is_foldable_row, shard_rows};
+ghost use Rattle.trace_text.specs.Rows.{rows, shard_rows};
 
 use crate::basics::push;
 use crate::journals::journals_of_list;
 use crate::json_rows::whole_value;
 use crate::queues::push_queues;
 use crate::report_rows::ReportRows;
+use crate::shards::names_by_shard;
+use name_index::NameIndex;
 use serde_json::Value;
-use shard_extract::shard_of;
 use std::alloc::{AllocError, Global};
 use yard_model::{Charter, EntityName, Lists, Record, ShardEntry, ShardNo};
 
@@ -92,80 +98,68 @@ fn push_entities<R: ReportRows, T: Lists>(
     requires { IsTrue (is_foldable_in_all (setting charter.now) (T.lists stores.now)) }
     ensures { OnOk result (R.parts out.new ≡ R.parts out.old ++ flat_map (λ s. shard_rows R.entity_parts (setting charter.now) s (shard_list (T.lists stores.now) s)) (shards (setting charter.now))) }
 {
+    let names = names_by_shard(alloc, charter)?;
     for i in 0..charter.config().shards {
-        push_shard(out, alloc, charter, stores, i)?;
+        push_shard(out, alloc, charter, stores, i, names[i as usize].as_slice())?;
     }
     Ok(())
 }
 
-/// The entities of the shard of this number.
+/// The entities of the shard of this number, which has these names.
 fn push_shard<R: ReportRows, T: Lists>(
     out: &mut R,
     alloc: Global,
     charter: &Charter,
     stores: &T,
     i: u8,
+    names: &[EntityName],
 ) -> Result<(), AllocError>
     requires shard { i < charter.now.config.shards }
+    requires names { names.now ≡ names_of (setting charter.now) i }
+    requires sorted { IsStrictlySortedBy (slice_cmp nat_cmp) names.now }
     requires foldable { IsTrue (is_foldable_shard (setting charter.now) (T.lists stores.now) i) }
     ensures { OnOk result (R.parts out.new ≡ R.parts out.old ++ shard_rows R.entity_parts (setting charter.now) i (shard_list (T.lists stores.now) i)) }
 {
     match ShardNo::new(i, charter.config().shards) {
-        Some(s) => push_shard_list(out, alloc, charter, s, stores.shard(s)),
+        Some(s) => push_shard_list(out, alloc, charter, s, names, stores.shard(s)),
         None => unreachable!(),
     }
 }
 
+/// The entities of a shard that has these names and this list.
 fn push_shard_list<R: ReportRows>(
     out: &mut R,
     alloc: Global,
     charter: &Charter,
     s: ShardNo,
+    names: &[EntityName],
     list: &[ShardEntry],
 ) -> Result<(), AllocError>
-    requires { IsTrue (list_all (is_foldable charter.now.config.kind (map (shard_fact s) list.now)) (names_of (setting charter.now) s)) }
+    requires names { names.now ≡ names_of (setting charter.now) s }
+    requires sorted { IsStrictlySortedBy (slice_cmp nat_cmp) names.now }
+    requires foldable { IsTrue (list_all (is_foldable charter.now.config.kind (map (shard_fact s) list.now)) names.now) }
     ensures { OnOk result (R.parts out.new ≡ R.parts out.old ++ shard_rows R.entity_parts (setting charter.now) s (map (shard_fact s) list.now)) }
 {
-    let names = charter.names();
-    let journals = journals_of_list(alloc, names, list)?;
+    let index = NameIndex::of_names(alloc, names)?;
+    let journals = journals_of_list(alloc, &index, list)?;
     push_journals(out, charter, s, names, journals.as_slice())
 }
 
-/// Of these journals, each at the place of its name, those of the shard.
+/// These journals of a shard, each at the place of its name.
 fn push_journals<R: ReportRows>(
     out: &mut R,
     charter: &Charter,
     s: ShardNo,
     names: &[EntityName],
-    journals: &[Vec<Record>],
+    journals: &[Vec<&Record>],
 ) -> Result<(), AllocError>
     requires places { length journals.now ≡ length names.now }
-    requires foldable { (k : ℕ) → k < length names.now → IsTrue (is_foldable_row (setting charter.now) s (slice_index_or names.now k []) (slice_index_or (map (λ v. v.items) journals.now) k [])) }
-    ensures { OnOk result (R.parts out.new ≡ R.parts out.old ++ rows (row_of R.entity_parts (setting charter.now) s) names.now (map (λ v. v.items) journals.now)) }
+    requires shard { (k : ℕ) → k < length names.now → shard_of (setting charter.now) (slice_index_or names.now k []) ≡ s }
+    requires foldable { (k : ℕ) → k < length names.now → IsTrue (are_foldable (empty_state charter.now.config.kind) (slice_index_or (map lent_all journals.now) k [])) }
+    ensures { OnOk result (R.parts out.new ≡ R.parts out.old ++ rows (R.entity_parts (setting charter.now)) names.now (map lent_all journals.now)) }
 {
     for i in 0..names.len() {
-        push_journal(out, charter, s, &names[i], journals[i].as_slice())?;
+        out.push_entity(charter, s, &names[i], journals[i].as_slice())?;
     }
     Ok(())
-}
-
-/// The journal of this name, where it has a record and is of this shard.
-fn push_journal<R: ReportRows>(
-    out: &mut R,
-    charter: &Charter,
-    s: ShardNo,
-    name: &EntityName,
-    journal: &[Record],
-) -> Result<(), AllocError>
-    requires { IsTrue (is_foldable_row (setting charter.now) s name.now journal.now) }
-    ensures { OnOk result (R.parts out.new ≡ R.parts out.old ++ row_of R.entity_parts (setting charter.now) s name.now journal.now) }
-{
-    if journal.is_empty() {
-        return Ok(());
-    }
-    if shard_of(name, charter.config().shards) == s {
-        out.push_entity(charter, s, name, journal)
-    } else {
-        Ok(())
-    }
 }

@@ -1,4 +1,5 @@
 //! What a report is made of: entities with their records, and pairs of producer and entity.
+ghost use Rattle.trace_text.specs.Places.{lent};
 ghost use Rattle.std.specs.Prelude.{◌≡◌, ℕ, ◌++◌, List, [], OnOk, IsTrue};
 ghost use Rattle.yard_model.specs.declared.packet.Record.{Record};
 ghost use Rattle.yard_model.specs.Behaviour.{empty_state};
@@ -27,11 +28,11 @@ pub(crate) trait ReportRows {
         charter: &Charter,
         s: ShardNo,
         name: &EntityName,
-        records: &[Record],
+        records: &[&Record],
     ) -> Result<(), AllocError>
         requires shard { shard_of (setting charter.now) name.now ≡ s }
-        requires foldable { IsTrue (are_foldable (empty_state charter.now.config.kind) records.now) }
-        ensures { OnOk result (parts self.new ≡ parts self.old ++ entity_parts (setting charter.now) name.now records.now) };
+        requires foldable { IsTrue (are_foldable (empty_state charter.now.config.kind) (lent records.now)) }
+        ensures { OnOk result (parts self.new ≡ parts self.old ++ entity_parts (setting charter.now) name.now (lent records.now)) };
 
     /// Appends a pair with its counts.
     fn push_pair(
@@ -41,6 +42,4 @@ pub(crate) trait ReportRows {
         tally: &Tally,
     ) -> Result<(), AllocError>
         ensures { OnOk result (parts self.new ≡ parts self.old ++ pair_parts p name.now tally.now) };
-
-    ghost no_records: { (set : Setting) (e : List ℕ) → entity_parts set e [] ≡ [] };
 }

@@ -25,7 +25,7 @@ impl ReportRows for Vec<u8> {
         charter: &Charter,
         s: ShardNo,
         name: &EntityName,
-        records: &[Record],
+        records: &[&Record],
     ) -> Result<(), AllocError> {
         push_entity(self, charter, s, name, records)
     }
@@ -38,6 +38,4 @@ impl ReportRows for Vec<u8> {
     ) -> Result<(), AllocError> {
         push_tally(self, p, name, tally)
     }
-
-    ghost no_records = { λ set e. refl };
 }

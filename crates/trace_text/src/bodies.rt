@@ -1,5 +1,5 @@
 //! What packets say.
-ghost use Rattle.std.specs.Prelude.{◌≡◌, ◌+◌, ◌*◌, ◌<◌, ◌≤◌, ◌++◌, ◌∷◌, [], codes, decimal, length, map, take};
+ghost use Rattle.std.specs.Prelude.{◌≡◌, ◌+◌, ◌*◌, ◌<◌, ◌≤◌, ◌++◌, ◌∷◌, [], codes, decimal, length, map, drop, take};
 ghost use Rattle.std.specs.List.{join_with_byte};
 ghost use Rattle.yard_model.specs.Text.{words, body_words, command_text, incarnation_text, stamp_text};
 ghost use Rattle.trace_text.specs.Behind.{behind, members_text};
@@ -227,20 +227,24 @@ fn put_view(cells: &mut [u8], at: usize, version: u32, members: &Members) -> usi
     put_members(cells, at, members)
 }
 
-#[tactic(auto, using(crate::proofs::Joined::members_behind))]
+#[tactic(auto, using(crate::proofs::Joined::members_from, crate::proofs::Joined::no_members))]
 fn put_members(cells: &mut [u8], at: usize, members: &Members) -> usize
     requires room { at + 240 ≤ length cells.old }
     ensures items { take result cells.new ≡ take at cells.old ++ members_text members.now }
     ensures end { result ≤ at + 240 }
 {
+    if members.len() == 0 {
+        return at;
+    }
     match members.get(0) {
         Some(first) => put_joined_members(cells, at, &first, members),
-        None => at,
+        None => unreachable!(),
     }
 }
 
 fn put_joined_members(cells: &mut [u8], at: usize, first: &Incarnation, members: &Members) -> usize
-    requires { at + (13 + 14 * length members.now) ≤ length cells.old }
+    requires some { 0 < length members.now }
+    requires room { at + (13 + 14 * length members.now) ≤ length cells.old }
     ensures items { take result cells.new ≡ take at cells.old ++ (incarnation_text first.now ++ behind (44 ∷ []) incarnation_text (drop 1 members.now)) }
     ensures end { result ≤ at + (13 + 14 * length members.now) }
 {
@@ -249,7 +253,8 @@ fn put_joined_members(cells: &mut [u8], at: usize, first: &Incarnation, members:
 }
 
 fn put_members_behind(cells: &mut [u8], at: usize, members: &Members) -> usize
-    requires { at + (14 * length members.now) ≤ length cells.old }
+    requires some { 0 < length members.now }
+    requires room { at + (14 * length members.now) ≤ length cells.old }
     ensures items { take result cells.new ≡ take at cells.old ++ behind (44 ∷ []) incarnation_text (drop 1 members.now) }
     ensures end { result ≤ at + 14 * length members.now }
 {

@@ -1,5 +1,6 @@
 mod PairLaws
 mod RuleLaws
+mod NamedLaws
 mod BegunLaws
 mod ProducingLaws
 mod PlainLaws

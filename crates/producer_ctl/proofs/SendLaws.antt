@@ -9,10 +9,11 @@ use Rattle.yard_model.specs.declared.incarnation.Incarnation.{Incarnation}
 use Rattle.yard_model.specs.Genuine.{is_producer, is_brought}
 use Rattle.yard_model.specs.Producer.{Producer, Progress, message_of, next_sending, no_progress}
 use Rattle.yard_model.specs.Script.{Script, setting, sends}
+use Rattle.yard_model.specs.Setting.{shard_of}
 use Rattle.yard_model.specs.SlotReads.{confirmed, queued_in_all}
 use Rattle.yard_model.specs.Words.{at, numbers}
 use Rattle.durable_queue.specs.Queue.{Queue}
-use Rattle.plain_laws.proofs.Lists.{none_is_not_some}
+use Rattle.plain_laws.proofs.Lists.{none_is_not_some, some_is}
 use Rattle.producer_ctl.specs.declared.pair.Pair.{Pair}
 use Rattle.producer_ctl.specs.declared.producers.Pending.{Pending}
 use Rattle.producer_ctl.specs.Paired.{IsPair, IsPlace, name_at, no_pair, numbers_of, progress_of}
@@ -108,6 +109,54 @@ message_is e {c} {who} {names} {items} {tables} {pending} {v} {x} {i} {o} {m} k 
     both : (o : Option Produced) → option_map (λ st. message_of (name_at (setting c).names x.at) st (x.sends.after + 1)) (option_map state_of o) ≡ option_map (λ k. message_of (name_at (setting c).names x.at) k.state (x.sends.after + 1)) o
     both None = refl
     both (Some k) = refl
+
+-- What is left.
+
+-- none, where the last was sent
+pub none_left : (items : List (Option Produced)) (pending : Option Pending) {c : Script} {who : Incarnation} {v : Producing} {x : Pending} → producing c who items pending ≡ v → pending ≡ Some x → x.sends.last ≤ x.sends.after → v.pending.numbers ≡ []
+none_left items pending {c} {who} {v} {x} seen some past =
+    subst (λ (v : Producing). v.pending.numbers ≡ []) seen (subst (λ y. (producing c who items y).pending.numbers ≡ []) (sym some) (ap (numbers (x.sends.after + 1)) (no_more x.sends.after x.sends.last past)))
+  where
+    no_more : (a b : ℕ) → b ≤ a → b + 1 - (a + 1) ≡ 0
+    no_more a b h = omega (arith, h)
+
+-- or where there is nothing
+pub nothing_left : (items : List (Option Produced)) (pending : Option Pending) {c : Script} {who : Incarnation} {v : Producing} → producing c who items pending ≡ v → pending ≡ None → v.pending.numbers ≡ []
+nothing_left items pending {c} {who} {v} seen none = subst (λ (v : Producing). v.pending.numbers ≡ []) seen (subst (λ y. (producing c who items y).pending.numbers ≡ []) (sym none) refl)
+
+-- some, where one wasn't
+pub some_left : (items : List (Option Produced)) (pending : Option Pending) {c : Script} {who : Incarnation} {v : Producing} {x : Pending} → producing c who items pending ≡ v → pending ≡ Some x → x.sends.after < x.sends.last → 0 < length v.pending.numbers
+some_left items pending {c} {who} {v} {x} seen some below =
+    subst (λ (v : Producing). 0 < length v.pending.numbers) seen (subst (λ y. 0 < length (producing c who items y).pending.numbers) (sym some)
+    (subst (λ l. 0 < length l) (sym (numbers_step x.sends.after x.sends.last below)) (first (length (numbers_of (record { after = x.sends.after + 1; last = x.sends.last }))))))
+  where
+    first : (n : ℕ) → 0 < suc n
+    first n = omega arith
+
+pub left_below : (items : List (Option Produced)) (pending : Option Pending) {c : Script} {who : Incarnation} {v : Producing} {x : Pending} → producing c who items pending ≡ v → pending ≡ Some x → 0 < length v.pending.numbers → x.sends.after < x.sends.last
+left_below items pending {c} {who} {v} {x} seen some left =
+    by (x.sends.last + 1 - (x.sends.after + 1)) refl (subst (λ y. 0 < length (producing c who items y).pending.numbers) some (subst (λ (v : Producing). 0 < length v.pending.numbers) (sym seen) left))
+  where
+    by : (n : ℕ) → x.sends.last + 1 - (x.sends.after + 1) ≡ n → 0 < length (numbers (x.sends.after + 1) n) → x.sends.after < x.sends.last
+    by zero e h = omega (arith, h)
+    by (suc n) e h = omega (arith, e)
+
+-- to whom it goes
+pub left_entity : (items : List (Option Produced)) (pending : Option Pending) {c : Script} {who : Incarnation} {v : Producing} {x : Pending} → producing c who items pending ≡ v → pending ≡ Some x → v.pending.entity ≡ name_at (setting c).names x.at
+left_entity items pending {c} {who} {v} {x} seen some = subst (λ (v : Producing). v.pending.entity ≡ name_at (setting c).names x.at) seen (subst (λ y. (producing c who items y).pending.entity ≡ name_at (setting c).names x.at) (sym some) refl)
+
+pub left_shard : (items : List (Option Produced)) (pending : Option Pending) (s : ℕ) {c : Script} {who : Incarnation} {v : Producing} {x : Pending} → producing c who items pending ≡ v → pending ≡ Some x → s ≡ shard_of (setting c) (name_at (setting c).names x.at) → s ≡ shard_of (setting v.script) v.pending.entity
+left_shard items pending s {c} {who} {v} {x} seen some is =
+    is ∙ (ap (shard_of (setting c)) (sym (left_entity items pending seen some)) ∙ ap (λ (c : Script). shard_of (setting c) v.pending.entity) (ap (λ (v : Producing). v.script) seen))
+
+-- a message goes to whom they go
+pub message_to : (v : Producing) (m : Message) → next_message v ≡ Some m → m.entity ≡ v.pending.entity
+message_to v m is = by (first_of v.pending.numbers) (held v.pending.producer v) is
+  where
+    by : (n : Option ℕ) (o : Option Producer) → option_and_then (λ n. option_map (λ st. message_of v.pending.entity st n) o) n ≡ Some m → m.entity ≡ v.pending.entity
+    by None o e = absurd (none_is_not_some m e)
+    by (Some n) None e = absurd (none_is_not_some m e)
+    by (Some n) (Some st) e = ap (λ (m : Message). m.entity) (sym (some_is (message_of v.pending.entity st n) m e))
 
 -- where nothing is to be routed, nothing changes
 pub none_after : {c : Script} {who : Incarnation} {v : Producing} (items : List (Option Produced)) (pending : Option Pending) → producing c who items pending ≡ v → pending ≡ None → producing c who items pending ≡ after_message v

@@ -1,3 +1,4 @@
+pub mod Named
 pub mod Paired
 pub mod Produced
 pub mod Producing

@@ -5,6 +5,7 @@
 
 mod held;
 mod laws;
+mod names;
 mod pair;
 mod place;
 mod producer;

@@ -1,5 +1,5 @@
 //! The producers of a node.
-ghost use Rattle.std.specs.Prelude.{◌≡◌, ℕ, ◌+◌, ◌-◌, ◌<◌, ◌≤◌, List, [], ◌∷◌, length, replicate, true, None, Some, IfOk, OnOk, IfSome, MatchOption, is_some, slice_index_or, slice_set};
+ghost use Rattle.std.specs.Prelude.{◌≡◌, ℕ, ◌+◌, ◌-◌, ◌<◌, ◌≤◌, List, [], ◌∷◌, length, replicate, true, None, Some, IfOk, OnOk, IfSome, IfNone, MatchOption, is_some, slice_index_or, slice_set};
 ghost use Rattle.std.specs.List.{list_any};
 ghost use Rattle.std.specs.List.Sorted.{IsStrictlySortedBy};
 ghost use Rattle.std.specs.Option.{option_and_then, option_map};
@@ -12,6 +12,7 @@ ghost use Rattle.yard_model.specs.Genuine.{is_brought, is_producer};
 ghost use Rattle.yard_model.specs.Move.{told};
 ghost use Rattle.yard_model.specs.Producer.{give_back, next_sending};
 ghost use Rattle.yard_model.specs.Script.{setting, sends, is_name};
+ghost use Rattle.yard_model.specs.Setting.{shard_of};
 ghost use Rattle.yard_model.specs.SlotReads.{holder, epoch, queued};
 ghost use Rattle.yard_model.specs.Turns.{where_some};
 ghost use Rattle.yard_model.specs.Words.{at};
@@ -25,17 +26,17 @@ use crate::held::{
     ack_in, demand_in, knows_in, message_in, next_in, next_waiting_in, queue_in, resend_in,
     reserve_in, tick_in,
 };
+use crate::names::Names;
 use crate::pair::Sends;
 use crate::place::Place;
 use crate::producer::{Producer, push};
 use crate::table::Table;
 use durable_queue::QueueStore;
-use name_index::NameIndex;
 use std::alloc::{AllocError, Global};
 use std::marker::{Model, PhantomData};
-use std::snapshot::Snapshot;
 use yard_model::{
-    Cause, Charter, EntityName, Fact, Incarnation, Item, Message, Out, ProducerNo, Sending, Slot,
+    Cause, Charter, EntityName, Fact, Incarnation, Item, Message, Out, ProducerNo, Sending,
+    ShardNo, Slot,
 };
 
 /// For how many entries a turn may write to a queue that is held there is room.
@@ -61,9 +62,8 @@ pub(crate) struct Pending {
 /// the confirmed number and the window.
 #[derive(Drop)]
 pub struct Producers {
-    script: Snapshot<Charter>,
+    names: Names,
     who: Incarnation,
-    names: NameIndex,
     held: Vec<Option<Producer>>,
     tables: Vec<Option<Table>>,
     pending: Option<Pending>,
@@ -71,13 +71,14 @@ pub struct Producers {
 }
 
 impl Model for Producers {
+    ghost use Rattle.yard_model.specs.Script.{setting};
     ghost use Rattle.producer_ctl.specs.Producing.{Producing, IsProducing, producing};
 
     ghost Value = { Producing };
 
-    ghost view = { λ v. producing v.script.value v.who v.held.items v.pending };
+    ghost view = { λ v. producing v.names v.who v.held.items v.pending };
 
-    ghost invariant = { λ v. IsProducing v.script.value v.who v.names v.held.items v.tables.items v.pending };
+    ghost invariant = { λ v. IsProducing v.names v.who (setting v.names).names v.held.items v.tables.items v.pending };
 }
 
 impl Producers {
@@ -86,13 +87,12 @@ impl Producers {
         ensures { IfOk result (λ v. v ≡ record { script = charter.now; who = who; producers = replicate charter.now.config.producers None; rooms = replicate charter.now.config.producers 0; pending = no_routing }) }
     {
         let producers = charter.config().producers;
-        let names = NameIndex::new(alloc, charter)?;
+        let names = Names::new(alloc, charter)?;
         let held = none_held(alloc, producers)?;
         let tables = new_tables(alloc, producers, names.len())?;
         Ok(Producers {
-            script: Snapshot::of(charter),
-            who,
             names,
+            who,
             held,
             tables,
             pending: None,
@@ -313,19 +313,47 @@ impl Producers {
         ensures state { self.new ≡ after_message self.old }
         ensures message { result ≡ next_message self.old }
     {
-        match &mut self.pending {
+        match self.pending_shard() {
+            Some(_) => Some(self.take_message()),
+            None => None,
+        }
+    }
+
+    /// The shard of the name to which the next message goes that is to be routed; None exactly where
+    /// none is left.
+    pub fn pending_shard(&self) -> Option<ShardNo>
+        ensures none { IfNone result (self.now.pending.numbers ≡ []) }
+        ensures some { IfSome result (λ s. 0 < length self.now.pending.numbers) }
+        ensures shard { IfSome result (λ s. s ≡ shard_of (setting self.now.script) self.now.pending.entity) }
+        ensures range { IfSome result (λ s. s < self.now.script.config.shards) }
+    {
+        match &self.pending {
             Some(pending) => {
                 if pending.sends.after >= pending.sends.last {
                     return None;
                 }
-                let number = pending.sends.after + 1;
-                let place = place_of(pending.producer);
-                let entity = name_in(&self.names, pending.at);
-                let message = message_in(&self.held[place], pending.at, entity, number);
-                pending.sends.after = number;
-                Some(message)
+                Some(self.names.shard(pending.at))
             }
             None => None,
+        }
+    }
+
+    /// The next message that is to be routed, where one is left.
+    pub fn take_message(&mut self) -> Message
+        requires left { 0 < length self.old.pending.numbers }
+        ensures state { self.new ≡ after_message self.old }
+        ensures message { next_message self.old ≡ Some result }
+        ensures entity { result.entity ≡ self.old.pending.entity }
+    {
+        match &mut self.pending {
+            Some(pending) => {
+                let number = pending.sends.after + 1;
+                let place = place_of(pending.producer);
+                let entity = self.names.name(pending.at);
+                pending.sends.after = number;
+                message_in(&self.held[place], pending.at, entity, number)
+            }
+            None => unreachable!(),
         }
     }
 
@@ -348,18 +376,10 @@ impl Producers {
         ensures entity { result.entity ≡ name_at (setting self.now.script).names at }
     {
         Place {
-            entity: self.names.as_slice()[at],
+            entity: *self.names.name(at),
             at,
         }
     }
-}
-
-/// The name at a place.
-fn name_in(names: &NameIndex, at: usize) -> &EntityName
-    requires { at < length names.now }
-    ensures { result.now ≡ name_at names.now at }
-{
-    &names.as_slice()[at]
 }
 
 /// The place of a producer, from 0.

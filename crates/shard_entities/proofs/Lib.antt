@@ -20,3 +20,5 @@ mod RoomLaws
 mod ReadyLaws
 mod RestlessLaws
 mod StashLaws
+mod MadeLaws
+mod CellLaws

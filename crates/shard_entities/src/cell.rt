@@ -1,5 +1,5 @@
 //! Where the entity of one name stands.
-ghost use Rattle.std.specs.Prelude.{◌≡◌, ℕ, ◌-◌, ◌<◌, List, length, slice_index_or, IfOk};
+ghost use Rattle.std.specs.Prelude.{◌≡◌, ◌≤◌, ℕ, ◌-◌, ◌<◌, List, length, slice_index_or, IfOk};
 ghost use Rattle.yard_model.specs.declared.fact.Fact.TheVariants as fact;
 ghost use Rattle.yard_model.specs.declared.packet.Body.TheVariants as body;
 ghost use Rattle.yard_model.specs.declared.incarnation.Incarnation.{Incarnation};
@@ -8,51 +8,63 @@ ghost use Rattle.yard_model.specs.declared.state.State.{State};
 ghost use Rattle.yard_model.specs.Move.{told, post, passivates};
 ghost use Rattle.shard_entities.specs.Celled.{celled, celled_after};
 
-use std::alloc::{AllocError, Global};
 use std::marker::{Model, PhantomData};
 use yard_model::{Command, Keep, Message, Phase, ProducerNo, State};
 
+/// How many producers there can be.
+const PRODUCERS: usize = 32;
+
 /// Where the entity of one name stands: its phase, whether it passivates, whether its next write
 /// fails, and up to which number each producer was asked. What is stashed for it is kept elsewhere;
-/// it is seen with a stash of none. Once it is made it takes no memory.
+/// it is seen with a stash of none. It takes no memory.
 #[derive(Drop)]
 pub(crate) struct Cell {
     phase: Phase,
     passivating: bool,
     armed: Option<Keep>,
-    reach: Vec<u32>,
+    producers: u8,
+    reach: [u32; PRODUCERS],
     state: State,
     holds: PhantomData<(Message, Command)>,
 }
 
 impl Model for Cell {
-    ghost use Rattle.std.specs.Prelude.{[]};
+    ghost use Rattle.std.specs.Prelude.{◌≡◌, ◌≤◌, [], length, take};
     ghost use Rattle.shard_entities.specs.Celled.{Celled};
 
     ghost Value = { Celled };
 
     ghost view = { λ c. record {
-      cell = record { phase = c.phase; passivating = c.passivating; stash = []; armed = c.armed; reach = c.reach.items };
+      cell = record { phase = c.phase; passivating = c.passivating; stash = []; armed = c.armed; reach = take c.producers c.reach };
       state = c.state;
       window = 0;
     } };
+
+    ghost invariant = { λ c. (length c.reach ≡ 32) × (c.producers ≤ 32) };
 }
 
 impl Cell {
-    /// Of an entity that wasn't started yet, with so many producers. The only error is want of
-    /// memory.
-    pub(crate) fn new(alloc: Global, producers: u8) -> Result<Cell, AllocError>
-        ensures { IfOk result (λ c. c ≡ celled producers 0) }
+    /// Of an entity that wasn't started yet, with so many producers.
+    pub(crate) fn new(producers: u8) -> Cell
+        requires { producers ≤ 32 }
+        ensures { result ≡ celled producers 0 }
     {
-        let reach = vec![in alloc; 0u32; producers as usize]?;
-        Ok(Cell {
+        Cell {
             phase: Phase::Absent,
             passivating: false,
             armed: None,
-            reach,
+            producers,
+            reach: [0; PRODUCERS],
             state: State::NoAccount,
             holds: PhantomData,
-        })
+        }
+    }
+
+    /// One with as many producers, of an entity that wasn't started yet.
+    pub(crate) fn another(&self) -> Cell
+        ensures { result ≡ celled (length self.now.cell.reach) 0 }
+    {
+        Cell::new(self.producers)
     }
 
     /// Where it is between its start and its end.
@@ -114,7 +126,7 @@ impl Cell {
         ensures { (x : Incarnation) (e : List ℕ) (n : ℕ) (st : State) → self.new ≡ record (celled_after self.old (told (fact.Active x e n st))) { state = state.now } }
     {
         self.phase = Phase::Active;
-        self.reach.fill(0);
+        self.reach = [0; PRODUCERS];
         self.state = *state;
     }
 
@@ -164,7 +176,7 @@ impl Cell {
         self.passivating = false;
         self.armed = None;
         self.state = State::NoAccount;
-        self.reach.fill(0);
+        self.reach = [0; PRODUCERS];
     }
 
     /// A producer was asked up to this number.

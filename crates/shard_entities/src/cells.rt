@@ -1,5 +1,5 @@
 //! The cells of a node's entities, and what is stashed for each.
-ghost use Rattle.std.specs.Prelude.{◌≡◌, ℕ, ◌-◌, ◌*◌, ◌<◌, ◌≤◌, ◌↔◌, List, [], ◌∷◌, ◌++◌, length, drop, replicate, slice_set, slice_index_or, IfOk, MatchOption, IsNone, IfSome, IfNone};
+ghost use Rattle.std.specs.Prelude.{◌≡◌, ℕ, ◌+◌, ◌-◌, ◌*◌, ◌^◌, ◌<◌, ◌≤◌, ◌↔◌, List, [], ◌∷◌, ◌++◌, length, drop, replicate, slice_set, slice_index_or, IfOk, MatchOption, IsNone, IfSome, IfNone, vec_capacity};
 ghost use Rattle.yard_model.specs.declared.fact.Fact.TheVariants as fact;
 ghost use Rattle.yard_model.specs.declared.packet.Body.TheVariants as body;
 ghost use Rattle.yard_model.specs.declared.incarnation.Incarnation.{Incarnation};
@@ -7,7 +7,7 @@ ghost use Rattle.yard_model.specs.declared.input.Phase.TheVariants as phase;
 ghost use Rattle.yard_model.specs.declared.state.State.{State};
 ghost use Rattle.yard_model.specs.Move.{told, post, passivates};
 ghost use Rattle.envelope_pool.specs.Keyed.{list_of};
-ghost use Rattle.shard_entities.specs.Celled.{celled, celled_after, celled_at};
+ghost use Rattle.shard_entities.specs.Celled.{celled, celled_after, celled_at, all_made, AreMade, IsSlot};
 
 use crate::cell::Cell;
 use consumer_ctl::Stash;
@@ -16,26 +16,29 @@ use std::alloc::{AllocError, Global};
 use std::marker::{Model, PhantomData};
 use yard_model::{Command, Keep, Message, Phase, ProducerNo, State};
 
-/// Where the entity of each name stands, by the place of the name, and what is stashed for it. All
-/// stashes lie in one pool, with room for a window of messages for each, so that none is ever in
-/// want of room for another's messages; memory that no stash has come to yet isn't touched.
+/// Where the entity of each name stands, by the place of the name, and what is stashed for it. A cell
+/// is made where its entity is first spoken of; till then it is seen as the first one, which stays as
+/// it is made. All stashes lie in one pool, with room for a window of messages for each, so that none
+/// is ever in want of room for another's messages. Memory that no cell and no stash has come to yet
+/// isn't touched.
 #[derive(Drop)]
 pub(crate) struct Cells {
-    cells: Vec<Cell>,
+    slots: Vec<u16>,
+    made: Vec<Cell>,
     stashes: Pool<Message>,
     window: u8,
     holds: PhantomData<(Message, Command)>,
 }
 
 impl Model for Cells {
-    ghost use Rattle.std.specs.Prelude.{List};
-    ghost use Rattle.shard_entities.specs.Celled.{Celled, AreStashed, all_stashing};
+    ghost use Rattle.std.specs.Prelude.{List, vec_capacity};
+    ghost use Rattle.shard_entities.specs.Celled.{Celled, AreMade, AreStashed, all_made, all_stashing};
 
     ghost Value = { List Celled };
 
-    ghost view = { λ c. all_stashing c.window c.cells.items c.stashes.lists };
+    ghost view = { λ c. all_stashing c.window (all_made c.slots.items c.made.items) c.stashes.lists };
 
-    ghost invariant = { λ c. AreStashed c.window c.cells.items c.stashes };
+    ghost invariant = { λ c. AreMade c.slots.items c.made.items (vec_capacity c.made) × AreStashed c.window (all_made c.slots.items c.made.items) c.stashes };
 }
 
 impl Cells {
@@ -48,14 +51,17 @@ impl Cells {
         window: u8,
     ) -> Result<Cells, AllocError>
         requires few { count ≤ 1000 }
+        requires producers { producers ≤ 32 }
         requires window { window ≤ 64 }
         ensures { IfOk result (λ c. c ≡ replicate count (celled producers window)) }
     {
-        let cells = new_cells(alloc, count, producers)?;
+        let slots = no_slots(alloc, count)?;
+        let made = only_blank(alloc, count, producers)?;
         let room = room_for(count, window);
         let stashes = Pool::new(alloc, room, count as u16)?;
         Ok(Cells {
-            cells,
+            slots,
+            made,
             stashes,
             window,
             holds: PhantomData,
@@ -67,7 +73,7 @@ impl Cells {
         requires { at < length self.now }
         ensures { result ≡ (celled_at self.now at).cell.phase }
     {
-        self.cells[at].phase()
+        cell_in(&self.slots, &self.made, at).phase()
     }
 
     /// Whether it asked for its stop.
@@ -75,7 +81,7 @@ impl Cells {
         requires { at < length self.now }
         ensures { result ≡ (celled_at self.now at).cell.passivating }
     {
-        self.cells[at].is_passivating()
+        cell_in(&self.slots, &self.made, at).is_passivating()
     }
 
     /// How its next write fails; None exactly where it isn't to fail.
@@ -83,7 +89,7 @@ impl Cells {
         requires { at < length self.now }
         ensures { result ≡ (celled_at self.now at).cell.armed }
     {
-        self.cells[at].armed()
+        cell_in(&self.slots, &self.made, at).armed()
     }
 
     /// What its journal leads to, while it takes commands.
@@ -92,7 +98,7 @@ impl Cells {
         requires { at < length self.now }
         ensures { result ≡ (celled_at self.now at).state }
     {
-        self.cells[at].state()
+        cell_in(&self.slots, &self.made, at).state()
     }
 
     /// Its journal leads to this from now on.
@@ -101,7 +107,8 @@ impl Cells {
         requires { at < length self.old }
         ensures { self.new ≡ slice_set self.old at (record (celled_at self.old at) { state = state.now }) }
     {
-        self.cells[at].set_state(state);
+        let slot = made_at(&mut self.slots, &mut self.made, at);
+        self.made[slot].set_state(state);
     }
 
     /// How many messages are stashed for it.
@@ -119,7 +126,7 @@ impl Cells {
         requires producer { p - 1 < length (celled_at self.now at).cell.reach }
         ensures { result ≡ slice_index_or (celled_at self.now at).cell.reach (p - 1) 0 }
     {
-        self.cells[at].reach(p)
+        cell_in(&self.slots, &self.made, at).reach(p)
     }
 
     /// It is started.
@@ -127,7 +134,8 @@ impl Cells {
         requires { at < length self.old }
         ensures { (x : Incarnation) (e : List ℕ) → self.new ≡ slice_set self.old at (celled_after (celled_at self.old at) (told (fact.Start x e))) }
     {
-        self.cells[at].start();
+        let slot = made_at(&mut self.slots, &mut self.made, at);
+        self.made[slot].start();
     }
 
     /// It takes commands from now on, at this state; what was stashed goes into `pending`, an empty
@@ -139,7 +147,8 @@ impl Cells {
         ensures cell { (x : Incarnation) (e : List ℕ) (n : ℕ) (st : State) → self.new ≡ slice_set self.old at (record (celled_after (celled_at self.old at) (told (fact.Active x e n st))) { state = state.now }) }
         ensures pending { pending.new ≡ record { messages = (celled_at self.old at).cell.stash; window = (celled_at self.old at).window } }
     {
-        self.cells[at].activate(state);
+        let slot = made_at(&mut self.slots, &mut self.made, at);
+        self.made[slot].activate(state);
         move_out(&mut self.stashes, at as u16, pending);
     }
 
@@ -148,7 +157,8 @@ impl Cells {
         requires { at < length self.old }
         ensures { (x : Incarnation) (e : List ℕ) → self.new ≡ slice_set self.old at (celled_after (celled_at self.old at) (told (fact.Stop x e))) }
     {
-        self.cells[at].stop();
+        let slot = made_at(&mut self.slots, &mut self.made, at);
+        self.made[slot].stop();
     }
 
     /// Its write failed, and it is gone; what is stashed stays.
@@ -156,7 +166,8 @@ impl Cells {
         requires { at < length self.old }
         ensures { (x : Incarnation) (e : List ℕ) → self.new ≡ slice_set self.old at (celled_after (celled_at self.old at) (told (fact.WriteFailed x e))) }
     {
-        self.cells[at].fail();
+        let slot = made_at(&mut self.slots, &mut self.made, at);
+        self.made[slot].fail();
     }
 
     /// Its next write is to fail.
@@ -164,7 +175,8 @@ impl Cells {
         requires { at < length self.old }
         ensures { (e : List ℕ) → self.new ≡ slice_set self.old at (celled_after (celled_at self.old at) (told (fact.Armed e keep))) }
     {
-        self.cells[at].arm(keep);
+        let slot = made_at(&mut self.slots, &mut self.made, at);
+        self.made[slot].arm(keep);
     }
 
     /// It passivates.
@@ -172,7 +184,8 @@ impl Cells {
         requires { at < length self.old }
         ensures { (e : List ℕ) → self.new ≡ slice_set self.old at (celled_after (celled_at self.old at) (passivates e)) }
     {
-        self.cells[at].passivate();
+        let slot = made_at(&mut self.slots, &mut self.made, at);
+        self.made[slot].passivate();
     }
 
     /// It is told to stop, where it was started.
@@ -180,7 +193,8 @@ impl Cells {
         requires { at < length self.old }
         ensures { (x y : Incarnation) (e : List ℕ) → self.new ≡ slice_set self.old at (celled_after (celled_at self.old at) (post x y (body.StopEntity e))) }
     {
-        self.cells[at].ask_stop();
+        let slot = made_at(&mut self.slots, &mut self.made, at);
+        self.made[slot].ask_stop();
     }
 
     /// A message is stashed for it, which there is room for.
@@ -214,7 +228,8 @@ impl Cells {
         requires { at < length self.old }
         ensures { self.new ≡ slice_set self.old at (celled (length (celled_at self.old at).cell.reach) (celled_at self.old at).window) }
     {
-        self.cells[at].clear();
+        let slot = self.slots[at] as usize;
+        self.made[slot].clear();
         drop_all(&mut self.stashes, at as u16);
     }
 
@@ -224,19 +239,83 @@ impl Cells {
         requires producer { p - 1 < length (celled_at self.old at).cell.reach }
         ensures { (x y : Incarnation) (e : List ℕ) (n : ℕ) → self.new ≡ slice_set self.old at (celled_after (celled_at self.old at) (post x y (body.Request p e n up_to))) }
     {
-        self.cells[at].ask(p, up_to);
+        let slot = made_at(&mut self.slots, &mut self.made, at);
+        self.made[slot].ask(p, up_to);
     }
 }
 
-/// So many cells of entities that weren't started yet.
-fn new_cells(alloc: Global, count: usize, producers: u8) -> Result<Vec<Cell>, AllocError>
-    ensures { IfOk result (λ v. v.items ≡ replicate count (celled producers 0)) }
+/// So many places that have no cell yet.
+fn no_slots(alloc: Global, count: usize) -> Result<Vec<u16>, AllocError>
+    ensures { IfOk result (λ v. v.items ≡ replicate count 0) }
 {
-    let mut cells = Vec::with_capacity(alloc, count)?;
-    for _ in 0..count {
-        cells.push(Cell::new(alloc, producers)?)?;
+    let slots = vec![in alloc; 0u16; count]?;
+    Ok(slots)
+}
+
+/// The cell of an entity that wasn't started yet alone, with room for one more for each of so many.
+fn only_blank(alloc: Global, count: usize, producers: u8) -> Result<Vec<Cell>, AllocError>
+    requires few { count ≤ 1000 }
+    requires producers { producers ≤ 32 }
+    ensures items { IfOk result (λ v. v.items ≡ celled producers 0 ∷ []) }
+    ensures room { IfOk result (λ v. count + 1 ≤ vec_capacity v) }
+{
+    let mut made = Vec::with_capacity(alloc, count + 1)?;
+    made.push(Cell::new(producers))?;
+    Ok(made)
+}
+
+/// The cell of an entity; the first one where none was made yet.
+fn cell_in<'a>(slots: &Vec<u16>, made: &'a Vec<Cell>, at: usize) -> &'a Cell
+    requires made { AreMade slots.now.items made.now.items (vec_capacity made.now) }
+    requires there { at < length slots.now.items }
+    ensures { result.now ≡ celled_at (all_made slots.now.items made.now.items) at }
+{
+    &made[slots[at] as usize]
+}
+
+/// Where the cell of an entity is, which is made where it wasn't yet.
+fn made_at(slots: &mut Vec<u16>, made: &mut Vec<Cell>, at: usize) -> usize
+    requires made { AreMade slots.old.items made.old.items (vec_capacity made.old) }
+    requires there { at < length slots.old.items }
+    requires few { length slots.old.items < 2 ^ 16 }
+    ensures made { AreMade slots.new.items made.new.items (vec_capacity made.new) }
+    ensures seen { all_made slots.new.items made.new.items ≡ all_made slots.old.items made.old.items }
+    ensures slot { IsSlot slots.new.items made.new.items at result }
+{
+    let slot = slots[at] as usize;
+    if slot > 0 {
+        return slot;
     }
-    Ok(cells)
+    make(slots, made, at)
+}
+
+/// Makes the cell of an entity that has none yet; where it is.
+fn make(slots: &mut Vec<u16>, made: &mut Vec<Cell>, at: usize) -> usize
+    requires made { AreMade slots.old.items made.old.items (vec_capacity made.old) }
+    requires there { at < length slots.old.items }
+    requires none { slice_index_or slots.old.items at 0 ≡ 0 }
+    requires few { length slots.old.items < 2 ^ 16 }
+    ensures made { AreMade slots.new.items made.new.items (vec_capacity made.new) }
+    ensures seen { all_made slots.new.items made.new.items ≡ all_made slots.old.items made.old.items }
+    ensures slot { IsSlot slots.new.items made.new.items at result }
+{
+    let slot = made.len();
+    let cell = made[0].another();
+    push_within(made, cell);
+    slots[at] = slot as u16;
+    slot
+}
+
+/// One cell more at the end, for which there is room.
+fn push_within(made: &mut Vec<Cell>, cell: Cell)
+    requires { length made.old.items < vec_capacity made.old }
+    ensures items { made.new.items ≡ made.old.items ++ cell ∷ [] }
+    ensures room { vec_capacity made.old ≤ vec_capacity made.new }
+{
+    match made.push(cell) {
+        Ok(()) => {}
+        Err(_) => unreachable!(),
+    }
 }
 
 /// A window of messages for each of so many.

@@ -404,7 +404,7 @@ impl Shards {
 fn none_hosted(alloc: Global, shards: u8) -> Result<Vec<Option<Hosting>>, AllocError>
     ensures { IfOk result (λ v. v.items ≡ replicate shards None) }
 {
-    let mut hosted = Vec::new(alloc);
+    let mut hosted = Vec::with_capacity(alloc, shards as usize)?;
     for _ in 0..shards {
         hosted.push(None)?;
     }

@@ -1,10 +1,11 @@
-use Rattle.std.proofs.Common.{arith, ap, sym, ◌∙◌}
-use Rattle.shard_entities.specs.Celled.{Celled}
-use Rattle.shard_entities.proofs.StashLaws.{inside_cells, seen_at}
+use Rattle.std.proofs.Common.{ap, sym, ◌∙◌}
+use Rattle.shard_entities.specs.Celled.{Celled, all_made}
+use Rattle.shard_entities.proofs.MadeLaws.{inside_slots, read_at}
+use Rattle.shard_entities.proofs.StashLaws.{seen_at}
 use Rattle.shard_entities.proofs.cells.Cells.is_passivating.Goals as goal
 
-pub index-requires : goal.index-requires
-index-requires c = omega (arith, inside_cells c.self.inside.window c.self.inside.cells.items c.self.inside.stashes.lists c.self.view_is c.requires, c.self.inside.cells.ok.0)
+pub cell_in-requires : goal.cell_in-requires
+cell_in-requires c = record { made = c.self.invariant.0; there = inside_slots c.self.inside.window c.self.inside.slots.items c.self.inside.made.items c.self.inside.stashes.lists c.self.view_is c.requires }
 
 pub returns : goal.returns
-returns c = c.is_passivating.ensures ∙ sym (ap (λ (x : Celled). x.cell.passivating) (seen_at c.self.inside.window c.self.inside.cells.items c.self.inside.stashes.lists c.self.view_is c.requires c.index.ensures))
+returns c = c.is_passivating.ensures ∙ sym (ap (λ (x : Celled). x.cell.passivating) (seen_at c.self.inside.window (all_made c.self.inside.slots.items c.self.inside.made.items) c.self.inside.stashes.lists c.self.view_is c.requires (read_at c.self.inside.slots.items c.self.inside.made.items (inside_slots c.self.inside.window c.self.inside.slots.items c.self.inside.made.items c.self.inside.stashes.lists c.self.view_is c.requires) c.cell_in.ensures)))

@@ -10,7 +10,7 @@ use crate::laws::standing_is_kept;
 use crate::yard::Yard;
 use behaviour_core::Behaviour;
 use std::alloc::AllocError;
-use yard_model::{Fact, Facts, Input, Packet};
+use yard_model::{Fact, Facts, Packet};
 
 impl<B: Behaviour + Copy + Drop> Yard<B> {
     /// The packet of this number is delivered, where one was posted.
@@ -70,7 +70,7 @@ impl<B: Behaviour + Copy + Drop> Yard<B> {
         if !self.members.has(&packet.to) {
             return Ok(());
         }
-        self.give(packet.to.node, &Input::Packet(*packet), facts)
+        self.give_packet(packet.to.node, packet, facts)
     }
 
     /// At most `n` packets above `from` that were never delivered are delivered, the lowest number

@@ -1,5 +1,6 @@
 //! What a node makes goes to the mail.
 ghost use Rattle.std.specs.Prelude.{◌≡◌, ◌-◌, ◌≤◌, length, slice_set, None, IfOk, OnOk, IsSomeAnd};
+ghost use Rattle.yard_model.specs.declared.input.Input.TheVariants as input;
 ghost use Rattle.yard_model.specs.Words.{at};
 ghost use Rattle.shard_lease.specs.Book.{meaning_of};
 ghost use Rattle.node_core.specs.Leased.{Rests};
@@ -11,7 +12,7 @@ use behaviour_core::Behaviour;
 use node_core::Node;
 use shard_lease::LeaseBook;
 use std::alloc::AllocError;
-use yard_model::{Charter, Incarnation, Input, NodeNo};
+use yard_model::{Charter, Incarnation, Input, NodeNo, Packet};
 
 /// Makes room for what a node may make, in the mail and in the node's stores. The only error is want
 /// of memory.
@@ -75,6 +76,58 @@ pub(crate) fn hand_at<B: Behaviour + Drop>(
     let place = n.get() as usize - 1;
     match &mut nodes[place] {
         Some(node) => hand(charter, input, node, book, mail),
+        None => unreachable!(),
+    }
+}
+
+/// A node handles a packet, for which there is room.
+fn hand_roomy_packet<B: Behaviour + Drop>(
+    charter: &Charter,
+    packet: &Packet,
+    node: &mut Node<B>,
+    book: &mut LeaseBook,
+    mail: &mut Mail,
+)
+    requires may { MayHandle charter.now (input.Packet packet.now) book.old node.old }
+    requires ready { IsReady node.old mail.old.spare }
+    ensures { Handled (input.Packet packet.now) book.old book.new mail.old mail.new node.old node.new }
+{
+    node.handle_packet(charter, packet, book, mail.out());
+}
+
+/// A node handles a packet. The only error is want of memory.
+fn hand_packet<B: Behaviour + Drop>(
+    charter: &Charter,
+    packet: &Packet,
+    node: &mut Node<B>,
+    book: &mut LeaseBook,
+    mail: &mut Mail,
+) -> Result<(), AllocError>
+    requires { MayHandle charter.now (input.Packet packet.now) book.old node.old }
+    ensures { OnOk result (Handled (input.Packet packet.now) book.old book.new mail.old mail.new node.old node.new) }
+{
+    make_room(mail, node)?;
+    hand_roomy_packet(charter, packet, node, book, mail);
+    Ok(())
+}
+
+/// The node of this number, which is up, handles a packet in its place. The only error is want of
+/// memory.
+pub(crate) fn hand_packet_at<B: Behaviour + Drop>(
+    nodes: &mut Vec<Option<Node<B>>>,
+    n: NodeNo,
+    charter: &Charter,
+    packet: &Packet,
+    book: &mut LeaseBook,
+    mail: &mut Mail,
+) -> Result<(), AllocError>
+    requires there { n ≤ length nodes.old.items }
+    requires up { IsSomeAnd (at nodes.old.items (n - 1)) (MayHandle charter.now (input.Packet packet.now) book.old) }
+    ensures { OnOk result (IsSomeAnd (at nodes.old.items (n - 1)) (HandledAt (input.Packet packet.now) n book.old book.new mail.old mail.new nodes.old.items nodes.new.items)) }
+{
+    let place = n.get() as usize - 1;
+    match &mut nodes[place] {
+        Some(node) => hand_packet(charter, packet, node, book, mail),
         None => unreachable!(),
     }
 }

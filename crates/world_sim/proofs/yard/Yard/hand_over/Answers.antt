@@ -4,8 +4,8 @@ use Rattle.world_sim.specs.Yard.{Yard}
 use Rattle.world_sim.proofs.DeliveryLaws.{may_packet, over_apart, over_given, over_past}
 use Rattle.world_sim.proofs.yard.Yard.hand_over.Goals as goal
 
-pub give-requires : goal.give-requires
-give-requires g c = (
+pub give_packet-requires : goal.give_packet-requires
+give_packet-requires g c = (
   c.requires.0,
   may_packet c.args.number c.args.self.now c.requires.0 c.args.packet.now c.requires.1 (subst (λ (v : Yard). v.force.past < c.args.number) c.self.view_is (omega (arith, c.if-number-self.false)))
       (ap (λ (v : Yard). is_among c.args.packet.now.to v.members) (sym c.self.view_is) ∙ (sym c.has.ensures ∙ c.if-not-has.false)),
@@ -19,5 +19,5 @@ returns-then-not-has g c = over_apart c.args.self.now c.args.number c.args.packe
 
 pub returns : goal.returns
 returns g c =
-    over_given c.args.self.now c.args.packet.now c.args.number c.give.result c.give.new.self c.args.facts.now c.give.new.facts (subst (λ (v : Yard). v.force.past < c.args.number) c.self.view_is (omega (arith, c.if-number-self.false)))
-    (ap (λ (v : Yard). is_among c.args.packet.now.to v.members) (sym c.self.view_is) ∙ (sym c.has.ensures ∙ c.if-not-has.false)) c.give.ensures.stepped
+    over_given c.args.self.now c.args.packet.now c.args.number c.give_packet.result c.give_packet.new.self c.args.facts.now c.give_packet.new.facts (subst (λ (v : Yard). v.force.past < c.args.number) c.self.view_is (omega (arith, c.if-number-self.false)))
+    (ap (λ (v : Yard). is_among c.args.packet.now.to v.members) (sym c.self.view_is) ∙ (sym c.has.ensures ∙ c.if-not-has.false)) c.give_packet.ensures.stepped

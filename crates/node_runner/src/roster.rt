@@ -97,15 +97,22 @@ impl<J: Run> Views<J> {
         ensures plain { IfSome result (λ p. is_confirming p.body ≡ false) }
     {
         match self.members.get(place) {
-            Some(member) => Some(Packet {
-                from: member,
-                to: member,
-                body: Body::View {
-                    version: self.version,
-                    members: self.members,
-                },
-            }),
+            Some(member) => Some(self.packet_to(&member)),
             None => None,
+        }
+    }
+
+    /// The view for a member.
+    fn packet_to(&self, member: &Incarnation) -> Packet
+        ensures { result ≡ view_to self.now.version self.now.members member.now }
+    {
+        Packet {
+            from: *member,
+            to: *member,
+            body: Body::View {
+                version: self.version,
+                members: self.members,
+            },
         }
     }
 }

@@ -1,11 +1,19 @@
 //! Members: who is up, oldest first.
-ghost use Rattle.std.specs.Prelude.{◌≡◌, ◌+◌, ◌<◌, ◌≤◌, ◌++◌, [], ◌∷◌, length, map, take, drop, false};
+ghost use Rattle.std.specs.Prelude.{◌≡◌, ◌+◌, ◌<◌, ◌≤◌, ◌++◌, [], ◌∷◌, length, map, false};
 ghost use Rattle.yard_model.specs.Members.{has_node};
-ghost use Rattle.yard_model.specs.Words.{is_among, without};
 ghost use Rattle.world_sim.specs.Steps.{view_item};
 
 use crate::mail::Mail;
-use yard_model::{Body, Item, Members, Packet};
+use yard_model::{Body, Incarnation, Item, Members, Packet};
+
+/// One member more, of a node that has none.
+pub(crate) fn with(members: &Members, who: Incarnation) -> Members
+    requires other { has_node who.node members.now ≡ false }
+    requires room { length members.now < 16 }
+    ensures { result ≡ members.now ++ who ∷ [] }
+{
+    (*members).with(who)
+}
 
 /// A view of these members, of this version, is to be posted to each of them.
 pub(crate) fn post_views(mail: &mut Mail, members: &Members, version: u32)
@@ -16,27 +24,25 @@ pub(crate) fn post_views(mail: &mut Mail, members: &Members, version: u32)
     ensures full { mail.new.full ≡ mail.old.full }
 {
     for place in 0..members.len() {
-        post_view(mail, members, version, place);
+        match members.get(place) {
+            Some(member) => post_view(mail, members, version, &member),
+            None => unreachable!(),
+        }
     }
 }
 
-/// A view of these members, of this version, is to be posted to the one at this place.
-fn post_view(mail: &mut Mail, members: &Members, version: u32, place: usize)
-    requires room { 0 < mail.old.spare }
-    requires place { place < length members.now }
-    ensures items { mail.new.items ≡ mail.old.items ++ map (view_item version members.now) (take 1 (drop place members.now)) }
+/// A view of these members, of this version, is to be posted to one of them.
+fn post_view(mail: &mut Mail, members: &Members, version: u32, member: &Incarnation)
+    requires { 0 < mail.old.spare }
+    ensures items { mail.new.items ≡ mail.old.items ++ view_item version members.now member.now ∷ [] }
     ensures packets { mail.new.packets ≡ mail.old.packets }
     ensures fresh { mail.new.fresh ≡ mail.old.fresh }
     ensures full { mail.new.full ≡ mail.old.full }
     ensures spare { mail.new.spare + 1 ≡ mail.old.spare }
 {
-    let member = match members.get(place) {
-        Some(member) => member,
-        None => unreachable!(),
-    };
     mail.push(Item::Post(Packet {
-        from: member,
-        to: member,
+        from: *member,
+        to: *member,
         body: Body::View {
             version,
             members: *members,

@@ -7,7 +7,7 @@ ghost use Rattle.world_sim.specs.Stepped.{Stepped};
 ghost use Rattle.world_sim.specs.Steps.{entered};
 ghost use Rattle.world_sim.specs.Yard.{IsSeen, IsFirm, IsSound};
 
-use crate::members::post_views;
+use crate::members::{post_views, with};
 use crate::places::{is_down, next_number, put_node, set_number};
 use crate::turns::end_at;
 use crate::yard::Yard;
@@ -54,7 +54,7 @@ impl<B: Behaviour + Copy + Drop> Yard<B> {
         let who = &Incarnation { node: n, number };
         let node = Node::new(self.alloc, *who, &self.charter, self.behaviour)?;
         facts.push(Fact::Up(*who))?;
-        self.members = self.members.with(*who);
+        self.members = with(&self.members, *who);
         self.version = version;
         set_number(&mut self.ups, n, number);
         put_node(&mut self.nodes, n, node);

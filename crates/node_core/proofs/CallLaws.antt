@@ -457,6 +457,10 @@ sends_fewer now x m next same =
 
 -- All of them.
 
+-- where no number is left, there is no next message
+pub nothing_next : (v : Standing) → v.pending.numbers ≡ [] → next_pending v ≡ None
+nothing_next v none = ap (λ ns. option_and_then (λ n. option_map (λ k. message_of v.pending.entity k n) (at v.state.producers (v.pending.producer - 1))) (first_of ns)) none
+
 pub sends_all : {v now x : Standing} {before late : Spared Item} (r : Routing) → Sends v now before late → next_pending now ≡ None → x ≡ record now { pending = r } → Went v x before late (pending_acts v)
 sends_all {v} {now} {x} {before} {late} r k none goes =
     subst (λ (u : Standing). Went v u before late (pending_acts v)) (sym goes)

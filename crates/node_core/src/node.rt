@@ -1,6 +1,7 @@
 //! A node, and its inputs.
 ghost use Rattle.std.specs.Prelude.{◌≡◌, ℕ, ◌-◌, ◌≤◌, true, is_some, IfOk, OnOk, IsTrue, Some, IfSome, MatchOption, length, slice_get};
 ghost use Rattle.yard_model.specs.declared.incarnation.Slot.TheVariants as slot;
+ghost use Rattle.yard_model.specs.declared.input.Input.TheVariants as input;
 ghost use Rattle.yard_model.specs.declared.input.Phase.TheVariants as phase;
 ghost use Rattle.yard_model.specs.Entities.{is_in_phase};
 ghost use Rattle.yard_model.specs.Genuine.{is_node, is_brought};
@@ -25,7 +26,7 @@ use shard_lease::Leases;
 use shard_store::StoreRef;
 use std::alloc::{AllocError, Global};
 use std::marker::Model;
-use yard_model::{Charter, EntityName, Incarnation, Input, Out, ProducerNo, Slot};
+use yard_model::{Charter, EntityName, Incarnation, Input, Out, Packet, ProducerNo, Slot};
 
 /// A node from its start to its end: its region, its entities and, while it holds the coordinator's
 /// slot, the coordinator (Akka 2.6, Cluster Sharding concepts). The type keeps that it stands: each of
@@ -126,6 +127,29 @@ impl<B: Behaviour + Drop> Node<B> {
         turn_viewed();
         charter.config();
         self.actors.input(charter, input, leases, out);
+    }
+
+    /// Handles a packet, as `handle` does the input of it.
+    pub fn handle_packet<L: Leases>(
+        &mut self,
+        charter: &Charter,
+        packet: &Packet,
+        leases: &mut L,
+        out: &mut Out,
+    )
+        requires charter { charter.now ≡ self.old.script }
+        requires addressed { IsFor (L.meaning leases.old) self.old.state.who packet.now }
+        requires may { MayTake self.old.script (L.meaning leases.old).vouches self.old.state (input.Packet packet.now) }
+        requires ready { IsReady self.old out.old.spare }
+        requires rests { Rests (L.meaning leases.old) self.old.script self.old.state }
+        ensures script { self.new.script ≡ self.old.script }
+        ensures who { self.new.state.who ≡ self.old.state.who }
+        ensures turned { Turned self.old.script (λ lists. turn (all_sends self.old.script) lists (input.Packet packet.now) self.old.state) (moment (L.meaning leases.old) self.old.state out.old.items) (moment (L.meaning leases.new) self.new.state out.new.items) }
+    {
+        turn_stands();
+        turn_viewed();
+        charter.config();
+        self.actors.packet(charter, packet, leases, out);
     }
 
     /// Handles an input, as `handle` does.

@@ -200,6 +200,20 @@ impl<B: Behaviour + Drop> Actors<B> {
         ensures pending { self.new.pending ≡ self.old.pending }
     {
         let s = self.shard_of(message);
+        self.route_to(s, message, out);
+    }
+
+    /// A message of this shard is routed: to its entity where the shard is running here, else away.
+    pub(crate) fn route_to(&mut self, s: ShardNo, message: &Message, out: &mut Out)
+        requires shard { s ≡ shard_of self.old.state.set message.now.entity }
+        requires range { s < self.old.script.config.shards }
+        requires genuine { is_genuine self.old.script message.now ≡ true }
+        requires rooms { HasRoomFor 2 self.old (shard_of self.old.state.set message.now.entity) }
+        requires room { 4 ≤ out.old.spare }
+        ensures went { Went self.old self.new out.old out.new (rules.route message.now self.old.state) }
+        ensures taken { TookRoom (shard_of self.old.state.set message.now.entity) (if is_in_phase phase.Active self.old.state.entities message.now.entity then 2 else 0) self.old self.new }
+        ensures pending { self.new.pending ≡ self.old.pending }
+    {
         if self.is_local(s, message) {
             self.deliver(*message, out);
         } else {

@@ -1,6 +1,6 @@
 //! The producers' steps (Akka 2.6, Reliable Delivery: the sharding producer controller): commands are
 //! queued, sent, confirmed and sent again; a queue is asked for and given back.
-ghost use Rattle.std.specs.Prelude.{◌≡◌, ◌==◌, if◌then◌else◌, IsTrue, ℕ, ◌+◌, ◌*◌, ◌-◌, ◌<◌, ◌≤◌, true, length, None, Some, IfSome, MatchOption};
+ghost use Rattle.std.specs.Prelude.{◌≡◌, ◌==◌, if◌then◌else◌, IsTrue, ℕ, ◌+◌, ◌*◌, ◌-◌, ◌<◌, ◌≤◌, true, length, [], None, Some, IfSome, IfNone, MatchOption};
 ghost use Rattle.yard_model.specs.declared.incarnation.Slot.TheVariants as slot;
 ghost use Rattle.yard_model.specs.Genuine.{is_brought, is_genuine_packet, is_producer};
 ghost use Rattle.yard_model.specs.Node as rules;
@@ -36,7 +36,7 @@ use shard_lease::{Acquire, Leases};
 use shard_store::Store;
 use yard_model::{
     Body, Cause, Charter, EntityName, Fact, Incarnation, Item, Message, NodeNo, Out, Packet,
-    ProducerNo, Slot,
+    ProducerNo, ShardNo, Slot,
 };
 
 impl<B: Behaviour + Drop> Actors<B> {
@@ -253,17 +253,31 @@ impl<B: Behaviour + Drop> Actors<B> {
     {
         self.knows();
         genuine_is_message();
-        while let Some(message) = self.next_pending() {
-            self.route(&message, out);
+        while let Some(s) = self.pending_shard() {
+            let message = self.take_pending();
+            self.route_to(s, &message, out);
         }
     }
 
-    /// The next message that is to be routed; None exactly where none is left.
-    fn next_pending(&mut self) -> Option<Message>
-        ensures state { self.new ≡ record self.old { pending = without_first self.old.pending } }
-        ensures message { result ≡ next_pending self.old }
+    /// The shard of the next message that is to be routed; None exactly where none is left.
+    fn pending_shard(&self) -> Option<ShardNo>
+        ensures none { IfNone result (self.now.pending.numbers ≡ []) }
+        ensures some { IfSome result (λ s. 0 < length self.now.pending.numbers) }
+        ensures shard { IfSome result (λ s. s ≡ shard_of self.now.state.set self.now.pending.entity) }
+        ensures range { IfSome result (λ s. s < self.now.script.config.shards) }
     {
-        self.producers.next_send()
+        self.knows();
+        self.producers.pending_shard()
+    }
+
+    /// The next message that is to be routed, where one is left.
+    fn take_pending(&mut self) -> Message
+        requires left { 0 < length self.old.pending.numbers }
+        ensures state { self.new ≡ record self.old { pending = without_first self.old.pending } }
+        ensures message { next_pending self.old ≡ Some result }
+        ensures entity { result.entity ≡ self.old.pending.entity }
+    {
+        self.producers.take_message()
     }
 
     /// That no producer demands more than the window above what is confirmed. It does nothing.

@@ -1,4 +1,4 @@
-use Rattle.std.proofs.Common.{◌≡◌, ℕ, List, false, sym, subst, ◌∙◌}
+use Rattle.std.proofs.Common.{◌≡◌, ℕ, List, [], ◌∷◌, false, sym, ap, subst, ◌∙◌}
 use Rattle.yard_model.specs.declared.out.Item.{Item}
 use Rattle.yard_model.specs.Node.{Node}
 use Rattle.yard_model.specs.Script.{Script}
@@ -27,3 +27,9 @@ returns-clause-ended g c =
 
 pub returns-clause-free : goal.returns-clause-free
 returns-clause-free g c = λ s here. subst (λ (n : ℕ). (means c.args.me c.into_pass.result).holds n s ≡ false) c.requires.rested.who ((returns-clause-ended g c).free s here)
+
+pub returns-clause-numbers : goal.returns-clause-numbers
+returns-clause-numbers g c =
+    let first = c.crash.ensures in
+    let is_me : c.crash.new.leases.node ≡ c.args.me = (same_pass c.new-leases.result.pass.table c.crash.new.leases.pass.table c.new-leases.result.pass.view c.crash.new.leases.pass.view c.new-leases.result.node c.crash.new.leases.node first.stays).2 ∙ c.new-leases.ensures.1 in
+    ap (λ (q : Pass). q.view.numbers) c.into_pass.ensures ∙ (c.crash.new.leases.one ∙ ap (λ (n : ℕ). n ∷ []) is_me)

@@ -102,6 +102,7 @@ impl NameIndex {
     }
 
     /// The place that a hint says from where the hash of a name says on, where the name stands there.
+    #[inline(always)]
     fn hinted(&self, name: &EntityName) -> Option<usize>
         ensures { IfSome result (λ k. (k < length self.now) × (slice_index_or self.now k [] ≡ name.now)) }
     {
@@ -142,17 +143,17 @@ fn hint_in(hints: &[u16], at: usize) -> usize {
     }
 }
 
-/// A number for these bytes: their words of eight, the last of which may overlap the one before.
+/// A number for these bytes, of their first eight and their last eight.
+#[inline(always)]
 fn hash_of(bytes: &[u8]) -> u32 {
     let count = bytes.len();
     if count < 8 {
         return hash_of_few(bytes);
     }
-    let mut hash = count as u64;
-    for at in 0..count / 8 {
-        hash = hash_with(hash, word_at(bytes, at * 8));
-    }
-    folded(hash_with(hash, word_at(bytes, count - 8)))
+    folded(hash_with(
+        hash_with(count as u64, word_at(bytes, 0)),
+        word_at(bytes, count - 8),
+    ))
 }
 
 /// The same of less than a word: its first four bytes and its last, or its first, middle and last one.
@@ -203,16 +204,16 @@ fn half_at(bytes: &[u8], at: usize) -> u32
     u32::from_le_bytes([bytes[at], bytes[at + 1], bytes[at + 2], bytes[at + 3]])
 }
 
-/// One less than how many hints there are for so many names: a power of two, from two to sixteen times as
-/// many up to 2,048 names.
+/// One less than how many hints there are for so many names: a power of two, from four to sixty-four times
+/// as many up to 1,000 names.
 fn mask_for(names: usize) -> usize
     ensures { result < 65536 }
 {
     if names <= 8 {
-        15
-    } else if names <= 64 {
-        127
-    } else if names <= 512 {
+        63
+    } else if names <= 32 {
+        255
+    } else if names <= 256 {
         1023
     } else {
         4095
@@ -248,6 +249,7 @@ fn set_hint(hints: &mut Vec<u16>, from: usize, mask: usize, hint: u16)
 }
 
 /// The place of a name among names in order; None exactly where it isn't among them.
+#[inline(never)]
 fn look_in(names: &[EntityName], name: &EntityName) -> Option<usize>
     requires { IsStrictlySortedBy (slice_cmp nat_cmp) names.now }
     ensures { MatchOption result (list_any (is_name name.now) names.now ≡ false) (λ k. (k < length names.now) × (slice_index_or names.now k [] ≡ name.now)) }

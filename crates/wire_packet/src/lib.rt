@@ -4,6 +4,7 @@
 
 mod books;
 mod cell;
+mod plans;
 mod who;
 mod wire;
 

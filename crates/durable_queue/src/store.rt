@@ -75,10 +75,11 @@ impl QueueStore {
         let plans = plans_of(alloc, &names, sends)?;
         let queued = zeros_of(alloc, names.len())?;
         let confirmed = zeros_of(alloc, names.len())?;
+        let entries = Vec::with_capacity(alloc, room_for(sends.len()))?;
         Ok(QueueStore {
             script: Ghost::of(charter),
             producer,
-            entries: Vec::new(alloc),
+            entries,
             names,
             plans,
             queued,
@@ -328,6 +329,12 @@ impl QueueStore {
         push(&mut self.entries, QueueEntry::Confirmed(*entity, number));
         self.free -= 1;
     }
+}
+
+/// Room for the entries of so many sends, each queued and confirmed, and for leases: where a list grows it
+/// moves.
+fn room_for(sends: usize) -> usize {
+    sends.saturating_mul(2).saturating_add(128)
 }
 
 /// One entry more, for which there is room.

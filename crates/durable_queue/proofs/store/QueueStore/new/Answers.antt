@@ -23,7 +23,7 @@ invariant_of-result c =
     let commands : List (List Command) = map seen c.in_ok-plans.plans.items in
     let named : AreNamed names (sends script p) = subst (λ (l : List (List ℕ)). AreNamed l (sends script p)) (sym c.in_ok-names.ensures.names) (sends_named script p) in
     let plans : ArePlans names commands (sends script p) = subst (λ (l : List Sending). ArePlans names commands l) c.sends-sends.ensures c.in_ok-plans.ensures.plans in
-    subst (λ (s : Script). IsKept s p c.new-2.result.items names commands c.in_ok-queued.queued.items c.in_ok-confirmed.confirmed.items 0 0 false 0 (vec_capacity c.new-2.result)) (sym c.of.ensures)
-    (kept_none script p c.new-2.result.items names commands c.in_ok-queued.queued.items c.in_ok-confirmed.confirmed.items (vec_capacity c.new-2.result) c.new-2.ensures.items c.requires.producer (record { are = c.in_ok-names.ensures.names; sorted = c.in_ok-names.ensures.sorted }) named
+    subst (λ (s : Script). IsKept s p c.in_ok-entries.entries.items names commands c.in_ok-queued.queued.items c.in_ok-confirmed.confirmed.items 0 0 false 0 (vec_capacity c.in_ok-entries.entries)) (sym c.of.ensures)
+    (kept_none script p c.in_ok-entries.entries.items names commands c.in_ok-queued.queued.items c.in_ok-confirmed.confirmed.items (vec_capacity c.in_ok-entries.entries) c.in_ok-entries.ensures.items c.requires.producer (record { are = c.in_ok-names.ensures.names; sorted = c.in_ok-names.ensures.sorted }) named
     (length-map c.in_ok-plans.plans.items seen ∙ c.in_ok-plans.ensures.sized) plans
     (c.in_ok-queued.ensures ∙ ap (λ n. replicate n 0) c.len.ensures) (c.in_ok-confirmed.ensures ∙ ap (λ n. replicate n 0) c.len-2.ensures))

@@ -18,7 +18,7 @@ rest_is {X} xs i = take_all (length xs - i) (drop i xs) (omega (arith, length-dr
 
 module _ {X : Type 0} (p : X → Bool) where
   -- where the first one that passes stands
-  found : (xs : List X) (i : ℕ) → position p xs ≡ Some i → (position_or_len p xs ≡ i) × (position_or_len p xs < length xs)
+  pub found : (xs : List X) (i : ℕ) → position p xs ≡ Some i → (position_or_len p xs ≡ i) × (position_or_len p xs < length xs)
   found xs i e = step (nat_lt (position_or_len p xs) (length xs)) refl e
     where
       step : (b : Bool) → nat_lt (position_or_len p xs) (length xs) ≡ b → cond b (Some (position_or_len p xs)) None ≡ Some i → (position_or_len p xs ≡ i) × (position_or_len p xs < length xs)
@@ -28,7 +28,7 @@ module _ {X : Type 0} (p : X → Bool) where
   passes : (xs : List X) (i : ℕ) (d : X) → position p xs ≡ Some i → p (get_or xs i d) ≡ true
   passes xs i d e = let at = found xs i e in ap (λ k. p (get_or xs k d)) (sym at.0) ∙ passes_at_first p xs d at.1
 
-  missed : (xs : List X) → position p xs ≡ None → length xs ≤ position_or_len p xs
+  pub missed : (xs : List X) → position p xs ≡ None → length xs ≤ position_or_len p xs
   missed xs e = step (nat_lt (position_or_len p xs) (length xs)) refl e
     where
       step : (b : Bool) → nat_lt (position_or_len p xs) (length xs) ≡ b → cond b (Some (position_or_len p xs)) None ≡ None → length xs ≤ position_or_len p xs
@@ -70,7 +70,7 @@ lines_last bs e h = let some : (length bs == 0) ≡ false = grind (arith, nat_te
 abbrev pub is_word_byte : ℕ → Bool
 is_word_byte b = not (is_gap b)
 
-one_more : (n : ℕ) → 1 + n ≡ suc n
+pub one_more : (n : ℕ) → 1 + n ≡ suc n
 one_more n = omega arith
 
 plus_zero : (n : ℕ) → n + 0 ≡ n

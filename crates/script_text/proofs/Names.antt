@@ -1,5 +1,5 @@
 -- Names and numbers.
-use Rattle.std.proofs.Common.{◌≡◌, ℕ, ◌+◌, ◌*◌, ◌^◌, ◌<◌, ◌≤◌, Bool, true, false, List, [], ◌∷◌, length, get_or, refl, arith, zero, suc}
+use Rattle.std.proofs.Common.{◌≡◌, ℕ, ◌+◌, ◌*◌, ◌^◌, ◌≤◌, Bool, true, false, List, length, refl, arith}
 use Rattle.std.specs.Prelude.{IsTrue, ◌&&◌, nat_lt, nat_le}
 use Rattle.std.specs.List.{list_all}
 use Rattle.std.proofs.Math.Nat.{pow-le-pow_right}
@@ -35,18 +35,13 @@ unnamed w n = step (is_name_text w) refl
     step true e = absurd (n (unnamed_true w e))
     step false e = refl
 
--- each byte of a number is a digit
-pub digit_at : (w : List ℕ) (i : ℕ) → IsTrue (list_all is_digit w) → i < length w → (48 ≤ get_or w i 0) × (get_or w i 0 ≤ 57)
-digit_at [] i h lt = absurd (omega arith)
-digit_at (b ∷ w) zero h lt = range b (and_true (is_digit b) (list_all is_digit w) h).0
-  where
-    range : (b : ℕ) → is_digit b ≡ true → (48 ≤ b) × (b ≤ 57)
-    range b e =
-        let ends = and_true (nat_le 48 b) (nat_le b 57) e in
-        let low : nat_le 48 b ≡ true = ends.0 in
-        let high : nat_le b 57 ≡ true = ends.1 in
-        (grind (arith, nat_tests), grind (arith, nat_tests))
-digit_at (b ∷ w) (suc i) h lt = digit_at w i (and_true (is_digit b) (list_all is_digit w) h).1 (omega arith)
+-- a digit's byte
+pub digit_within : (b : ℕ) → is_digit b ≡ true → (48 ≤ b) × (b ≤ 57)
+digit_within b e =
+    let ends = and_true (nat_le 48 b) (nat_le b 57) e in
+    let low : nat_le 48 b ≡ true = ends.0 in
+    let high : nat_le b 57 ≡ true = ends.1 in
+    (grind (arith, nat_tests), grind (arith, nat_tests))
 
 -- a digit more makes a number ten times as long
 pub power_more : (i : ℕ) → 10 ^ (i + 1) ≡ 10 ^ i * 10

@@ -53,6 +53,11 @@ abbrev pub Gives : {X : Type 0} → Result X Stop → Result X Why → Type 0
 Gives (Ok x) defined = defined ≡ Ok x
 Gives (Err e) defined = Stops e defined
 
+-- the same, for what was left in a place
+abbrev pub Leaves : {X : Type 0} → Result (Unit {0}) Stop → Result X Why → X → Type 0
+Leaves (Ok u) defined left = defined ≡ Ok left
+Leaves (Err e) defined left = Stops e defined
+
 -- the same, for what holds references, seen by view
 abbrev pub Reads : {X Y : Type 0} → (X → Y) → Result X Why → Result Y Why → Type 0
 Reads view (Ok x) defined = defined ≡ Ok (view x)

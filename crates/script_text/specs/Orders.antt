@@ -110,6 +110,10 @@ command_of kind.Counter w ws = counter_command w ws
 command_of kind.Account w ws = account_command w ws
 command_of kind.Cart w ws = cart_command w ws
 
+-- a send of these parts
+abbrev pub joined : Result ℕ Why → Result (List ℕ) Why → Result Command Why → Result Order Why
+joined p e k = p & e & k >>= λ x. Ok (order.Send x.0.0 x.0.1 x.1)
+
 -- send P E COMMAND
 unfoldable pub send : Config → List (List ℕ) → Result Order Why
 send c ws = do

@@ -86,6 +86,12 @@ abbrev pub with_words : Mode → Option Script → ℕ → List (List ℕ) → R
 with_words m None n ws = first_line n ws
 with_words m (Some s) n ws = next_line m s n ws
 
+-- what was read, with the words of a line that has some; a comment adds nothing
+abbrev pub text_read : Mode → Option Script → ℕ → List (List ℕ) → Result (Option Script) Why
+text_read m so n ws =
+    if is_blank ws then (refuse (is_late n) why.TooManyLines >>= λ early. Ok so)
+    else (with_words m so n ws >>= λ s. Ok (Some s))
+
 -- what was read, with this line, or the reason for which it is refused; a blank line adds nothing
 unfoldable pub line_read : Mode → Option Script → ℕ → List ℕ → Result (Option Script) Why
 line_read m so n line =

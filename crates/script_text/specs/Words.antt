@@ -1,5 +1,5 @@
 -- Words of a line, numbers and names.
-use Rattle.std.specs.Prelude.{ℕ, ◌+◌, ◌-◌, ◌*◌, Bool, true, false, ◌==◌, ◌&&◌, ◌||◌, nat_lt, nat_le, nat_eq, List, [], ◌∷◌, length, filter, fold, slice_index}
+use Rattle.std.specs.Prelude.{◌≡◌, ℕ, ◌<◌, ◌+◌, ◌-◌, ◌*◌, Bool, true, false, ◌==◌, ◌&&◌, ◌||◌, nat_lt, nat_le, nat_eq, List, [], ◌∷◌, length, filter, fold, slice_index}
 use Rattle.std.specs.List.{slice_split, list_all}
 use Rattle.std.specs.Cmp.Lexicographic.{pointwise}
 use Rattle.yard_model.specs.Name.{is_name_byte}
@@ -34,6 +34,14 @@ is_comment (w ∷ ws) = begins_comment w
 -- printable ASCII, or a tab
 abbrev pub is_plain : ℕ → Bool
 is_plain b = (nat_le 32 b && nat_le b 126) || (b == 9)
+
+-- printable ASCII
+abbrev pub is_printable : ℕ → Bool
+is_printable b = nat_le 32 b && nat_le b 126
+
+-- the first n bytes are printable
+abbrev pub ArePrintable : List ℕ → ℕ → Type 0
+ArePrintable bytes n = (k : ℕ) → k < n → is_printable (slice_index bytes k) ≡ true
 
 abbrev pub is_digit : ℕ → Bool
 is_digit b = nat_le 48 b && nat_le b 57

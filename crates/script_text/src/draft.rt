@@ -1,5 +1,5 @@
 //! A script that is being read.
-ghost use Rattle.std.specs.Prelude.{◌≡◌, ◌==◌, ℕ, ◌+◌, ◌≤◌, if◌then◌else◌, List, [], length, min, false, IfOk, OnOk, IsTrue};
+ghost use Rattle.std.specs.Prelude.{◌≡◌, ◌==◌, ℕ, ◌+◌, ◌≤◌, if◌then◌else◌, List, [], ◌∷◌, ◌++◌, length, min, false, IfOk, OnOk, IsTrue};
 ghost use Rattle.yard_model.specs.Counts.{names};
 ghost use Rattle.yard_model.specs.Script.{is_config, is_order, brought, with_brought, with_pair, Pair};
 ghost use Rattle.script_text.specs.Drafts.{KeepsPairs};
@@ -57,30 +57,29 @@ impl Draft {
         &self.config
     }
 
-    /// The same with one order more, on this line. The only error is want of memory.
-    pub fn with(self, number: u32, order: &Order) -> Result<Draft, AllocError>
-        requires { IsTrue (is_order self.config order.now) }
-        ensures { IfOk result (λ d. d ≡ with_line self number order.now) }
+    /// One order more, on this line. The only error is want of memory; nothing of it is kept then.
+    pub fn add(&mut self, alloc: Global, number: u32, order: &Order) -> Result<(), AllocError>
+        requires { IsTrue (is_order self.old.config order.now) }
+        ensures { IfOk result (λ _. self.new ≡ with_line self.old number order.now) }
     {
-        let Draft {
-            config,
-            mut orders,
-            mut counts,
-            pairs,
-            holds,
-        } = self;
-        let pairs = add_order(&mut counts, pairs, order)?;
-        orders.push(Line {
+        match put_order(
+            &mut self.orders,
+            &mut self.counts,
+            self.pairs,
             number,
-            order: *order,
-        })?;
-        Ok(Draft {
-            config,
-            orders,
-            counts,
-            pairs,
-            holds,
-        })
+            order,
+        ) {
+            Ok(pairs) => {
+                self.pairs = pairs;
+                Ok(())
+            }
+            Err(error) => {
+                self.orders = Vec::new(alloc);
+                self.counts = Counts::new(alloc);
+                self.pairs = 0;
+                Err(error)
+            }
+        }
     }
 
     /// Whether there are too many names or pairs.
@@ -105,6 +104,26 @@ impl Draft {
         } = self;
         Charter::new(alloc, config, orders)
     }
+}
+
+/// One order more, on this line, and how many pairs there are then.
+fn put_order(
+    orders: &mut Vec<Line>,
+    counts: &mut Counts,
+    pairs: u32,
+    number: u32,
+    order: &Order,
+) -> Result<u32, AllocError>
+    ensures orders { OnOk result (orders.new.items ≡ orders.old.items ++ record { number = number; order = order.now } ∷ []) }
+    ensures names { OnOk result (names counts.new ≡ with_brought (names counts.old) (brought order.now)) }
+    ensures pairs { IfOk result (λ more. (known : List Pair) → KeepsPairs counts.old pairs known → KeepsPairs counts.new more (with_pair known order.now)) }
+{
+    let pairs = add_order(counts, pairs, order)?;
+    orders.push(Line {
+        number,
+        order: *order,
+    })?;
+    Ok(pairs)
 }
 
 /// The names and the sends with those of one order more, and how many pairs there are then.

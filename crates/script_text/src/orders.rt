@@ -4,12 +4,12 @@ ghost use Rattle.yard_model.specs.declared.charter.Config.{Config};
 ghost use Rattle.yard_model.specs.Script.{is_config, is_order};
 ghost use Rattle.yard_model.specs.Behaviour.{is_in};
 ghost use Rattle.script_text.specs.Words.{words};
-ghost use Rattle.script_text.specs.Orders.{number, only_number, send, produce, kept_or_lost, fail_write, verb_of, said, order_of};
+ghost use Rattle.script_text.specs.Orders.{number, only_number, joined, send, produce, kept_or_lost, fail_write, verb_of, said, order_of};
 
 use crate::commands::command;
 use crate::fault::Why;
 use crate::words::{both, first, is, name, no_more, number_of, only, only_number};
-use yard_model::{Config, Keep, NodeNo, Order, ProducerNo};
+use yard_model::{Command, Config, EntityName, Keep, NodeNo, Order, ProducerNo};
 
 /// The first word of an order.
 #[derive(Clone, Copy, Debug, PartialEq, Eq)]
@@ -145,8 +145,24 @@ fn send(config: &Config, line: &[u8]) -> Result<Order, Why>
     let (sender, line) = first(line)?;
     let (entity, line) = first(line)?;
     let (verb, line) = first(line)?;
-    let target = both(producer(config, sender), name(entity));
-    let ((sender, entity), command) = both(target, command(config.kind, verb, line))?;
+    let sender = producer(config, sender);
+    let command = command(config.kind, verb, line);
+    if let (Ok(sender), Ok(command)) = (&sender, &command) {
+        return Ok(Order::Send(*sender, name(entity)?, *command));
+    }
+    joined(sender, name(entity), command)
+}
+
+/// A send of these parts, or the first of their reasons.
+#[cold]
+fn joined(
+    sender: Result<ProducerNo, Why>,
+    entity: Result<EntityName, Why>,
+    command: Result<Command, Why>,
+) -> Result<Order, Why>
+    ensures { result ≡ joined sender entity command }
+{
+    let ((sender, entity), command) = both(both(sender, entity), command)?;
     Ok(Order::Send(sender, entity, command))
 }
 

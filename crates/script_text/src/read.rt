@@ -1,11 +1,13 @@
 //! Reading a script, line by line.
-ghost use Rattle.std.specs.Prelude.{◌≡◌, ◌==◌, ℕ, ◌+◌, ◌≤◌, ◌≢◌, IfOk, IfErr, length, false, Some, slice_index};
+ghost use Rattle.std.specs.Prelude.{◌≡◌, ◌==◌, ℕ, ◌+◌, ◌<◌, ◌≤◌, ◌≢◌, nat_lt, IfOk, IfErr, length, true, false, Some, slice_index};
+ghost use Rattle.std.specs.List.{list_all};
 ghost use Rattle.script_text.specs.declared.fault.Mode.TheVariants as mode;
-ghost use Rattle.script_text.specs.Faults.{Gives};
-ghost use Rattle.script_text.specs.Words.{words};
-ghost use Rattle.script_text.specs.Reading.{Reading, Spelled, Refused, reading, line_read, first_line, next_line, is_over, takes, is_config_line, plain, ended, TellsFault, IsWithin, stopped_at};
+ghost use Rattle.script_text.specs.declared.fault.Why.TheVariants as why;
+ghost use Rattle.script_text.specs.Faults.{Gives, Leaves, refuse};
+ghost use Rattle.script_text.specs.Words.{words, is_gap, is_plain};
+ghost use Rattle.script_text.specs.Reading.{Reading, Spelled, Refused, reading, line_read, text_read, first_line, next_line, is_over, is_late, takes, is_config_line, plain, ended, TellsFault, IsWithin, stopped_at};
 
-use crate::cut::{next_line, next_word, word_start};
+use crate::cut::{Cut, next_line, next_word, word_start};
 use crate::draft::Draft;
 use crate::fault::{Mode, ScriptFault, Stop, Why};
 use crate::orders::order;
@@ -36,11 +38,11 @@ pub fn read_script(alloc: Global, bytes: &[u8], mode: Mode) -> Result<Charter, S
     let mut draft = None;
     let mut rest = bytes;
     let mut number = 0;
-    while let Some((line, more)) = next_line(rest) {
+    while let Some(cut) = next_line(rest) {
         number += 1;
-        rest = more;
-        match read_line(alloc, mode, draft, number, line) {
-            Ok(longer) => draft = longer,
+        rest = cut.more;
+        match read_line(alloc, mode, &mut draft, number, &cut) {
+            Ok(_) => {}
             Err(stop) => return Err(stopped_at(number, stop)),
         }
     }
@@ -81,25 +83,55 @@ fn finish(alloc: Global, draft: Option<Draft>) -> Result<Charter, ScriptFault>
 fn read_line(
     alloc: Global,
     mode: Mode,
-    draft: Option<Draft>,
+    draft: &mut Option<Draft>,
     number: u32,
-    line: &[u8],
-) -> Result<Option<Draft>, Stop>
-    ensures value { Gives result (line_read mode draft number line.now) }
-    ensures within { (n : ℕ) → IsWithin n draft → IfOk result (IsWithin (n + 1)) }
+    cut: &Cut<'_>,
+) -> Result<(), Stop>
+    requires { cut.now.is_clean ≡ true → list_all is_plain cut.now.line.now ≡ true }
+    ensures value { Leaves result (line_read mode draft.old number cut.now.line.now) draft.new }
+    ensures within { (n : ℕ) → IsWithin n draft.old → IfOk result (λ _. IsWithin (n + 1) draft.new) }
     ensures early { IfOk result (λ _. number ≢ 20001) }
 {
-    check_text(line)?;
-    if is_blank(line) {
-        if number == LATE_LINE {
-            return Err(Stop::Refused(Why::TooManyLines));
-        }
-        return Ok(draft);
+    check_text(cut)?;
+    match word_start(cut.line) {
+        None => check_number(number),
+        Some(text) => read_text(alloc, mode, draft, number, text),
     }
-    match draft {
-        None => Ok(Some(read_first(alloc, number, line)?)),
-        Some(draft) => Ok(Some(read_next(mode, draft, number, line)?)),
+}
+
+/// What was read, with a line that begins with a word.
+fn read_text(
+    alloc: Global,
+    mode: Mode,
+    draft: &mut Option<Draft>,
+    number: u32,
+    text: &[u8],
+) -> Result<(), Stop>
+    requires first { is_gap (slice_index text.now 0) ≡ false }
+    requires some { 0 < length text.now }
+    ensures value { Leaves result (text_read mode draft.old number (words text.now)) draft.new }
+    ensures within { (n : ℕ) → IsWithin n draft.old → IfOk result (λ _. IsWithin (n + 1) draft.new) }
+    ensures early { IfOk result (λ _. number ≢ 20001) }
+{
+    if is_blank(text) {
+        return check_number(number);
     }
+    if let Some(draft) = draft {
+        return read_next(alloc, mode, draft, number, text);
+    }
+    *draft = Some(read_first(alloc, number, text)?);
+    Ok(())
+}
+
+/// That this isn't the first line too many.
+fn check_number(number: u32) -> Result<(), Stop>
+    ensures value { Gives result (refuse (is_late number) why.TooManyLines) }
+    ensures early { IfOk result (λ _. number ≢ 20001) }
+{
+    if number == LATE_LINE {
+        return Err(Stop::Refused(Why::TooManyLines));
+    }
+    Ok(())
 }
 
 /// The first line that isn't blank.
@@ -124,49 +156,65 @@ fn read_first(alloc: Global, number: u32, line: &[u8]) -> Result<Draft, Stop>
 
 /// Another line that isn't blank.
 #[tactic(auto, unfolding(crate::specs::Reading::next_line))]
-fn read_next(mode: Mode, draft: Draft, number: u32, line: &[u8]) -> Result<Draft, Stop>
-    ensures value { Gives result (next_line mode draft number (words line.now)) }
-    ensures within { IfOk result (λ d. (is_over d ≡ false) × (length d.orders ≡ length draft.orders + 1)) }
+fn read_next(
+    alloc: Global,
+    mode: Mode,
+    draft: &mut Draft,
+    number: u32,
+    text: &[u8],
+) -> Result<(), Stop>
+    requires first { is_gap (slice_index text.now 0) ≡ false }
+    requires some { 0 < length text.now }
+    ensures value { Leaves result (next_line mode draft.old number (words text.now)) draft.new }
+    ensures within { IfOk result (λ _. (is_over draft.new ≡ false) × (length draft.new.orders ≡ length draft.old.orders + 1)) }
     ensures early { IfOk result (λ _. number ≢ 20001) }
 {
-    if is_config_line(line) {
+    if is_config_line(text) {
         return Err(Stop::Refused(Why::SecondConfig));
     }
-    let order = order(draft.config(), line)?;
-    let longer = draft.with(number, &order)?;
-    if longer.is_over() {
+    let order = order(draft.config(), text)?;
+    draft.add(alloc, number, &order)?;
+    if draft.is_over() {
         return Err(Stop::Refused(Why::OutOfRange));
     }
-    if number == LATE_LINE {
-        return Err(Stop::Refused(Why::TooManyLines));
-    }
+    check_number(number)?;
     if !takes(mode, &order) {
         return Err(Stop::Refused(Why::WrongMode));
     }
-    Ok(longer)
+    Ok(())
 }
 
 /// The tests that come first, of any line.
 #[tactic(auto, unfolding(crate::specs::Reading::plain))]
-fn check_text(line: &[u8]) -> Result<(), Why>
-    ensures { result ≡ plain line.now }
+fn check_text(cut: &Cut<'_>) -> Result<(), Why>
+    requires { cut.now.is_clean ≡ true → list_all is_plain cut.now.line.now ≡ true }
+    ensures { result ≡ plain cut.now.line.now }
 {
-    if !is_plain_text(line) && !is_comment(line) {
+    if cut.is_clean {
+        return check_length(cut.line);
+    }
+    if !is_plain_text(cut.line) && !is_comment(cut.line) {
         return Err(Why::NotText);
     }
+    check_length(cut.line)
+}
+
+/// That the line isn't too long.
+fn check_length(line: &[u8]) -> Result<(), Why>
+    ensures { result ≡ refuse (nat_lt 256 (length line.now)) why.LongLine }
+{
     if line.len() > 256 {
         return Err(Why::LongLine);
     }
     Ok(())
 }
 
-/// Whether the first word is `config`.
-fn is_config_line(line: &[u8]) -> bool
-    ensures { result ≡ is_config_line (words line.now) }
+/// Whether the first word is `config`, of a line that begins with a word.
+fn is_config_line(text: &[u8]) -> bool
+    requires first { is_gap (slice_index text.now 0) ≡ false }
+    requires some { 0 < length text.now }
+    ensures { result ≡ is_config_line (words text.now) }
 {
-    let Some(text) = word_start(line) else {
-        return false;
-    };
     begins_as_config(text) && begins_with_config(text)
 }
 

@@ -1,12 +1,13 @@
 //! The next words of a line: numbers, names and listed words.
-ghost use Rattle.std.specs.Prelude.{◌≡◌, ◌≤◌, IfOk, IsTrue, length};
+ghost use Rattle.std.specs.Prelude.{◌≡◌, ◌<◌, ◌≤◌, IfOk, IsTrue, MatchOption, true, false, length, nat_eq, slice_index};
 ghost use Rattle.std.specs.List.{list_all};
+ghost use Rattle.std.specs.Cmp.Lexicographic.{pointwise};
 ghost use Rattle.yard_model.specs.Behaviour.{is_in};
 ghost use Rattle.script_text.specs.Faults.{Reads, earlier, ◌&◌};
-ghost use Rattle.script_text.specs.Words.{words, is_text, is_digit, is_number, value_of, is_blank, begins_comment, is_comment, is_plain};
+ghost use Rattle.script_text.specs.Words.{words, is_text, is_digit, is_gap, value_of, is_blank, begins_comment, is_comment, is_plain};
 ghost use Rattle.script_text.specs.Orders.{first, no_more, only, number, only_number, name};
 
-use crate::cut::{next_word, word_start};
+use crate::cut::next_word;
 use crate::fault::Why;
 use yard_model::EntityName;
 
@@ -28,27 +29,16 @@ pub fn number_of(word: &[u8], low: u32, high: u32) -> Result<u32, Why>
     ensures value { result ≡ number low high word.now }
     ensures valid { IfOk result (λ n. IsTrue (is_in low high n)) }
 {
-    if !is_number(word) {
+    if word.is_empty() || word.len() > 18 {
         return Err(Why::BadNumber);
     }
-    let value = value_of(word);
+    let Some(value) = value_of(word) else {
+        return Err(Why::BadNumber);
+    };
     if value < low as u64 || value > high as u64 {
         return Err(Why::OutOfRange);
     }
     Ok(value as u32)
-}
-
-/// Whether the word is 1 to 18 digits.
-fn is_number(word: &[u8]) -> bool
-    ensures { result ≡ is_number word.now }
-{
-    !word.is_empty() && word.len() <= 18 && has_digits(word)
-}
-
-fn has_digits(word: &[u8]) -> bool
-    ensures { result ≡ list_all is_digit word.now }
-{
-    word.iter().all(|b| is_digit(*b))
 }
 
 fn is_digit(b: u8) -> bool
@@ -57,17 +47,19 @@ fn is_digit(b: u8) -> bool
     b.is_ascii_digit()
 }
 
-/// The value of a number.
-fn value_of(word: &[u8]) -> u64
-    requires digits { IsTrue (list_all is_digit word.now) }
-    requires few { length word.now ≤ 18 }
-    ensures value { result ≡ value_of word.now }
+/// The value of a number; None where a byte is no digit.
+fn value_of(word: &[u8]) -> Option<u64>
+    requires { length word.now ≤ 18 }
+    ensures { MatchOption result (list_all is_digit word.now ≡ false) (λ v. (list_all is_digit word.now ≡ true) × (v ≡ value_of word.now)) }
 {
     let mut value = 0u64;
     for b in word {
+        if !is_digit(*b) {
+            return None;
+        }
         value = value * 10 + (*b - b'0') as u64;
     }
-    value
+    Some(value)
 }
 
 /// The next word, and the bytes after it.
@@ -131,20 +123,34 @@ fn earlier(v: Why, w: Why) -> Why
 }
 
 /// Whether the word is this text.
+#[inline(always)]
 pub fn is(word: &[u8], text: &str) -> bool
     ensures { result ≡ is_text word.now text.now }
 {
-    word == text.as_bytes()
+    word.len() == text.len() && agree(word, text.as_bytes())
 }
 
-/// Whether the line has no word, or is a comment.
-pub fn is_blank(line: &[u8]) -> bool
-    ensures { result ≡ is_blank (words line.now) }
+/// Whether two words of one length are the same.
+#[inline(always)]
+fn agree(word: &[u8], text: &[u8]) -> bool
+    requires { length word.now ≡ length text.now }
+    ensures { result ≡ pointwise nat_eq word.now text.now }
 {
-    match word_start(line) {
-        None => true,
-        Some(text) => begins_comment(text),
+    for i in 0..text.len() {
+        if word[i] != text[i] {
+            return false;
+        }
     }
+    true
+}
+
+/// Whether a line that begins with a word is a comment.
+pub fn is_blank(text: &[u8]) -> bool
+    requires first { is_gap (slice_index text.now 0) ≡ false }
+    requires some { 0 < length text.now }
+    ensures { result ≡ is_blank (words text.now) }
+{
+    begins_comment(text)
 }
 
 fn begins_comment(word: &[u8]) -> bool

@@ -1,13 +1,14 @@
-use Rattle.std.proofs.Common.{◌∙◌, ap, ap₂, sym, ◌+◌, ◌∷◌, arith}
+use Rattle.std.proofs.Common.{◌∙◌, ap, sym, ◌+◌, ◌∷◌, take}
+use Rattle.std.specs.Prelude.{◌==◌}
 use Rattle.std.specs.Str.Lines.{lines}
-use Rattle.std.proofs.lemmas.Bool.Decides.{nat_tests}
-use Rattle.script_text.proofs.Cuts.{lines_cut, lines_last, rest_is, end_is}
+use Rattle.script_text.proofs.Cuts.{rest_is}
+use Rattle.script_text.proofs.Stops.{lines_clean, plain_clean}
 use Rattle.script_text.proofs.cut.next_line.Goals as goal
 
-pub returns-in-None-clause-lines : goal.returns-in-None-clause-lines
-returns-in-None-clause-lines c = lines_last c.args.bytes.now (sym c.in-None.ensures.place) (grind (arith, nat_tests)) ∙ ap (λ r. c.args.bytes.now ∷ lines r) (sym (end_is c.args.bytes.now))
+pub returns-then-bytes-stop-eq10-clause-lines : goal.returns-then-bytes-stop-eq10-clause-lines
+returns-then-bytes-stop-eq10-clause-lines c =
+    lines_clean c.args.bytes.now c.first_stop-stop.result c.if-stop-bytes.true c.first_stop-stop.ensures.before (ap (λ b. b == 10) c.if-bytes-stop-eq10.true)
+    ∙ ap (λ r. take c.first_stop-stop.result c.args.bytes.now ∷ lines r) (sym (rest_is c.args.bytes.now (c.first_stop-stop.result + 1)))
 
-pub returns-in-Some-clause-lines : goal.returns-in-Some-clause-lines
-returns-in-Some-clause-lines c =
-    lines_cut c.args.bytes.now c.in-Some.end (sym c.in-Some.ensures.place)
-    ∙ ap₂ (λ x r. x ∷ lines r) (sym c.without_return.ensures) (sym (rest_is c.args.bytes.now (c.in-Some.end + 1)))
+pub returns-then-bytes-stop-eq10-clause-clean : goal.returns-then-bytes-stop-eq10-clause-clean
+returns-then-bytes-stop-eq10-clause-clean c known = plain_clean c.args.bytes.now c.first_stop-stop.result c.first_stop-stop.ensures.within c.first_stop-stop.ensures.before

@@ -6,25 +6,25 @@ use Rattle.script_text.proofs.read.read_script.Goals as goal
 pub returns-then-bytes-gt-MOST_BYTES-clause-at : goal.returns-then-bytes-gt-MOST_BYTES-clause-at
 returns-then-bytes-gt-MOST_BYTES-clause-at c = reading_long c.args.mode c.args.bytes.now (omega arith)
 
-pub loop-line-preserved : goal.loop-line-preserved
-loop-line-preserved c = record {
-  read = sym (lines_more c.args.mode c.loop-line.draft c.in-Ok.longer (c.loop-line.number + 1) c.in-Some.line.now c.loop-line.rest.now c.in-Some.more.now c.in-Some.ensures.lines c.in-Ok.ensures.value) ∙ c.loop-line.invariant.read;
-  within = c.in-Ok.ensures.within c.loop-line.number c.loop-line.invariant.within;
+pub loop-cut-preserved : goal.loop-cut-preserved
+loop-cut-preserved c = record {
+  read = sym (lines_more c.args.mode c.loop-cut.draft c.read_line.new.draft (c.loop-cut.number + 1) c.in-Some.cut.line.now c.loop-cut.rest.now c.in-Some.cut.more.now c.in-Some.ensures.lines c.in-Ok.ensures.value) ∙ c.loop-cut.invariant.read;
+  within = c.in-Ok.ensures.within c.loop-cut.number c.loop-cut.invariant.within;
   early = omega (arith, c.in-Ok.ensures.early);
 }
 
 pub returns-in-Err-clause-at : goal.returns-in-Err-clause-at
 returns-in-Err-clause-at c =
     subst (λ e. TellsFault e (reading c.args.mode c.args.bytes.now)) (sym c.stopped_at.ensures)
-    (lines_stop c.args.mode c.loop-line.draft (c.loop-line.number + 1) c.in-Some.line.now c.loop-line.rest.now c.in-Some.more.now (reading c.args.mode c.args.bytes.now) c.in-Err.stop c.in-Some.ensures.lines c.in-Err.ensures.value
-    (reading_short c.args.mode c.args.bytes.now (omega arith) ∙ sym c.loop-line.invariant.read))
+    (lines_stop c.args.mode c.loop-cut.draft (c.loop-cut.number + 1) c.in-Some.cut.line.now c.loop-cut.rest.now c.in-Some.cut.more.now (reading c.args.mode c.args.bytes.now) c.in-Err.stop c.in-Some.ensures.lines c.in-Err.ensures.value
+    (reading_short c.args.mode c.args.bytes.now (omega arith) ∙ sym c.loop-cut.invariant.read))
 
 pub returns-clause-ok : goal.returns-clause-ok
 returns-clause-ok c =
-    let whole : reading c.args.mode c.args.bytes.now ≡ ended c.loop-line.draft = reading_short c.args.mode c.args.bytes.now (omega arith) ∙ (sym c.loop-line.invariant.read ∙ lines_end c.args.mode c.loop-line.draft (c.loop-line.number + 1) c.loop-line.rest.now c.in_default.ensures.lines) in
+    let whole : reading c.args.mode c.args.bytes.now ≡ ended c.loop-cut.draft = reading_short c.args.mode c.args.bytes.now (omega arith) ∙ (sym c.loop-cut.invariant.read ∙ lines_end c.args.mode c.loop-cut.draft (c.loop-cut.number + 1) c.loop-cut.rest.now c.in_default.ensures.lines) in
     subst (λ r. IfOk c.finish.result (λ x. r ≡ Spelled x)) (sym whole) c.finish.ensures.ok
 
 pub returns-clause-at : goal.returns-clause-at
 returns-clause-at c =
-    let whole : reading c.args.mode c.args.bytes.now ≡ ended c.loop-line.draft = reading_short c.args.mode c.args.bytes.now (omega arith) ∙ (sym c.loop-line.invariant.read ∙ lines_end c.args.mode c.loop-line.draft (c.loop-line.number + 1) c.loop-line.rest.now c.in_default.ensures.lines) in
+    let whole : reading c.args.mode c.args.bytes.now ≡ ended c.loop-cut.draft = reading_short c.args.mode c.args.bytes.now (omega arith) ∙ (sym c.loop-cut.invariant.read ∙ lines_end c.args.mode c.loop-cut.draft (c.loop-cut.number + 1) c.loop-cut.rest.now c.in_default.ensures.lines) in
     subst (λ r. IfErr c.finish.result (λ e. TellsFault e r)) (sym whole) c.finish.ensures.at

@@ -2,7 +2,7 @@ use Rattle.std.proofs.Common.{◌∙◌, ap, sym}
 use Rattle.std.specs.Prelude.{slice_index}
 use Rattle.script_text.specs.Words.{words, is_gap}
 use Rattle.script_text.proofs.Cuts.{words_none, words_skip, words_begin, rest_is}
-use Rattle.script_text.proofs.cut.word_start.Goals as goal
+use Rattle.script_text.proofs.cut.any_word.Goals as goal
 
 pub returns-in-None-clause-words : goal.returns-in-None-clause-words
 returns-in-None-clause-words c = words_none c.args.line.now (sym c.in-None.ensures.place)

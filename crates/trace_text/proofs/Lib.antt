@@ -10,3 +10,4 @@ pub mod AsciiLaws
 pub mod PlainLaws
 pub mod SlotLaws
 pub mod ShardLaws
+pub mod PartLaws

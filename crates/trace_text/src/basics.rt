@@ -1,6 +1,5 @@
 //! Bytes and numbers at the end of a text that is given room as it grows.
-ghost use Rattle.std.specs.Prelude.{◌≡◌, ◌++◌, ◌∷◌, [], OnOk, decimal};
-ghost use Rattle.yard_model.specs.Text.{words};
+ghost use Rattle.std.specs.Prelude.{◌≡◌, ◌++◌, OnOk, decimal};
 
 use crate::number::put_wide;
 use crate::room::push_cells;
@@ -20,13 +19,4 @@ pub(crate) fn push_number(text: &mut Vec<u8>, n: u64) -> Result<(), AllocError>
     let mut cells = [0; 20];
     let end = put_wide(&mut cells, 0, n);
     push_cells(text, &cells, end)
-}
-
-/// Appends a word and a number.
-pub(crate) fn push_with_number(text: &mut Vec<u8>, word: &[u8], n: u64) -> Result<(), AllocError>
-    ensures { OnOk result (text.new.items ≡ text.old.items ++ words (word.now ∷ decimal n ∷ [])) }
-{
-    push(text, word)?;
-    push(text, b" ")?;
-    push_number(text, n)
 }

@@ -1,6 +1,6 @@
 //! An entity's lines in the report.
 ghost use Rattle.trace_text.specs.Places.{lent};
-ghost use Rattle.std.specs.Prelude.{◌≡◌, ◌++◌, ◌∷◌, [], OnOk, IsTrue, codes, decimal, fold, length};
+ghost use Rattle.std.specs.Prelude.{◌≡◌, ◌+◌, ◌<◌, ◌^◌, ◌≤◌, ◌++◌, ◌∷◌, [], IfOk, IsTrue, codes, decimal, fold, length, take};
 ghost use Rattle.std.specs.List.{flat_map};
 ghost use Rattle.yard_model.specs.Behaviour.{apply, are_applicable, after_record, empty_state, folded};
 ghost use Rattle.yard_model.specs.Script.{setting};
@@ -8,71 +8,117 @@ ghost use Rattle.yard_model.specs.Setting.{shard_of};
 ghost use Rattle.yard_model.specs.Text.{words, line, record_words, state_text, entity_lines};
 ghost use Rattle.trace_text.specs.Foldable.{are_foldable};
 
-use crate::basics::{push, push_number, push_with_number};
-use crate::records::push_record;
-use crate::values::push_state;
+use crate::number::{put_number, put_wide};
+use crate::records::put_record;
+use crate::room::{put, put_word};
+use crate::sheet::{has_room, make_room};
+use crate::values::{put_counted, put_name, put_state};
 use std::alloc::AllocError;
 use yard_model::{Charter, EntityName, Event, Kind, Record, ShardNo, State};
 
-/// An entity's line and those of its records; nothing where it has no record.
-pub(crate) fn push_entity(
-    text: &mut Vec<u8>,
+/// An entity's line and those of its records, behind these cells; nothing where it has no record. Where
+/// they end.
+pub(crate) fn put_entity(
+    cells: &mut Vec<u8>,
+    at: usize,
     charter: &Charter,
     s: ShardNo,
     name: &EntityName,
     records: &[&Record],
-) -> Result<(), AllocError>
+) -> Result<usize, AllocError>
+    requires at { at ≤ length cells.old.items }
     requires shard { shard_of (setting charter.now) name.now ≡ s }
     requires foldable { IsTrue (are_foldable (empty_state charter.now.config.kind) (lent records.now)) }
-    ensures { OnOk result (text.new.items ≡ text.old.items ++ entity_lines (setting charter.now) name.now (lent records.now)) }
+    ensures items { IfOk result (λ end. take end cells.new.items ≡ take at cells.old.items ++ entity_lines (setting charter.now) name.now (lent records.now)) }
+    ensures end { IfOk result (λ end. end ≤ length cells.new.items) }
+    ensures length { length cells.old.items ≤ length cells.new.items }
 {
     if records.is_empty() {
-        return Ok(());
+        return Ok(at);
     }
-    push_entity_line(text, charter.config().kind, s, name, records)?;
-    push_records(text, records)
+    make_room(cells, at)?;
+    let kind = charter.config().kind;
+    let at = put_entity_line(cells.as_mut_slice(), at, kind, s, name, records);
+    put_records(cells, at, records)
 }
 
-fn push_entity_line(
-    text: &mut Vec<u8>,
+fn put_entity_line(
+    cells: &mut [u8],
+    at: usize,
     kind: Kind,
     s: ShardNo,
     name: &EntityName,
     records: &[&Record],
-) -> Result<(), AllocError>
-    requires { IsTrue (are_foldable (empty_state kind) (lent records.now)) }
-    ensures { OnOk result (text.new.items ≡ text.old.items ++ line (codes "entity" ∷ name.now ∷ codes "shard" ∷ decimal s ∷ codes "records" ∷ decimal (length (lent records.now)) ∷ codes "state" ∷ state_text (folded kind (lent records.now)) ∷ [])) }
+) -> usize
+    requires room { at + 512 ≤ length cells.old }
+    requires foldable { IsTrue (are_foldable (empty_state kind) (lent records.now)) }
+    ensures items { take result cells.new ≡ take at cells.old ++ line (codes "entity" ∷ name.now ∷ codes "shard" ∷ decimal s ∷ codes "records" ∷ decimal (length (lent records.now)) ∷ codes "state" ∷ state_text (folded kind (lent records.now)) ∷ []) }
+    ensures end { result ≤ at + 512 }
 {
-    push_entity_head(text, s, name)?;
-    push_with_number(text, b" records", records.len() as u64)?;
-    push(text, b" state ")?;
-    push_state(text, &state_after(kind, records))?;
-    push(text, b"\n")
+    let at = put_entity_head(cells, at, s, name);
+    let at = put_word(cells, at, b" records ");
+    let at = put_wide(cells, at, records.len() as u64);
+    let at = put_word(cells, at, b" state ");
+    let at = put_state(cells, at, &state_after(kind, records));
+    put(cells, at, b'\n')
 }
 
-fn push_entity_head(text: &mut Vec<u8>, s: ShardNo, name: &EntityName) -> Result<(), AllocError>
-    ensures { OnOk result (text.new.items ≡ text.old.items ++ words (codes "entity" ∷ name.now ∷ codes "shard" ∷ decimal s ∷ [])) }
+fn put_entity_head(cells: &mut [u8], at: usize, s: ShardNo, name: &EntityName) -> usize
+    requires { at + 60 ≤ length cells.old }
+    ensures items { take result cells.new ≡ take at cells.old ++ words (codes "entity" ∷ name.now ∷ codes "shard" ∷ decimal s ∷ []) }
+    ensures end { result ≤ at + 60 }
 {
-    push(text, b"entity ")?;
-    push(text, name.bytes())?;
-    push_with_number(text, b" shard", u64::from(s.get()))
+    let at = put_word(cells, at, b"entity ");
+    let at = put_name(cells, at, name);
+    put_counted(cells, at, b" shard ", u32::from(s.get()))
 }
 
-fn push_records(text: &mut Vec<u8>, records: &[&Record]) -> Result<(), AllocError>
-    ensures { OnOk result (text.new.items ≡ text.old.items ++ flat_map (λ x. line (codes "record" ∷ record_words x)) (lent records.now)) }
+/// The lines of these records, behind these cells; where they end.
+fn put_records(cells: &mut Vec<u8>, at: usize, records: &[&Record]) -> Result<usize, AllocError>
+    requires { at ≤ length cells.old.items }
+    ensures items { IfOk result (λ end. take end cells.new.items ≡ take at cells.old.items ++ flat_map (λ x. line (codes "record" ∷ record_words x)) (lent records.now)) }
+    ensures end { IfOk result (λ end. end ≤ length cells.new.items) }
+    ensures length { length cells.old.items ≤ length cells.new.items }
 {
+    let mut end = at;
     for written in records {
-        push_record_line(text, written)?;
+        end = put_next_record(cells, end, written)?;
     }
-    Ok(())
+    Ok(end)
 }
 
-fn push_record_line(text: &mut Vec<u8>, written: &Record) -> Result<(), AllocError>
-    ensures { OnOk result (text.new.items ≡ text.old.items ++ line (codes "record" ∷ record_words written.now)) }
+/// The line of one record more.
+fn put_next_record(cells: &mut Vec<u8>, at: usize, written: &Record) -> Result<usize, AllocError>
+    requires { at ≤ length cells.old.items }
+    ensures items { IfOk result (λ end. take end cells.new.items ≡ take at cells.old.items ++ line (codes "record" ∷ record_words written.now)) }
+    ensures end { IfOk result (λ end. end ≤ length cells.new.items) }
+    ensures length { length cells.old.items ≤ length cells.new.items }
 {
-    push(text, b"record ")?;
-    push_record(text, written)?;
-    push(text, b"\n")
+    if has_room(cells, at) {
+        return Ok(put_record_line(cells.as_mut_slice(), at, written));
+    }
+    put_record_in_more(cells, at, written)
+}
+
+/// The same where there may be too little room.
+fn put_record_in_more(cells: &mut Vec<u8>, at: usize, written: &Record) -> Result<usize, AllocError>
+    requires { at ≤ length cells.old.items }
+    ensures items { IfOk result (λ end. take end cells.new.items ≡ take at cells.old.items ++ line (codes "record" ∷ record_words written.now)) }
+    ensures end { IfOk result (λ end. end ≤ length cells.new.items) }
+    ensures length { length cells.old.items ≤ length cells.new.items }
+{
+    make_room(cells, at)?;
+    Ok(put_record_line(cells.as_mut_slice(), at, written))
+}
+
+fn put_record_line(cells: &mut [u8], at: usize, written: &Record) -> usize
+    requires { at + 268 ≤ length cells.old }
+    ensures items { take result cells.new ≡ take at cells.old ++ line (codes "record" ∷ record_words written.now) }
+    ensures end { result ≤ at + 268 }
+{
+    let at = put_word(cells, at, b"record ");
+    let at = put_record(cells, at, written);
+    put(cells, at, b'\n')
 }
 
 /// The state that a journal leads to.
@@ -83,20 +129,18 @@ pub(crate) fn state_after(kind: Kind, records: &[&Record]) -> State
 {
     let mut state = State::empty(kind);
     for written in records {
-        state = after_events(&state, written.events.as_slice());
+        apply_events(&mut state, written.events.as_slice());
     }
     state
 }
 
-/// The state after a record's events.
+/// The state goes on by a record's events.
 #[tactic(auto, using(crate::proofs::FoldLaws::applicable_first, crate::proofs::FoldLaws::applicable_next))]
-fn after_events(state: &State, events: &[Event]) -> State
-    requires { IsTrue (are_applicable state.now events.now) }
-    ensures { result ≡ fold apply state.now events.now }
+fn apply_events(state: &mut State, events: &[Event])
+    requires { IsTrue (are_applicable state.old events.now) }
+    ensures { state.new ≡ fold apply state.old events.now }
 {
-    let mut current = *state;
     for event in events {
-        current = current.after(event);
+        *state = state.after(event);
     }
-    current
 }

@@ -139,7 +139,7 @@ fn push_other(text: &mut Vec<u8>, fact: &Fact) -> Result<(), AllocError>
     Ok(())
 }
 
-fn put_fact(cells: &mut [u8], at: usize, fact: &Fact) -> usize
+pub(crate) fn put_fact(cells: &mut [u8], at: usize, fact: &Fact) -> usize
     requires { at + 512 ≤ length cells.old }
     ensures items { take result cells.new ≡ take at cells.old ++ fact_line fact.now }
     ensures end { result ≤ at + 512 }

@@ -1,5 +1,5 @@
 //! The queues in the report.
-ghost use Rattle.std.specs.Prelude.{◌≡◌, ℕ, ◌+◌, ◌<◌, ◌^◌, ◌++◌, ◌∷◌, [], List, OnOk, IfOk, codes, decimal, length, map, slice_index_or};
+ghost use Rattle.std.specs.Prelude.{◌≡◌, ℕ, ◌+◌, ◌<◌, ◌≤◌, ◌^◌, ◌++◌, ◌∷◌, [], List, OnOk, IfOk, codes, decimal, length, map, slice_index_or, take};
 ghost use Rattle.std.specs.List.{flat_map};
 ghost use Rattle.std.specs.List.Sorted.{IsStrictlySortedBy};
 ghost use Rattle.std.specs.Ordering.{nat_cmp};
@@ -9,12 +9,15 @@ ghost use Rattle.yard_model.specs.Entry.{queue_fact};
 ghost use Rattle.yard_model.specs.Script.{setting};
 ghost use Rattle.yard_model.specs.SlotLists.{queue_list};
 ghost use Rattle.yard_model.specs.Setting.{producers};
-ghost use Rattle.yard_model.specs.Text.{words};
+ghost use Rattle.yard_model.specs.Text.{line, words};
 ghost use Rattle.trace_text.specs.Places.{tallies_of};
 ghost use Rattle.trace_text.specs.Rows.{rows, queue_rows, tally_text};
 
-use crate::basics::{push, push_number, push_with_number};
+use crate::number::{put_small, put_wide};
 use crate::report_rows::ReportRows;
+use crate::room::{put, put_word};
+use crate::sheet::make_room;
+use crate::values::{put_counted, put_name};
 use name_index::NameIndex;
 use std::alloc::{AllocError, Global};
 use yard_model::{Charter, EntityName, Lists, ProducerNo, QueueEntry};
@@ -65,7 +68,7 @@ fn push_each_queue<R: ReportRows, T: Lists>(
 }
 
 /// The pairs of the queue of this number.
-fn push_queue<R: ReportRows, T: Lists>(
+pub(crate) fn push_queue<R: ReportRows, T: Lists>(
     out: &mut R,
     alloc: Global,
     names: &NameIndex,
@@ -111,35 +114,53 @@ fn push_tallies<R: ReportRows>(
     Ok(())
 }
 
-/// The line of a pair, where a command is queued.
-pub(crate) fn push_tally(
-    text: &mut Vec<u8>,
+/// The line of a pair behind these cells, where a command is queued; where it ends.
+pub(crate) fn put_tally(
+    cells: &mut Vec<u8>,
+    at: usize,
     p: ProducerNo,
     name: &EntityName,
     tally: &Tally,
-) -> Result<(), AllocError>
-    ensures { OnOk result (text.new.items ≡ text.old.items ++ tally_text p name.now tally.now) }
+) -> Result<usize, AllocError>
+    requires { at ≤ length cells.old.items }
+    ensures items { IfOk result (λ end. take end cells.new.items ≡ take at cells.old.items ++ tally_text p name.now tally.now) }
+    ensures end { IfOk result (λ end. end ≤ length cells.new.items) }
+    ensures length { length cells.old.items ≤ length cells.new.items }
 {
     if tally.queued == 0 {
-        return Ok(());
+        return Ok(at);
     }
-    push_pair_of_queue(text, p, name)?;
-    push_with_number(text, b" queued", tally.queued)?;
-    push_with_number(text, b" confirmed", u64::from(tally.confirmed))?;
-    push(text, b"\n")
+    make_room(cells, at)?;
+    Ok(put_pair_line(cells.as_mut_slice(), at, p, name, tally))
 }
 
-fn push_pair_of_queue(
-    text: &mut Vec<u8>,
+fn put_pair_line(
+    cells: &mut [u8],
+    at: usize,
     p: ProducerNo,
     name: &EntityName,
-) -> Result<(), AllocError>
-    ensures { OnOk result (text.new.items ≡ text.old.items ++ words (codes "queue" ∷ decimal p ∷ name.now ∷ [])) }
+    tally: &Tally,
+) -> usize
+    requires { at + 110 ≤ length cells.old }
+    ensures items { take result cells.new ≡ take at cells.old ++ line (codes "queue" ∷ decimal p ∷ name.now ∷ codes "queued" ∷ decimal tally.now.queued ∷ codes "confirmed" ∷ decimal tally.now.confirmed ∷ []) }
+    ensures end { result ≤ at + 110 }
 {
-    push(text, b"queue ")?;
-    push_number(text, u64::from(p.get()))?;
-    push(text, b" ")?;
-    push(text, name.bytes())
+    let at = put_pair_of_queue(cells, at, p, name);
+    let at = put_word(cells, at, b" queued ");
+    let at = put_wide(cells, at, tally.queued);
+    let at = put_counted(cells, at, b" confirmed ", tally.confirmed);
+    put(cells, at, b'\n')
+}
+
+fn put_pair_of_queue(cells: &mut [u8], at: usize, p: ProducerNo, name: &EntityName) -> usize
+    requires { at + 41 ≤ length cells.old }
+    ensures items { take result cells.new ≡ take at cells.old ++ words (codes "queue" ∷ decimal p ∷ name.now ∷ []) }
+    ensures end { result ≤ at + 41 }
+{
+    let at = put_word(cells, at, b"queue ");
+    let at = put_small(cells, at, u32::from(p.get()));
+    let at = put(cells, at, b' ');
+    put_name(cells, at, name)
 }
 
 /// The counts of these names, each at the place of its name.

@@ -1,22 +1,13 @@
 //! Records and messages.
-ghost use Rattle.std.specs.Prelude.{◌≡◌, ◌+◌, ◌≤◌, ◌++◌, ◌∷◌, [], OnOk, codes, decimal, take, length};
+ghost use Rattle.std.specs.Prelude.{◌≡◌, ◌+◌, ◌≤◌, ◌++◌, ◌∷◌, [], codes, decimal, take, length};
 ghost use Rattle.yard_model.specs.Text.{words, record_words, message_words, events_text, reply_text};
 
 use crate::number::{put_number, put_small};
-use crate::room::{push_cells, put, put_word};
+use crate::room::{put, put_word};
 use crate::values::{put_command, put_counted, put_events, put_name, put_reply};
-use std::alloc::AllocError;
 use yard_model::{Message, Record};
 
-/// Appends what a record says. The only error is want of memory.
-pub(crate) fn push_record(text: &mut Vec<u8>, written: &Record) -> Result<(), AllocError>
-    ensures { OnOk result (text.new.items ≡ text.old.items ++ words (record_words written.now)) }
-{
-    let mut cells = [0; 260];
-    let end = put_record(&mut cells, 0, written);
-    push_cells(text, &cells, end)
-}
-
+/// What a record says.
 pub(crate) fn put_record(cells: &mut [u8], at: usize, written: &Record) -> usize
     requires { at + 260 ≤ length cells.old }
     ensures items { take result cells.new ≡ take at cells.old ++ words (record_words written.now) }

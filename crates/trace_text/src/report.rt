@@ -15,14 +15,17 @@ ghost use Rattle.yard_model.specs.SlotLists.{shard_list};
 ghost use Rattle.yard_model.specs.Text.{report};
 ghost use Rattle.trace_text.specs.Foldable.{are_foldable, is_foldable, is_foldable_shard, is_foldable_in_all};
 ghost use Rattle.trace_text.specs.Json.{json_report, json_text};
+ghost use Rattle.trace_text.specs.Parts.{AreNames, report_part, report_parts};
 ghost use Rattle.trace_text.specs.Rows.{rows, shard_rows};
 
 use crate::basics::push;
 use crate::journals::journals_of_list;
 use crate::json_rows::whole_value;
+use crate::parts::{ReportNames, count_of_parts, parts_law};
 use crate::queues::push_queues;
 use crate::report_rows::ReportRows;
 use crate::shards::names_by_shard;
+use crate::sheet::Sheet;
 use name_index::NameIndex;
 use serde_json::Value;
 use std::alloc::{AllocError, Global};
@@ -39,11 +42,33 @@ pub fn push_report<T: Lists>(
     requires { IsTrue (is_foldable_in_all (setting charter.now) (T.lists stores.now)) }
     ensures { OnOk result (text.new.items ≡ text.old.items ++ report (setting charter.now) (T.lists stores.now)) }
 {
+    parts_law();
     let alloc = *text.allocator();
-    push(text, b"report\n")?;
-    push_entities(text, alloc, charter, stores)?;
-    push_queues(text, alloc, charter, stores)?;
-    push(text, b"end\n")
+    let names = ReportNames::new(alloc, charter)?;
+    let mut sheet = Sheet::new(alloc);
+    for k in 0..count_of_parts(charter) {
+        push_part(text, &mut sheet, charter, &names, stores, k)?;
+    }
+    Ok(())
+}
+
+/// Appends a part of the report, which is spelled in a sheet.
+fn push_part<T: Lists>(
+    text: &mut Vec<u8>,
+    sheet: &mut Sheet,
+    charter: &Charter,
+    names: &ReportNames,
+    stores: &T,
+    k: usize,
+) -> Result<(), AllocError>
+    requires foldable { IsTrue (is_foldable_in_all (setting charter.now) (T.lists stores.now)) }
+    requires names { AreNames (setting charter.now) names.now }
+    requires within { k < length (report_parts (setting charter.now) (T.lists stores.now)) }
+    ensures { OnOk result (text.new.items ≡ text.old.items ++ report_part (setting charter.now) (T.lists stores.now) k) }
+{
+    sheet.clear();
+    sheet.push_report_part(charter, names, stores, k)?;
+    push(text, sheet.as_slice())
 }
 
 /// The report as JSON: an object of the entities and the queues, in the report's order. The only
@@ -106,7 +131,7 @@ fn push_entities<R: ReportRows, T: Lists>(
 }
 
 /// The entities of the shard of this number, which has these names.
-fn push_shard<R: ReportRows, T: Lists>(
+pub(crate) fn push_shard<R: ReportRows, T: Lists>(
     out: &mut R,
     alloc: Global,
     charter: &Charter,

@@ -1,20 +1,21 @@
 //! The report as a text.
 ghost use Rattle.std.specs.Prelude.{◌≡◌};
 
-use crate::entities::push_entity;
-use crate::queues::{Tally, push_tally};
+use crate::entities::put_entity;
+use crate::queues::{Tally, put_tally};
 use crate::report_rows::ReportRows;
+use crate::sheet::Sheet;
 use std::alloc::AllocError;
 use yard_model::{Charter, EntityName, ProducerNo, Record, ShardNo};
 
-impl ReportRows for Vec<u8> {
+impl ReportRows for Sheet {
     ghost use Rattle.std.specs.Prelude.{ℕ, refl};
     ghost use Rattle.yard_model.specs.Text.{entity_lines};
     ghost use Rattle.trace_text.specs.Rows.{tally_text};
 
     ghost Part = { ℕ };
 
-    ghost parts = { λ text. text.items };
+    ghost parts = { λ text. text };
 
     ghost entity_parts = { entity_lines };
 
@@ -27,7 +28,8 @@ impl ReportRows for Vec<u8> {
         name: &EntityName,
         records: &[&Record],
     ) -> Result<(), AllocError> {
-        push_entity(self, charter, s, name, records)
+        self.len = put_entity(&mut self.cells, self.len, charter, s, name, records)?;
+        Ok(())
     }
 
     fn push_pair(
@@ -36,6 +38,7 @@ impl ReportRows for Vec<u8> {
         name: &EntityName,
         tally: &Tally,
     ) -> Result<(), AllocError> {
-        push_tally(self, p, name, tally)
+        self.len = put_tally(&mut self.cells, self.len, p, name, tally)?;
+        Ok(())
     }
 }

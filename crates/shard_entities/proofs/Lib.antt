@@ -6,6 +6,7 @@ mod EntryLaws
 mod PlannedLaws
 mod DeliverLaws
 mod PlacesLaws
+mod OrderLaws
 mod TakenLaws
 mod HostLaws
 mod FoldLaws

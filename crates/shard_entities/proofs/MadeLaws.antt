@@ -12,7 +12,7 @@ use Rattle.yard_model.specs.Move.{Move, told}
 use Rattle.envelope_pool.specs.Keyed.{Keyed}
 use Rattle.shard_entities.specs.Celled.{Celled, celled, celled_after, celled_at, all_stashing, AreStashed, all_made, unmade, AreMade, IsSlot}
 use Rattle.shard_entities.proofs.LodgedLaws.{Keeps, is_same, is_other}
-use Rattle.shard_entities.proofs.StashLaws.{inside_cells, seen_at, kept_stashed, one_moved, state_put, active_put, clear_put}
+use Rattle.shard_entities.proofs.StashLaws.{inside_cells, kept_stashed, one_moved, state_put, active_put, clear_put}
 
 -- The list of all.
 

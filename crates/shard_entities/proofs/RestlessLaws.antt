@@ -1,10 +1,10 @@
 -- Which entities recover or stop, as one of them goes on; and what a tick passes over.
-use Rattle.std.proofs.Common.{◌≡◌, ◌≢◌, ℕ, ◌+◌, ◌<◌, ◌≤◌, List, [], ◌∷◌, ◌++◌, ◌-◌, length, map, drop, replicate, sym, ap, subst, ◌∙◌, refl, true, false, arith, true≢false, get_or-set_same, get_or-set_other}
-use Rattle.std.specs.Prelude.{Bool, zero, suc, ◌==◌, cond, filter, Option, None, Some, IfSome, IfNone, slice_set, slice_index_or}
+use Rattle.std.proofs.Common.{◌≡◌, ◌≢◌, ℕ, ◌+◌, ◌<◌, ◌≤◌, List, [], ◌++◌, ◌-◌, length, map, drop, replicate, sym, ap, subst, ◌∙◌, refl, true, false, arith, true≢false, get_or-set_same, get_or-set_other}
+use Rattle.std.specs.Prelude.{Bool, zero, suc, ◌==◌, Option, None, Some, IfSome, IfNone, slice_set, slice_index_or}
 use Rattle.std.specs.List.Sorted.{IsStrictlySortedBy}
 use Rattle.std.specs.Ordering.{nat_cmp}
 use Rattle.std.specs.Cmp.Lexicographic.{slice_cmp}
-use Rattle.std.proofs.lemmas.List.{map-set, length-set, get_or_default}
+use Rattle.std.proofs.lemmas.List.{map-set}
 use Rattle.std.proofs.lemmas.List.Kept.{IsStrictlySortedBy-filter}
 use Rattle.std.proofs.Math.ListN.{drop_of_length-le}
 use Rattle.yard_model.specs.declared.charter.Config.{Config}
@@ -25,41 +25,28 @@ use Rattle.plain_laws.proofs.Names.{name_itself}
 use Rattle.place_set.specs.Places.{Places, is_in}
 use Rattle.shard_store.specs.Shelved.{name_at}
 use Rattle.shard_entities.specs.Celled.{Celled, celled, celled_after}
-use Rattle.shard_entities.specs.Placed.{IsPlace}
+use Rattle.shard_entities.specs.Placed.{IsPlace, start_of}
 use Rattle.shard_entities.specs.declared.place.Place.{Place}
 use Rattle.shard_entities.specs.declared.hosting.Hosting.{Hosting}
 use Rattle.shard_entities.specs.Lodged.{Lodged, lodged, given, IsLodged, cell_of}
-use Rattle.shard_entities.specs.Restless.{is_restless, no_places, set_at, AreRestless, AreFresh, IsPut, IsNoted}
+use Rattle.shard_entities.specs.Restless.{is_restless, AreRestless, AreFresh, IsNoted}
 use Rattle.shard_entities.proofs.CountLaws.{other_place, cells_within}
 use Rattle.shard_entities.proofs.HostLaws.{shard_below}
 use Rattle.shard_entities.proofs.LodgedLaws.{is_same, is_other, placed, cell_at}
 use Rattle.name_index.proofs.NameLaws.{another_name}
+use Rattle.shard_entities.proofs.OrderLaws.{apart_shards, apart_places, ends_before, picked_passes, shard_few}
 use Rattle.shard_entities.proofs.PlacesLaws.{new_cells}
 use Rattle.shard_entities.proofs.TickLaws.{of_names, names_next, room_next}
 
 abbrev pub rests : Celled → Bool
 rests x = is_restless x.cell.phase
 
--- One set.
+-- The set of a node that comes up.
 
-pub set_read : (sets : List Places) (s i : ℕ) {o : Places} → i ≡ s → s < length sets → o ≡ slice_index_or sets i o → set_at sets s ≡ o
-set_read sets s i {o} same inside read = get_or_default sets s no_places o inside ∙ (ap (λ n. slice_index_or sets n o) (sym same) ∙ sym read)
-
-pub noted : (old : List Places) (s i k : ℕ) (b : Bool) {o new : Places} → i ≡ s → s < length old → o ≡ slice_index_or old i o → IsPut o new k b → IsNoted old (slice_set old i new) s k b
-noted old s i k b {o} {new} same inside read step = record {
-  there = length-set old i new;
-  own = subst (λ x. IsPut x (set_at (slice_set old i new) s) k b) (sym (set_read old s i same inside read))
-      (subst (λ x. IsPut o x k b) (sym (ap (λ n. set_at (slice_set old n new) s) same ∙ get_or-set_same old s new no_places inside)) step);
-  others = λ t other. get_or-set_other old i t new no_places (λ it. other (it ∙ same));
-}
-
--- The first sets.
-
-pub restless_new : (c script : Script) (cells : List Celled) (sets : List Places) → script ≡ c → cells ≡ replicate (length (setting c).names) (celled c.config.producers c.config.window) → AreFresh c c.config.shards sets → AreRestless (setting script) (map cell_of cells) sets
-restless_new c script cells sets same fresh k = subst (λ x. AreRestless (setting x) (map cell_of cells) sets) (sym same) record {
-  there = k.there;
+pub restless_new : (c script : Script) (cells : List Celled) (marked : Places) → script ≡ c → cells ≡ replicate (length (setting c).names) (celled c.config.producers c.config.window) → AreFresh (setting c) c.config.shards marked → AreRestless (setting script) (map cell_of cells) marked
+restless_new c script cells marked same fresh k = subst (λ x. AreRestless (setting x) (map cell_of cells) marked) (sym same) record {
   bound = k.bound;
-  each = λ s i lt inside. k.none s i lt ∙ sym (absent (name_at (names_of (setting c) s) i));
+  each = λ s i lt inside. k.none (start_of (setting c) s + i) ∙ sym (absent (name_at (names_of (setting c) s) i));
 }
   where
     absent : (e : List ℕ) → is_restless (cell_in (setting c) (map cell_of cells) e).phase ≡ false
@@ -69,30 +56,16 @@ restless_new c script cells sets same fresh k = subst (λ x. AreRestless (settin
 
 -- The cell at a place is another.
 
-picked_passes : (p : List ℕ → Bool) (xs : List (List ℕ)) (k : ℕ) → k < length (filter p xs) → p (name_at (filter p xs) k) ≡ true
-picked_passes p [] k inside = absurd (omega (arith, inside))
-picked_passes p (x ∷ xs) k inside = by (p x) refl k inside (λ j below. picked_passes p xs j below)
-  where
-    by : (b : Bool) → p x ≡ b → (k : ℕ) → k < length (cond b (x ∷ filter p xs) (filter p xs)) → ((j : ℕ) → j < length (filter p xs) → p (name_at (filter p xs) j) ≡ true) → p (name_at (cond b (x ∷ filter p xs) (filter p xs)) k) ≡ true
-    by true e zero inside rest = e
-    by true e (suc k) inside rest = rest k (let here : suc k < suc (length (filter p xs)) = inside in omega (arith, here))
-    by false e k inside rest = rest k inside
-
 not_itself : (e f : List ℕ) → is_name e f ≡ false → f ≡ e → ⊥
 not_itself e f differ same = true≢false (sym (name_itself e) ∙ (ap (is_name e) (sym same) ∙ differ))
 
-restless_put : {c : Script} {p : Place} {cells : List Cell} {sets new : List Places} (now : Cell) → AreRestless (setting c) cells sets → IsPlace c p → IsStrictlySortedBy (slice_cmp nat_cmp) (setting c).names → p.at < length cells
-    → IsNoted sets new p.shard p.inner (is_restless now.phase) → AreRestless (setting c) (slice_set cells p.at now) new
-restless_put {c} {p} {cells} {sets} {new} now k is sorted within n = record {
-  there = n.there ∙ k.there;
-  bound = λ s lt. bound_at s lt (s == p.shard) refl;
+restless_put : {c : Script} {p : Place} {cells : List Cell} {old new : Places} (now : Cell) → AreRestless (setting c) cells old → IsPlace c p → IsStrictlySortedBy (slice_cmp nat_cmp) (setting c).names → p.at < length cells
+    → IsNoted (setting c) old new p.shard p.inner (is_restless now.phase) → AreRestless (setting c) (slice_set cells p.at now) new
+restless_put {c} {p} {cells} {old} {new} now k is sorted within n = record {
+  bound = n.bound ∙ k.bound;
   each = λ s i lt inside. each_at s i lt inside (s == p.shard) refl (i == p.inner) refl;
 }
   where
-    bound_at : (s : ℕ) → s < c.config.shards → (b : Bool) → (s == p.shard) ≡ b → (set_at new s).bound ≡ length (names_of (setting c) s)
-    bound_at s lt true e = rw (is_same s p.shard e) (n.own.bound ∙ k.bound p.shard is.shard_in)
-    bound_at s lt false e = ap (λ (x : Places). x.bound) (n.others s (is_other s p.shard e)) ∙ k.bound s lt
-
     other_cell : (e : List ℕ) → (e ≡ p.entity → ⊥) → is_restless (cell_in (setting c) (slice_set cells p.at now) e).phase ≡ is_restless (cell_in (setting c) cells e).phase
     other_cell e other = ap (λ (x : Cell). is_restless x.phase) (get_or-set_other cells p.at (place (setting c) e) now (new_cell (setting c)) (other_place is e other))
 
@@ -109,51 +82,51 @@ restless_put {c} {p} {cells} {sets} {new} now k is sorted within n = record {
     elsewhere s i inside apart same = apart (sym (is_same (shard_of (setting c) (name_at (names_of (setting c) s) i)) s (picked_passes (λ e. shard_of (setting c) e == s) (setting c).names i inside)) ∙ (ap (shard_of (setting c)) same ∙ sym is.shard_is))
 
     each_at : (s i : ℕ) → s < c.config.shards → i < length (names_of (setting c) s) → (a : Bool) → (s == p.shard) ≡ a → (b : Bool) → (i == p.inner) ≡ b
-        → is_in (set_at new s) i ≡ is_restless (cell_in (setting c) (slice_set cells p.at now) (name_at (names_of (setting c) s) i)).phase
+        → is_in new (start_of (setting c) s + i) ≡ is_restless (cell_in (setting c) (slice_set cells p.at now) (name_at (names_of (setting c) s) i)).phase
     each_at s i lt inside false e b f =
-        ap (λ (x : Places). is_in x i) (n.others s (is_other s p.shard e)) ∙ (k.each s i lt inside ∙ sym (other_cell (name_at (names_of (setting c) s) i) (elsewhere s i inside (is_other s p.shard e))))
+        n.others (start_of (setting c) s + i) (apart_shards (setting c) s p.shard i p.inner (is_other s p.shard e) inside is.there.within) ∙ (k.each s i lt inside ∙ sym (other_cell (name_at (names_of (setting c) s) i) (elsewhere s i inside (is_other s p.shard e))))
     each_at s i lt inside true e true f =
-        ap (λ m. is_in (set_at new m) i) (is_same s p.shard e) ∙ (ap (is_in (set_at new p.shard)) (is_same i p.inner f) ∙ (n.own.it ∙ (sym own_cell
+        ap (λ m. is_in new (start_of (setting c) m + i)) (is_same s p.shard e) ∙ (ap (λ j. is_in new (start_of (setting c) p.shard + j)) (is_same i p.inner f) ∙ (n.it ∙ (sym own_cell
         ∙ (ap (λ j. is_restless (cell_in (setting c) (slice_set cells p.at now) (name_at (names_of (setting c) p.shard) j)).phase) (sym (is_same i p.inner f))
         ∙ ap (λ m. is_restless (cell_in (setting c) (slice_set cells p.at now) (name_at (names_of (setting c) m) i)).phase) (sym (is_same s p.shard e))))))
     each_at s i lt inside true e false f =
         let here : i < length (names_of (setting c) p.shard) = subst (λ m. i < length (names_of (setting c) m)) (is_same s p.shard e) inside in
-        ap (λ m. is_in (set_at new m) i) (is_same s p.shard e) ∙ (n.own.others i (is_other i p.inner f) ∙ (k.each p.shard i is.shard_in here
+        ap (λ m. is_in new (start_of (setting c) m + i)) (is_same s p.shard e) ∙ (n.others (start_of (setting c) p.shard + i) (apart_places (setting c) p.shard i p.inner (is_other i p.inner f)) ∙ (k.each p.shard i is.shard_in here
         ∙ (sym (other_cell (name_at (names_of (setting c) p.shard) i) (another i here (is_other i p.inner f)))
         ∙ ap (λ m. is_restless (cell_in (setting c) (slice_set cells p.at now) (name_at (names_of (setting c) m) i)).phase) (sym (is_same s p.shard e)))))
 
 -- it goes on to another phase
-pub goes_on : (now : Celled) {b : Bool} {c : Script} {version : ℕ} {who : Incarnation} {config : Config} {places : Script} {cells : List Celled} {items : List (Option Hosting)} {running : ℕ} {v : Lodged} {p : Place} {sets new : List Places}
-    → IsLodged c version who config places cells items running → lodged c version who items cells ≡ v → IsPlace v.script p → rests now ≡ b → IsNoted sets new p.shard p.inner b
-    → AreRestless (setting c) (map cell_of cells) sets → AreRestless (setting c) (map cell_of (slice_set cells p.at now)) new
-goes_on now {b} {c} {version} {who} {config} {places} {cells} {items} {running} {v} {p} {sets} {new} t seen is phase_is step k =
+pub goes_on : (now : Celled) {b : Bool} {c : Script} {version : ℕ} {who : Incarnation} {config : Config} {places : Script} {cells : List Celled} {items : List (Option Hosting)} {running : ℕ} {v : Lodged} {p : Place} {old new : Places}
+    → IsLodged c version who config places cells items running → lodged c version who items cells ≡ v → IsPlace v.script p → rests now ≡ b → IsNoted (setting places) old new p.shard p.inner b
+    → AreRestless (setting c) (map cell_of cells) old → AreRestless (setting c) (map cell_of (slice_set cells p.at now)) new
+goes_on now {b} {c} {version} {who} {config} {places} {cells} {items} {running} {v} {p} {old} {new} t seen is phase_is step k =
     let here : IsPlace c p = placed t seen is in
     subst (λ l. AreRestless (setting c) l new) (sym (map-set cell_of cells p.at now))
-    (restless_put now.cell k here t.sorted (cells_within t here) (subst (IsNoted sets new p.shard p.inner) (sym phase_is) step))
+    (restless_put now.cell k here t.sorted (cells_within t here) (subst (λ x. IsNoted (setting x) old new p.shard p.inner (is_restless now.cell.phase)) t.places_are (subst (IsNoted (setting places) old new p.shard p.inner) (sym phase_is) step)))
 
 -- it stays in its phase, or in one like it
-pub rests_on : (now : Celled) {c : Script} {version : ℕ} {who : Incarnation} {config : Config} {places : Script} {cells : List Celled} {items : List (Option Hosting)} {running : ℕ} {v : Lodged} {p : Place} {was : Celled} {sets : List Places}
+pub rests_on : (now : Celled) {c : Script} {version : ℕ} {who : Incarnation} {config : Config} {places : Script} {cells : List Celled} {items : List (Option Hosting)} {running : ℕ} {v : Lodged} {p : Place} {was : Celled} {marked : Places}
     → IsLodged c version who config places cells items running → lodged c version who items cells ≡ v → IsPlace v.script p → was ≡ slice_index_or cells p.at was → rests now ≡ rests was
-    → AreRestless (setting c) (map cell_of cells) sets → AreRestless (setting c) (map cell_of (slice_set cells p.at now)) sets
-rests_on now {c} {version} {who} {config} {places} {cells} {items} {running} {v} {p} {was} {sets} t seen is read same k =
+    → AreRestless (setting c) (map cell_of cells) marked → AreRestless (setting c) (map cell_of (slice_set cells p.at now)) marked
+rests_on now {c} {version} {who} {config} {places} {cells} {items} {running} {v} {p} {was} {marked} t seen is read same k =
     let here : IsPlace c p = placed t seen is in
     let old : is_restless (cell_in (setting c) (map cell_of cells) p.entity).phase ≡ rests was = subst (λ (v : Lodged). is_restless (cell v.state p.entity).phase ≡ rests was) (sym seen) (ap (λ (x : Cell). is_restless x.phase) (cell_at t seen is read)) in
-    let own : is_in (set_at sets p.shard) p.inner ≡ rests now = k.each p.shard p.inner here.shard_in here.there.within ∙ (ap (λ e. is_restless (cell_in (setting c) (map cell_of cells) e).phase) here.there.it ∙ (old ∙ sym same)) in
-    goes_on now t seen is refl record { there = refl; own = record { bound = refl; it = own; others = λ i other. refl }; others = λ s other. refl } k
+    let own : is_in marked (start_of (setting c) p.shard + p.inner) ≡ rests now = k.each p.shard p.inner here.shard_in here.there.within ∙ (ap (λ e. is_restless (cell_in (setting c) (map cell_of cells) e).phase) here.there.it ∙ (old ∙ sym same)) in
+    let step : IsNoted (setting c) marked marked p.shard p.inner (rests now) = record { bound = refl; it = own; others = λ i other. refl } in
+    goes_on now t seen is refl (subst (λ x. IsNoted (setting x) marked marked p.shard p.inner (rests now)) (sym t.places_are) step) k
 
 -- the cell that was put
 pub put_read : (cells : List Celled) (i : ℕ) {now o : Celled} → i < length cells → o ≡ slice_index_or (slice_set cells i now) i o → o ≡ now
 put_read cells i {now} {o} inside read = read ∙ get_or-set_same cells i now o inside
 
--- there is a set for the shard, and a place in it
-pub shard_there : {c : Script} {version : ℕ} {who : Incarnation} {config : Config} {places : Script} {cells : List Celled} {items : List (Option Hosting)} {running : ℕ} {v : Lodged} {p : Place} {sets : List Places}
-    → IsLodged c version who config places cells items running → lodged c version who items cells ≡ v → IsPlace v.script p → AreRestless (setting c) (map cell_of cells) sets → p.shard < length sets
-shard_there {c} {version} {who} {config} {places} {cells} {items} {running} {v} {p} {sets} t seen is k = subst (λ n. p.shard < n) (sym k.there) (placed t seen is).shard_in
+-- the place is one of the names' that are kept, and there is room for all of them
+pub place_there : {c : Script} {version : ℕ} {who : Incarnation} {config : Config} {places : Script} {cells : List Celled} {items : List (Option Hosting)} {running : ℕ} {v : Lodged} {p : Place}
+    → IsLodged c version who config places cells items running → lodged c version who items cells ≡ v → IsPlace v.script p → IsPlace places p
+place_there {c} {version} {who} {config} {places} {cells} {items} {running} {v} {p} t seen is = subst (λ x. IsPlace x p) (sym t.places_are) (placed t seen is)
 
-pub place_there : {c : Script} {version : ℕ} {who : Incarnation} {config : Config} {places : Script} {cells : List Celled} {items : List (Option Hosting)} {running : ℕ} {v : Lodged} {p : Place} {sets : List Places}
-    → IsLodged c version who config places cells items running → lodged c version who items cells ≡ v → IsPlace v.script p → AreRestless (setting c) (map cell_of cells) sets → p.inner < (set_at sets p.shard).bound
-place_there {c} {version} {who} {config} {places} {cells} {items} {running} {v} {p} {sets} t seen is k =
-    let here : IsPlace c p = placed t seen is in subst (λ n. p.inner < n) (sym (k.bound p.shard here.shard_in)) here.there.within
+pub all_there : {c : Script} {version : ℕ} {who : Incarnation} {config : Config} {places : Script} {cells : List Celled} {items : List (Option Hosting)} {running : ℕ} {marked : Places}
+    → IsLodged c version who config places cells items running → AreRestless (setting c) (map cell_of cells) marked → marked.bound ≡ start_of (setting places) places.config.shards
+all_there {c} {version} {who} {config} {places} {cells} {items} {running} {marked} t k = k.bound ∙ ap (λ (x : Script). start_of (setting x) x.config.shards) (sym t.places_are)
 
 -- Moves that leave whether it recovers or stops.
 
@@ -201,30 +174,35 @@ names_end st xs i most = ap (of_names st) (drop_of_length-le xs most)
 pub remind_done : (st : Entities) (xs : List (List ℕ)) (i j : ℕ) (out : Spared Item) {whole : Spared Item} → given out (of_names st (drop i xs)) ≡ whole → i ≤ j → j ≤ length xs → AreSilent st xs i j → length xs ≤ j → out ≡ whole
 remind_done st xs i j out {whole} way up most rest end = ap (given out) (sym (names_passed st xs i j up most rest ∙ names_end st xs j end)) ∙ way
 
--- the set of a shard, as it is read
-pub bound_read : {c : Script} {version : ℕ} {who : Incarnation} (cells : List Celled) (items : List (Option Hosting)) {v : Lodged} {sets : List Places} {s i : ℕ} {o : Places}
-    → AreRestless (setting c) (map cell_of cells) sets → lodged c version who items cells ≡ v → s < v.script.config.shards → i ≡ s → o ≡ slice_index_or sets i o → o.bound ≡ length (names_of v.state.set s)
-bound_read {c} {version} {who} cells items {v} {sets} {s} {i} {o} k seen lt same read =
+-- the set, as it is read
+pub next_fits : {c : Script} {version : ℕ} {who : Incarnation} {config : Config} {places : Script} {cells : List Celled} {items : List (Option Hosting)} {running : ℕ} {v : Lodged} {marked : Places} {s start n : ℕ}
+    → IsLodged c version who config places cells items running → AreRestless (setting c) (map cell_of cells) marked → lodged c version who items cells ≡ v → s < v.script.config.shards → start ≡ start_of (setting places) s → n ≤ length (names_of v.state.set s) → start + n ≤ marked.bound
+next_fits {c} {version} {who} {config} {places} {cells} {items} {running} {v} {marked} {s} {start} {n} t k seen lt begins most =
     let below : s < c.config.shards = shard_below cells items seen lt in
-    let its : set_at sets s ≡ o = set_read sets s i same (subst (λ m. s < m) (sym k.there) below) read in
-    sym (ap (λ (x : Places). x.bound) its) ∙ subst (λ (v : Lodged). (set_at sets s).bound ≡ length (names_of v.state.set s)) seen (k.bound s below)
+    let few : n ≤ length (names_of (setting c) s) = subst (λ (v : Lodged). n ≤ length (names_of v.state.set s)) (sym seen) most in
+    let far : start_of (setting c) s + length (names_of (setting c) s) ≤ start_of (setting c) c.config.shards = ends_before (setting c) s c.config.shards below in
+    let first : start ≡ start_of (setting c) s = begins ∙ ap (λ (x : Script). start_of (setting x) s) t.places_are in
+    let bound : marked.bound ≡ start_of (setting c) c.config.shards = k.bound in
+    omega (arith, few, far, first, bound)
 
-pub next_fits : {c : Script} {version : ℕ} {who : Incarnation} (cells : List Celled) (items : List (Option Hosting)) {v : Lodged} {sets : List Places} {s i n : ℕ} {o : Places}
-    → AreRestless (setting c) (map cell_of cells) sets → lodged c version who items cells ≡ v → s < v.script.config.shards → i ≡ s → o ≡ slice_index_or sets i o → n ≤ length (names_of v.state.set s) → n ≤ o.bound
-next_fits {c} {version} {who} cells items {v} {sets} {s} {i} {n} {o} k seen lt same read most =
-    subst (λ m. n ≤ m) (sym (bound_read cells items k seen lt same read)) most
+pub names_few : {c : Script} {version : ℕ} {who : Incarnation} {config : Config} {places : Script} {cells : List Celled} {items : List (Option Hosting)} {running : ℕ} {v : Lodged} (s : ℕ) {n : ℕ}
+    → IsLodged c version who config places cells items running → lodged c version who items cells ≡ v → n ≤ length (names_of v.state.set s) → n ≤ 1000
+names_few {c} {version} {who} {config} {places} {cells} {items} {running} {v} s {n} t seen most =
+    let few : length (names_of (setting c) s) ≤ 1000 = shard_few c s t.script_is in
+    let its : n ≤ length (names_of (setting c) s) = subst (λ (v : Lodged). n ≤ length (names_of v.state.set s)) (sym seen) most in
+    omega (arith, few, its)
 
-pub next_silent : {c : Script} {version : ℕ} {who : Incarnation} (cells : List Celled) (items : List (Option Hosting)) {v : Lodged} {sets : List Places} {s i from last : ℕ} {o : Places}
-    → AreRestless (setting c) (map cell_of cells) sets → lodged c version who items cells ≡ v → s < v.script.config.shards → i ≡ s → o ≡ slice_index_or sets i o → last ≤ o.bound → ((k : ℕ) → from ≤ k → k < last → is_in o k ≡ false)
+pub next_silent : {c : Script} {version : ℕ} {who : Incarnation} {config : Config} {places : Script} {cells : List Celled} {items : List (Option Hosting)} {running : ℕ} {v : Lodged} {marked : Places} {s start from last next : ℕ}
+    → IsLodged c version who config places cells items running → AreRestless (setting c) (map cell_of cells) marked → lodged c version who items cells ≡ v → s < v.script.config.shards → start ≡ start_of (setting places) s → ((k : ℕ) → start + from ≤ k → k < next → is_in marked k ≡ false) → start + last ≤ next → last ≤ length (names_of v.state.set s)
     → AreSilent v.state (names_of v.state.set s) from last
-next_silent {c} {version} {who} cells items {v} {sets} {s} {i} {from} {last} {o} k seen lt same read most none = λ j up low.
+next_silent {c} {version} {who} {config} {places} {cells} {items} {running} {v} {marked} {s} {start} {from} {last} {next} t k seen lt begins none before most = λ j up low.
     let below : s < c.config.shards = shard_below cells items seen lt in
-    let its : set_at sets s ≡ o = set_read sets s i same (subst (λ m. s < m) (sym k.there) below) read in
-    let bound : (set_at sets s).bound ≡ length (names_of (setting c) s) = k.bound s below in
-    let here : (set_at sets s).bound ≡ o.bound = ap (λ (x : Places). x.bound) its in
-    let inside : j < length (names_of (setting c) s) = omega (arith, low, most, bound, here) in
+    let first : start ≡ start_of (setting c) s = begins ∙ ap (λ (x : Script). start_of (setting x) s) t.places_are in
+    let few : last ≤ length (names_of (setting c) s) = subst (λ (v : Lodged). last ≤ length (names_of v.state.set s)) (sym seen) most in
+    let inside : j < length (names_of (setting c) s) = omega (arith, low, few) in
+    let here : is_in marked (start_of (setting c) s + j) ≡ false = none (start_of (setting c) s + j) (omega (arith, up, first)) (omega (arith, low, before, first)) in
     subst (λ (v : Lodged). is_restless (cell v.state (name_at (names_of v.state.set s) j)).phase ≡ false) seen
-    (sym (k.each s j below inside) ∙ (ap (λ (x : Places). is_in x j) its ∙ none j up low))
+    (sym (k.each s j below inside) ∙ here)
 
 pub first_room : (l a b : List Move) (spare : ℕ) → l ≡ a ++ b → length l ≤ spare → length a ≤ spare
 first_room l a b spare cut room = let both : length a + length b ≤ spare = room_next l a b spare cut room in omega (arith, both)

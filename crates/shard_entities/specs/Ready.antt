@@ -21,7 +21,7 @@ pub record AreReady (c : Script) (touched : ℕ) (items : List (Option Hosting))
   pub within : (s : ℕ) → has touched s ≡ true → s < c.config.shards
   pub each : (s : ℕ) → has touched s ≡ false → IsReady c s (at items s)
 
-pub record IsWhole (c : Script) (version : ℕ) (who : Incarnation) (config : Config) (places : Script) (cells : List Celled) (items : List (Option Hosting)) (running : ℕ) (existing : List ℕ) (touched : ℕ) (sets : List Places) : Type 0 where
+pub record IsWhole (c : Script) (version : ℕ) (who : Incarnation) (config : Config) (places : Script) (cells : List Celled) (items : List (Option Hosting)) (running : ℕ) (existing : List ℕ) (touched : ℕ) (marked : Places) : Type 0 where
   pub kept : IsKept c version who config places cells items running existing
   pub ready : AreReady c touched items
-  pub restless : AreRestless (setting c) (map cell_of cells) sets
+  pub restless : AreRestless (setting c) (map cell_of cells) marked

@@ -64,7 +64,7 @@ impl Shards {
     {
         self.cells.ask_stop(place.at);
         let now = self.cells.phase(place.at);
-        note(&mut self.restless, place, now);
+        note(&mut self.restless, &self.places, place, now);
         push(
             out,
             Item::Post(Packet {
@@ -85,7 +85,7 @@ impl Shards {
         let was = self.exists(place);
         self.cells.start(place.at);
         count_in(&mut self.existing[place.shard.get() as usize], was);
-        note(&mut self.restless, place, Phase::Loading);
+        note(&mut self.restless, &self.places, place, Phase::Loading);
         push(out, Item::Fact(Fact::Start(self.who, place.entity)));
     }
 
@@ -99,7 +99,7 @@ impl Shards {
         let was = self.exists(place);
         self.cells.fail(place.at);
         count_out(&mut self.existing[place.shard.get() as usize], was);
-        note(&mut self.restless, place, Phase::Absent);
+        note(&mut self.restless, &self.places, place, Phase::Absent);
         push(out, Item::Fact(Fact::WriteFailed(self.who, place.entity)));
     }
 
@@ -125,7 +125,7 @@ impl Shards {
         let was = self.exists(place);
         self.cells.activate(place.at, state, pending);
         count_in(&mut self.existing[place.shard.get() as usize], was);
-        note(&mut self.restless, place, Phase::Active);
+        note(&mut self.restless, &self.places, place, Phase::Active);
         push(
             out,
             Item::Fact(Fact::Active {
@@ -249,7 +249,7 @@ impl Shards {
         let was = self.exists(place);
         self.cells.stop(place.at);
         count_out(&mut self.existing[place.shard.get() as usize], was);
-        note(&mut self.restless, place, Phase::Absent);
+        note(&mut self.restless, &self.places, place, Phase::Absent);
         push(out, Item::Fact(Fact::Stop(self.who, place.entity)));
     }
 

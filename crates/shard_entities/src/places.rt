@@ -1,13 +1,13 @@
 //! The names of a script, each with its place.
-ghost use Rattle.std.specs.Prelude.{◌≡◌, ℕ, ◌<◌, ◌≤◌, true, length, IfOk, OnOk, slice_index_or, slice_set, map, replicate, [], ◌∷◌, ◌++◌};
-ghost use Rattle.std.specs.List.{list_any, position_or_len};
+ghost use Rattle.std.specs.Prelude.{◌≡◌, ℕ, ◌+◌, ◌<◌, ◌≤◌, true, length, replicate, IfOk, OnOk, slice_index_or, slice_set};
+ghost use Rattle.std.specs.List.{list_any};
 ghost use Rattle.std.specs.List.Sorted.{IsStrictlySortedBy};
 ghost use Rattle.std.specs.Ordering.{nat_cmp};
 ghost use Rattle.std.specs.Cmp.Lexicographic.{slice_cmp};
 ghost use Rattle.yard_model.specs.Script.{is_name, setting};
 ghost use Rattle.yard_model.specs.Setting.{names_of};
 ghost use Rattle.shard_store.specs.Shelved.{name_at};
-ghost use Rattle.shard_entities.specs.Placed.{IsPlace, AreFirst, AreByShard};
+ghost use Rattle.shard_entities.specs.Placed.{IsPlace, AreFirst, AreCounts, AreStarts, AreOrdered, start_of};
 
 use crate::place::Place;
 use name_index::NameIndex;
@@ -17,26 +17,36 @@ use std::marker::{Model, PhantomData};
 use std::snapshot::Snapshot;
 use yard_model::{Charter, EntityName, ShardNo};
 
-/// The names of a script, in order, each with its place; seen as the script.
+/// Where a name stands, but for what its own place among all names says.
+#[derive(Clone, Copy)]
+pub(crate) struct Spot {
+    /// Its shard.
+    pub shard: ShardNo,
+    /// Its place among the names of its shard, from 0.
+    pub inner: u16,
+}
+
+/// The names of a script, in order, each with its place; seen as the script. The places of the names
+/// lie shard after shard in one list, of which it is kept where each shard's part begins.
 #[derive(Drop)]
 pub(crate) struct Places {
     script: Snapshot<Charter>,
     names: NameIndex,
-    places: Vec<Place>,
-    by_shard: Vec<Vec<Place>>,
-    holds: PhantomData<ShardNo>,
+    spots: Vec<Spot>,
+    starts: Vec<u32>,
+    order: Vec<u16>,
+    holds: PhantomData<(ShardNo, Place)>,
 }
 
 impl Model for Places {
     ghost use Rattle.yard_model.specs.Script.{Script};
-    ghost use Rattle.std.specs.Prelude.{map};
     ghost use Rattle.shard_entities.specs.Placed.{ArePlaces};
 
     ghost Value = { Script };
 
     ghost view = { λ p. p.script.value };
 
-    ghost invariant = { λ p. ArePlaces p.script.value p.names p.places.items (map (λ v. v.items) p.by_shard.items) };
+    ghost invariant = { λ p. ArePlaces p.script.value p.names p.spots.items p.starts.items p.order.items };
 }
 
 impl Places {
@@ -44,26 +54,36 @@ impl Places {
     pub(crate) fn new(alloc: Global, charter: &Charter) -> Result<Places, AllocError>
         ensures { IfOk result (λ p. p ≡ charter.now) }
     {
-        let places = all_places(alloc, charter)?;
+        let mut counts = [0u16; 128];
+        let spots = all_spots(alloc, charter, &mut counts)?;
+        let starts = all_starts(alloc, charter, &counts)?;
+        let order = all_ordered(alloc, charter, spots.as_slice(), &starts)?;
         let names = NameIndex::new(alloc, charter)?;
         charter.config();
-        let by_shard = by_shard(alloc, charter, places.as_slice())?;
         Ok(Places {
             script: Snapshot::of(charter),
             names,
-            places,
-            by_shard,
+            spots,
+            starts,
+            order,
             holds: PhantomData,
         })
     }
 
     /// The place of a name.
-    pub(crate) fn find(&self, entity: &EntityName) -> &Place
+    pub(crate) fn find(&self, entity: &EntityName) -> Place
         requires name { list_any (is_name entity.now) (setting self.now).names ≡ true }
-        ensures place { IsPlace self.now result.now }
-        ensures entity { result.now.entity ≡ entity.now }
+        ensures place { IsPlace self.now result }
+        ensures entity { result.entity ≡ entity.now }
     {
-        &self.places[self.names.place(entity)]
+        let at = self.names.place(entity);
+        let spot = self.spots[at];
+        Place {
+            entity: *entity,
+            shard: spot.shard,
+            at,
+            inner: spot.inner as usize,
+        }
     }
 
     /// How many names a shard has.
@@ -72,77 +92,133 @@ impl Places {
         ensures count { result ≡ length (names_of (setting self.now) s) }
         ensures few { result ≤ 1000 }
     {
-        self.by_shard[s.get() as usize].as_slice().len()
+        end_in(&self.starts, s) - start_in(&self.starts, s)
     }
 
     /// The place of the name of a shard that stands there among its names.
-    pub(crate) fn nth(&self, s: ShardNo, k: usize) -> &Place
+    pub(crate) fn nth(&self, s: ShardNo, k: usize) -> Place
         requires shard { s < self.now.config.shards }
         requires within { k < length (names_of (setting self.now) s) }
-        ensures place { IsPlace self.now result.now }
-        ensures shard { result.now.shard ≡ s }
-        ensures entity { result.now.entity ≡ name_at (names_of (setting self.now) s) k }
+        ensures place { IsPlace self.now result }
+        ensures shard { result.shard ≡ s }
+        ensures entity { result.entity ≡ name_at (names_of (setting self.now) s) k }
     {
-        &self.by_shard[s.get() as usize].as_slice()[k]
+        let at = self.order[start_in(&self.starts, s) + k] as usize;
+        Place {
+            entity: self.names.as_slice()[at],
+            shard: s,
+            at,
+            inner: k,
+        }
+    }
+
+    /// Where the names of a shard begin, shard after shard.
+    pub(crate) fn start(&self, s: ShardNo) -> usize
+        requires { s < self.now.config.shards }
+        ensures start { result ≡ start_of (setting self.now) s }
+        ensures few { result < 4294967296 }
+    {
+        start_in(&self.starts, s)
+    }
+
+    /// Where a name stands among all, shard after shard.
+    pub(crate) fn spot(&self, place: &Place) -> usize
+        requires { IsPlace self.now place.now }
+        ensures { result ≡ start_of (setting self.now) place.now.shard + place.now.inner }
+    {
+        start_in(&self.starts, place.shard) + place.inner
+    }
+
+    /// How many names there are in all shards.
+    pub(crate) fn total(&self) -> usize
+        ensures { result ≡ start_of (setting self.now) self.now.config.shards }
+    {
+        self.order.len()
     }
 }
 
-/// The place of each name of a script.
-fn all_places(alloc: Global, charter: &Charter) -> Result<Vec<Place>, AllocError>
-    ensures { IfOk result (λ v. AreFirst charter.now (length (setting charter.now).names) v.items) }
+/// Where each name of a script stands; and of each shard, how many names it has.
+fn all_spots(
+    alloc: Global,
+    charter: &Charter,
+    counts: &mut [u16; 128],
+) -> Result<Vec<Spot>, AllocError>
+    requires none { counts.old ≡ replicate 128 0 }
+    ensures spots { IfOk result (λ v. AreFirst charter.now (length (setting charter.now).names) v.items) }
+    ensures counts { OnOk result (AreCounts charter.now (length (setting charter.now).names) counts.new) }
 {
     let shards = charter.config().shards;
     let names = charter.names();
-    let mut places = Vec::new(alloc);
-    let mut counts = [0usize; 128];
+    let mut spots = Vec::with_capacity(alloc, names.len())?;
     for at in 0..names.len() {
         let shard = shard_of(&names[at], shards);
         let inner = counts[shard.get() as usize];
-        places.push(Place {
-            entity: names[at],
-            shard,
-            at,
-            inner,
-        })?;
+        spots.push(Spot { shard, inner })?;
         counts[shard.get() as usize] = inner + 1;
     }
-    Ok(places)
+    Ok(spots)
 }
 
-/// These places, by shard.
-fn by_shard(
+/// Where the names of each shard begin, shard after shard, and where those of the last one end.
+fn all_starts(alloc: Global, charter: &Charter, counts: &[u16; 128]) -> Result<Vec<u32>, AllocError>
+    requires { AreCounts charter.now (length (setting charter.now).names) counts.now }
+    ensures { IfOk result (λ v. AreStarts (setting charter.now) (charter.now.config.shards + 1) v.items) }
+{
+    let shards = charter.config().shards;
+    let mut starts = Vec::with_capacity(alloc, shards as usize + 1)?;
+    let mut start = 0;
+    for s in 0..shards {
+        starts.push(start)?;
+        start += u32::from(counts[s as usize]);
+    }
+    starts.push(start)?;
+    Ok(starts)
+}
+
+/// The place of each name among all, shard after shard.
+fn all_ordered(
     alloc: Global,
     charter: &Charter,
-    places: &[Place],
-) -> Result<Vec<Vec<Place>>, AllocError>
-    requires { AreFirst charter.now (length (setting charter.now).names) places.now }
-    ensures { IfOk result (λ all. AreByShard charter.now (length (setting charter.now).names) (map (λ v. v.items) all.items)) }
+    spots: &[Spot],
+    starts: &Vec<u32>,
+) -> Result<Vec<u16>, AllocError>
+    requires spots { AreFirst charter.now (length (setting charter.now).names) spots.now }
+    requires starts { AreStarts (setting charter.now) (charter.now.config.shards + 1) starts.now.items }
+    ensures { IfOk result (λ v. AreOrdered charter.now (length (setting charter.now).names) v.items) }
 {
-    let mut all = no_lists(alloc, charter.config().shards)?;
-    for at in 0..places.len() {
-        put(&mut all, &places[at])?;
+    let shards = charter.config().shards;
+    let mut order = vec![in alloc; 0u16; starts[shards as usize] as usize]?;
+    for at in 0..spots.len() {
+        let spot = spots[at];
+        put(&mut order, start_in(starts, spot.shard), spot.inner, at);
     }
-    Ok(all)
+    Ok(order)
 }
 
-/// So many empty lists.
-fn no_lists(alloc: Global, shards: u8) -> Result<Vec<Vec<Place>>, AllocError>
-    ensures { IfOk result (λ all. map (λ v. v.items) all.items ≡ replicate shards []) }
+/// The place of a name is this.
+fn put(order: &mut Vec<u16>, start: usize, inner: u16, at: usize)
+    requires within { start + inner < length order.old.items }
+    requires few { at < 65536 }
+    ensures { order.new.items ≡ slice_set order.old.items (start + inner) at }
 {
-    let mut all = Vec::new(alloc);
-    for _ in 0..shards {
-        all.push(Vec::new(alloc))?;
-    }
-    Ok(all)
+    order[start + inner as usize] = at as u16;
 }
 
-/// One place more of its shard.
-fn put(all: &mut Vec<Vec<Place>>, place: &Place) -> Result<(), AllocError>
-    requires { place.now.shard < length all.old.items }
-    ensures { OnOk result (map (λ v. v.items) all.new.items ≡ slice_set (map (λ v. v.items) all.old.items) place.now.shard (slice_index_or (map (λ v. v.items) all.old.items) place.now.shard [] ++ place.now ∷ [])) }
+/// Where a shard begins.
+fn start_in(starts: &Vec<u32>, s: ShardNo) -> usize
+    requires { s < length starts.now.items }
+    ensures start { result ≡ slice_index_or starts.now.items s 0 }
+    ensures few { result < 4294967296 }
 {
-    all[place.shard.get() as usize].push(*place)?;
-    Ok(())
+    starts[s.get() as usize] as usize
+}
+
+/// Where a shard ends.
+fn end_in(starts: &Vec<u32>, s: ShardNo) -> usize
+    requires { s + 1 < length starts.now.items }
+    ensures { result ≡ slice_index_or starts.now.items (s + 1) 0 }
+{
+    starts[s.get() as usize + 1] as usize
 }
 
 /// The shard of this number.

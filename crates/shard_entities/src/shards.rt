@@ -52,7 +52,7 @@ pub(crate) struct Shards {
     pub(crate) running: ShardSet,
     pub(crate) existing: Vec<u32>,
     pub(crate) touched: ShardSet,
-    pub(crate) restless: Vec<PlaceSet>,
+    pub(crate) restless: PlaceSet,
     pub(crate) holds: PhantomData<
         (
             Fact,
@@ -90,7 +90,7 @@ impl Model for Shards {
       rooms = map room_of e.hosted.items;
     } };
 
-    ghost invariant = { λ e. IsWhole e.script.value e.version e.who e.config e.places e.cells e.hosted.items e.running e.existing.items e.touched e.restless.items };
+    ghost invariant = { λ e. IsWhole e.script.value e.version e.who e.config e.places e.cells e.hosted.items e.running e.existing.items e.touched e.restless };
 }
 
 impl Shards {
@@ -111,7 +111,7 @@ impl Shards {
         let cells = Cells::new(alloc, count, config.producers, config.window)?;
         let hosted = none_hosted(alloc, config.shards)?;
         let existing = none_counted(alloc, config.shards)?;
-        let restless = none_restless(alloc, &places, config.shards)?;
+        let restless = none_restless(alloc, &places)?;
         Ok(Shards {
             script: Snapshot::of(charter),
             who,
@@ -167,7 +167,7 @@ impl Shards {
         ensures place { IsPlace self.now.script result }
         ensures entity { result.entity ≡ entity.now }
     {
-        *self.places.find(entity)
+        self.places.find(entity)
     }
 
     /// The shards that are hosted.
@@ -211,7 +211,7 @@ impl Shards {
         let was = self.exists(place);
         self.cells.clear(place.at);
         count_out(&mut self.existing[place.shard.get() as usize], was);
-        note(&mut self.restless, place, Phase::Absent);
+        note(&mut self.restless, &self.places, place, Phase::Absent);
     }
 
     /// Makes room in the store of each hosted shard for all that a turn may write there. The only
@@ -344,7 +344,7 @@ impl Shards {
         ensures shard { result.shard ≡ s }
         ensures entity { result.entity ≡ name_at (names_of (setting self.now.script) s) k }
     {
-        *self.places.nth(s, k)
+        self.places.nth(s, k)
     }
 
     /// Whether one message more may be stashed for it.

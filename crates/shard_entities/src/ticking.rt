@@ -1,5 +1,5 @@
 //! The tick.
-ghost use Rattle.std.specs.Prelude.{◌≡◌, ℕ, ◌<◌, ◌≤◌, false, List, [], ◌∷◌, length};
+ghost use Rattle.std.specs.Prelude.{◌≡◌, ℕ, ◌+◌, ◌<◌, ◌≤◌, false, List, [], ◌∷◌, length};
 ghost use Rattle.std.specs.List.{flat_map};
 ghost use Rattle.yard_model.specs.Entities.{cell, entities_of, remind_by, tick_entities};
 ghost use Rattle.shard_entities.specs.Lodged.{given};
@@ -64,7 +64,8 @@ impl Shards {
         ensures within { result ≤ length (names_of self.now.state.set s) }
         ensures between { (k : ℕ) → from ≤ k → k < result → is_restless (cell self.now.state (name_at (names_of self.now.state.set s) k)).phase ≡ false }
     {
-        self.restless[s.get() as usize].next(from)
+        let start = self.places.start(s);
+        place_within(start, self.count(s), self.restless.next(start + from))
     }
 
     /// One of them.
@@ -78,5 +79,20 @@ impl Shards {
             Phase::Stopping => self.post(&self.who, Body::StopEntity(place.entity), out),
             _ => {}
         }
+    }
+}
+
+/// How far a place is from the start of its shard, which has so many names; their number where it lies
+/// behind them.
+fn place_within(start: usize, count: usize, at: usize) -> usize
+    requires { start ≤ at }
+    ensures before { start + result ≤ at }
+    ensures within { result ≤ count }
+    ensures far { (n : ℕ) → start + n ≤ at → n ≤ count → n ≤ result }
+{
+    if at - start < count {
+        at - start
+    } else {
+        count
     }
 }

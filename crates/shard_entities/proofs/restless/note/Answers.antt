@@ -1,10 +1,10 @@
-use Rattle.std.proofs.Common.{◌<◌, subst}
-use Rattle.place_set.specs.Places.{Places}
-use Rattle.shard_entities.proofs.RestlessLaws.{noted, set_read}
+use Rattle.std.proofs.Common.{◌+◌, ◌<◌, arith}
+use Rattle.yard_model.specs.Script.{setting}
+use Rattle.shard_entities.specs.Placed.{start_of}
+use Rattle.shard_entities.proofs.OrderLaws.{inside_all}
 use Rattle.shard_entities.proofs.restless.note.Goals as goal
 
 pub put-requires : goal.put-requires
-put-requires c = subst (λ (x : Places). c.args.place.now.inner < x.bound) (set_read c.args.restless.now.items c.args.place.now.shard _ c.get.ensures.value c.requires.shard c.index_mut.ensures.value) c.requires.inner
-
-pub returns : goal.returns
-returns c = noted c.args.restless.now.items c.args.place.now.shard _ c.args.place.now.inner _ c.get.ensures.value c.requires.shard c.index_mut.ensures.value (record { bound = c.put.ensures.bound; it = c.put.ensures.it; others = c.put.ensures.others })
+put-requires c =
+    let inside : start_of (setting c.args.places.now) c.args.place.now.shard + c.args.place.now.inner < start_of (setting c.args.places.now) c.args.places.now.config.shards = inside_all (setting c.args.places.now) c.args.places.now.config.shards c.args.place.now.shard c.args.place.now.inner c.requires.place.shard_in c.requires.place.there.within in
+    omega (arith, inside, c.spot.ensures, c.requires.bound)

@@ -1,5 +1,5 @@
 use Rattle.std.proofs.Common.{[], ◌<◌, length, sym, subst, arith}
-use Rattle.shard_entities.specs.Celled.{AreStashed, all_made}
+use Rattle.shard_entities.specs.Celled.{AreStashed}
 use Rattle.shard_entities.proofs.MadeLaws.{IsCleared, cleared_made, clear_made, inside_slots, slot_is, slot_within}
 use Rattle.shard_entities.proofs.StashLaws.{inside_stashes, kept_stashed, place_fits, stashed_on}
 use Rattle.shard_entities.proofs.cells.Cells.clear.Goals as goal

@@ -1,5 +1,5 @@
-use Rattle.std.proofs.Common.{◌≡◌, List, replicate, ap, ap₂, sym, subst, ◌∙◌}
-use Rattle.shard_entities.specs.Celled.{Celled, celled, all_made, all_stashing, AreStashed}
+use Rattle.std.proofs.Common.{◌≡◌, replicate, ap, ap₂, sym, subst, ◌∙◌}
+use Rattle.shard_entities.specs.Celled.{celled, all_made, all_stashing, AreStashed}
 use Rattle.shard_entities.proofs.MadeLaws.{fresh_made, fresh_stashed, none_made}
 use Rattle.shard_entities.proofs.StashLaws.{none_all}
 use Rattle.shard_entities.proofs.cells.Cells.new.Goals as goal

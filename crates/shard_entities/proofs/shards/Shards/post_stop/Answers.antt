@@ -6,17 +6,17 @@ use Rattle.shard_entities.specs.Restless.{is_restless}
 use Rattle.shard_entities.proofs.CountLaws.{stays, stop_leaves}
 use Rattle.shard_entities.proofs.LodgedLaws.{cell_read, cell_moved, stands, within}
 use Rattle.shard_entities.proofs.MoveLaws.{of_stop_posted, keeps_stop_posted}
-use Rattle.shard_entities.proofs.RestlessLaws.{goes_on, rests, shard_there, place_there}
+use Rattle.shard_entities.proofs.RestlessLaws.{goes_on, rests, place_there, all_there}
 use Rattle.shard_entities.proofs.shards.Shards.post_stop.Goals as goal
 
 pub phase-now-requires : goal.phase-now-requires
 phase-now-requires c = rw (c.ask_stop.ensures c.args.self.now.state.who c.args.self.now.state.who c.args.place.now.entity) (subst (λ n. c.args.place.now.at < n) (sym (length-set c.self.inside.cells c.args.place.now.at (celled_after (celled_at c.self.inside.cells c.args.place.now.at) (post c.args.self.now.state.who c.args.self.now.state.who (body.StopEntity c.args.place.now.entity))))) (within c.self.invariant.kept.lodged c.self.view_is c.requires.place))
 
-pub note-requires-clause-shard : goal.note-requires-clause-shard
-note-requires-clause-shard c = shard_there c.self.invariant.kept.lodged c.self.view_is c.requires.place c.self.invariant.restless
+pub note-requires-clause-place : goal.note-requires-clause-place
+note-requires-clause-place c = place_there c.self.invariant.kept.lodged c.self.view_is c.requires.place
 
-pub note-requires-clause-inner : goal.note-requires-clause-inner
-note-requires-clause-inner c = place_there c.self.invariant.kept.lodged c.self.view_is c.requires.place c.self.invariant.restless
+pub note-requires-clause-bound : goal.note-requires-clause-bound
+note-requires-clause-bound c = all_there c.self.invariant.kept.lodged c.self.invariant.restless
 
 pub invariant_of-self : goal.invariant_of-self
 invariant_of-self c = rw (c.ask_stop.ensures c.args.self.now.state.who c.args.self.now.state.who c.args.place.now.entity) (record {

@@ -5,17 +5,17 @@ use Rattle.shard_entities.specs.Celled.{celled_at, celled_after}
 use Rattle.shard_entities.proofs.CountLaws.{count_some, goes}
 use Rattle.shard_entities.proofs.LodgedLaws.{cell_read, cell_moved, stands}
 use Rattle.shard_entities.proofs.MoveLaws.{of_stop, keeps_stop}
-use Rattle.shard_entities.proofs.RestlessLaws.{goes_on, shard_there, place_there}
+use Rattle.shard_entities.proofs.RestlessLaws.{goes_on, place_there, all_there}
 use Rattle.shard_entities.proofs.shards.Shards.tell_stop.Goals as goal
 
 pub count_out-requires : goal.count_out-requires
 count_out-requires c = count_some c.self.invariant.kept c.self.view_is c.requires.place c.exists-was.ensures c.get.ensures.value c.index_mut.ensures.value
 
-pub note-requires-clause-shard : goal.note-requires-clause-shard
-note-requires-clause-shard c = shard_there c.self.invariant.kept.lodged c.self.view_is c.requires.place c.self.invariant.restless
+pub note-requires-clause-place : goal.note-requires-clause-place
+note-requires-clause-place c = place_there c.self.invariant.kept.lodged c.self.view_is c.requires.place
 
-pub note-requires-clause-inner : goal.note-requires-clause-inner
-note-requires-clause-inner c = place_there c.self.invariant.kept.lodged c.self.view_is c.requires.place c.self.invariant.restless
+pub note-requires-clause-bound : goal.note-requires-clause-bound
+note-requires-clause-bound c = all_there c.self.invariant.kept.lodged c.self.invariant.restless
 
 pub invariant_of-self : goal.invariant_of-self
 invariant_of-self c = rw (c.stop.ensures c.args.self.now.state.who c.args.place.now.entity) (record {

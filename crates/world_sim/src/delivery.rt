@@ -18,10 +18,11 @@ impl<B: Behaviour + Copy + Drop> Yard<B> {
         requires { (w : World) × IsSoundTo (Delivers number) self.old w }
         ensures { Stepped (IsSoundTo (Delivers number)) 0 (deliver number) result self.old self.new facts.old facts.new }
     {
-        match &self.mail.packet(number) {
-            Some(packet) => self.deliver_packet(number, packet, facts),
-            None => facts.push(Fact::Nothing),
+        if !self.mail.has(number) {
+            return facts.push(Fact::Nothing);
         }
+        let packet = self.mail.posted(number);
+        self.deliver_packet(number, &packet, facts)
     }
 
     /// This packet, of this number, is delivered.

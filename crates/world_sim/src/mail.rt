@@ -118,6 +118,23 @@ impl Mail {
         self.wire.get(number)
     }
 
+    /// Whether a packet of this number was posted.
+    pub fn has(&self, number: u32) -> bool
+        ensures there { (result ≡ true) ↔ ((0 < number) × (number ≤ length self.now.packets)) }
+        ensures packet { (result ≡ false) ↔ (packet_at self.now.packets number ≡ None) }
+    {
+        number > 0 && number <= self.count
+    }
+
+    /// The packet of this number, which was posted.
+    pub fn posted(&self, number: u32) -> Packet
+        requires above { 0 < number }
+        requires there { number ≤ length self.now.packets }
+        ensures { packet_at self.now.packets number ≡ Some result }
+    {
+        self.wire.packet(number)
+    }
+
     /// The packet of this number, which was posted, is delivered.
     #[tactic(auto, using(crate::proofs::FreshLaws::marked_one))]
     pub fn got(&mut self, number: u32)

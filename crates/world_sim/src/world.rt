@@ -63,15 +63,34 @@ impl<B: Behaviour + Copy + Drop> World<B> {
         requires { B.kind_of behaviour ≡ charter.now.config.kind }
         ensures { IfOk result (λ w. w ≡ record { script = charter.now; given = None; count = 0; fault = None }) }
     {
+        let own = charter.copy(alloc)?;
+        World::of(alloc, own, behaviour)
+    }
+
+    /// The same, which keeps the charter.
+    pub fn of(alloc: Global, charter: Charter, behaviour: B) -> Result<World<B>, AllocError>
+        requires { B.kind_of behaviour ≡ charter.config.kind }
+        ensures { IfOk result (λ w. w ≡ record { script = charter; given = None; count = 0; fault = None }) }
+    {
         standing_is_kept();
+        let script = Snapshot::of(&charter);
         let yard = new_yard(alloc, charter, behaviour)?;
         Ok(World {
-            script: Snapshot::of(charter),
+            script,
             given: None,
             yard,
             count: 0,
             fault: None,
         })
+    }
+
+    /// The orders of the script, of which the played ones are the first.
+    pub fn orders(&self) -> &[Line]
+        requires new { self.now.given ≡ None }
+        requires going { self.now.fault ≡ None }
+        ensures { result.now ≡ self.now.script.orders }
+    {
+        self.yard.charter.orders()
     }
 
     /// The world of given stores of the script, in which every send of it is ordered, no node is up and
@@ -227,18 +246,17 @@ const FIRST: u8 = 1;
 /// memory.
 fn new_yard<B: Behaviour + Copy + Drop>(
     alloc: Global,
-    charter: &Charter,
+    charter: Charter,
     behaviour: B,
 ) -> Result<Yard<B>, AllocError>
-    requires { B.kind_of behaviour ≡ charter.now.config.kind }
-    ensures seen { IfOk result (λ y. IsSeen y (new_world charter.now wire_limit)) }
-    ensures script { IfOk result (λ y. y.script ≡ charter.now) }
+    requires { B.kind_of behaviour ≡ charter.config.kind }
+    ensures seen { IfOk result (λ y. IsSeen y (new_world charter wire_limit)) }
+    ensures script { IfOk result (λ y. y.script ≡ charter) }
     ensures version { IfOk result (λ y. y.version ≡ 0) }
-    ensures ups { IfOk result (λ y. y.ups ≡ replicate charter.now.config.nodes 0) }
-    ensures ordered { IfOk result (λ y. y.ordered ≡ replicate charter.now.config.producers 0) }
+    ensures ups { IfOk result (λ y. y.ups ≡ replicate charter.config.nodes 0) }
+    ensures ordered { IfOk result (λ y. y.ordered ≡ replicate charter.config.producers 0) }
     ensures known { IfOk result (λ y. IsScript y.script) }
 {
-    let charter = charter.copy(alloc)?;
     let behaviour = behaviour.at_version(FIRST);
     let count = charter.config().nodes;
     let producers = charter.config().producers;

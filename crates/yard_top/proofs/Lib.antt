@@ -4,6 +4,7 @@ mod FoldableLaws
 mod FreedLaws
 mod KnownLaws
 mod LiveLaws
+mod PartLaws
 mod PlaceLaws
 mod PlayLaws
 mod ResultLaws

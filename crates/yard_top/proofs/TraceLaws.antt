@@ -49,6 +49,17 @@ made_begins c n =
 pub line_there : (items orders : List Line) (i : ℕ) (l : Line) → items ≡ orders → i < length items → l ≡ get_or items i l → slice_get orders i ≡ Some l
 line_there items orders i l is inside it = subst (λ ls. slice_get ls i ≡ Some l) is (slice_get_read items (length items) i l refl inside it)
 
+-- the orders that a world lends are the script's
+pub same_orders : (c : Script) (n : ℕ) (world : Played) (items : List Line) → IsOn c n world → items ≡ world.script.orders → items ≡ c.orders
+same_orders c n world items on is = is ∙ ap (λ (w : Played). w.script.orders) on.world_is
+
+-- the next one is among them
+pub order_inside : (c : Script) (n : ℕ) (world : Played) (items all : List Line) → IsOn c n world → items ≡ world.script.orders → all ≡ c.orders → n < length all → n < length items
+order_inside c n world items all on is are inside = subst (λ ls. n < length ls) (are ∙ sym (same_orders c n world items on is)) inside
+
+pub order_there : (c : Script) (n : ℕ) (world : Played) (items all : List Line) (l : Line) → IsOn c n world → items ≡ world.script.orders → all ≡ c.orders → n < length all → l ≡ get_or items n l → slice_get c.orders n ≡ Some l
+order_there c n world items all l on is are inside it = line_there items c.orders n l (same_orders c n world items on is) (order_inside c n world items all on is are inside) it
+
 -- One order more.
 
 -- its facts follow those before

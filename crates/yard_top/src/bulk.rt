@@ -90,7 +90,7 @@ fn summary_of(
         course: Course::start(),
         summary: Summary::new(alloc, number),
     };
-    follow(&mut world, charter, &mut facts, &mut counts)?;
+    follow(&mut world, &mut facts, &mut counts)?;
     let mut text = Vec::new(alloc);
     push_summary(&mut text, charter, &counts.summary)?;
     Ok((text, counts.course.stop))

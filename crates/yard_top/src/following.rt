@@ -9,7 +9,7 @@ use behaviour_core::Behaviour;
 use std::alloc::AllocError;
 use world_sim::laws::made_law;
 use world_sim::{StepFault, World};
-use yard_model::{Charter, Fact, Facts, Line};
+use yard_model::{Fact, Facts, Line};
 
 /// What is kept of a trace while it arises.
 pub(crate) trait Notes {
@@ -28,18 +28,18 @@ pub(crate) trait Notes {
 /// each before the next is played. The only error is want of memory.
 pub(crate) fn follow<B: Behaviour + Copy + Drop, N: Notes>(
     world: &mut World<B>,
-    charter: &Charter,
     facts: &mut Facts,
     notes: &mut N,
 ) -> Result<(), AllocError>
-    requires world { world.old ≡ record { script = charter.now; given = None; count = 0; fault = None } }
-    ensures done { OnOk result (IsDone charter.now world.new) }
-    ensures told { OnOk result ((x : N.About) → N.told notes.old x [] → N.told notes.new x (trace_of charter.now)) }
+    requires world { world.old ≡ record { script = world.old.script; given = None; count = 0; fault = None } }
+    ensures done { OnOk result (IsDone world.old.script world.new) }
+    ensures told { OnOk result ((x : N.About) → N.told notes.old x [] → N.told notes.new x (trace_of world.old.script)) }
 {
     made_law();
-    for line in charter.orders() {
+    for k in 0..world.orders().len() {
+        let line = world.orders()[k];
         facts.clear();
-        let goes_on = play_next(world, line, facts)?;
+        let goes_on = play_next(world, &line, facts)?;
         notes.note(facts.as_slice())?;
         if !goes_on {
             return Ok(());

@@ -22,17 +22,18 @@ use yard_model::{Charter, Facts, Kind};
 /// trace stops, where it does. Nothing is flushed.
 pub fn write_json<K: Sink>(
     alloc: Global,
-    charter: &Charter,
+    charter: Charter,
     sink: &mut K,
 ) -> Result<Option<u32>, WriteError>
-    ensures wrote { Writes (replay_json charter.now) result
+    ensures wrote { Writes (replay_json charter) result
         (record { taken = K.taken sink.old; flushed = K.flushed sink.old; faults = K.faults sink.old })
         (record { taken = K.taken sink.new; flushed = K.flushed sink.new; faults = K.faults sink.new }) }
-    ensures stop { IfOk result (λ stop. stop ≡ stop_in (trace_of charter.now)) }
-    ensures safe { IsTrue (safe charter.now (trace_of charter.now)) }
+    ensures stop { IfOk result (λ stop. stop ≡ stop_in (trace_of charter)) }
+    ensures safe { IsTrue (safe charter (trace_of charter)) }
 {
-    is_safe(charter);
-    let (text, stop) = match charter.config().kind {
+    is_safe(&charter);
+    let kind = charter.config().kind;
+    let (text, stop) = match kind {
         Kind::Counter => json_of(alloc, charter, Counter::new())?,
         Kind::Account => json_of(alloc, charter, Account::new())?,
         Kind::Cart => json_of(alloc, charter, Cart::new())?,
@@ -45,18 +46,18 @@ pub fn write_json<K: Sink>(
 /// its trace stops, where it does. The only error is want of memory.
 fn json_of<B: Behaviour + Copy + Drop>(
     alloc: Global,
-    charter: &Charter,
+    charter: Charter,
     behaviour: B,
 ) -> Result<(Vec<u8>, Option<u32>), AllocError>
-    requires { B.kind_of behaviour ≡ charter.now.config.kind }
-    ensures text { IfOk result (λ r. r.0.items ≡ replay_json charter.now) }
-    ensures stop { IfOk result (λ r. r.1 ≡ stop_in (trace_of charter.now)) }
+    requires { B.kind_of behaviour ≡ charter.config.kind }
+    ensures text { IfOk result (λ r. r.0.items ≡ replay_json charter) }
+    ensures stop { IfOk result (λ r. r.1 ≡ stop_in (trace_of charter)) }
 {
-    let mut world = World::new(alloc, charter, behaviour)?;
+    let mut world = World::of(alloc, charter, behaviour)?;
     let mut facts = Facts::new(alloc);
     let mut course = Course::start();
-    follow(&mut world, charter, &mut facts, &mut course)?;
-    let (last, stores) = stores_of(world, charter)?;
+    follow(&mut world, &mut facts, &mut course)?;
+    let (last, stores) = stores_of(world)?;
     let mut text = Vec::new(alloc);
     push_json(&mut text, &last, &stores)?;
     Ok((text, course.stop))

@@ -21,22 +21,22 @@ use yard_model::Charter;
 pub fn write_form<K: Sink>(
     alloc: Global,
     form: Form,
-    charter: &Charter,
+    charter: Charter,
     sink: &mut K,
 ) -> Result<Option<u32>, WriteError>
-    requires of { IsOf (from_of form) charter.now }
+    requires of { IsOf (from_of form) charter }
     requires alone { is_alone form ≡ true }
-    ensures wrote { Gives form charter.now result
+    ensures wrote { Gives form charter result
         (record { taken = K.taken sink.old; flushed = K.flushed sink.old; faults = K.faults sink.old })
         (record { taken = K.taken sink.new; flushed = K.flushed sink.new; faults = K.faults sink.new }) }
-    ensures stop { IfOk result (λ stop. stop ≡ stops_at form charter.now) }
-    ensures holds { Holds form charter.now }
+    ensures stop { IfOk result (λ stop. stop ≡ stops_at form charter) }
+    ensures holds { Holds form charter }
 {
     match form {
-        Form::Solo => write_solo(alloc, charter, sink),
+        Form::Solo => write_solo(alloc, &charter, sink),
         Form::Replay => write_replay(alloc, charter, sink),
         Form::ReplayJson => write_json(alloc, charter, sink),
-        Form::Bulk(number) => write_bulk(alloc, charter, number, sink),
+        Form::Bulk(number) => write_bulk(alloc, &charter, number, sink),
         Form::Live { .. } => unreachable!(),
     }
 }

@@ -173,7 +173,7 @@ fn run<S: Source, K: Sink>(alloc: Global, form: Form, source: &mut S, sink: &mut
         Ok(charter) => charter,
         Err(status) => return status,
     };
-    match write_form(alloc, form, &charter, sink) {
+    match write_form(alloc, form, charter, sink) {
         Ok(stop) => match sink.flush() {
             Ok(()) => end_of(stop),
             Err(_) => Status::WriteFault,

@@ -4,8 +4,8 @@ use Rattle.yard_top.specs.Replays.{IsOn}
 use Rattle.yard_top.proofs.following.follow.Given as goal
 
 -- the trace goes on after the orders so far, whose facts are noted
-abbrev pub invariant-loop-line : goal.invariant-loop-line
-invariant-loop-line g l = record {
-  on : IsOn l.charter l.line-index l.world;
-  told : (x : g.N.Notes.About) → g.N.Notes.told l.fn.notes x [] → g.N.Notes.told l.notes x (made_of l.charter l.line-index).facts;
+abbrev pub invariant-loop-k : goal.invariant-loop-k
+invariant-loop-k g l = record {
+  on : IsOn l.fn.world.script l.k l.world;
+  told : (x : g.N.Notes.About) → g.N.Notes.told l.fn.notes x [] → g.N.Notes.told l.notes x (made_of l.fn.world.script l.k).facts;
 }

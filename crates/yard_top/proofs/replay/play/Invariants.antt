@@ -8,11 +8,11 @@ use Rattle.yard_top.specs.Writing.{Took}
 use Rattle.yard_top.proofs.replay.play.Given as goal
 
 -- the lines of the orders so far were taken, and the trace goes on
-abbrev pub invariant-loop-line : goal.invariant-loop-line
-invariant-loop-line g l = record {
-  on : IsOn l.charter l.line-index l.world;
-  course_is : l.desk.course ≡ course (made_of l.charter l.line-index).facts;
-  took : Took (flat_map fact_line (made_of l.charter l.line-index).facts)
+abbrev pub invariant-loop-k : goal.invariant-loop-k
+invariant-loop-k g l = record {
+  on : IsOn l.fn.world.script l.k l.world;
+  course_is : l.desk.course ≡ course (made_of l.fn.world.script l.k).facts;
+  took : Took (flat_map fact_line (made_of l.fn.world.script l.k).facts)
       (record { taken = g.K.Sink.taken l.initial.sink; flushed = g.K.Sink.flushed l.initial.sink; faults = g.K.Sink.faults l.initial.sink })
       (record { taken = g.K.Sink.taken l.sink; flushed = g.K.Sink.flushed l.sink; faults = g.K.Sink.faults l.sink });
 }

@@ -10,7 +10,7 @@ use Rattle.yard_top.proofs.replay.stores_of.Goals as goal
 
 pub returns-clause-report : goal.returns-clause-report
 returns-clause-report g c =
-    let s : Script = c.args.charter.now in
+    let s : Script = c.args.world.script in
     let d : Script = c.in_ok-last.last in
     let x = c.in_ok-last.stores in
     let e = c.in_ok-last.ensures in
@@ -18,7 +18,7 @@ returns-clause-report g c =
 
 pub returns-clause-json : goal.returns-clause-json
 returns-clause-json g c =
-    let s : Script = c.args.charter.now in
+    let s : Script = c.args.world.script in
     let d : Script = c.in_ok-last.last in
     let x = c.in_ok-last.stores in
     let e = c.in_ok-last.ensures in
@@ -26,7 +26,7 @@ returns-clause-json g c =
 
 pub returns-clause-foldable : goal.returns-clause-foldable
 returns-clause-foldable g c =
-    let s : Script = c.args.charter.now in
+    let s : Script = c.args.world.script in
     let d : Script = c.in_ok-last.last in
     let x = c.in_ok-last.stores in
     let e = c.in_ok-last.ensures in

@@ -8,8 +8,8 @@ use Rattle.yard_top.specs.Writing.{Sunk}
 use Rattle.yard_top.proofs.TextLaws.{wrote_front}
 use Rattle.yard_top.proofs.top.run.Goals as goal
 
-pub returns-in-Ok-write_form-clause-write_fault_front : goal.returns-in-Ok-write_form-clause-write_fault_front
-returns-in-Ok-write_form-clause-write_fault_front g c = record {
+pub returns-in-Err-flush-clause-write_fault_front : goal.returns-in-Err-flush-clause-write_fault_front
+returns-in-Err-flush-clause-write_fault_front g c = record {
   script = _;
   came = subst (λ (x : ScriptFrom). HasScript x (g.S.Source.left c.args.source.now) (g.S.Source.left c.charter_of.new.source) c.in-Ok.charter) c.script_from.ensures c.in-Ok.ensures.script;
   text = c.in-Ok-write_form.ensures.wrote.text;
@@ -17,8 +17,8 @@ returns-in-Ok-write_form-clause-write_fault_front g c = record {
   begun = front_whole _ _ _ (c.in-Err-flush.ensures.kept ∙ c.in-Ok-write_form.ensures.wrote.took.taken_is);
 }
 
-pub returns-clause-no_memory : goal.returns-clause-no_memory
-returns-clause-no_memory g c =
+pub returns-in-Err-OutOfMemory-clause-no_memory : goal.returns-in-Err-OutOfMemory-clause-no_memory
+returns-in-Err-OutOfMemory-clause-no_memory g c =
     let old : Sunk = record { taken = g.K.Sink.taken c.args.sink.now; flushed = g.K.Sink.flushed c.args.sink.now; faults = g.K.Sink.faults c.args.sink.now } in
     let new : Sunk = record { taken = g.K.Sink.taken c.write_form.new.sink; flushed = g.K.Sink.flushed c.write_form.new.sink; faults = g.K.Sink.faults c.write_form.new.sink } in
     wrote_front c.args.form c.in-Ok.charter (g.S.Source.left c.args.source.now) (g.S.Source.left c.charter_of.new.source) old new

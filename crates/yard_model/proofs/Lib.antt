@@ -1,5 +1,6 @@
 mod CharterLaws
 pub mod CountsLaws
+mod FactsLaws
 pub mod FollowLaws
 mod FrontLaws
 mod MembersLaws

@@ -1,5 +1,6 @@
 //! What a script says: its settings and its orders.
 ghost use Rattle.std.specs.Prelude.{◌≡◌, ℕ, ◌+◌, ◌-◌, ◌<◌, ◌≤◌, List, [], ◌∷◌, ◌++◌, IfOk, OnOk, length, map, replicate, slice_set, slice_index_or};
+ghost use Rattle.std.specs.Arc.{arc_value};
 ghost use Rattle.std.specs.Ordering.{nat_cmp};
 ghost use Rattle.std.specs.Cmp.Lexicographic.{slice_cmp};
 ghost use Rattle.std.specs.List.Sorted.{IsStrictlySortedBy};
@@ -12,9 +13,11 @@ use crate::counts::Counts;
 use crate::event::{Command, Kind};
 use crate::incarnation::Keep;
 use crate::name::EntityName;
+use crate::name_list::NameList;
 use crate::number::{NodeNo, ProducerNo};
 use std::alloc::{AllocError, Global};
 use std::marker::{Model, PhantomData};
+use std::sync::Arc;
 
 /// The settings of a script.
 #[derive(Clone, Copy, Debug, PartialEq, Eq)]
@@ -102,22 +105,23 @@ pub struct Sending {
 #[derive(Drop)]
 pub struct Charter {
     config: Config,
-    orders: Vec<Line>,
-    names: Vec<EntityName>,
-    sends: Vec<Vec<Sending>>,
+    orders: Arc<Vec<Line>, Global>,
+    names: NameList,
+    sends: Arc<Vec<Vec<Sending>>, Global>,
     holds: PhantomData<(Order, Command)>,
 }
 
 impl Model for Charter {
     ghost use Rattle.std.specs.Prelude.{map};
+    ghost use Rattle.std.specs.Arc.{arc_value};
     ghost use Rattle.yard_model.specs.Script.{Script};
     ghost use Rattle.yard_model.specs.Charter.{IsCharter};
 
     ghost Value = { Script };
 
-    ghost view = { λ c. record { config = c.config; orders = c.orders.items } };
+    ghost view = { λ c. record { config = c.config; orders = (arc_value c.orders).items } };
 
-    ghost invariant = { λ c. IsCharter (record { config = c.config; orders = c.orders.items }) c.names.items (map (λ v. v.items) c.sends.items) };
+    ghost invariant = { λ c. IsCharter (record { config = c.config; orders = (arc_value c.orders).items }) c.names (map (λ v. v.items) (arc_value c.sends).items) };
 }
 
 impl Charter {
@@ -128,44 +132,49 @@ impl Charter {
     {
         let mut counts = Counts::new(alloc);
         let sends = sends_of_all(alloc, &mut counts, orders.as_slice())?;
-        let names = counts.into_names(alloc)?;
+        let names = NameList::new(alloc, counts.into_names(alloc)?)?;
         Ok(Charter {
             config,
-            orders,
+            orders: shared_lines(alloc, orders)?,
             names,
-            sends,
+            sends: shared_sends(alloc, sends)?,
             holds: PhantomData,
         })
     }
 
-    /// An equal charter. The only error is want of memory.
-    pub fn copy(&self, alloc: Global) -> Result<Charter, AllocError>
+    /// An equal charter, which shares its lists with this one. The only error is that there are too many to
+    /// count that share them.
+    pub fn copy(&self) -> Result<Charter, AllocError>
         ensures { IfOk result (λ c. c ≡ self.now) }
     {
-        let orders = Vec::from_slice(alloc, self.orders.as_slice())?;
-        let names = Vec::from_slice(alloc, self.names.as_slice())?;
-        let sends = copy_sends(alloc, self.sends.as_slice())?;
-        Ok(Charter {
-            config: self.config,
-            orders,
-            names,
-            sends,
-            holds: PhantomData,
-        })
+        self.with_config(self.config)
     }
 
-    /// The charter of the same orders with so many shards. The only error is want of memory.
-    pub fn with_shards(&self, alloc: Global, shards: u8) -> Result<Charter, AllocError>
+    /// The charter of the same orders with so many shards, which shares its lists with this one. The only
+    /// error is that there are too many to count that share them.
+    pub fn with_shards(&self, shards: u8) -> Result<Charter, AllocError>
         requires low { 1 ≤ shards }
         requires high { shards ≤ 128 }
         ensures { IfOk result (λ c. c ≡ with_shards shards self.now) }
     {
-        let orders = Vec::from_slice(alloc, self.orders.as_slice())?;
-        let config = Config {
+        self.with_config(Config {
             shards,
             ..self.config
-        };
-        Charter::new(alloc, config, orders)
+        })
+    }
+
+    /// The charter of the same orders with these settings.
+    fn with_config(&self, config: Config) -> Result<Charter, AllocError>
+        requires { IsScript (record { config = config; orders = self.now.orders }) }
+        ensures { IfOk result (λ c. c ≡ record { config = config; orders = self.now.orders }) }
+    {
+        Ok(Charter {
+            config,
+            orders: Arc::try_clone(&self.orders)?,
+            names: self.names.share()?,
+            sends: Arc::try_clone(&self.sends)?,
+            holds: PhantomData,
+        })
     }
 
     /// The settings.
@@ -192,6 +201,13 @@ impl Charter {
         self.names.as_slice()
     }
 
+    /// The same, to be shared.
+    pub fn name_list(&self) -> &NameList
+        ensures { result.now ≡ names_in self.now.orders }
+    {
+        &self.names
+    }
+
     /// The sends of a producer, in script order; none of a producer that isn't there.
     pub fn sends(&self, p: ProducerNo) -> &[Sending]
         ensures { result.now ≡ sends self.now p }
@@ -201,15 +217,27 @@ impl Charter {
     }
 }
 
-/// The same sends.
-fn copy_sends(alloc: Global, sends: &[Vec<Sending>]) -> Result<Vec<Vec<Sending>>, AllocError>
-    ensures { IfOk result (λ all. map (λ v. v.items) all.items ≡ map (λ v. v.items) sends.now) }
+/// These lines, to be shared. The only error is want of memory.
+fn shared_lines(alloc: Global, lines: Vec<Line>) -> Result<Arc<Vec<Line>, Global>, AllocError>
+    ensures { IfOk result (λ a. arc_value a ≡ lines) }
 {
-    let mut all = Vec::new(alloc);
-    for of_one in sends {
-        all.push(Vec::from_slice(alloc, of_one.as_slice())?)?;
+    match Arc::new(alloc, lines) {
+        Ok(shared) => Ok(shared),
+        Err(_) => Err(AllocError),
     }
-    Ok(all)
+}
+
+/// These sends, to be shared. The only error is want of memory.
+fn shared_sends(
+    alloc: Global,
+    sends: Vec<Vec<Sending>>,
+) -> Result<Arc<Vec<Vec<Sending>>, Global>, AllocError>
+    ensures { IfOk result (λ a. arc_value a ≡ sends) }
+{
+    match Arc::new(alloc, sends) {
+        Ok(shared) => Ok(shared),
+        Err(_) => Err(AllocError),
+    }
 }
 
 /// The sends of each producer that there can be. The counts are those of no orders, and come to be

@@ -1,11 +1,12 @@
 //! How many sends each producer has to each name.
-ghost use Rattle.std.specs.Prelude.{◌≡◌, ◌+◌, ◌<◌, ◌≤◌, ◌^◌, length, min, nat_eq, slice_index, slice_index_or, slice_set, IfOk, IfSome, OnOk, Some, None, true};
+ghost use Rattle.std.specs.Prelude.{◌≡◌, ◌+◌, ◌<◌, length, min, nat_eq, slice_index, slice_index_or, slice_set, IfOk, IfSome, OnOk, Some, None, true};
 ghost use Rattle.std.specs.Ordering.{nat_cmp};
 ghost use Rattle.std.specs.Cmp.Lexicographic.{slice_cmp};
 ghost use Rattle.std.specs.BTreeSet.{insert_key};
 ghost use Rattle.std.specs.List.Sorted.{IsStrictlySortedBy};
 ghost use Rattle.yard_model.specs.Counts.{names, count_of, place_of, no_row, with_count, IsCounted, CountsNone, CountsOneMore, CountsTheSame};
 
+use crate::hints::{NEAR, hash_of, hint_in, new_hints, set_hint};
 use crate::laws::name_law;
 use crate::name::EntityName;
 use crate::number::ProducerNo;
@@ -177,11 +178,8 @@ fn one_more(counts: &mut [u32; 33], place: usize) -> u32
     count
 }
 
-/// How many hints there are: a power of two, four times as many as a script may have names.
-const HINTS: usize = 4096;
-
-/// In how many cells one behind the other a name's hint may stand.
-const NEAR: usize = 4;
+/// How many names there are hints for: as many as a script may have.
+const MANY: usize = 1000;
 
 /// Whether a name stands at this place.
 fn stands_at(rows: &[Row], place: usize, name: &EntityName) -> bool
@@ -195,75 +193,10 @@ fn stands_at(rows: &[Row], place: usize, name: &EntityName) -> bool
     }
 }
 
-/// The hint in a cell, counted round; 0 where there is none.
-fn hint_in(hints: &[u16], at: usize) -> usize {
-    match hints.get(at & HINTS - 1) {
-        Some(hint) => *hint as usize,
-        None => 0,
-    }
-}
-
 /// There are cells for hints. The only error is want of memory.
 fn make_hints(hints: &mut Vec<u16>) -> Result<(), AllocError> {
     if hints.is_empty() {
-        hints.resize(HINTS, 0)?;
+        *hints = new_hints(*hints.allocator(), MANY)?;
     }
     Ok(())
-}
-
-/// The hint at a place goes into the first free cell from here on, where one of a few is, and where 16 bits
-/// hold it.
-fn set_hint(hints: &mut Vec<u16>, from: usize, place: usize)
-    requires from { from < 4294967296 }
-    requires place { place + 1 < 2 ^ 64 }
-{
-    if let Ok(hint) = u16::try_from(place + 1) {
-        put_hint(hints, from, hint);
-    }
-}
-
-fn put_hint(hints: &mut Vec<u16>, from: usize, hint: u16)
-    requires { from < 4294967296 }
-{
-    for step in 0..NEAR {
-        if let Some(cell) = hints.get_mut(from + step & HINTS - 1) {
-            if *cell == 0 {
-                *cell = hint;
-                return;
-            }
-        }
-    }
-}
-
-/// A number for these bytes, of their first eight and their last eight.
-fn hash_of(bytes: &[u8]) -> usize
-    ensures { result < 4294967296 }
-{
-    let count = bytes.len();
-    let mut word = count as u64;
-    if count < 8 {
-        for byte in bytes {
-            word = word << 8 | u64::from(*byte);
-        }
-    } else {
-        word = word_at(bytes, 0).rotate_left(29) ^ word_at(bytes, count - 8);
-    }
-    let product = word.wrapping_mul(0x9e37_79b9_7f4a_7c15);
-    (product >> 32) as usize ^ (product >> 48) as usize
-}
-
-/// The number that eight bytes from a place on spell.
-fn word_at(bytes: &[u8], at: usize) -> u64
-    requires { at + 8 ≤ length bytes.now }
-{
-    u64::from_le_bytes([
-        bytes[at],
-        bytes[at + 1],
-        bytes[at + 2],
-        bytes[at + 3],
-        bytes[at + 4],
-        bytes[at + 5],
-        bytes[at + 6],
-        bytes[at + 7],
-    ])
 }

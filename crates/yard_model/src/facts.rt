@@ -1,5 +1,7 @@
 //! Growing lists of facts.
-ghost use Rattle.std.specs.Prelude.{◌≡◌, [], ◌∷◌, ◌++◌, OnOk, OnErr};
+ghost use Rattle.std.specs.Prelude.{◌≡◌, ℕ, [], ◌∷◌, ◌++◌, OnOk, OnErr};
+ghost use Rattle.yard_model.specs.declared.fact.Fact.TheVariants as fact;
+ghost use Rattle.yard_model.specs.declared.packet.Packet.{Packet};
 
 use crate::fact::Fact;
 use crate::incarnation::Slot;
@@ -7,6 +9,7 @@ use crate::packet::{Body, Packet};
 use crate::state::State;
 use std::alloc::{AllocError, Global};
 use std::marker::{Model, PhantomData};
+use std::slice;
 
 /// A list of facts, oldest first.
 #[derive(Drop)]
@@ -44,6 +47,27 @@ impl Facts {
         Ok(())
     }
 
+    /// One fact more, which is copied to its place at once. The only error is want of memory, and then
+    /// nothing changes.
+    pub fn push_copy(&mut self, fact: &Fact) -> Result<(), AllocError>
+        ensures ok { OnOk result (self.new ≡ self.old ++ fact.now ∷ []) }
+        ensures err { OnErr result (self.new ≡ self.old) }
+    {
+        self.facts.extend_from_slice(slice::from_ref(fact))
+    }
+
+    /// The packet of this number is posted; it is copied to its place at once. The only error is want of
+    /// memory, and then nothing changes.
+    pub fn push_sent(&mut self, number: u32, packet: &Packet) -> Result<(), AllocError>
+        ensures ok { OnOk result (self.new ≡ self.old ++ fact.Sent number packet.now ∷ []) }
+        ensures err { OnErr result (self.new ≡ self.old) }
+    {
+        let place = self.as_slice().len();
+        self.facts.push(Fact::Sent(number, without_body(packet)))?;
+        put_packet(&mut self.facts[place], packet);
+        Ok(())
+    }
+
     /// The facts.
     pub fn as_slice(&self) -> &[Fact]
         ensures { result.now ≡ self.now }
@@ -56,5 +80,23 @@ impl Facts {
         ensures { self.new ≡ [] }
     {
         self.facts.clear();
+    }
+}
+
+/// A packet between the same incarnations that says next to nothing.
+fn without_body(packet: &Packet) -> Packet {
+    Packet {
+        from: packet.from,
+        to: packet.to,
+        body: Body::Register,
+    }
+}
+
+/// What is sent is this packet.
+fn put_packet(sent: &mut Fact, packet: &Packet)
+    ensures { (number : ℕ) (other : Packet) → sent.old ≡ fact.Sent number other → sent.new ≡ fact.Sent number packet.now }
+{
+    if let Fact::Sent(_, place) = sent {
+        slice::from_mut(place).copy_from_slice(slice::from_ref(packet));
     }
 }

@@ -55,9 +55,17 @@ impl Items {
         ensures { result ≡ self ++ item ∷ [] }
     {
         let mut items = self;
-        items.cells[items.len as usize] = item;
-        items.len += 1;
+        items.push(item);
         items
+    }
+
+    /// One item more at the end.
+    fn push(&mut self, item: CartItem)
+        requires { length self.old < 16 }
+        ensures { self.new ≡ self.old ++ item ∷ [] }
+    {
+        self.cells[self.len as usize] = item;
+        self.len += 1;
     }
 
     /// The items, as they stand.
@@ -84,12 +92,15 @@ impl Items {
         let mut placed = false;
         for x in self.as_slice() {
             if !placed && item.item < x.item {
-                items = items.with(item);
+                items.push(item);
                 placed = true;
             }
-            items = items.with(*x);
+            items.push(*x);
         }
-        if placed { items } else { items.with(item) }
+        if !placed {
+            items.push(item);
+        }
+        items
     }
 
     /// These items without those of this number.
@@ -99,7 +110,7 @@ impl Items {
         let mut items = Items::empty();
         for x in self.as_slice() {
             if x.item != number {
-                items = items.with(*x);
+                items.push(*x);
             }
         }
         items
@@ -112,7 +123,7 @@ impl Items {
         let mut items = Items::empty();
         for x in self.as_slice() {
             let adjusted = if x.item == item.item { item } else { *x };
-            items = items.with(adjusted);
+            items.push(adjusted);
         }
         items
     }

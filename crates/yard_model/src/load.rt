@@ -64,9 +64,17 @@ impl Loads {
         ensures { result ≡ self ++ item ∷ [] }
     {
         let mut loads = self;
-        loads.cells[loads.len as usize] = item;
-        loads.len += 1;
+        loads.push(item);
         loads
+    }
+
+    /// One load more, of a region that registered later.
+    pub fn push(&mut self, item: Load)
+        requires { length self.old < 16 }
+        ensures { self.new ≡ self.old ++ item ∷ [] }
+    {
+        self.cells[self.len as usize] = item;
+        self.len += 1;
     }
 
     /// The loads, in order of registration.

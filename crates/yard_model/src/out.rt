@@ -73,10 +73,7 @@ impl Out {
         ensures items { self.new.items ≡ self.old.items ++ item ∷ [] }
         ensures spare { self.new.spare + 1 ≡ self.old.spare }
     {
-        match self.list.push(item) {
-            Ok(()) => {}
-            Err(_) => unreachable!(),
-        }
+        self.list.push_reserved(item);
         self.free -= 1;
     }
 

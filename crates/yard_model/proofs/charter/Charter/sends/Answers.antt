@@ -1,5 +1,6 @@
 use Rattle.std.proofs.Common.{◌≡◌, ◌<◌, ◌-◌, ◌+◌, sym, ap, ◌∙◌, arith, Vec, Global}
 use Rattle.std.specs.Prelude.{slice_index_or}
+use Rattle.std.specs.Arc.{arc_value}
 use Rattle.std.proofs.Math.ListN.{get_or-map}
 use Rattle.yard_model.specs.declared.charter.Sending.{Sending}
 use Rattle.yard_model.specs.Script.{sends, sends_in}
@@ -10,9 +11,10 @@ pub returns : goal.returns
 returns c =
     let place : c.get.result - 1 < 32 = omega arith in
     let number : c.get.result - 1 + 1 ≡ c.args.p = omega arith in
-    let orders : sends_in c.args.p c.self.inside.orders.items ≡ sends c.args.self.now c.args.p = ap (λ s. sends s c.args.p) c.self.view_is in
+    let orders : sends_in c.args.p (arc_value c.self.inside.orders).items ≡ sends c.args.self.now c.args.p = ap (λ s. sends s c.args.p) c.self.view_is in
     c.as_slice.ensures.value ∙ (ap (λ (v : Vec Sending Global). v.items) c.index.ensures
-    ∙ (sym (get_or-map (λ (v : Vec Sending Global). v.items) c.self.inside.sends.items (c.get.result - 1) c.index.result.now)
+    ∙ (ap (λ (all : Vec (Vec Sending Global) Global). (slice_index_or all.items (c.get.result - 1) c.index.result.now).items) c.deref.ensures
+    ∙ (sym (get_or-map (λ (v : Vec Sending Global). v.items) (arc_value c.self.inside.sends).items (c.get.result - 1) c.index.result.now)
     ∙ (ap (λ l. slice_index_or l (c.get.result - 1) c.index.result.now.items) c.self.invariant.sends
-    ∙ (sends_at c.self.inside.orders.items (c.get.result - 1) c.index.result.now.items place
-    ∙ (ap (λ n. sends_in n c.self.inside.orders.items) number ∙ orders)))))
+    ∙ (sends_at (arc_value c.self.inside.orders).items (c.get.result - 1) c.index.result.now.items place
+    ∙ (ap (λ n. sends_in n (arc_value c.self.inside.orders).items) number ∙ orders))))))

@@ -32,18 +32,8 @@ impl Confirmed {
         self.sum
     }
 
-    /// One fact more. The only error is want of memory, or of room for the sum.
-    pub(crate) fn note(&mut self, fact: &Fact) -> Result<(), AllocError>
-        ensures { OnOk result ((xs : List Confirmation) → AreConfirmed self.old xs → AreConfirmed self.new (xs ++ confirmed_in fact.now)) }
-    {
-        if let Fact::Confirmed(producer, entity, number) = fact {
-            return self.confirm(*producer, entity, *number);
-        }
-        Ok(())
-    }
-
     /// The pair is confirmed up to this number.
-    fn confirm(
+    pub(crate) fn confirm(
         &mut self,
         producer: ProducerNo,
         entity: &EntityName,

@@ -44,7 +44,9 @@ fn orders_of(alloc: Global, number: u32) -> Result<Vec<Order>, AllocError>
     ensures { IfOk result (λ v. v.items ≡ bulk_orders number) }
 {
     let mut rng = seeded(number);
-    let mut orders = Vec::from_slice(alloc, &opening())?;
+    // each drawing brings two orders at most
+    let mut orders = Vec::with_capacity(alloc, 12 * number as usize + 11)?;
+    orders.extend_from_slice(&opening())?;
     push_drawn(&mut orders, &mut rng, 6 * number)?;
     orders.push(Order::Settle)?;
     Ok(orders)
@@ -98,7 +100,7 @@ fn on_lines(alloc: Global, orders: &[Order]) -> Result<Vec<Line>, AllocError>
     requires { length orders.now ≤ 200000 }
     ensures { IfOk result (λ v. v.items ≡ lines_from 2 orders.now) }
 {
-    let mut lines = Vec::new(alloc);
+    let mut lines = Vec::with_capacity(alloc, orders.len())?;
     let mut number = 2;
     for order in orders {
         lines.push(Line {

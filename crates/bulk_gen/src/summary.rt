@@ -39,49 +39,36 @@ impl Summary {
     pub fn note(&mut self, fact: &Fact) -> Result<(), AllocError>
         ensures { OnOk result ((n : ℕ) (facts : List Fact) → IsSummary self.old n facts → IsSummary self.new n (facts ++ fact.now ∷ [])) }
     {
-        self.facts = count_with(self.facts, true)?;
-        self.packets = count_with(self.packets, is_sent(fact))?;
-        self.records = count_with(self.records, is_wrote(fact))?;
-        self.confirmed.note(fact)?;
-        note_stamp(&mut self.stamps, fact)
+        self.facts = one_more(self.facts)?;
+        match fact {
+            Fact::Sent(_, _) => self.packets = one_more(self.packets)?,
+            Fact::Wrote(_, _) => self.records = one_more(self.records)?,
+            Fact::Confirmed(producer, entity, number) => {
+                self.confirmed.confirm(*producer, entity, *number)?;
+            }
+            Fact::Moving(_, stamp) => note_stamp(&mut self.stamps, stamp)?,
+            _ => {}
+        }
+        Ok(())
     }
 }
 
-/// One more where it counts, and 64 bits have room for it.
-fn count_with(count: u64, counts: bool) -> Result<u64, AllocError>
-    ensures { IfOk result (λ n. n ≡ count + (if counts then 1 else 0)) }
+/// One more, where 64 bits have room for it.
+fn one_more(count: u64) -> Result<u64, AllocError>
+    ensures { IfOk result (λ n. n ≡ count + 1) }
 {
-    if !counts {
-        return Ok(count);
-    }
     match count.checked_add(1) {
         Some(more) => Ok(more),
         None => Err(AllocError),
     }
 }
 
-/// Whether a packet is posted.
-fn is_sent(fact: &Fact) -> bool
-    ensures { result ≡ is_sent fact.now }
-{
-    matches!(fact, Fact::Sent(_, _))
-}
-
-/// Whether a record is written.
-fn is_wrote(fact: &Fact) -> bool
-    ensures { result ≡ is_wrote fact.now }
-{
-    matches!(fact, Fact::Wrote(_, _))
-}
-
 /// The stamp of a shard that moves, once.
-fn note_stamp(stamps: &mut Vec<Stamp>, fact: &Fact) -> Result<(), AllocError>
-    ensures { OnOk result (stamps.new.items ≡ with_stamp stamps.old.items fact.now) }
+fn note_stamp(stamps: &mut Vec<Stamp>, stamp: &Stamp) -> Result<(), AllocError>
+    ensures { OnOk result (stamps.new.items ≡ (if list_any (is_stamp stamp.now) stamps.old.items then stamps.old.items else stamps.old.items ++ stamp.now ∷ [])) }
 {
-    if let Fact::Moving(_, stamp) = fact {
-        if !has_stamp(stamps.as_slice(), stamp) {
-            stamps.push(*stamp)?;
-        }
+    if !has_stamp(stamps.as_slice(), stamp) {
+        stamps.push(*stamp)?;
     }
     Ok(())
 }

@@ -1,8 +1,6 @@
 //! A number for each name, at the name's place.
-ghost use Rattle.std.specs.Prelude.{◌≡◌, ◌<◌, true, length, replicate, slice_index_or, slice_set, IfOk};
-ghost use Rattle.std.specs.List.{list_any};
-ghost use Rattle.yard_model.specs.Script.{is_name};
-ghost use Rattle.durable_queue.specs.Kept.{counted, place_of};
+ghost use Rattle.std.specs.Prelude.{◌≡◌, ◌<◌, length, replicate, slice_index_or, slice_set, IfOk};
+ghost use Rattle.durable_queue.specs.Kept.{counted};
 
 use crate::names::Names;
 use std::alloc::{AllocError, Global};
@@ -24,15 +22,6 @@ pub(crate) fn count_of(names: &Names, counts: &[u32], entity: &EntityName) -> u3
         Some(place) => count_at(counts, place),
         None => 0,
     }
-}
-
-/// Another number for a name that has a place.
-pub(crate) fn put(names: &Names, counts: &mut Vec<u32>, entity: &EntityName, number: u32)
-    requires sized { length counts.old.items ≡ length names.now }
-    requires named { list_any (is_name entity.now) names.now ≡ true }
-    ensures { counts.new.items ≡ slice_set counts.old.items (place_of names.now entity.now) number }
-{
-    put_at(counts, names.place(entity), number);
 }
 
 /// The number at a place.

@@ -37,7 +37,7 @@ impl Names {
         ensures names { IfOk result (λ n. n ≡ names_in charter.now.orders) }
         ensures sorted { IfOk result (λ n. IsStrictlySortedBy (slice_cmp nat_cmp) n) }
     {
-        let list = NameIndex::new(alloc, charter)?;
+        let list = NameIndex::new(charter)?;
         Ok(Names { list })
     }
 

@@ -29,7 +29,7 @@ pub(crate) fn plans_of(
 fn no_plans(alloc: Global, count: usize) -> Result<Vec<Vec<Command>>, AllocError>
     ensures { IfOk result (λ plans. map (λ v. v.items) plans.items ≡ replicate count []) }
 {
-    let mut plans = Vec::new(alloc);
+    let mut plans = Vec::with_capacity(alloc, count)?;
     for _ in 0..count {
         plans.push(Vec::new(alloc))?;
     }

@@ -9,7 +9,7 @@ ghost use Rattle.yard_model.specs.Script.{names_in, sends, plan, with_shards};
 ghost use Rattle.yard_model.specs.SlotReads as reads;
 ghost use Rattle.durable_queue.specs.Queue.{name_at};
 
-use crate::counts::{count_at, count_of, put, put_at, zeros_of};
+use crate::counts::{count_at, count_of, put_at, zeros_of};
 use crate::names::Names;
 use crate::plans::{command_at, command_to, plans_of};
 use std::alloc::{AllocError, Global};
@@ -279,21 +279,34 @@ impl QueueStore {
         ensures producer { self.new.producer ≡ self.old.producer }
         ensures spare { self.new.spare + 1 ≡ self.old.spare }
     {
-        sending_law();
         let sending = charter.sends(self.producer)[self.total as usize];
-        put(
-            &self.names,
-            &mut self.queued,
-            &sending.entity,
-            sending.number,
-        );
+        let place = self.names.place(&sending.entity);
+        self.queue_at(place, &sending);
+        sending
+    }
+
+    /// Queues the next send of the producer, in script order, which is this one, to the entity whose name
+    /// stands at this place among the script's.
+    pub fn queue_at(&mut self, place: usize, sending: &Sending)
+        requires within { place < length (names_in self.old.script.orders) }
+        requires it { name_at self.old.script place ≡ sending.now.entity }
+        requires spare { 0 < self.old.spare }
+        requires leased { is_held self.old.entries ≡ true }
+        requires next { slice_get (sends self.old.script self.old.producer) (reads.queued_in_all self.old.entries) ≡ Some sending.now }
+        ensures number { sending.now.number ≡ reads.queued sending.now.entity self.old.entries + 1 }
+        ensures entries { self.new.entries ≡ self.old.entries ++ fact.Queued self.old.producer sending.now.entity sending.now.number sending.now.command ∷ [] }
+        ensures script { self.new.script ≡ self.old.script }
+        ensures producer { self.new.producer ≡ self.old.producer }
+        ensures spare { self.new.spare + 1 ≡ self.old.spare }
+    {
+        sending_law();
+        put_at(&mut self.queued, place, sending.number);
         push(
             &mut self.entries,
             QueueEntry::Queued(sending.entity, sending.number, sending.command),
         );
         self.free -= 1;
         self.total += 1;
-        sending
     }
 
     /// All numbers to this entity up to this one are recorded.
@@ -343,8 +356,5 @@ fn push(entries: &mut Vec<QueueEntry>, entry: QueueEntry)
     ensures items { entries.new.items ≡ entries.old.items ++ entry ∷ [] }
     ensures capacity { vec_capacity entries.old ≤ vec_capacity entries.new }
 {
-    match entries.push(entry) {
-        Ok(()) => {}
-        Err(_) => unreachable!(),
-    }
+    entries.push_reserved(entry);
 }

@@ -52,7 +52,7 @@ impl Homes {
         ensures regions { self.new.regions ≡ self.old.regions ++ r ∷ [] }
         ensures homes { self.new.homes ≡ self.old.homes }
     {
-        self.loads = self.loads.with(Load {
+        self.loads.push(Load {
             region: r,
             shards: ShardSet::empty(),
         });
@@ -105,11 +105,11 @@ impl Homes {
         has_region(&self.loads, r)
     }
 
-    pub(crate) fn loads(&self) -> Loads
-        ensures regions { regions_of result ≡ self.now.regions }
-        ensures each { All (HasHomes self.now.homes) result }
-        ensures apart { AllPairs AreApart result }
+    pub(crate) fn loads(&self) -> &Loads
+        ensures regions { regions_of result.now ≡ self.now.regions }
+        ensures each { All (HasHomes self.now.homes) result.now }
+        ensures apart { AllPairs AreApart result.now }
     {
-        self.loads
+        &self.loads
     }
 }

@@ -57,7 +57,7 @@ pub(crate) fn loads_after(loads: &Loads, s: ShardNo, home: &Option<Incarnation>)
 {
     let mut after = Loads::empty();
     for load in loads.as_slice() {
-        after = after.with(Load {
+        after.push(Load {
             region: load.region,
             shards: shards_after(load, s, home),
         });
@@ -72,7 +72,7 @@ pub(crate) fn loads_without(loads: &Loads, r: &Incarnation) -> Loads
     let mut others = Loads::empty();
     for load in loads.as_slice() {
         if !is_same(r, &load.region) {
-            others = others.with(*load);
+            others.push(*load);
         }
     }
     others
@@ -85,7 +85,7 @@ pub(crate) fn loads_cleared(loads: &Loads) -> Loads
 {
     let mut cleared = Loads::empty();
     for load in loads.as_slice() {
-        cleared = cleared.with(Load {
+        cleared.push(Load {
             region: load.region,
             shards: ShardSet::empty(),
         });

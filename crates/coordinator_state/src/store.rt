@@ -226,6 +226,15 @@ impl CoordStore {
         ensures shards { All (IsLoadOf self.now.entries) result }
         ensures apart { AllPairs AreApart result }
     {
+        *self.lent_loads()
+    }
+
+    /// The same, lent.
+    pub fn lent_loads(&self) -> &Loads
+        ensures regions { regions_of result.now ≡ regions self.now.entries }
+        ensures shards { All (IsLoadOf self.now.entries) result.now }
+        ensures apart { AllPairs AreApart result.now }
+    {
         self.homes.loads()
     }
 

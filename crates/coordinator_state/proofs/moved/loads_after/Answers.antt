@@ -13,7 +13,7 @@ loop-load-preserved c =
     let i = c.loop-load.load-index in
     let x = c.load-item.result in
     let m : Load = record { region = x.region; shards = c.shards_after.result } in
-    let made : c.with-after.result ≡ after ++ m ∷ [] = c.with-after.ensures in
+    let made : c.push.new.self ≡ after ++ m ∷ [] = c.push.ensures in
     let inv = c.loop-load.invariant in
     let same : items ≡ c.args.loads.now = c.as_slice-load-items.ensures.items in
     let inside : i < length items = c.loop-load-test.true in (

@@ -12,7 +12,7 @@ loop-load-preserved c =
     let cleared = c.loop-load.cleared in
     let x = c.load-item.result in
     let m : Load = record { region = x.region; shards = c.empty.result } in
-    let made : c.with-cleared.result ≡ cleared ++ m ∷ [] = c.with-cleared.ensures in
+    let made : c.push.new.self ≡ cleared ++ m ∷ [] = c.push.ensures in
     let inv = c.loop-load.invariant in (
       ap regions_of made ∙ regions_more items cleared c.loop-load.load-index x m c.loop-load-test.true c.load-item.is refl inv.0,
       omega (arith, ap length made, length-append cleared (m ∷ []), inv.1),

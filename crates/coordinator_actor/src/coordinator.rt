@@ -142,8 +142,8 @@ impl Coordinator {
         ensures moving { length self.now.state.moving ≤ 128 }
         ensures awaited { list_all (λ x. nat_le (length x.awaited) 16) self.now.state.moving ≡ true }
     {
-        let regions = self.regions();
-        regions.as_slice();
+        let loads = self.store.lent_loads();
+        loads.as_slice();
         let round = self.round();
         round.awaited_few();
     }
@@ -181,8 +181,7 @@ impl Coordinator {
         ensures different { AreOfDifferentRegions result }
     {
         self.store.entries();
-        let loads = self.store.loads();
-        self.quitting.staying(&loads)
+        self.quitting.staying(self.store.lent_loads())
     }
 
     /// Whether some registered region doesn't leave.
@@ -217,8 +216,7 @@ impl Coordinator {
         ensures lawful { IsTrue (own self.now.script slot.Coordinator self.now.state.entries) }
     {
         self.store.entries();
-        let loads = self.store.loads();
-        of_loads(&loads)
+        of_loads(self.store.lent_loads())
     }
 
     /// The stamp of its words: the epoch of its lease, and how many rounds have begun.
@@ -401,7 +399,7 @@ impl Coordinator {
         ensures places { self.new.places ≡ self.old.places }
     {
         self.store.entries();
-        let loads = self.store.loads();
+        let loads = self.store.lent_loads();
         self.round = Round::begin(*next, *shards, loads.as_slice());
     }
 

@@ -86,7 +86,7 @@ impl Quitters {
         let mut staying = Loads::empty();
         for load in loads.as_slice() {
             if !self.has(&load.region) {
-                staying = staying.with(*load);
+                staying.push(*load);
             }
         }
         staying

@@ -24,8 +24,8 @@ begin-self-inside-requires-clause-homes c =
     let set = c.args.shards.now in
     let homed : AreHomed set st = subst (λ (h : Held). AreHomed set h.state) (sym c.self.view_is) c.requires.homed in
     let loads : List Load = c.as_slice.result.now in
-    let rs : regions_of loads ≡ regions old.store.entries = ap (λ (ls : List Load). regions_of ls) c.as_slice.ensures.items ∙ c.loads-loads.ensures.regions in
-    let all : All (IsLoadOf old.store.entries) loads = subst (λ (ls : List Load). All (IsLoadOf old.store.entries) ls) (sym c.as_slice.ensures.items) c.loads-loads.ensures.shards in
+    let rs : regions_of loads ≡ regions old.store.entries = ap (λ (ls : List Load). regions_of ls) c.as_slice.ensures.items ∙ c.lent_loads-loads.ensures.regions in
+    let all : All (IsLoadOf old.store.entries) loads = subst (λ (ls : List Load). All (IsLoadOf old.store.entries) ls) (sym c.as_slice.ensures.items) c.lent_loads-loads.ensures.shards in
     λ s low e. homed_loads old.store.script old.store.entries loads s c.entries.ensures.lawful rs all low (homed s low e)
 
 pub invariant_of-self : goal.invariant_of-self
@@ -36,8 +36,8 @@ invariant_of-self c =
     let new = c.begin-self-inside.result in
     let homed : AreHomed set st = subst (λ (h : Held). AreHomed set h.state) (sym c.self.view_is) c.requires.homed in
     let loads : List Load = c.as_slice.result.now in
-    let rs : regions_of loads ≡ regions old.store.entries = ap (λ (ls : List Load). regions_of ls) c.as_slice.ensures.items ∙ c.loads-loads.ensures.regions in
-    let all : All (IsLoadOf old.store.entries) loads = subst (λ (ls : List Load). All (IsLoadOf old.store.entries) ls) (sym c.as_slice.ensures.items) c.loads-loads.ensures.shards in
+    let rs : regions_of loads ≡ regions old.store.entries = ap (λ (ls : List Load). regions_of ls) c.as_slice.ensures.items ∙ c.lent_loads-loads.ensures.regions in
+    let all : All (IsLoadOf old.store.entries) loads = subst (λ (ls : List Load). All (IsLoadOf old.store.entries) ls) (sym c.as_slice.ensures.items) c.lent_loads-loads.ensures.shards in
     let are : moving new ≡ map (λ s. record { shard = s; owner = home_of st s; awaited = registered st }) (shards_in set st) =
     c.begin-self-inside.ensures.moving ∙ opened_moving old.store.script set st loads c.entries.ensures.lawful refl (few_shards old.store.script c.self.invariant.script_is) homed rs all in
     let next : new.stamp ≡ next_stamp st = c.begin-self-inside.ensures.stamp ∙ subst (λ (h : Held). c.args.next.now ≡ next_stamp h.state) (sym c.self.view_is) c.requires.next in
@@ -54,8 +54,8 @@ returns-clause-state c =
     let new = c.begin-self-inside.result in
     let homed : AreHomed set st = subst (λ (h : Held). AreHomed set h.state) (sym c.self.view_is) c.requires.homed in
     let loads : List Load = c.as_slice.result.now in
-    let rs : regions_of loads ≡ regions old.store.entries = ap (λ (ls : List Load). regions_of ls) c.as_slice.ensures.items ∙ c.loads-loads.ensures.regions in
-    let all : All (IsLoadOf old.store.entries) loads = subst (λ (ls : List Load). All (IsLoadOf old.store.entries) ls) (sym c.as_slice.ensures.items) c.loads-loads.ensures.shards in
+    let rs : regions_of loads ≡ regions old.store.entries = ap (λ (ls : List Load). regions_of ls) c.as_slice.ensures.items ∙ c.lent_loads-loads.ensures.regions in
+    let all : All (IsLoadOf old.store.entries) loads = subst (λ (ls : List Load). All (IsLoadOf old.store.entries) ls) (sym c.as_slice.ensures.items) c.lent_loads-loads.ensures.shards in
     let are : moving new ≡ map (λ s. record { shard = s; owner = home_of st s; awaited = registered st }) (shards_in set st) =
     c.begin-self-inside.ensures.moving ∙ opened_moving old.store.script set st loads c.entries.ensures.lawful refl (few_shards old.store.script c.self.invariant.script_is) homed rs all in
     let next : new.stamp ≡ next_stamp st = c.begin-self-inside.ensures.stamp ∙ subst (λ (h : Held). c.args.next.now ≡ next_stamp h.state) (sym c.self.view_is) c.requires.next in

@@ -21,21 +21,21 @@ returns-clause-shares c =
     let old = c.self.inside in
     let st : Coordinator = record { who = old.who; set = setting old.store.script; entries = old.store.entries; quitting = old.quitting.items; started = old.started; moving = moving old.round; begun = old.round.stamp.round } in
     subst (λ (h : Held). shares_of c.staying.result ≡ shares h.state) c.self.view_is
-    (ap (λ (l : List Load). shares_of l) c.staying.ensures ∙ shares_are old.store.script st c.loads-loads.result c.entries.ensures.lawful refl (few_shards old.store.script c.self.invariant.script_is) c.loads-loads.ensures.regions c.loads-loads.ensures.shards)
+    (ap (λ (l : List Load). shares_of l) c.staying.ensures ∙ shares_are old.store.script st c.lent_loads.result.now c.entries.ensures.lawful refl (few_shards old.store.script c.self.invariant.script_is) c.lent_loads.ensures.regions c.lent_loads.ensures.shards)
 
 pub returns-clause-registered : goal.returns-clause-registered
 returns-clause-registered c =
     let old = c.self.inside in
     subst (λ (h : Held). list_all (λ (l : Load). is_among l.region (registered h.state)) c.staying.result ≡ true) c.self.view_is
-    (ap (λ (ls : List Load). list_all (λ (l : Load). is_among l.region (regions old.store.entries)) ls) c.staying.ensures ∙ staying_registered old.quitting.items (regions old.store.entries) c.loads-loads.result c.loads-loads.ensures.regions)
+    (ap (λ (ls : List Load). list_all (λ (l : Load). is_among l.region (regions old.store.entries)) ls) c.staying.ensures ∙ staying_registered old.quitting.items (regions old.store.entries) c.lent_loads.result.now c.lent_loads.ensures.regions)
 
 pub returns-clause-different : goal.returns-clause-different
 returns-clause-different c =
     let old = c.self.inside in
-    subst (λ (ls : List Load). AreOfDifferentRegions ls) (sym c.staying.ensures) (staying_different old.quitting.items (regions old.store.entries) c.loads-loads.result c.loads-loads.ensures.regions (regions_differ old.store.script old.store.entries c.entries.ensures.lawful))
+    subst (λ (ls : List Load). AreOfDifferentRegions ls) (sym c.staying.ensures) (staying_different old.quitting.items (regions old.store.entries) c.lent_loads.result.now c.lent_loads.ensures.regions (regions_differ old.store.script old.store.entries c.entries.ensures.lawful))
 
 pub returns-clause-homes : goal.returns-clause-homes
 returns-clause-homes c =
     let old = c.self.inside in
     subst (λ (h : Held). All (IsLoadOf h.state.entries) c.staying.result) c.self.view_is
-    (subst (λ (ls : List Load). All (IsLoadOf old.store.entries) ls) (sym c.staying.ensures) (staying_homes (IsLoadOf old.store.entries) (λ (l : Load). not (is_among l.region old.quitting.items)) c.loads-loads.result c.loads-loads.ensures.shards))
+    (subst (λ (ls : List Load). All (IsLoadOf old.store.entries) ls) (sym c.staying.ensures) (staying_homes (IsLoadOf old.store.entries) (λ (l : Load). not (is_among l.region old.quitting.items)) c.lent_loads.result.now c.lent_loads.ensures.shards))

@@ -42,7 +42,7 @@ impl NameTable {
     pub(crate) fn new(alloc: Global, charter: &Charter) -> Result<NameTable, AllocError>
         ensures { IfOk result (λ s. s ≡ charter.now) }
     {
-        let names = NameIndex::new(alloc, charter)?;
+        let names = NameIndex::new(charter)?;
         let shards = shards_of(alloc, names.as_slice(), charter.config().shards)?;
         let counts = counts_of(alloc, charter, &names)?;
         Ok(NameTable {

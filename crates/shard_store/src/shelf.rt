@@ -374,7 +374,7 @@ fn new_journals(
     requires { list_all (is_brought table.now) names.now ≡ true }
     ensures { IfOk result (λ v. AreEach no_journal (λ i. IsJournal [] (sent_to (name_at names.now i) table.now.orders)) v.items (length names.now)) }
 {
-    let mut journals = Vec::new(alloc);
+    let mut journals = Vec::with_capacity(alloc, names.len())?;
     for name in names {
         let journal = new_journal(alloc, table.sends_to(name))?;
         journals.push(journal)?;
@@ -396,7 +396,7 @@ fn no_snapshots(alloc: Global, count: usize, keep: u8) -> Result<Vec<Snapshots>,
     requires { 0 < keep }
     ensures { IfOk result (λ v. v.items ≡ replicate count (record { snapshots = []; keep = keep })) }
 {
-    let mut lists = Vec::new(alloc);
+    let mut lists = Vec::with_capacity(alloc, count)?;
     for _ in 0..count {
         lists.push(Snapshots::new(alloc, keep)?)?;
     }

@@ -150,7 +150,7 @@ fn new_places(alloc: Global, charter: &Charter) -> Result<Vec<Option<Store>>, Al
     let config = charter.config();
     let count = config.shards as u32 + config.producers as u32 + 1;
     let table = NameTable::new(alloc, charter)?;
-    let mut places = Vec::new(alloc);
+    let mut places = Vec::with_capacity(alloc, count as usize)?;
     for place in 0..count {
         let store = new_store(alloc, charter, &table, place)?;
         places.push(Some(store))?;

@@ -154,7 +154,7 @@ fn the_number_of_shards_changes(rt: HostRuntime) -> Result<(), Fail> {
     let charter = two_produces(alloc, p, NodeNo::FIRST, two)?;
     let book = LeaseBook::new(alloc, Stores::new(alloc, &charter)?)?;
     assert!(rt; book.greatest_epoch() == 0);
-    let more = charter.with_shards(alloc, 20)?;
+    let more = charter.with_shards(20)?;
     let book = book.reshape(alloc, &more)?;
     let stores = book.into_stores();
     assert!(rt; have_begun(stores.shard(last), stores.coordinator()));

@@ -16,7 +16,7 @@ fn a_charter_has_its_names_and_sends(rt: HostRuntime) -> Result<(), Fail> {
         number: 2,
         order: Order::Send(p, entity, Command::Read),
     })?;
-    let charter = Charter::new(alloc, SETTINGS, orders)?.copy(alloc)?;
+    let charter = Charter::new(alloc, SETTINGS, orders)?.copy()?;
     assert_eq!(rt; charter.orders().len(), 1);
     assert_eq!(rt; charter.names().len(), 1);
     assert_eq!(rt; charter.sends(p).len(), 1);

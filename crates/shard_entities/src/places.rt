@@ -58,7 +58,7 @@ impl Places {
         let spots = all_spots(alloc, charter, &mut counts)?;
         let starts = all_starts(alloc, charter, &counts)?;
         let order = all_ordered(alloc, charter, spots.as_slice(), &starts)?;
-        let names = NameIndex::new(alloc, charter)?;
+        let names = NameIndex::new(charter)?;
         charter.config();
         Ok(Places {
             script: Snapshot::of(charter),

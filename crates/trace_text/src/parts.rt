@@ -28,7 +28,7 @@ impl ReportNames {
         ensures { IfOk result (λ names. AreNames (setting charter.now) names) }
     {
         let by_shard = names_by_shard(alloc, charter)?;
-        let all = NameIndex::new(alloc, charter)?;
+        let all = NameIndex::new(charter)?;
         Ok(ReportNames { by_shard, all })
     }
 }

@@ -47,7 +47,7 @@ pub(crate) fn push_queues<R: ReportRows, T: Lists>(
 ) -> Result<(), AllocError>
     ensures { OnOk result (R.parts out.new ≡ R.parts out.old ++ flat_map (λ p. queue_rows R.pair_parts p (queue_list (T.lists stores.now) p) (setting charter.now).names) (producers (setting charter.now))) }
 {
-    let names = NameIndex::new(alloc, charter)?;
+    let names = NameIndex::new(charter)?;
     push_each_queue(out, alloc, charter, &names, stores)
 }
 

@@ -9,7 +9,6 @@ use Rattle.yard_model.specs.declared.incarnation.Incarnation.{Incarnation}
 use Rattle.yard_model.specs.Script.{Script, setting}
 use Rattle.yard_model.specs.Shard.{shard, absolute, java_hash}
 use Rattle.yard_model.specs.Words.{at}
-use Rattle.producer_ctl.specs.declared.pair.Pair.{Pair}
 use Rattle.producer_ctl.specs.Named.{IsNamed}
 use Rattle.producer_ctl.specs.Paired.{name_at}
 use Rattle.producer_ctl.specs.Produced.{Produced}
@@ -30,15 +29,15 @@ named_below i r {c} {v} {names} {shards} k seen inside read =
 
 -- At the beginning no queue is held.
 
-abbrev none_of : ℕ → List (Option Produced)
+abbrev pub none_of : ℕ → List (Option Produced)
 none_of n = replicate n None
 
-none_at : (n i : ℕ) → at (none_of n) i ≡ None
+pub none_at : (n i : ℕ) → at (none_of n) i ≡ None
 none_at zero i = refl
 none_at (suc n) zero = refl
 none_at (suc n) (suc i) = none_at n i
 
-pub new_stands : (c d : Script) (who : Incarnation) (n places : ℕ) {items : List (Option Produced)} {tables : List (Option (List Pair))} → c ≡ d → IsStrictlySortedBy (slice_cmp nat_cmp) (setting c).names → items ≡ replicate n None → n ≡ d.config.producers → length tables ≡ n
+pub new_stands : (c d : Script) (who : Incarnation) (n places : ℕ) {items : List (Option Produced)} {tables : List (Option ℕ)} → c ≡ d → IsStrictlySortedBy (slice_cmp nat_cmp) (setting c).names → items ≡ replicate n None → n ≡ d.config.producers → length tables ≡ n
     → places ≡ length (setting c).names → ((i : ℕ) → i < n → HasPlaces places (at tables i)) → IsProducing c who (setting c).names items tables None
 new_stands c d who n places {items} {tables} script sorted none size there long each = record {
   names_are = refl;

@@ -18,7 +18,7 @@ use Rattle.yard_model.specs.Script.{Script, Setting, setting, sends, is_name}
 use Rattle.yard_model.specs.Setting.{place}
 use Rattle.yard_model.specs.SlotReads.{holder_step, queued_in_all, commands, commands_step, confirmed, confirmed_step, queued, holder}
 use Rattle.durable_queue.specs.Queue.{Queue}
-use Rattle.plain_laws.proofs.Lists.{by_place, of_write, some_is}
+use Rattle.plain_laws.proofs.Lists.{by_place, of_write}
 use Rattle.plain_laws.proofs.Names.{name_itself}
 use Rattle.name_index.proofs.NameLaws.{another_name}
 use Rattle.producer_ctl.specs.declared.pair.Pair.{Pair}
@@ -290,10 +290,11 @@ confirm_stands n {who} {number} {old} {new} {pairs} {v} {p} {was} {now} k seen i
     (confirmed_pair v.state.number old.script.config.window n p.entity old.entries was (pair_is k seen is read) (subst (λ (v : Produced). confirmed p.entity v.state.entries < n) (sym seen) above)))
 
 -- the send that the store queues is the next one
-pub same_sending : {who : Incarnation} {number : ℕ} {store : Queue} {pairs : List Pair} {v : Produced} {x y : Sending}
-    → IsProduced who number store pairs → produced who number store pairs ≡ v → next_sending (sends v.script v.state.number) v.state ≡ Some x → slice_get (sends store.script store.producer) (queued_in_all store.entries) ≡ Some y → x ≡ y
-same_sending {who} {number} {store} {pairs} {v} {x} {y} k seen wanted got =
-    some_is x y (sym (subst (λ (v : Produced). next_sending (sends v.script v.state.number) v.state ≡ Some x) (sym seen) wanted) ∙ (ap (λ q. slice_get (sends store.script q) (queued_in_all store.entries)) (sym k.number_is) ∙ got))
+-- the next of the producer's sends is that of the queue
+pub next_stored : {who : Incarnation} {number : ℕ} {store : Queue} {pairs : List Pair} {v : Produced} {x : Sending}
+    → IsProduced who number store pairs → produced who number store pairs ≡ v → next_sending (sends v.script v.state.number) v.state ≡ Some x → slice_get (sends store.script store.producer) (queued_in_all store.entries) ≡ Some x
+next_stored {who} {number} {store} {pairs} {v} {x} k seen wanted =
+    ap (λ q. slice_get (sends store.script q) (queued_in_all store.entries)) k.number_is ∙ subst (λ (v : Produced). next_sending (sends v.script v.state.number) v.state ≡ Some x) (sym seen) wanted
 
 pub queue_moved : (i : ℕ) {who : Incarnation} {number : ℕ} {old new : Queue} {pairs : List Pair} {v : Produced} {was now : Pair} {x y : Sending} → x ≡ y
     → IsProduced who number old pairs → produced who number old pairs ≡ v → IsWritten (fact.Queued v.state.number y.entity y.number y.command) old new → was ≡ slice_index_or pairs i was → now ≡ with_queued y.number was

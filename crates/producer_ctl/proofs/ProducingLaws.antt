@@ -18,7 +18,6 @@ use Rattle.yard_model.specs.Setting.{place}
 use Rattle.yard_model.specs.Words.{at}
 use Rattle.plain_laws.proofs.Booleans.{true_is_not_false, and_both}
 use Rattle.plain_laws.proofs.Lists.{by_place, of_write, some_is, none_is_not_some}
-use Rattle.producer_ctl.specs.declared.pair.Pair.{Pair}
 use Rattle.producer_ctl.specs.declared.pair.Sends.{Sends}
 use Rattle.producer_ctl.specs.declared.producers.Pending.{Pending}
 use Rattle.producer_ctl.specs.declared.place.Place.{Place}
@@ -38,14 +37,14 @@ numbered c p h = (low c.config.producers p h, high c.config.producers p h)
     high n p h = grind (arith, nat_tests)
 
 -- the one that is read
-pub item_read : (p : ℕ) {c : Script} {who : Incarnation} {names : List (List ℕ)} {items : List (Option Produced)} {tables : List (Option (List Pair))} {pending : Option Pending} {v : Producing} {i : ℕ} {o : Option Produced}
+pub item_read : (p : ℕ) {c : Script} {who : Incarnation} {names : List (List ℕ)} {items : List (Option Produced)} {tables : List (Option ℕ)} {pending : Option Pending} {v : Producing} {i : ℕ} {o : Option Produced}
     → IsProducing c who names items tables pending → producing c who items pending ≡ v → is_producer v.script p ≡ true → i ≡ p - 1 → o ≡ slice_index_or items i o → (i < length items) × (at items i ≡ o)
 item_read p {c} {who} {names} {items} {tables} {pending} {v} {i} {o} k seen its same read =
     let inside : i < length items = subst (λ n. n < length items) (sym same) (subst (λ n. p - 1 < n) (sym k.there) (numbered c p (subst (λ (v : Producing). is_producer v.script p ≡ true) (sym seen) its)).1) in
     (inside, get_or_default items i None o inside ∙ sym read)
 
 -- and what contracts see of it
-pub held_is : (p : ℕ) {c : Script} {who : Incarnation} {names : List (List ℕ)} {items : List (Option Produced)} {tables : List (Option (List Pair))} {pending : Option Pending} {v : Producing} {i : ℕ} {o : Option Produced}
+pub held_is : (p : ℕ) {c : Script} {who : Incarnation} {names : List (List ℕ)} {items : List (Option Produced)} {tables : List (Option ℕ)} {pending : Option Pending} {v : Producing} {i : ℕ} {o : Option Produced}
     → IsProducing c who names items tables pending → producing c who items pending ≡ v → is_producer v.script p ≡ true → i ≡ p - 1 → o ≡ slice_index_or items i o → held p v ≡ option_map state_of o
 held_is p {c} {who} {names} {items} {tables} {pending} {v} {i} {o} k seen its same read =
     let here : _ × _ = item_read p k seen its same read in
@@ -68,7 +67,7 @@ held_on s k = record { script_is = s.script_is ∙ k.script_is; who_is = s.who_i
 
 -- Another one stands at a place.
 
-pub item_put : {c : Script} {who : Incarnation} {names : List (List ℕ)} {items : List (Option Produced)} {tables : List (Option (List Pair))} {pending : Option Pending} (i : ℕ) (new : Option Produced) (new_tables : List (Option (List Pair))) (pend : Option Pending)
+pub item_put : {c : Script} {who : Incarnation} {names : List (List ℕ)} {items : List (Option Produced)} {tables : List (Option ℕ)} {pending : Option Pending} (i : ℕ) (new : Option Produced) (new_tables : List (Option ℕ)) (pend : Option Pending)
     → IsProducing c who names items tables pending → i < length items → IfSome new (IsHeld c who (i + 1)) → length new_tables ≡ length tables → ((j : ℕ) → (j ≡ i → ⊥) → at new_tables j ≡ at tables j) → (new ≡ None → HasPlaces (length names) (at new_tables i)) → IfSome pend (IsPending c (slice_set items i new))
     → IsProducing c who names (slice_set items i new) new_tables pend
 item_put {c} {who} {names} {items} {tables} {pending} i new new_tables pend k inside its size beside empty there = record {
@@ -98,7 +97,7 @@ new_none f (Some x) new is none = absurd (none_is_not_some (moved x (f x.state).
 placed : (c : Script) (w : Place) → IsPlace c w → IsPlace c (place_at c w.at)
 placed c w k = record { within = k.within; it = refl; at_is = k.at_is ∙ ap (place (setting c)) (sym k.it) }
 
-pub sent_stands : (p : ℕ) (w : Place) (f : Producer → Gives) {c : Script} {who : Incarnation} {names : List (List ℕ)} {items : List (Option Produced)} {tables : List (Option (List Pair))} {pending : Option Pending} {v : Producing} {i : ℕ} {o new : Option Produced} {sends : Option Sends} {pend : Option Pending} → ((st : Producer) → (f st).entity ≡ w.entity) → IsPlace v.script w
+pub sent_stands : (p : ℕ) (w : Place) (f : Producer → Gives) {c : Script} {who : Incarnation} {names : List (List ℕ)} {items : List (Option Produced)} {tables : List (Option ℕ)} {pending : Option Pending} {v : Producing} {i : ℕ} {o new : Option Produced} {sends : Option Sends} {pend : Option Pending} → ((st : Producer) → (f st).entity ≡ w.entity) → IsPlace v.script w
     → IsProducing c who names items tables pending → producing c who items pending ≡ v → is_producer v.script p ≡ true → i ≡ p - 1 → o ≡ slice_index_or items i o → IsSent f o new sends → pend ≡ option_map (λ (s : Sends). record { producer = p; at = w.at; sends = s }) sends
     → IsProducing c who names (slice_set items i new) tables pend
 sent_stands p w f {c} {who} {names} {items} {tables} {pending} {v} {i} {o} {new} {sends} {pend} to stands k seen its same read sent pend_is =
@@ -169,7 +168,7 @@ pub routing_moved : (p : ℕ) (r : Routing) (v : Producing) (ms : List Move) →
 routing_moved p r v [] = refl
 routing_moved p r v (m ∷ ms) = routing_moved p r (producing_after p v m) ms
 
-pub sent_moved : (p : ℕ) (w : Place) (f : Producer → Gives) {c : Script} {who : Incarnation} {names : List (List ℕ)} {items : List (Option Produced)} {tables : List (Option (List Pair))} {pending : Option Pending} {v : Producing} {i : ℕ} {o new : Option Produced} {sends : Option Sends} {pend : Option Pending} → ((st : Producer) → (f st).entity ≡ w.entity) → ((st : Producer) → list_all is_plain (f st).moves ≡ true) → IsPlace v.script w
+pub sent_moved : (p : ℕ) (w : Place) (f : Producer → Gives) {c : Script} {who : Incarnation} {names : List (List ℕ)} {items : List (Option Produced)} {tables : List (Option ℕ)} {pending : Option Pending} {v : Producing} {i : ℕ} {o new : Option Produced} {sends : Option Sends} {pend : Option Pending} → ((st : Producer) → (f st).entity ≡ w.entity) → ((st : Producer) → list_all is_plain (f st).moves ≡ true) → IsPlace v.script w
     → IsProducing c who names items tables pending → producing c who items pending ≡ v → is_producer v.script p ≡ true → i ≡ p - 1 → o ≡ slice_index_or items i o → IsSent f o new sends → pend ≡ option_map (λ (s : Sends). record { producer = p; at = w.at; sends = s }) sends
     → producing c who (slice_set items i new) pend ≡ stepped p v (of_held f p v)
 sent_moved p w f {c} {who} {names} {items} {tables} {pending} {v} {i} {o} {new} {sends} {pend} to plain stands k seen its same read sent pend_is =

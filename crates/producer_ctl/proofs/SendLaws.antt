@@ -18,7 +18,8 @@ use Rattle.producer_ctl.specs.declared.pair.Pair.{Pair}
 use Rattle.producer_ctl.specs.declared.producers.Pending.{Pending}
 use Rattle.producer_ctl.specs.Paired.{IsPair, IsPlace, name_at, no_pair, numbers_of, progress_of}
 use Rattle.producer_ctl.specs.Produced.{Produced, IsProduced, StandsAs, produced, queueing}
-use Rattle.producer_ctl.specs.Producing.{Producing, producing, IsProducing, IsHeld, IsPending, IsQueued, IsReserved, IsBounded, Stands, AreMore, after_message, first_of, held, next_message, no_routing, place_at, rest_of, room_of, sending, state_of, with_room}
+use Rattle.producer_ctl.specs.Producing.{Producing, producing, IsProducing, IsHeld, IsPending, IsQueued, IsReserved, IsBounded, Stands, AreMore, AreReady, after_message, first_of, held, next_message, no_routing, place_at, rest_of, room_of, sending, state_of, with_room}
+use Rattle.producer_ctl.proofs.NamedLaws.{none_at}
 use Rattle.producer_ctl.proofs.ProducingLaws.{item_read, held_is, numbered}
 use Rattle.producer_ctl.proofs.SentLaws.{sent_is_brought}
 use Rattle.producer_ctl.proofs.StoreLaws.{no_room}
@@ -32,7 +33,7 @@ numbers_step after last some = ap (numbers (after + 1)) (less after last some)
     less a b h = omega (arith, h)
 
 -- the one that is read, where something is still to be routed
-pub pending_read : {c : Script} {who : Incarnation} {names : List (List ℕ)} {items : List (Option Produced)} {tables : List (Option (List Pair))} {pending : Option Pending} {x : Pending} {i : ℕ} {o : Option Produced}
+pub pending_read : {c : Script} {who : Incarnation} {names : List (List ℕ)} {items : List (Option Produced)} {tables : List (Option ℕ)} {pending : Option Pending} {x : Pending} {i : ℕ} {o : Option Produced}
     → IsProducing c who names items tables pending → pending ≡ Some x → x.sends.after < x.sends.last → i ≡ x.producer - 1 → o ≡ slice_index_or items i o → (at items i ≡ o) × IsQueued (name_at (setting c).names x.at) x.sends.last o
 pending_read {c} {who} {names} {items} {tables} {pending} {x} {i} {o} k some below same read =
     let here : at items i ≡ o = in_items items i o there_at read in
@@ -50,18 +51,18 @@ pending_read {c} {who} {names} {items} {tables} {pending} {x} {i} {o} k some bel
     in_items (y ∷ items) (suc i) o q read = in_items items i o q read
 
 -- the name that is lent is the one that is to be routed to
-pub pending_named : (e : List ℕ) (n : ℕ) {c : Script} {who : Incarnation} {names : List (List ℕ)} {items : List (Option Produced)} {tables : List (Option (List Pair))} {pending : Option Pending}
+pub pending_named : (e : List ℕ) (n : ℕ) {c : Script} {who : Incarnation} {names : List (List ℕ)} {items : List (Option Produced)} {tables : List (Option ℕ)} {pending : Option Pending}
     → IsProducing c who names items tables pending → e ≡ name_at names n → e ≡ name_at (setting c).names n
 pending_named e n k is = is ∙ ap (λ l. name_at l n) k.names_are
 
-pub pending_within : {c : Script} {who : Incarnation} {names : List (List ℕ)} {items : List (Option Produced)} {tables : List (Option (List Pair))} {pending : Option Pending} {x : Pending}
+pub pending_within : {c : Script} {who : Incarnation} {names : List (List ℕ)} {items : List (Option Produced)} {tables : List (Option ℕ)} {pending : Option Pending} {x : Pending}
     → IsProducing c who names items tables pending → pending ≡ Some x → x.at < length names
 pending_within {c} {who} {names} {items} {tables} {pending} {x} k some = subst (λ (l : List (List ℕ)). x.at < length l) (sym k.names_are) p.stands.within
   where
     p : IsPending c items x
     p = subst (λ y. IfSome y (IsPending c items)) some k.pending_is
 
-pub pending_queued : (e : List ℕ) {c : Script} {who : Incarnation} {names : List (List ℕ)} {items : List (Option Produced)} {tables : List (Option (List Pair))} {pending : Option Pending} {x : Pending} {i : ℕ} {o : Option Produced}
+pub pending_queued : (e : List ℕ) {c : Script} {who : Incarnation} {names : List (List ℕ)} {items : List (Option Produced)} {tables : List (Option ℕ)} {pending : Option Pending} {x : Pending} {i : ℕ} {o : Option Produced}
     → IsProducing c who names items tables pending → pending ≡ Some x → x.sends.after < x.sends.last → i ≡ x.producer - 1 → o ≡ slice_index_or items i o → e ≡ name_at names x.at → IsQueued e (x.sends.after + 1) o
 pending_queued e {c} {who} {names} {items} {tables} {pending} {x} {i} {o} k some below same read is =
     subst (λ f. IsQueued f (x.sends.after + 1) o) (sym (pending_named e x.at k is)) (weaker o (pending_read k some below same read).1)
@@ -71,7 +72,7 @@ pending_queued e {c} {who} {names} {items} {tables} {pending} {x} {i} {o} k some
     weaker (Some k) q = omega (arith, q, below)
 
 -- its place is one of the script of the producer that is read
-pub pending_placed : (e : List ℕ) {c : Script} {who : Incarnation} {names : List (List ℕ)} {items : List (Option Produced)} {tables : List (Option (List Pair))} {pending : Option Pending} {x : Pending} {i : ℕ} {o : Option Produced}
+pub pending_placed : (e : List ℕ) {c : Script} {who : Incarnation} {names : List (List ℕ)} {items : List (Option Produced)} {tables : List (Option ℕ)} {pending : Option Pending} {x : Pending} {i : ℕ} {o : Option Produced}
     → IsProducing c who names items tables pending → pending ≡ Some x → x.sends.after < x.sends.last → i ≡ x.producer - 1 → o ≡ slice_index_or items i o → e ≡ name_at names x.at → IfSome o (λ k. IsPlace k.script (record { entity = e; at = x.at }))
 pending_placed e {c} {who} {names} {items} {tables} {pending} {x} {i} {o} k some below same read is =
     subst (λ f. IfSome o (λ k. IsPlace k.script (record { entity = f; at = x.at }))) (sym (pending_named e x.at k is))
@@ -96,7 +97,7 @@ after_is items pending {c} {who} {v} {x} seen some below =
     (subst (λ y. producing c who items (Some (record { producer = x.producer; at = x.at; sends = record { after = x.sends.after + 1; last = x.sends.last } })) ≡ after_message (producing c who items y)) (sym some)
     (ap (λ l. record { script = c; who = who; producers = map (option_map state_of) items; rooms = map room_of items; pending = record { producer = x.producer; entity = (name_at (setting c).names x.at); numbers = l } }) (sym (ap rest_of (numbers_step x.sends.after x.sends.last below)))))
 
-pub message_is : (e : List ℕ) {c : Script} {who : Incarnation} {names : List (List ℕ)} {items : List (Option Produced)} {tables : List (Option (List Pair))} {pending : Option Pending} {v : Producing} {x : Pending} {i : ℕ} {o : Option Produced} {m : Message}
+pub message_is : (e : List ℕ) {c : Script} {who : Incarnation} {names : List (List ℕ)} {items : List (Option Produced)} {tables : List (Option ℕ)} {pending : Option Pending} {v : Producing} {x : Pending} {i : ℕ} {o : Option Produced} {m : Message}
     → IsProducing c who names items tables pending → producing c who items pending ≡ v → pending ≡ Some x → x.sends.after < x.sends.last → i ≡ x.producer - 1 → o ≡ slice_index_or items i o → e ≡ name_at names x.at → option_map (λ k. message_of e k.state (x.sends.after + 1)) o ≡ Some m → Some m ≡ next_message v
 message_is e {c} {who} {names} {items} {tables} {pending} {v} {x} {i} {o} {m} k seen some below same read is made =
     subst (λ (v : Producing). Some m ≡ next_message v) seen
@@ -167,7 +168,7 @@ none_message {c} {who} {v} items pending seen none = subst (λ (x : Producing). 
 
 -- What is queued next.
 
-pub next_is : (p : ℕ) {c : Script} {who : Incarnation} {names : List (List ℕ)} {items : List (Option Produced)} {tables : List (Option (List Pair))} {pending : Option Pending} {v : Producing} {i : ℕ} {o : Option Produced}
+pub next_is : (p : ℕ) {c : Script} {who : Incarnation} {names : List (List ℕ)} {items : List (Option Produced)} {tables : List (Option ℕ)} {pending : Option Pending} {v : Producing} {i : ℕ} {o : Option Produced}
     → IsProducing c who names items tables pending → producing c who items pending ≡ v → is_producer v.script p ≡ true → i ≡ p - 1 → o ≡ slice_index_or items i o
     → option_and_then (λ k. next_sending (sends k.script k.state.number) k.state) o ≡ option_and_then (next_sending (sends v.script p)) (held p v)
 next_is p {c} {who} {names} {items} {tables} {pending} {v} {i} {o} k seen its same read =
@@ -212,7 +213,7 @@ stands_as {who} {number} {store} {pairs} {v} k seen = subst StandsAs seen record
     one i h inside = subst (λ (x : Progress). x.demand ≤ confirmed (name_at (setting store.script).names i) store.entries + store.script.config.window) (sym (get_or-map progress_of pairs i no_pair no_progress inside))
         (subst (λ n. (slice_index_or pairs i no_pair).demand ≤ n + store.script.config.window) h.confirmed_is h.bounded)
 
-pub stands_at : (p : ℕ) {c : Script} {who : Incarnation} {names : List (List ℕ)} {items : List (Option Produced)} {tables : List (Option (List Pair))} {pending : Option Pending} {v : Producing} {i : ℕ} {o : Option Produced}
+pub stands_at : (p : ℕ) {c : Script} {who : Incarnation} {names : List (List ℕ)} {items : List (Option Produced)} {tables : List (Option ℕ)} {pending : Option Pending} {v : Producing} {i : ℕ} {o : Option Produced}
     → IsProducing c who names items tables pending → producing c who items pending ≡ v → is_producer v.script p ≡ true → i ≡ p - 1 → o ≡ slice_index_or items i o → IfSome o StandsAs → Stands p v
 stands_at p {c} {who} {names} {items} {tables} {pending} {v} {i} {o} k seen its same read as_it = record {
   empty = no_room p items pending seen;
@@ -260,7 +261,7 @@ reserved_queued e m (Some k) n r q = subst (IsQueued e m) (sym r.same) q
 abbrev pub AllReserved : List (Option Produced) → List (Option Produced) → Type 0
 AllReserved old new = (i : ℕ) → IsReserved (at old i) (at new i)
 
-pub reserved_stands : {c : Script} {who : Incarnation} {names : List (List ℕ)} {items new : List (Option Produced)} {tables : List (Option (List Pair))} {pending : Option Pending}
+pub reserved_stands : {c : Script} {who : Incarnation} {names : List (List ℕ)} {items new : List (Option Produced)} {tables : List (Option ℕ)} {pending : Option Pending}
     → IsProducing c who names items tables pending → length new ≡ length items → AllReserved items new → IsProducing c who names new tables pending
 reserved_stands {c} {who} {names} {items} {new} {tables} {pending} k size all = record {
   names_are = k.names_are;
@@ -325,9 +326,13 @@ pub on_ok : {A E : Type 0} (r : Result A E) (P Q : Type 0) → (P → Q) → OnO
 on_ok (Ok x) P Q f h = f h
 on_ok (Err e) P Q f h = tt
 
+-- no queue is held, so each that is has room
+pub none_ready : (n : ℕ) {items : List (Option Produced)} → items ≡ replicate n None → AreReady items
+none_ready n {items} none i some = absurd (some (ap (λ l. at l i) none ∙ none_at n i))
+
 -- What queueing asks.
 
-pub next_there : (p : ℕ) {c : Script} {who : Incarnation} {names : List (List ℕ)} {items : List (Option Produced)} {tables : List (Option (List Pair))} {pending : Option Pending} {v : Producing} {i : ℕ} {o : Option Produced} {x : Sending}
+pub next_there : (p : ℕ) {c : Script} {who : Incarnation} {names : List (List ℕ)} {items : List (Option Produced)} {tables : List (Option ℕ)} {pending : Option Pending} {v : Producing} {i : ℕ} {o : Option Produced} {x : Sending}
     → IsProducing c who names items tables pending → producing c who items pending ≡ v → is_producer v.script p ≡ true → i ≡ p - 1 → o ≡ slice_index_or items i o → option_and_then (next_sending (sends v.script p)) (held p v) ≡ Some x
     → IfSome o (λ k. next_sending (sends k.script k.state.number) k.state ≡ Some x)
 next_there p {c} {who} {names} {items} {tables} {pending} {v} {i} {o} {x} k seen its same read is = by o (next_is p k seen its same read ∙ is)
@@ -336,7 +341,7 @@ next_there p {c} {who} {names} {items} {tables} {pending} {v} {i} {o} {x} k seen
     by None e = tt
     by (Some k) e = e
 
-pub room_there : (p : ℕ) {c : Script} {who : Incarnation} {names : List (List ℕ)} {items : List (Option Produced)} {tables : List (Option (List Pair))} {pending : Option Pending} {v : Producing} {i : ℕ} {o : Option Produced}
+pub room_there : (p : ℕ) {c : Script} {who : Incarnation} {names : List (List ℕ)} {items : List (Option Produced)} {tables : List (Option ℕ)} {pending : Option Pending} {v : Producing} {i : ℕ} {o : Option Produced}
     → IsProducing c who names items tables pending → producing c who items pending ≡ v → is_producer v.script p ≡ true → i ≡ p - 1 → o ≡ slice_index_or items i o → IfSome (held p v) (λ st. 0 < slice_index_or v.rooms (p - 1) 0) → IfSome o (λ k. 0 < k.room)
 room_there p {c} {who} {names} {items} {tables} {pending} {v} {i} {o} k seen its same read room =
     by o (subst (λ y. IfSome y (λ st. 0 < slice_index_or v.rooms (p - 1) 0)) (held_is p k seen its same read) room)

@@ -19,7 +19,6 @@ use Rattle.yard_model.specs.Turns.{where_some}
 use Rattle.yard_model.specs.Words.{at}
 use Rattle.durable_queue.specs.Queue.{Queue}
 use Rattle.plain_laws.proofs.Lists.{some_is, none_is_not_some}
-use Rattle.producer_ctl.specs.declared.pair.Pair.{Pair}
 use Rattle.producer_ctl.specs.declared.pair.Sends.{Sends}
 use Rattle.producer_ctl.specs.declared.place.Place.{Place}
 use Rattle.producer_ctl.specs.declared.producers.Pending.{Pending}
@@ -31,7 +30,7 @@ use Rattle.producer_ctl.proofs.ProducingLaws.{item_put, item_read, held_is, numb
 
 -- Where a name stands.
 
-pub place_stands : (i : ℕ) (x : List ℕ) {c : Script} {who : Incarnation} {names : List (List ℕ)} {items : List (Option Produced)} {tables : List (Option (List Pair))} {pending : Option Pending} {v : Producing}
+pub place_stands : (i : ℕ) (x : List ℕ) {c : Script} {who : Incarnation} {names : List (List ℕ)} {items : List (Option Produced)} {tables : List (Option ℕ)} {pending : Option Pending} {v : Producing}
     → IsProducing c who names items tables pending → producing c who items pending ≡ v → i < length names → name_at names i ≡ x → IsPlace v.script (record { entity = x; at = i })
 place_stands i x {c} {who} {names} {items} {tables} {pending} {v} k seen inside it =
     subst (λ (v : Producing). IsPlace v.script (record { entity = x; at = i })) seen record {
@@ -42,7 +41,7 @@ place_stands i x {c} {who} {names} {items} {tables} {pending} {v} k seen inside 
 
 -- Nothing of it changes.
 
-pub resent_stands : (p : ℕ) (w : Place) (f : Producer → Gives) {c : Script} {who : Incarnation} {names : List (List ℕ)} {items : List (Option Produced)} {tables : List (Option (List Pair))} {pending : Option Pending} {v : Producing} {i : ℕ} {o : Option Produced} {sends : Option Sends} {pend : Option Pending} → ((st : Producer) → (f st).entity ≡ w.entity) → IsPlace v.script w
+pub resent_stands : (p : ℕ) (w : Place) (f : Producer → Gives) {c : Script} {who : Incarnation} {names : List (List ℕ)} {items : List (Option Produced)} {tables : List (Option ℕ)} {pending : Option Pending} {v : Producing} {i : ℕ} {o : Option Produced} {sends : Option Sends} {pend : Option Pending} → ((st : Producer) → (f st).entity ≡ w.entity) → IsPlace v.script w
     → IsProducing c who names items tables pending → producing c who items pending ≡ v → is_producer v.script p ≡ true → i ≡ p - 1 → o ≡ slice_index_or items i o → IsSent f o o sends → pend ≡ option_map (λ (s : Sends). record { producer = p; at = w.at; sends = s }) sends
     → IsProducing c who names items tables pend
 resent_stands p w f {c} {who} {names} {items} {tables} {pending} {v} {i} {o} {sends} {pend} to stands k seen its same read sent pend_is =
@@ -51,7 +50,7 @@ resent_stands p w f {c} {who} {names} {items} {tables} {pending} {v} {i} {o} {se
 
 -- A queue is taken.
 
-pub begun_put : (p : ℕ) (store : Queue) {c : Script} {who : Incarnation} {names : List (List ℕ)} {items : List (Option Produced)} {tables new_tables : List (Option (List Pair))} {pending : Option Pending} {v : Producing} {i : ℕ} {new : Produced}
+pub begun_put : (p : ℕ) (store : Queue) {c : Script} {who : Incarnation} {names : List (List ℕ)} {items : List (Option Produced)} {tables new_tables : List (Option ℕ)} {pending : Option Pending} {v : Producing} {i : ℕ} {new : Produced}
     → IsProducing c who names items tables pending → producing c who items pending ≡ v → is_producer v.script p ≡ true → i ≡ p - 1 → store.script ≡ v.script → new ≡ record { script = store.script; state = new_producer (setting store.script) who p store.entries; room = store.spare } → new_tables ≡ slice_set tables i None
     → IsProducing c who names (slice_set items i (Some new)) new_tables None
 begun_put p store {c} {who} {names} {items} {tables} {new_tables} {pending} {v} {i} {new} k seen its same script made taken =
@@ -99,8 +98,8 @@ without_seen p items pending {c} {who} {v} {i} {new} seen same none =
     ∙ (ap (λ l. record { script = c; who = who; producers = l; rooms = map room_of (slice_set items i None); pending = no_routing }) (map-set (option_map state_of) items i None ∙ ap (λ n. slice_set (map (option_map state_of) items) n None) same)
     ∙ ap (λ l. record { script = c; who = who; producers = slice_set (map (option_map state_of) items) (p - 1) None; rooms = l; pending = no_routing }) (map-set room_of items i None ∙ ap (λ n. slice_set (map room_of items) n 0) same)))
 
-pub without_put : (p : ℕ) (t : List Pair) {c : Script} {who : Incarnation} {names : List (List ℕ)} {items : List (Option Produced)} {tables : List (Option (List Pair))} {pending : Option Pending} {v : Producing} {i : ℕ} {o new : Option Produced} {x : Produced}
-    → IsProducing c who names items tables pending → producing c who items pending ≡ v → is_producer v.script p ≡ true → i ≡ p - 1 → o ≡ slice_index_or items i o → o ≡ Some x → new ≡ None → length t ≡ length (setting x.script).names
+pub without_put : (p : ℕ) (t : ℕ) {c : Script} {who : Incarnation} {names : List (List ℕ)} {items : List (Option Produced)} {tables : List (Option ℕ)} {pending : Option Pending} {v : Producing} {i : ℕ} {o new : Option Produced} {x : Produced}
+    → IsProducing c who names items tables pending → producing c who items pending ≡ v → is_producer v.script p ≡ true → i ≡ p - 1 → o ≡ slice_index_or items i o → o ≡ Some x → new ≡ None → t ≡ length (setting x.script).names
     → IsProducing c who names (slice_set items i new) (slice_set tables i (Some t)) None
 without_put p t {c} {who} {names} {items} {tables} {pending} {v} {i} {o} {new} {x} k seen its same read some none size =
     item_put i new (slice_set tables i (Some t)) None k here.0 (subst (λ y. IfSome y (IsHeld c who (i + 1))) (sym none) tt) (length-set tables i (Some t)) (λ j apart. get_or-set_other tables i j (Some t) None apart)
@@ -115,14 +114,14 @@ without_put p t {c} {who} {names} {items} {tables} {pending} {v} {i} {o} {new} {
     its_is : IsHeld c who (i + 1) x
     its_is = subst (λ y. IfSome y (IsHeld c who (i + 1))) (here.1 ∙ some) (k.each i)
 
-pub without_none : (p : ℕ) {c : Script} {who : Incarnation} {names : List (List ℕ)} {items : List (Option Produced)} {tables : List (Option (List Pair))} {pending : Option Pending} {v : Producing} {i : ℕ} {o new : Option Produced}
+pub without_none : (p : ℕ) {c : Script} {who : Incarnation} {names : List (List ℕ)} {items : List (Option Produced)} {tables : List (Option ℕ)} {pending : Option Pending} {v : Producing} {i : ℕ} {o new : Option Produced}
     → IsProducing c who names items tables pending → producing c who items pending ≡ v → is_producer v.script p ≡ true → i ≡ p - 1 → o ≡ slice_index_or items i o → o ≡ None → new ≡ None → IsProducing c who names (slice_set items i new) tables None
 without_none p {c} {who} {names} {items} {tables} {pending} {v} {i} {o} {new} k seen its same read empty none =
     let here : _ × _ = item_read p k seen its same read in
     item_put i new tables None k here.0 (subst (λ y. IfSome y (IsHeld c who (i + 1))) (sym none) tt) refl (λ j apart. refl) (λ e. k.free i (subst (λ n. i < n) k.there here.0) (here.1 ∙ empty)) tt
 
 -- its store
-pub store_of : (p : ℕ) {c : Script} {who : Incarnation} {names : List (List ℕ)} {items : List (Option Produced)} {tables : List (Option (List Pair))} {pending : Option Pending} {v : Producing} {i : ℕ} {o : Option Produced} {x : Produced} {store : Queue}
+pub store_of : (p : ℕ) {c : Script} {who : Incarnation} {names : List (List ℕ)} {items : List (Option Produced)} {tables : List (Option ℕ)} {pending : Option Pending} {v : Producing} {i : ℕ} {o : Option Produced} {x : Produced} {store : Queue}
     → IsProducing c who names items tables pending → producing c who items pending ≡ v → is_producer v.script p ≡ true → i ≡ p - 1 → o ≡ slice_index_or items i o → o ≡ Some x → IsStoreOf x store → IsStore v p store
 store_of p {c} {who} {names} {items} {tables} {pending} {v} {i} {o} {x} {store} k seen its same read some of = record {
   script_is = of.script_is ∙ (its_is.script_is ∙ ap (λ (v : Producing). v.script) seen);

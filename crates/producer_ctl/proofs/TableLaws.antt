@@ -39,7 +39,7 @@ next_pair {who} {number} {store} {pairs} {v} first i k seen is =
     one x e h = ap (λ n. nat_lt n (queued e store.entries)) (sym h.confirmed_is) ∙ ap (nat_lt x.confirmed) (sym h.queued_is)
 
 -- of a producer of the node
-pub next_held : (p first i : ℕ) {c : Script} {who : Incarnation} {names : List (List ℕ)} {items : List (Option Produced)} {tables : List (Option (List Pair))} {pending : Option Pending} {v : Producing} {place n : ℕ} {o : Option Produced}
+pub next_held : (p first i : ℕ) {c : Script} {who : Incarnation} {names : List (List ℕ)} {items : List (Option Produced)} {tables : List (Option ℕ)} {pending : Option Pending} {v : Producing} {place n : ℕ} {o : Option Produced}
     → IsProducing c who names items tables pending → producing c who items pending ≡ v → is_producer v.script p ≡ true → place ≡ p - 1 → o ≡ slice_index_or items place o → n ≡ length (setting v.script).names
     → IsNext (λ k. option_map_or (λ (x : Produced). waits_to (name_at (setting x.script).names k) x.state) o false) first n i → IsNext (λ k. waits p (name_at (setting v.script).names k) v) first (length (setting v.script).names) i
 next_held p first i {c} {who} {names} {items} {tables} {pending} {v} {place} {n} {o} k seen its same read size is =

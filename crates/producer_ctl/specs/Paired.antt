@@ -40,6 +40,12 @@ pub record AreMarked (pairs : List Pair) (waiting : Places) : Type 0 where
   pub bound_is : waiting.bound ≡ length pairs
   pub each : (i : ℕ) → i < length pairs → is_in waiting i ≡ is_waiting (slice_index_or pairs i no_pair)
 
+-- room for so many pairs, none of which is written
+pub record IsBlank (names : ℕ) (pairs : List Pair) (room : ℕ) (waiting : Places) : Type 0 where
+  pub empty : pairs ≡ []
+  pub fits : names ≤ room
+  pub bound_is : waiting.bound ≡ names
+
 -- the least place from the first on, below n, of which p holds; n where there is none
 pub record IsNext (p : ℕ → Bool) (first n i : ℕ) : Type 0 where
   pub from_first : first ≤ i

@@ -15,7 +15,6 @@ use Rattle.yard_model.specs.Script.{Script, setting}
 use Rattle.yard_model.specs.SlotReads.{confirmed, holder, queued}
 use Rattle.yard_model.specs.Words.{at}
 use Rattle.durable_queue.specs.Queue.{Queue}
-use Rattle.producer_ctl.specs.declared.pair.Pair.{Pair}
 use Rattle.producer_ctl.specs.declared.pair.Sends.{Sends}
 use Rattle.producer_ctl.specs.declared.place.Place.{Place}
 use Rattle.producer_ctl.specs.declared.producers.Pending.{Pending}
@@ -143,10 +142,10 @@ pub record IsHeld (c : Script) (who : Incarnation) (p : ℕ) (k : Produced) : Ty
   pub set_is : k.state.set ≡ setting c
   pub number_is : k.state.number ≡ p
 
--- a table with so many places
-abbrev pub HasPlaces : ℕ → Option (List Pair) → Type 0
+-- room for a table with so many places
+abbrev pub HasPlaces : ℕ → Option ℕ → Type 0
 HasPlaces n None = ⊥
-HasPlaces n (Some t) = length t ≡ n
+HasPlaces n (Some t) = t ≡ n
 
 -- there is a producer, which has so many commands queued
 abbrev pub IsQueued : List ℕ → ℕ → Option Produced → Type 0
@@ -158,7 +157,7 @@ pub record IsPending (c : Script) (items : List (Option Produced)) (x : Pending)
   pub stands : IsPlace c (place_at c x.at)
   pub there : x.sends.after < x.sends.last → IsQueued (name_at (setting c).names x.at) x.sends.last (at items (x.producer - 1))
 
-pub record IsProducing (c : Script) (who : Incarnation) (names : List (List ℕ)) (items : List (Option Produced)) (tables : List (Option (List Pair))) (pending : Option Pending) : Type 0 where
+pub record IsProducing (c : Script) (who : Incarnation) (names : List (List ℕ)) (items : List (Option Produced)) (tables : List (Option ℕ)) (pending : Option Pending) : Type 0 where
   pub names_are : names ≡ (setting c).names
   pub sorted : IsStrictlySortedBy (slice_cmp nat_cmp) names
   pub there : length items ≡ c.config.producers
@@ -166,6 +165,10 @@ pub record IsProducing (c : Script) (who : Incarnation) (names : List (List ℕ)
   pub each : (i : ℕ) → IfSome (at items i) (IsHeld c who (i + 1))
   pub free : (i : ℕ) → i < c.config.producers → at items i ≡ None → HasPlaces (length names) (at tables i)
   pub pending_is : IfSome pending (IsPending c items)
+
+-- each queue that is held has room for all that a turn may write there
+abbrev pub AreReady : List (Option Produced) → Type 0
+AreReady items = (i : ℕ) → (at items i ≡ None → ⊥) → 300 ≤ room_of (at items i)
 
 -- the store of the queue that is held
 pub record IsStore (v : Producing) (p : ℕ) (x : Queue) : Type 0 where

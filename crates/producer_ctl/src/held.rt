@@ -18,13 +18,11 @@ use yard_model::{Charter, EntityName, Message, Out, Sending};
 pub(crate) fn queue_in(
     held: &mut Option<Producer>,
     place: &Place,
-    charter: &Charter,
     sending: &Sending,
     out: &mut Out,
 ) -> Option<Sends>
     requires place { IfSome held.old (λ k. IsPlace k.script place.now) }
     requires entity { place.now.entity ≡ sending.now.entity }
-    requires charter { IfSome held.old (λ k. charter.now ≡ k.script) }
     requires next { IfSome held.old (λ k. next_sending (sends k.script k.state.number) k.state ≡ Some sending.now) }
     requires store { IfSome held.old (λ k. 0 < k.room) }
     requires room { 0 < out.old.spare }
@@ -32,7 +30,7 @@ pub(crate) fn queue_in(
     ensures out { out.new ≡ given out.old (moves_of (of_item (queueing sending.now) held.old)) }
 {
     match held {
-        Some(producer) => Some(producer.queue_next(place, charter, sending, out)),
+        Some(producer) => Some(producer.queue_next(place, sending, out)),
         None => None,
     }
 }

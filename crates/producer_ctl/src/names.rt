@@ -41,7 +41,7 @@ impl Names {
         ensures script { IfOk result (λ n. n ≡ charter.now) }
         ensures sorted { IfOk result (λ n. IsStrictlySortedBy (slice_cmp nat_cmp) (setting n).names) }
     {
-        let index = NameIndex::new(alloc, charter)?;
+        let index = NameIndex::new(charter)?;
         let shards = shards_of(alloc, index.as_slice(), charter.config().shards)?;
         Ok(Names {
             script: Snapshot::of(charter),
@@ -90,7 +90,7 @@ fn shards_of(alloc: Global, names: &[EntityName], shards: u8) -> Result<Vec<Shar
     requires most { shards ≤ 128 }
     ensures { IfOk result (λ v. v.items ≡ map (shard shards) names.now) }
 {
-    let mut all = Vec::new(alloc);
+    let mut all = Vec::with_capacity(alloc, names.len())?;
     for name in names {
         all.push(shard_of(name, shards))?;
     }

@@ -1,7 +1,7 @@
 //! What a producer knows of one entity.
 ghost use Rattle.std.specs.Prelude.{◌≡◌, ℕ, ◌+◌, ◌-◌, ◌≤◌, min, max, nat_lt, [], ◌∷◌, if◌then◌else◌};
 ghost use Rattle.yard_model.specs.Words.{from_to};
-ghost use Rattle.producer_ctl.specs.Paired.{allowed_of, no_pair, numbers_of};
+ghost use Rattle.producer_ctl.specs.Paired.{allowed_of, numbers_of};
 
 /// What a producer knows of one entity (Akka 2.6, Reliable Delivery: the state of a producer's flow
 /// control). Numbers are those of its commands to this entity, from 1; each is 0 before the first.
@@ -27,15 +27,15 @@ pub(crate) struct Sends {
 }
 
 impl Pair {
-    /// Of an entity to which nothing is queued.
-    pub(crate) fn new() -> Pair
-        ensures { result ≡ no_pair }
+    /// Once the queue is granted, in which so many commands are queued and confirmed.
+    pub(crate) fn granted(queued: u32, confirmed: u32) -> Pair
+        ensures { result ≡ record { demand = 0; sent = 0; queued = queued; confirmed = confirmed } }
     {
         Pair {
             demand: 0,
             sent: 0,
-            queued: 0,
-            confirmed: 0,
+            queued,
+            confirmed,
         }
     }
 

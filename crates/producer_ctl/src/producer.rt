@@ -13,7 +13,7 @@ ghost use Rattle.producer_ctl.specs.Produced.{moved, given, acking, asking, queu
 
 use crate::pair::{Pair, Sends, larger};
 use crate::place::Place;
-use crate::table::Table;
+use crate::table::{Blank, Table};
 use durable_queue::QueueStore;
 use std::alloc::AllocError;
 use std::marker::{Model, PhantomData};
@@ -56,26 +56,25 @@ pub(crate) fn push(out: &mut Out, item: Item)
 pub(crate) struct Parts {
     /// The queue's store.
     pub store: QueueStore,
-    /// The table of what is kept of each name.
-    pub table: Table,
+    /// Room for the table of what is kept of each name.
+    pub table: Blank,
 }
 
 impl Producer {
-    /// A producer whose queue is granted; the table has a place for each of the names.
+    /// A producer whose queue is granted; the table gets a place for each of the names.
     pub(crate) fn begun(
         who: Incarnation,
         number: ProducerNo,
         store: QueueStore,
-        table: Table,
+        table: Blank,
     ) -> Producer
         requires number { store.producer ≡ number }
         requires leased { holder store.entries ≡ Some who }
         requires sorted { IsStrictlySortedBy (slice_cmp nat_cmp) (setting store.script).names }
-        requires table { length table ≡ length (setting store.script).names }
+        requires table { table ≡ length (setting store.script).names }
         ensures { result ≡ record { script = store.script; state = new_producer (setting store.script) who number store.entries; room = store.spare } }
     {
-        let mut pairs = table;
-        read_all(&mut pairs, &store);
+        let pairs = table.filled(&store);
         Producer {
             who,
             number,
@@ -92,10 +91,10 @@ impl Producer {
         let _who = self.who;
     }
 
-    /// The queue's store, and the table.
+    /// The queue's store, and the room of the table.
     pub(crate) fn into_parts(self) -> Parts
         ensures store { IsStoreOf self result.store }
-        ensures table { length result.table ≡ length (setting self.script).names }
+        ensures table { result.table ≡ length (setting self.script).names }
     {
         let Producer {
             who: _,
@@ -106,7 +105,7 @@ impl Producer {
         } = self;
         Parts {
             store,
-            table: pairs,
+            table: pairs.into_blank(),
         }
     }
 
@@ -173,23 +172,22 @@ impl Producer {
     }
 
     /// A move: a send is queued.
-    fn tell_queued(&mut self, place: &Place, charter: &Charter, sending: &Sending, out: &mut Out)
+    fn tell_queued(&mut self, place: &Place, sending: &Sending, out: &mut Out)
         requires place { IsPlace self.old.script place.now }
         requires entity { place.now.entity ≡ sending.now.entity }
-        requires charter { charter.now ≡ self.old.script }
         requires next { next_sending (sends self.old.script self.old.state.number) self.old.state ≡ Some sending.now }
         requires store { 0 < self.old.room }
         requires room { 0 < out.old.spare }
         ensures state { self.new ≡ moved self.old (queue sending.now self.old.state) }
         ensures out { out.new ≡ given out.old (queue sending.now self.old.state) }
     {
-        let sent = self.store.queue(charter);
+        self.store.queue_at(place.at, sending);
         let mut pair = self.pairs.get(place.at);
-        pair.queue(sent.number);
+        pair.queue(sending.number);
         self.pairs.put(place.at, pair);
         push(
             out,
-            Item::Fact(Fact::Queued(self.number, sent.entity, sent.number, sent.command)),
+            Item::Fact(Fact::Queued(self.number, sending.entity, sending.number, sending.command)),
         );
     }
 
@@ -264,16 +262,9 @@ impl Producer {
     }
 
     /// Send: the next of the sends is queued; Push of its pair.
-    pub(crate) fn queue_next(
-        &mut self,
-        place: &Place,
-        charter: &Charter,
-        sending: &Sending,
-        out: &mut Out,
-    ) -> Sends
+    pub(crate) fn queue_next(&mut self, place: &Place, sending: &Sending, out: &mut Out) -> Sends
         requires place { IsPlace self.old.script place.now }
         requires entity { place.now.entity ≡ sending.now.entity }
-        requires charter { charter.now ≡ self.old.script }
         requires next { next_sending (sends self.old.script self.old.state.number) self.old.state ≡ Some sending.now }
         requires store { 0 < self.old.room }
         requires room { 0 < out.old.spare }
@@ -282,7 +273,7 @@ impl Producer {
         ensures numbers { numbers_of result ≡ (queueing sending.now self.old.state).numbers }
         ensures queued { result.last ≤ queued sending.now.entity self.new.state.entries }
     {
-        self.tell_queued(place, charter, sending, out);
+        self.tell_queued(place, sending, out);
         self.push(place)
     }
 
@@ -346,22 +337,5 @@ impl Producer {
             self.set_sent(place, pair.confirmed + 1);
         }
         pair.to_repeat()
-    }
-}
-
-/// Of each name, what is queued and confirmed in this queue is read, and nothing was sent.
-fn read_all(pairs: &mut Table, store: &QueueStore)
-    requires { length pairs.old ≡ length (setting store.now.script).names }
-    ensures there { length pairs.new ≡ length (setting store.now.script).names }
-    ensures each { (i : ℕ) → i < length (setting store.now.script).names → slice_index_or pairs.new i no_pair ≡ new_pair (name_at (setting store.now.script).names i) store.now.entries }
-{
-    for at in 0..pairs.len() {
-        let pair = Pair {
-            demand: 0,
-            sent: 0,
-            queued: store.queued_at(at),
-            confirmed: store.confirmed_at(at),
-        };
-        pairs.put(at, pair);
     }
 }

@@ -20,7 +20,7 @@ ghost use Rattle.durable_queue.specs.Queue.{Queue};
 ghost use Rattle.producer_ctl.specs.declared.pair.Sends.{Sends};
 ghost use Rattle.producer_ctl.specs.Paired.{IsPlace, IsNext, name_at};
 ghost use Rattle.producer_ctl.specs.Produced.{given, acking, asking, queueing, resending, repeating};
-ghost use Rattle.producer_ctl.specs.Producing.{no_routing, routing, held, waits, of_held, sending, moves_of, moved_by, stepped, holding, without, next_message, after_message, IsStore, IsReserved, Stands, AreMore, HasPlaces, room_of};
+ghost use Rattle.producer_ctl.specs.Producing.{no_routing, routing, held, waits, of_held, sending, moves_of, moved_by, stepped, holding, without, next_message, after_message, IsStore, IsReserved, Stands, AreMore, AreReady, HasPlaces, room_of};
 
 use crate::held::{
     ack_in, demand_in, knows_in, message_in, next_in, next_waiting_in, queue_in, resend_in,
@@ -30,7 +30,7 @@ use crate::names::Names;
 use crate::pair::Sends;
 use crate::place::Place;
 use crate::producer::{Producer, push};
-use crate::table::Table;
+use crate::table::Blank;
 use durable_queue::QueueStore;
 use std::alloc::{AllocError, Global};
 use std::marker::{Model, PhantomData};
@@ -65,20 +65,22 @@ pub struct Producers {
     names: Names,
     who: Incarnation,
     held: Vec<Option<Producer>>,
-    tables: Vec<Option<Table>>,
+    tables: Vec<Option<Blank>>,
     pending: Option<Pending>,
+    ready: bool,
     holds: PhantomData<(Fact, Message, Place, Slot)>,
 }
 
 impl Model for Producers {
+    ghost use Rattle.std.specs.Prelude.{◌≡◌, true};
     ghost use Rattle.yard_model.specs.Script.{setting};
-    ghost use Rattle.producer_ctl.specs.Producing.{Producing, IsProducing, producing};
+    ghost use Rattle.producer_ctl.specs.Producing.{Producing, IsProducing, AreReady, producing};
 
     ghost Value = { Producing };
 
     ghost view = { λ v. producing v.names v.who v.held.items v.pending };
 
-    ghost invariant = { λ v. IsProducing v.names v.who (setting v.names).names v.held.items v.tables.items v.pending };
+    ghost invariant = { λ v. (IsProducing v.names v.who (setting v.names).names v.held.items v.tables.items v.pending) × (v.ready ≡ true → AreReady v.held.items) };
 }
 
 impl Producers {
@@ -96,6 +98,7 @@ impl Producers {
             held,
             tables,
             pending: None,
+            ready: true,
             holds: PhantomData,
         })
     }
@@ -152,7 +155,7 @@ impl Producers {
         ensures more { AreMore self.old.rooms self.new.rooms }
         ensures ok { OnOk result ((p : ℕ) → is_producer self.old.script p ≡ true → (held p self.old ≡ None → ⊥) → 300 ≤ slice_index_or self.new.rooms (p - 1) 0) }
     {
-        reserve_each(&mut self.held)
+        reserve_all(&mut self.held, &mut self.ready)
     }
 
     /// A producer's queue is granted to this node: nothing was demanded, nothing was sent.
@@ -168,6 +171,7 @@ impl Producers {
         let table = take_table(&mut self.tables, place);
         let producer = Producer::begun(self.who, p, store, table);
         self.held[place] = Some(producer);
+        self.ready = false;
         self.pending = None;
     }
 
@@ -194,6 +198,7 @@ impl Producers {
     {
         let place = place_of(p);
         self.pending = None;
+        self.ready = false;
         match self.held[place].take() {
             Some(producer) => {
                 let parts = producer.into_parts();
@@ -215,7 +220,7 @@ impl Producers {
         ensures out { out.new ≡ given out.old (moves_of (option_and_then (sending (sends self.old.script p)) (held p self.old))) }
     {
         match self.next(p, charter) {
-            Some(sending) => self.queue(p, charter, &sending, out),
+            Some(sending) => self.queue(p, &sending, out),
             None => self.pending = None,
         }
     }
@@ -231,9 +236,8 @@ impl Producers {
     }
 
     /// It is queued, which is the next; what may be sent to its entity and wasn't yet is to be routed.
-    fn queue(&mut self, p: ProducerNo, charter: &Charter, sending: &Sending, out: &mut Out)
+    fn queue(&mut self, p: ProducerNo, sending: &Sending, out: &mut Out)
         requires producer { is_producer self.old.script p ≡ true }
-        requires charter { charter.now ≡ self.old.script }
         requires next { option_and_then (next_sending (sends self.old.script p)) (held p self.old) ≡ Some sending.now }
         requires store { IfSome (held p self.old) (λ st. 0 < slice_index_or self.old.rooms (p - 1) 0) }
         requires room { 0 < out.old.spare }
@@ -241,7 +245,8 @@ impl Producers {
         ensures out { out.new ≡ given out.old (moves_of (of_held (queueing sending.now) p self.old)) }
     {
         let place = self.find(&sending.entity);
-        let sends = queue_in(&mut self.held[place_of(p)], &place, charter, sending, out);
+        self.ready = false;
+        let sends = queue_in(&mut self.held[place_of(p)], &place, sending, out);
         self.pending = pending_of(p, place.at, sends);
     }
 
@@ -265,6 +270,7 @@ impl Producers {
         ensures out { out.new ≡ given out.old (moves_of (of_held (asking entity.now confirmed up_to) p self.old)) }
     {
         let place = self.find(entity);
+        self.ready = false;
         let sends = demand_in(&mut self.held[place_of(p)], &place, confirmed, up_to, out);
         self.pending = pending_of(p, place.at, sends);
     }
@@ -280,6 +286,7 @@ impl Producers {
         ensures out { out.new ≡ given out.old (moves_of (of_held (acking entity.now confirmed) p self.old)) }
     {
         let place = self.find(entity);
+        self.ready = false;
         let sends = ack_in(&mut self.held[place_of(p)], &place, confirmed, out);
         self.pending = pending_of(p, place.at, sends);
     }
@@ -304,6 +311,7 @@ impl Producers {
         ensures { self.new ≡ stepped p self.old (of_held (repeating (name_at (setting self.old.script).names at)) p self.old) }
     {
         let place = self.nth(at);
+        self.ready = false;
         let sends = tick_in(&mut self.held[place_of(p)], &place);
         self.pending = pending_of(p, place.at, sends);
     }
@@ -393,28 +401,28 @@ fn place_of(p: ProducerNo) -> usize
 fn none_held(alloc: Global, producers: u8) -> Result<Vec<Option<Producer>>, AllocError>
     ensures { IfOk result (λ v. v.items ≡ replicate producers None) }
 {
-    let mut held = Vec::new(alloc);
+    let mut held = Vec::with_capacity(alloc, producers as usize)?;
     for _ in 0..producers {
         held.push(None)?;
     }
     Ok(held)
 }
 
-/// For each producer, a table with a place for each name.
-fn new_tables(alloc: Global, producers: u8, names: usize) -> Result<Vec<Option<Table>>, AllocError>
+/// For each producer, room for a table with a place for each name.
+fn new_tables(alloc: Global, producers: u8, names: usize) -> Result<Vec<Option<Blank>>, AllocError>
     ensures there { IfOk result (λ v. length v.items ≡ producers) }
     ensures each { IfOk result (λ v. (i : ℕ) → i < producers → HasPlaces names (at v.items i)) }
 {
-    let mut tables = Vec::new(alloc);
+    let mut tables = Vec::with_capacity(alloc, producers as usize)?;
     for _ in 0..producers {
-        let table = Table::new(alloc, names)?;
+        let table = Blank::new(alloc, names)?;
         tables.push(Some(table))?;
     }
     Ok(tables)
 }
 
-/// Takes a table out.
-fn take_table(tables: &mut Vec<Option<Table>>, place: usize) -> Table
+/// Takes a table's room out.
+fn take_table(tables: &mut Vec<Option<Blank>>, place: usize) -> Blank
     requires within { place < length tables.old.items }
     requires there { at tables.old.items place ≡ None → ⊥ }
     ensures table { at tables.old.items place ≡ Some result }
@@ -424,6 +432,22 @@ fn take_table(tables: &mut Vec<Option<Table>>, place: usize) -> Table
         Some(table) => table,
         None => unreachable!(),
     }
+}
+
+/// Makes room in each queue that is held, where that wasn't done since one was written to.
+fn reserve_all(held: &mut Vec<Option<Producer>>, ready: &mut bool) -> Result<(), AllocError>
+    requires ready { ready.old ≡ true → AreReady held.old.items }
+    ensures there { length held.new.items ≡ length held.old.items }
+    ensures kept { (i : ℕ) → IsReserved (at held.old.items i) (at held.new.items i) }
+    ensures ok { OnOk result ((i : ℕ) → (at held.old.items i ≡ None → ⊥) → 300 ≤ room_of (at held.new.items i)) }
+    ensures ready { ready.new ≡ true → AreReady held.new.items }
+{
+    if *ready {
+        return Ok(());
+    }
+    reserve_each(held)?;
+    *ready = true;
+    Ok(())
 }
 
 /// Makes room in each queue that is held.

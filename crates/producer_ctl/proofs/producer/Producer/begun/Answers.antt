@@ -2,7 +2,7 @@ use Rattle.producer_ctl.proofs.BegunLaws.{begun_stands, begun_seen}
 use Rattle.producer_ctl.proofs.producer.Producer.begun.Goals as goal
 
 pub invariant_of-result : goal.invariant_of-result
-invariant_of-result c = begun_stands c.requires.number c.requires.leased c.requires.sorted c.read_all.ensures.there c.read_all.ensures.each
+invariant_of-result c = begun_stands c.requires.number c.requires.leased c.requires.sorted c.filled-pairs.ensures.there c.filled-pairs.ensures.each
 
 pub returns : goal.returns
-returns c = begun_seen c.args.who c.args.number c.args.store c.read_all.new.pairs c.read_all.ensures.there c.read_all.ensures.each
+returns c = begun_seen c.args.who c.args.number c.args.store c.filled-pairs.result c.filled-pairs.ensures.there c.filled-pairs.ensures.each

@@ -1,4 +1,4 @@
-use Rattle.std.proofs.Common.{refl, ap, ◌∙◌}
+use Rattle.std.proofs.Common.{refl, ap, ◌∙◌, sym, true≢false}
 use Rattle.producer_ctl.specs.Produced.{repeating}
 use Rattle.producer_ctl.specs.Producing.{of_held, stepped}
 use Rattle.producer_ctl.proofs.ProducingLaws.{sent_stands, sent_moved}
@@ -6,7 +6,7 @@ use Rattle.producer_ctl.proofs.PlainLaws.{plain_repeating}
 use Rattle.producer_ctl.proofs.producers.Producers.tick.Goals as goal
 
 pub invariant_of-self : goal.invariant_of-self
-invariant_of-self c = sent_stands c.args.p c.nth-place.result (repeating c.nth-place.result.entity) (λ st. refl) c.nth-place.ensures.place c.self.invariant c.self.view_is c.requires.producer c.place_of.ensures c.index_mut.ensures.value c.tick_in-sends.ensures.sent c.pending_of-self-inside.ensures
+invariant_of-self c = (sent_stands c.args.p c.nth-place.result (repeating c.nth-place.result.entity) (λ st. refl) c.nth-place.ensures.place c.self.invariant.0 c.self.view_is c.requires.producer c.place_of.ensures c.index_mut.ensures.value c.tick_in-sends.ensures.sent c.pending_of-self-inside.ensures, λ e. absurd (true≢false (sym e)))
 
 pub returns : goal.returns
-returns c = sent_moved c.args.p c.nth-place.result (repeating c.nth-place.result.entity) (λ st. refl) (plain_repeating c.nth-place.result.entity) c.nth-place.ensures.place c.self.invariant c.self.view_is c.requires.producer c.place_of.ensures c.index_mut.ensures.value c.tick_in-sends.ensures.sent c.pending_of-self-inside.ensures ∙ ap (λ e. stepped c.args.p c.args.self.now (of_held (repeating e) c.args.p c.args.self.now)) c.nth-place.ensures.entity
+returns c = sent_moved c.args.p c.nth-place.result (repeating c.nth-place.result.entity) (λ st. refl) (plain_repeating c.nth-place.result.entity) c.nth-place.ensures.place c.self.invariant.0 c.self.view_is c.requires.producer c.place_of.ensures c.index_mut.ensures.value c.tick_in-sends.ensures.sent c.pending_of-self-inside.ensures ∙ ap (λ e. stepped c.args.p c.args.self.now (of_held (repeating e) c.args.p c.args.self.now)) c.nth-place.ensures.entity

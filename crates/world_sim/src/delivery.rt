@@ -10,7 +10,7 @@ use crate::laws::standing_is_kept;
 use crate::yard::Yard;
 use behaviour_core::Behaviour;
 use std::alloc::AllocError;
-use yard_model::{Fact, Facts, Packet};
+use yard_model::{Body, Fact, Facts, Incarnation, NodeNo, Packet};
 
 impl<B: Behaviour + Copy + Drop> Yard<B> {
     /// The packet of this number is delivered, where one was posted.
@@ -21,7 +21,8 @@ impl<B: Behaviour + Copy + Drop> Yard<B> {
         if !self.mail.has(number) {
             return facts.push(Fact::Nothing);
         }
-        let packet = self.mail.posted(number);
+        let mut packet = no_packet();
+        self.mail.write(number, &mut packet);
         self.deliver_packet(number, &packet, facts)
     }
 
@@ -104,5 +105,22 @@ impl<B: Behaviour + Copy + Drop> Yard<B> {
             return facts.push(Fact::Nothing);
         }
         self.drain(0, n, facts)
+    }
+}
+
+/// What a packet is written over.
+fn no_packet() -> Packet {
+    Packet {
+        from: nobody(),
+        to: nobody(),
+        body: Body::Register,
+    }
+}
+
+/// An incarnation that is none.
+fn nobody() -> Incarnation {
+    Incarnation {
+        node: NodeNo::FIRST,
+        number: 0,
     }
 }

@@ -53,7 +53,7 @@ impl<B: Behaviour + Copy + Drop> Yard<B> {
     {
         standing_is_kept();
         let epoch = self.book.greatest_epoch();
-        let charter = self.charter.with_shards(self.alloc, shards)?;
+        let charter = self.charter.with_shards(shards)?;
         let stores = Stores::new(self.alloc, &charter)?;
         let empty = LeaseBook::new(self.alloc, stores)?;
         let book = mem::replace(&mut self.book, empty);

@@ -126,13 +126,13 @@ impl Mail {
         number > 0 && number <= self.count
     }
 
-    /// The packet of this number, which was posted.
-    pub fn posted(&self, number: u32) -> Packet
+    /// The packet of this number, which was posted, is written over another: so it isn't copied.
+    pub fn write(&self, number: u32, packet: &mut Packet)
         requires above { 0 < number }
         requires there { number ≤ length self.now.packets }
-        ensures { packet_at self.now.packets number ≡ Some result }
+        ensures { packet_at self.now.packets number ≡ Some packet.new }
     {
-        self.wire.packet(number)
+        self.wire.write(number, packet)
     }
 
     /// The packet of this number, which was posted, is delivered.
@@ -262,7 +262,7 @@ impl Mail {
     {
         match item {
             Item::Fact(fact) => {
-                facts.push(*fact)?;
+                facts.push_copy(fact)?;
                 Ok(false)
             }
             Item::Post(packet) => self.tell_post(packet, facts),
@@ -279,7 +279,7 @@ impl Mail {
         match self.wire.post(packet) {
             Ok(number) => {
                 self.count = number;
-                facts.push(Fact::Sent(number, *packet))?;
+                facts.push_sent(number, packet)?;
                 Ok(false)
             }
             Err(WireFault::Full) => Ok(true),

@@ -63,7 +63,7 @@ impl<B: Behaviour + Copy + Drop> World<B> {
         requires { B.kind_of behaviour ≡ charter.now.config.kind }
         ensures { IfOk result (λ w. w ≡ record { script = charter.now; given = None; count = 0; fault = None }) }
     {
-        let own = charter.copy(alloc)?;
+        let own = charter.copy()?;
         World::of(alloc, own, behaviour)
     }
 
@@ -211,7 +211,7 @@ fn given_yard<B: Behaviour + Copy + Drop>(
     ensures version { IfOk result (λ y. y.version ≡ 0) }
     ensures known { IfOk result (λ y. IsScript y.script) }
 {
-    let charter = charter.copy(alloc)?;
+    let charter = charter.copy()?;
     let count = charter.config().nodes;
     let shards = charter.config().shards;
     let producers = charter.config().producers;

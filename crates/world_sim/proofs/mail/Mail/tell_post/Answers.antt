@@ -3,8 +3,8 @@ use Rattle.yard_model.specs.World.{wire_limit}
 use Rattle.world_sim.proofs.ToldLaws.{posted_one}
 use Rattle.world_sim.proofs.mail.Mail.tell_post.Goals as goal
 
-pub returns-in_ok-push-in-Ok-clause-ok : goal.returns-in_ok-push-in-Ok-clause-ok
-returns-in_ok-push-in-Ok-clause-ok c =
+pub returns-in_ok-push_sent-in-Ok-clause-ok : goal.returns-in_ok-push_sent-in-Ok-clause-ok
+returns-in_ok-push_sent-in-Ok-clause-ok c =
     let wire = c.self.inside.wire in
     let room : length wire.packets ≢ wire_limit = λ e. let bad = c.in-Ok.ensures.full.1 e in cc in
     let under : length wire.packets < wire_limit = omega (arith, c.self.invariant.wire_is.fits) in

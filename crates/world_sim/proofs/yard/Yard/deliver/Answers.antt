@@ -13,5 +13,5 @@ returns-then-not-has g c =
 
 pub returns : goal.returns
 returns g c =
-    deliver_stepped c.args.self.now c.args.number (Some c.posted-packet.result) c.deliver_packet.result c.deliver_packet.new.self c.args.facts.now c.deliver_packet.new.facts
-    (ap (λ (v : Yard). packet_at v.mail.packets c.args.number) (sym c.self.view_is) ∙ c.posted-packet.ensures) c.deliver_packet.ensures
+    deliver_stepped c.args.self.now c.args.number (Some c.write.new.packet) c.deliver_packet.result c.deliver_packet.new.self c.args.facts.now c.deliver_packet.new.facts
+    (ap (λ (v : Yard). packet_at v.mail.packets c.args.number) (sym c.self.view_is) ∙ c.write.ensures) c.deliver_packet.ensures

@@ -1,3 +1,4 @@
 pub mod CloseLaws
 pub mod HoldLaws
 pub mod RoundLaws
+pub mod OpenLaws

@@ -104,9 +104,22 @@ pub fn opened(alloc: Global) -> Result<(LeaseTable, LeasePass, LeasePass), Alloc
     ensures first { IfOk result (λ r. Idle (id_of r.0) two_nodes 1 r.1) }
     ensures second { IfOk result (λ r. Idle (id_of r.0) two_nodes 2 r.2) }
 {
-    empty_stores_are_ready();
     let charter = script(alloc, producer(), NodeNo::FIRST, second())?;
-    let (table, mut passes) = LeaseTable::make(alloc, &charter, Stores::new(alloc, &charter)?)?;
+    opened_for(alloc, &charter)
+}
+
+/// The same, of a charter of this script.
+fn opened_for(
+    alloc: Global,
+    charter: &Charter,
+) -> Result<(LeaseTable, LeasePass, LeasePass), AllocError>
+    requires { charter.now ≡ two_nodes }
+    ensures script { IfOk result (λ r. charter_of r.0 ≡ two_nodes) }
+    ensures first { IfOk result (λ r. Idle (id_of r.0) two_nodes 1 r.1) }
+    ensures second { IfOk result (λ r. Idle (id_of r.0) two_nodes 2 r.2) }
+{
+    empty_stores_are_ready();
+    let (table, mut passes) = LeaseTable::make(alloc, charter, Stores::new(alloc, charter)?)?;
     let Some(first) = passes.next() else {
         unreachable!()
     };

@@ -61,7 +61,7 @@ const SEEDS: u32 = 8;
 const STRIDE: u32 = 4;
 
 /// So often it looks whether another is there.
-const LOOKS: u32 = 50_000;
+const LOOKS: u32 = 1_000_000;
 
 /// A gate that keeps four nodes together: before each fourth turn a node waits until the others have come so far,
 /// for a bounded number of looks.

@@ -1,4 +1,3 @@
 pub mod CloseLaws
 pub mod HoldLaws
 pub mod RoundLaws
-pub mod OpenLaws

@@ -12,11 +12,16 @@ use crate::seek::{Sought, seek};
 use crate::yard::Yard;
 use behaviour_core::Behaviour;
 use std::alloc::AllocError;
-use yard_model::{EntityName, Facts, Input, Keep, NodeNo, ProducerNo};
+use trace_notes::{Notes, Told};
+use yard_model::{EntityName, Input, Keep, NodeNo, ProducerNo};
 
 impl<B: Behaviour + Copy + Drop> Yard<B> {
     /// A node is told to leave the cluster, where it is up.
-    pub(crate) fn leave(&mut self, n: NodeNo, facts: &mut Facts) -> Result<(), AllocError>
+    pub(crate) fn leave<N: Notes>(
+        &mut self,
+        n: NodeNo,
+        facts: &mut Told<N>,
+    ) -> Result<(), AllocError>
         requires world { (w : World) × IsSound self.old w }
         requires node { is_in 1 self.old.script.config.nodes n ≡ true }
         ensures { Stepped IsSound 0 (play (order.Leave n)) result self.old self.new facts.old facts.new }
@@ -26,7 +31,11 @@ impl<B: Behaviour + Copy + Drop> Yard<B> {
     }
 
     /// A node is given its timer, where it is up.
-    pub(crate) fn tick(&mut self, n: NodeNo, facts: &mut Facts) -> Result<(), AllocError>
+    pub(crate) fn tick<N: Notes>(
+        &mut self,
+        n: NodeNo,
+        facts: &mut Told<N>,
+    ) -> Result<(), AllocError>
         requires world { (w : World) × IsSound self.old w }
         requires node { is_in 1 self.old.script.config.nodes n ≡ true }
         ensures { Stepped IsSound 0 (play (order.Tick n)) result self.old self.new facts.old facts.new }
@@ -36,7 +45,11 @@ impl<B: Behaviour + Copy + Drop> Yard<B> {
     }
 
     /// The coordinator, where there is one, is to move up to so many shards.
-    pub(crate) fn rebalance(&mut self, most: u8, facts: &mut Facts) -> Result<(), AllocError>
+    pub(crate) fn rebalance<N: Notes>(
+        &mut self,
+        most: u8,
+        facts: &mut Told<N>,
+    ) -> Result<(), AllocError>
         requires { (w : World) × IsSound self.old w }
         ensures { Stepped IsSound 0 (play (order.Rebalance most)) result self.old self.new facts.old facts.new }
     {
@@ -45,7 +58,11 @@ impl<B: Behaviour + Copy + Drop> Yard<B> {
     }
 
     /// The holder of a producer's queue, where there is one, gives it back.
-    pub(crate) fn rest(&mut self, p: ProducerNo, facts: &mut Facts) -> Result<(), AllocError>
+    pub(crate) fn rest<N: Notes>(
+        &mut self,
+        p: ProducerNo,
+        facts: &mut Told<N>,
+    ) -> Result<(), AllocError>
         requires world { (w : World) × IsSound self.old w }
         requires producer { is_producer self.old.script p ≡ true }
         ensures { Stepped IsSound 0 (play (order.Rest p)) result self.old self.new facts.old facts.new }
@@ -55,10 +72,10 @@ impl<B: Behaviour + Copy + Drop> Yard<B> {
     }
 
     /// An entity asks for its stop, where it is active.
-    pub(crate) fn passivate(
+    pub(crate) fn passivate<N: Notes>(
         &mut self,
         entity: &EntityName,
-        facts: &mut Facts,
+        facts: &mut Told<N>,
     ) -> Result<(), AllocError>
         requires world { (w : World) × IsSound self.old w }
         requires brought { is_brought self.old.script entity.now ≡ true }
@@ -69,11 +86,11 @@ impl<B: Behaviour + Copy + Drop> Yard<B> {
     }
 
     /// The next write of an entity is to fail, where it is active.
-    pub(crate) fn fail_write(
+    pub(crate) fn fail_write<N: Notes>(
         &mut self,
         entity: &EntityName,
         keep: Keep,
-        facts: &mut Facts,
+        facts: &mut Told<N>,
     ) -> Result<(), AllocError>
         requires world { (w : World) × IsSound self.old w }
         requires brought { is_brought self.old.script entity.now ≡ true }

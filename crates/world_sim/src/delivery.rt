@@ -10,11 +10,16 @@ use crate::laws::standing_is_kept;
 use crate::yard::Yard;
 use behaviour_core::Behaviour;
 use std::alloc::AllocError;
-use yard_model::{Body, Fact, Facts, Incarnation, NodeNo, Packet};
+use trace_notes::{Notes, Told};
+use yard_model::{Body, Fact, Incarnation, NodeNo, Packet};
 
 impl<B: Behaviour + Copy + Drop> Yard<B> {
     /// The packet of this number is delivered, where one was posted.
-    pub(crate) fn deliver(&mut self, number: u32, facts: &mut Facts) -> Result<(), AllocError>
+    pub(crate) fn deliver<N: Notes>(
+        &mut self,
+        number: u32,
+        facts: &mut Told<N>,
+    ) -> Result<(), AllocError>
         requires { (w : World) × IsSoundTo (Delivers number) self.old w }
         ensures { Stepped (IsSoundTo (Delivers number)) 0 (deliver number) result self.old self.new facts.old facts.new }
     {
@@ -27,11 +32,11 @@ impl<B: Behaviour + Copy + Drop> Yard<B> {
     }
 
     /// This packet, of this number, is delivered.
-    fn deliver_packet(
+    fn deliver_packet<N: Notes>(
         &mut self,
         number: u32,
         packet: &Packet,
-        facts: &mut Facts,
+        facts: &mut Told<N>,
     ) -> Result<(), AllocError>
         requires world { (w : World) × IsSoundTo (Delivers number) self.old w }
         requires above { 0 < number }
@@ -44,7 +49,7 @@ impl<B: Behaviour + Copy + Drop> Yard<B> {
     }
 
     /// A packet that was posted is delivered now.
-    fn mark(&mut self, number: u32, facts: &mut Facts) -> Result<(), AllocError>
+    fn mark<N: Notes>(&mut self, number: u32, facts: &mut Told<N>) -> Result<(), AllocError>
         requires world { (w : World) × IsSound self.old w }
         requires above { 0 < number }
         requires posted { number ≤ length self.old.mail.packets }
@@ -57,11 +62,11 @@ impl<B: Behaviour + Copy + Drop> Yard<B> {
 
     /// The packet of this number at the node that it is addressed to, where that incarnation is up. One
     /// that was posted before the number of shards last changed goes to nobody.
-    fn hand_over(
+    fn hand_over<N: Notes>(
         &mut self,
         number: u32,
         packet: &Packet,
-        facts: &mut Facts,
+        facts: &mut Told<N>,
     ) -> Result<(), AllocError>
         requires { (w : World) × IsSoundFor number packet.now self.old w }
         ensures { Stepped (IsSoundFor number packet.now) 0 (hand_over number packet.now) result self.old self.new facts.old facts.new }
@@ -77,7 +82,12 @@ impl<B: Behaviour + Copy + Drop> Yard<B> {
 
     /// At most `n` packets above `from` that were never delivered are delivered, the lowest number
     /// first, also those that are posted meanwhile.
-    pub(crate) fn drain(&mut self, from: u32, n: u32, facts: &mut Facts) -> Result<(), AllocError>
+    pub(crate) fn drain<N: Notes>(
+        &mut self,
+        from: u32,
+        n: u32,
+        facts: &mut Told<N>,
+    ) -> Result<(), AllocError>
         requires world { (w : World) × IsSoundTo (Drains from n) self.old w }
         requires from { from < 4000000000 }
         ensures { Stepped (IsSoundTo (Drains from n)) 0 (drain from n) result self.old self.new facts.old facts.new }
@@ -96,7 +106,7 @@ impl<B: Behaviour + Copy + Drop> Yard<B> {
     }
 
     /// At most `n` packets that were never delivered are delivered; where there is none, nothing.
-    pub(crate) fn pump(&mut self, n: u32, facts: &mut Facts) -> Result<(), AllocError>
+    pub(crate) fn pump<N: Notes>(&mut self, n: u32, facts: &mut Told<N>) -> Result<(), AllocError>
         requires { (w : World) × IsBacked self.old w }
         ensures { Stepped IsBacked 0 (pump n) result self.old self.new facts.old facts.new }
     {

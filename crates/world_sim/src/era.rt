@@ -16,7 +16,8 @@ use shard_lease::LeaseBook;
 use shard_store::Stores;
 use std::alloc::AllocError;
 use std::mem;
-use yard_model::{Fact, Facts};
+use trace_notes::{Notes, Told};
+use yard_model::Fact;
 
 /// The version of behaviours after an upgrade.
 const LAST: u8 = 2;
@@ -24,7 +25,11 @@ const LAST: u8 = 2;
 impl<B: Behaviour + Copy + Drop> Yard<B> {
     /// The number of shards is another from now on; nothing where a node is up, or where it is this
     /// one.
-    pub(crate) fn reshard(&mut self, shards: u8, facts: &mut Facts) -> Result<(), AllocError>
+    pub(crate) fn reshard<N: Notes>(
+        &mut self,
+        shards: u8,
+        facts: &mut Told<N>,
+    ) -> Result<(), AllocError>
         requires world { (w : World) × IsBacked self.old w }
         requires shards { IsTrue (is_in 1 128 shards) }
         ensures { Plays 0 (play (order.Reshard shards)) result self.old self.new facts.old facts.new }
@@ -44,7 +49,7 @@ impl<B: Behaviour + Copy + Drop> Yard<B> {
 
     /// The number of shards is another from now on: the leases are those of stores whose lists begin
     /// anew, and what was posted so far goes to nobody.
-    fn reshape(&mut self, shards: u8, facts: &mut Facts) -> Result<(), AllocError>
+    fn reshape<N: Notes>(&mut self, shards: u8, facts: &mut Told<N>) -> Result<(), AllocError>
         requires world { (w : World) × IsBacked self.old w }
         requires quiet { list_any is_some self.old.nodes ≡ false }
         requires other { (shards == self.old.script.config.shards) ≡ false }
@@ -66,7 +71,7 @@ impl<B: Behaviour + Copy + Drop> Yard<B> {
 
     /// Version 2 of the behaviours is in force from now on; nothing where a node is up, or where it is
     /// already.
-    pub(crate) fn upgrade(&mut self, facts: &mut Facts) -> Result<(), AllocError>
+    pub(crate) fn upgrade<N: Notes>(&mut self, facts: &mut Told<N>) -> Result<(), AllocError>
         requires { (w : World) × IsSound self.old w }
         ensures { Stepped IsSound 0 (play order.Upgrade) result self.old self.new facts.old facts.new }
     {
@@ -84,7 +89,7 @@ impl<B: Behaviour + Copy + Drop> Yard<B> {
     }
 
     /// Version 2 is in force from now on: nodes that come up have it.
-    fn go_over(&mut self, facts: &mut Facts) -> Result<(), AllocError>
+    fn go_over<N: Notes>(&mut self, facts: &mut Told<N>) -> Result<(), AllocError>
         ensures { Stepped IsSound 0 upgraded result self.old self.new facts.old facts.new }
     {
         facts.push(Fact::Upgrade(LAST))?;

@@ -11,15 +11,16 @@ use crate::turns::{hand_at, hand_packet_at};
 use crate::yard::Yard;
 use behaviour_core::Behaviour;
 use std::alloc::AllocError;
-use yard_model::{Fact, Facts, Input, NodeNo, Packet};
+use trace_notes::{Notes, Told};
+use yard_model::{Fact, Input, NodeNo, Packet};
 
 impl<B: Behaviour + Copy + Drop> Yard<B> {
     /// The node of this number, which is up, is given an input.
-    pub(crate) fn give(
+    pub(crate) fn give<N: Notes>(
         &mut self,
         n: NodeNo,
         input: &Input,
-        facts: &mut Facts,
+        facts: &mut Told<N>,
     ) -> Result<(), AllocError>
         requires { (w : World) × MayGive input.now n self.old w }
         ensures up { OnOk result (is_none (at self.new.nodes (n - 1)) ≡ false) }
@@ -37,11 +38,11 @@ impl<B: Behaviour + Copy + Drop> Yard<B> {
     }
 
     /// The node of this number, which is up, is given a packet.
-    pub(crate) fn give_packet(
+    pub(crate) fn give_packet<N: Notes>(
         &mut self,
         n: NodeNo,
         packet: &Packet,
-        facts: &mut Facts,
+        facts: &mut Told<N>,
     ) -> Result<(), AllocError>
         requires { (w : World) × MayGive (input.Packet packet.now) n self.old w }
         ensures up { OnOk result (is_none (at self.new.nodes (n - 1)) ≡ false) }
@@ -59,11 +60,11 @@ impl<B: Behaviour + Copy + Drop> Yard<B> {
     }
 
     /// The node of this number is given an input; without a number nothing happens.
-    pub(crate) fn ask(
+    pub(crate) fn ask<N: Notes>(
         &mut self,
         to: Option<NodeNo>,
         input: &Input,
-        facts: &mut Facts,
+        facts: &mut Told<N>,
     ) -> Result<(), AllocError>
         requires { (w : World) × MayAsk input.now to self.old w }
         ensures { Stepped (MayAsk input.now to) 0 (asked to input.now) result self.old self.new facts.old facts.new }

@@ -14,8 +14,9 @@ use crate::runs::{after_run, reach};
 use std::alloc::{AllocError, Global};
 use std::marker::Model;
 use std::mem;
+use trace_notes::{Notes, Told};
 use wire_packet::{Wire, WireFault};
-use yard_model::{Charter, Fact, Facts, Item, Out, Packet};
+use yard_model::{Charter, Fact, Item, Out, Packet};
 
 /// The packets of a world, numbered from 1, which of them were never delivered, and what a turn
 /// made and isn't told yet. At most 1,000,000 are posted.
@@ -193,7 +194,7 @@ impl Mail {
     ///
     /// The only error is want of memory: then a beginning of all that was told, and what of the
     /// items is left is not said.
-    pub fn tell_items(&mut self, facts: &mut Facts) -> Result<(), AllocError>
+    pub fn tell_items<N: Notes>(&mut self, facts: &mut Told<N>) -> Result<(), AllocError>
         ensures facts { OnOk result (facts.new ≡ facts.old ++ facts_of wire_limit (length self.old.packets) self.old.items) }
         ensures packets { OnOk result (self.new.packets ≡ self.old.packets ++ posts_of wire_limit (length self.old.packets) self.old.items) }
         ensures fresh { OnOk result (self.new.fresh ≡ self.old.fresh ++ numbers (length self.old.packets + 1) (length (posts_of wire_limit (length self.old.packets) self.old.items))) }
@@ -210,7 +211,7 @@ impl Mail {
     }
 
     /// The wire is full, and this is told.
-    fn tell_full(&mut self, facts: &mut Facts) -> Result<(), AllocError>
+    fn tell_full<N: Notes>(&mut self, facts: &mut Told<N>) -> Result<(), AllocError>
         ensures facts { OnOk result (facts.new ≡ facts.old ++ fact.WireFull ∷ []) }
         ensures ok { OnOk result (self.new ≡ record self.old { full = true }) }
         ensures err { OnErr result (facts.new ≡ facts.old) }
@@ -221,7 +222,7 @@ impl Mail {
     }
 
     /// Tells all items, and answers whether some post was past the limit.
-    fn tell_all(&mut self, facts: &mut Facts) -> Result<bool, AllocError>
+    fn tell_all<N: Notes>(&mut self, facts: &mut Told<N>) -> Result<bool, AllocError>
         ensures facts { OnOk result (facts.new ≡ facts.old ++ numbered wire_limit (length self.old.packets) self.old.items) }
         ensures ok { OnOk result (self.new ≡ all_told wire_limit self.old) }
         ensures past { IfOk result (λ past. past ≡ is_past wire_limit (length self.old.packets) self.old.items) }
@@ -235,7 +236,11 @@ impl Mail {
 
     /// Tells the items of this list, oldest first, each where it stands, and answers whether some post was
     /// past the limit; none is left in the list.
-    fn tell_each(&mut self, out: &mut Out, facts: &mut Facts) -> Result<bool, AllocError>
+    fn tell_each<N: Notes>(
+        &mut self,
+        out: &mut Out,
+        facts: &mut Told<N>,
+    ) -> Result<bool, AllocError>
         ensures facts { OnOk result (facts.new ≡ facts.old ++ numbered wire_limit (length self.old.packets) out.old.items) }
         ensures ok { OnOk result (with_items self.new out.new ≡ all_told wire_limit (with_items self.old out.old)) }
         ensures past { IfOk result (λ past. past ≡ is_past wire_limit (length self.old.packets) out.old.items) }
@@ -253,7 +258,7 @@ impl Mail {
     }
 
     /// Tells an item, and answers whether it is a post past the limit.
-    fn tell_item(&mut self, item: &Item, facts: &mut Facts) -> Result<bool, AllocError>
+    fn tell_item<N: Notes>(&mut self, item: &Item, facts: &mut Told<N>) -> Result<bool, AllocError>
         requires { length self.old.packets ≤ wire_limit }
         ensures facts { OnOk result (facts.new ≡ facts.old ++ numbered wire_limit (length self.old.packets) (item.now ∷ [])) }
         ensures ok { OnOk result (self.new ≡ with_posts self.old (posts_of wire_limit (length self.old.packets) (item.now ∷ []))) }
@@ -270,7 +275,11 @@ impl Mail {
     }
 
     /// Posts a packet and tells it, and answers whether it is past the limit.
-    fn tell_post(&mut self, packet: &Packet, facts: &mut Facts) -> Result<bool, AllocError>
+    fn tell_post<N: Notes>(
+        &mut self,
+        packet: &Packet,
+        facts: &mut Told<N>,
+    ) -> Result<bool, AllocError>
         ensures facts { OnOk result (facts.new ≡ facts.old ++ numbered wire_limit (length self.old.packets) (item.Post packet.now ∷ [])) }
         ensures ok { OnOk result (self.new ≡ with_posts self.old (posts_of wire_limit (length self.old.packets) (item.Post packet.now ∷ []))) }
         ensures past { IfOk result (λ past. past ≡ is_past wire_limit (length self.old.packets) (item.Post packet.now ∷ [])) }

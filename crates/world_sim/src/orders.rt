@@ -11,11 +11,16 @@ use crate::places::count_one;
 use crate::yard::Yard;
 use behaviour_core::Behaviour;
 use std::alloc::AllocError;
-use yard_model::{Fact, Facts, Line, Order};
+use trace_notes::{Notes, Told};
+use yard_model::{Fact, Line, Order};
 
 impl<B: Behaviour + Copy + Drop> Yard<B> {
     /// The order of a line: `at`, and what it gives.
-    pub(crate) fn play_line(&mut self, line: &Line, facts: &mut Facts) -> Result<(), AllocError>
+    pub(crate) fn play_line<N: Notes>(
+        &mut self,
+        line: &Line,
+        facts: &mut Told<N>,
+    ) -> Result<(), AllocError>
         requires world { (w : World) × IsBacked self.old w }
         requires order { IsTrue (is_order self.old.script.config line.now.order) }
         requires named { IsTrue (is_named self.old.script line.now.order) }
@@ -42,7 +47,7 @@ impl<B: Behaviour + Copy + Drop> Yard<B> {
     }
 
     /// What an order gives.
-    fn play(&mut self, order: &Order, facts: &mut Facts) -> Result<(), AllocError>
+    fn play<N: Notes>(&mut self, order: &Order, facts: &mut Told<N>) -> Result<(), AllocError>
         requires world { (w : World) × IsBacked self.old w }
         requires order { IsTrue (is_order self.old.script.config order.now) }
         requires named { IsTrue (is_named self.old.script order.now) }

@@ -16,16 +16,17 @@ use crate::seek::{Sought, seek};
 use crate::yard::Yard;
 use behaviour_core::Behaviour;
 use std::alloc::AllocError;
-use yard_model::{Command, EntityName, Fact, Facts, Input, NodeNo, ProducerNo};
+use trace_notes::{Notes, Told};
+use yard_model::{Command, EntityName, Fact, Input, NodeNo, ProducerNo};
 
 impl<B: Behaviour + Copy + Drop> Yard<B> {
     /// A node asks for a producer's queue, where it is up and doesn't hold it. Where it is granted,
     /// the sends that were ordered and wait are queued.
-    pub(crate) fn produce(
+    pub(crate) fn produce<N: Notes>(
         &mut self,
         p: ProducerNo,
         n: NodeNo,
-        facts: &mut Facts,
+        facts: &mut Told<N>,
     ) -> Result<(), AllocError>
         requires world { (w : World) × IsSound self.old w }
         requires producer { is_producer self.old.script p ≡ true }
@@ -40,7 +41,12 @@ impl<B: Behaviour + Copy + Drop> Yard<B> {
     }
 
     /// A node that is up asks for a producer's queue; then the sends that wait.
-    fn take(&mut self, p: ProducerNo, n: NodeNo, facts: &mut Facts) -> Result<(), AllocError>
+    fn take<N: Notes>(
+        &mut self,
+        p: ProducerNo,
+        n: NodeNo,
+        facts: &mut Told<N>,
+    ) -> Result<(), AllocError>
         requires world { (w : World) × MayGive (input.Produce p) n self.old w }
         requires producer { is_producer self.old.script p ≡ true }
         ensures { Stepped (MayGive (input.Produce p) n) 0 (produced p n) result self.old self.new facts.old facts.new }
@@ -54,11 +60,11 @@ impl<B: Behaviour + Copy + Drop> Yard<B> {
     }
 
     /// The ordered sends of a producer that wait are queued, where the node holds its queue.
-    fn send_all_waiting(
+    fn send_all_waiting<N: Notes>(
         &mut self,
         p: ProducerNo,
         n: NodeNo,
-        facts: &mut Facts,
+        facts: &mut Told<N>,
     ) -> Result<(), AllocError>
         requires world { (w : World) × IsSoundAt n self.old w }
         requires producer { is_producer self.old.script p ≡ true }
@@ -70,12 +76,12 @@ impl<B: Behaviour + Copy + Drop> Yard<B> {
     }
 
     /// The next so many sends of a producer are queued at the node that holds its queue.
-    fn send_waiting(
+    fn send_waiting<N: Notes>(
         &mut self,
         p: ProducerNo,
         n: NodeNo,
         count: u32,
-        facts: &mut Facts,
+        facts: &mut Told<N>,
     ) -> Result<(), AllocError>
         requires world { (w : World) × IsSoundAt n self.old w }
         requires producer { is_producer self.old.script p ≡ true }
@@ -93,12 +99,12 @@ impl<B: Behaviour + Copy + Drop> Yard<B> {
 
     /// The holder of a producer's queue, where there is one, queues the producer's next send; else
     /// the send waits.
-    pub(crate) fn send(
+    pub(crate) fn send<N: Notes>(
         &mut self,
         p: ProducerNo,
         entity: &EntityName,
         command: &Command,
-        facts: &mut Facts,
+        facts: &mut Told<N>,
     ) -> Result<(), AllocError>
         requires world { (w : World) × IsSound self.old w }
         requires producer { is_producer self.old.script p ≡ true }

@@ -13,7 +13,8 @@ use crate::places::is_down;
 use crate::yard::Yard;
 use behaviour_core::Behaviour;
 use std::alloc::AllocError;
-use yard_model::{Fact, Facts, Input, NodeNo, ProducerNo};
+use trace_notes::{Notes, Told};
+use yard_model::{Fact, Input, NodeNo, ProducerNo};
 
 /// The node that is up alone.
 fn first() -> NodeNo
@@ -25,7 +26,7 @@ fn first() -> NodeNo
 impl<B: Behaviour + Copy + Drop> Yard<B> {
     /// Every node goes down, and node 1 comes up; what is posted from then on is delivered; it takes
     /// every queue; and it is given its timer while some send that was ordered isn't confirmed.
-    pub(crate) fn settle(&mut self, facts: &mut Facts) -> Result<(), AllocError>
+    pub(crate) fn settle<N: Notes>(&mut self, facts: &mut Told<N>) -> Result<(), AllocError>
         requires world { (w : World) × IsSoundTo Settles self.old w }
         requires version { self.old.version < 3000000000 }
         requires ups { (k : ℕ) → slice_index_or self.old.ups k 0 ≤ 4000000000 }
@@ -49,7 +50,12 @@ impl<B: Behaviour + Copy + Drop> Yard<B> {
     }
 
     /// The same, of packets above `from`, with a budget for each drain and for the ticks.
-    fn settle_by(&mut self, from: u32, bound: u32, facts: &mut Facts) -> Result<(), AllocError>
+    fn settle_by<N: Notes>(
+        &mut self,
+        from: u32,
+        bound: u32,
+        facts: &mut Told<N>,
+    ) -> Result<(), AllocError>
         requires world { (w : World) × IsSoundTo (SettlesBy from bound) self.old w }
         requires from { from < 4000000000 }
         requires version { self.old.version < 3000000000 }
@@ -62,7 +68,7 @@ impl<B: Behaviour + Copy + Drop> Yard<B> {
     }
 
     /// Every node that is up goes down. Nobody is told.
-    fn go_all_down(&mut self, facts: &mut Facts) -> Result<(), AllocError>
+    fn go_all_down<N: Notes>(&mut self, facts: &mut Told<N>) -> Result<(), AllocError>
         requires world { (w : World) × IsSound self.old w }
         requires version { self.old.version < 3000000000 }
         ensures { Stepped IsSound 16 (all_down self.old.script) result self.old self.new facts.old facts.new }
@@ -79,7 +85,12 @@ impl<B: Behaviour + Copy + Drop> Yard<B> {
     }
 
     /// A settle from where node 1 comes up.
-    fn settle_up(&mut self, from: u32, bound: u32, facts: &mut Facts) -> Result<(), AllocError>
+    fn settle_up<N: Notes>(
+        &mut self,
+        from: u32,
+        bound: u32,
+        facts: &mut Told<N>,
+    ) -> Result<(), AllocError>
         requires world { (w : World) × IsSoundTo (ComesUp from bound) self.old w }
         requires from { from < 4000000000 }
         requires down { at self.old.nodes 0 ≡ None }
@@ -96,7 +107,12 @@ impl<B: Behaviour + Copy + Drop> Yard<B> {
     }
 
     /// A settle from its first drain on.
-    fn settle_first(&mut self, from: u32, bound: u32, facts: &mut Facts) -> Result<(), AllocError>
+    fn settle_first<N: Notes>(
+        &mut self,
+        from: u32,
+        bound: u32,
+        facts: &mut Told<N>,
+    ) -> Result<(), AllocError>
         requires world { (w : World) × IsSoundTo (Begins from bound) self.old w }
         requires from { from < 4000000000 }
         requires version { self.old.version < 4000000000 }
@@ -111,7 +127,12 @@ impl<B: Behaviour + Copy + Drop> Yard<B> {
     }
 
     /// A settle from where node 1 takes the queues.
-    fn settle_taking(&mut self, from: u32, bound: u32, facts: &mut Facts) -> Result<(), AllocError>
+    fn settle_taking<N: Notes>(
+        &mut self,
+        from: u32,
+        bound: u32,
+        facts: &mut Told<N>,
+    ) -> Result<(), AllocError>
         requires world { (w : World) × IsSoundTo Takes self.old w }
         requires from { from < 4000000000 }
         requires version { self.old.version < 4000000000 }
@@ -126,7 +147,7 @@ impl<B: Behaviour + Copy + Drop> Yard<B> {
     }
 
     /// Node 1 takes every queue; with each the ordered sends that wait are queued.
-    fn take_all(&mut self, facts: &mut Facts) -> Result<(), AllocError>
+    fn take_all<N: Notes>(&mut self, facts: &mut Told<N>) -> Result<(), AllocError>
         requires { (w : World) × IsSound self.old w }
         ensures { Stepped IsSound 0 (all_taken self.old.script) result self.old self.new facts.old facts.new }
     {
@@ -145,7 +166,12 @@ impl<B: Behaviour + Copy + Drop> Yard<B> {
     }
 
     /// A settle from its second drain on.
-    fn settle_second(&mut self, from: u32, bound: u32, facts: &mut Facts) -> Result<(), AllocError>
+    fn settle_second<N: Notes>(
+        &mut self,
+        from: u32,
+        bound: u32,
+        facts: &mut Told<N>,
+    ) -> Result<(), AllocError>
         requires world { (w : World) × IsBacked self.old w }
         requires from { from < 4000000000 }
         requires version { self.old.version < 4000000000 }
@@ -160,7 +186,12 @@ impl<B: Behaviour + Copy + Drop> Yard<B> {
     }
 
     /// A settle from its ticks on.
-    fn settle_ticks(&mut self, from: u32, bound: u32, facts: &mut Facts) -> Result<(), AllocError>
+    fn settle_ticks<N: Notes>(
+        &mut self,
+        from: u32,
+        bound: u32,
+        facts: &mut Told<N>,
+    ) -> Result<(), AllocError>
         requires world { (w : World) × IsBacked self.old w }
         requires from { from < 4000000000 }
         requires version { self.old.version < 4000000000 }
@@ -176,11 +207,11 @@ impl<B: Behaviour + Copy + Drop> Yard<B> {
 
     /// At most `bound` times, while something is left: a tick at node 1, and what is posted is
     /// delivered.
-    fn tick_while_left(
+    fn tick_while_left<N: Notes>(
         &mut self,
         from: u32,
         bound: u32,
-        facts: &mut Facts,
+        facts: &mut Told<N>,
     ) -> Result<(), AllocError>
         requires world { (w : World) × IsBacked self.old w }
         requires from { from < 4000000000 }
@@ -200,7 +231,12 @@ impl<B: Behaviour + Copy + Drop> Yard<B> {
     }
 
     /// A tick at node 1, and what is posted is delivered.
-    fn tick_and_drain(&mut self, from: u32, n: u32, facts: &mut Facts) -> Result<(), AllocError>
+    fn tick_and_drain<N: Notes>(
+        &mut self,
+        from: u32,
+        n: u32,
+        facts: &mut Told<N>,
+    ) -> Result<(), AllocError>
         requires world { (w : World) × IsBacked self.old w }
         requires from { from < 4000000000 }
         ensures { Stepped IsBacked 0 (ticked from n) result self.old self.new facts.old facts.new }
@@ -214,7 +250,7 @@ impl<B: Behaviour + Copy + Drop> Yard<B> {
     }
 
     /// A tick at node 1, where it is up.
-    fn tick_first(&mut self, facts: &mut Facts) -> Result<(), AllocError>
+    fn tick_first<N: Notes>(&mut self, facts: &mut Told<N>) -> Result<(), AllocError>
         requires { (w : World) × IsSound self.old w }
         ensures { Stepped IsSound 0 (given 1 input.Tick) result self.old self.new facts.old facts.new }
     {
@@ -227,7 +263,7 @@ impl<B: Behaviour + Copy + Drop> Yard<B> {
 
     /// Where nothing is left, and every packet above `from` was delivered, node 1 goes down, and it is
     /// told that all is settled.
-    fn settle_end(&mut self, from: u32, facts: &mut Facts) -> Result<(), AllocError>
+    fn settle_end<N: Notes>(&mut self, from: u32, facts: &mut Told<N>) -> Result<(), AllocError>
         requires world { (w : World) × IsSound self.old w }
         requires from { from < 4000000000 }
         requires version { self.old.version < 4000000000 }
@@ -240,7 +276,7 @@ impl<B: Behaviour + Copy + Drop> Yard<B> {
     }
 
     /// Node 1 goes down, and it is told that all is settled.
-    fn end_settled(&mut self, facts: &mut Facts) -> Result<(), AllocError>
+    fn end_settled<N: Notes>(&mut self, facts: &mut Told<N>) -> Result<(), AllocError>
         requires world { (w : World) × IsSound self.old w }
         requires version { self.old.version < 4000000000 }
         ensures { Stepped IsSound 1 ended result self.old self.new facts.old facts.new }

@@ -11,7 +11,8 @@ use crate::yard::Yard;
 use behaviour_core::Behaviour;
 use shard_store::Stores;
 use std::alloc::AllocError;
-use yard_model::{Charter, Facts, NodeNo};
+use trace_notes::{NoNotes, Told};
+use yard_model::{Charter, NodeNo};
 
 impl<B: Behaviour + Copy + Drop> Yard<B> {
     /// The charter with the number of shards in force, and the stores of all slots, once every node that
@@ -38,7 +39,7 @@ impl<B: Behaviour + Copy + Drop> Yard<B> {
     {
         standing_is_kept();
         let count = self.charter.config().nodes;
-        let mut facts = Facts::new(self.alloc);
+        let mut facts = Told::new(NoNotes);
         for i in 0..count {
             let Some(n) = NodeNo::new(i + 1) else {
                 unreachable!()

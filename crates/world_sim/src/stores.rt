@@ -11,7 +11,8 @@ use crate::world::World;
 use behaviour_core::Behaviour;
 use shard_store::Stores;
 use std::alloc::{AllocError, Global};
-use yard_model::{Charter, Facts};
+use trace_notes::{NoNotes, Told};
+use yard_model::Charter;
 
 impl<B: Behaviour + Copy + Drop> World<B> {
     /// The charter with the number of shards in force, and the stores of all slots, once every node that
@@ -55,7 +56,7 @@ pub fn settle_stores<B: Behaviour + Copy + Drop>(
     ensures settled { IfOk result (λ s. AreSettled charter.now (lists_at charter.now.config stores.places) (lists_at charter.now.config s.places)) }
 {
     let mut world = World::from_stores(alloc, charter, behaviour, stores)?;
-    let mut facts = Facts::new(alloc);
+    let mut facts = Told::new(NoNotes);
     world.settle(&mut facts)?;
     let (last, settled) = world.into_stores()?;
     let _ = &last;

@@ -14,6 +14,7 @@ use behaviour_kinds::Counter;
 use shard_store::Stores;
 use std::alloc::{AllocError, Global};
 use std::test::Fail;
+use trace_notes::Told;
 use yard_model::{
     Body, Charter, Command, Config, EntityName, Fact, Facts, Incarnation, Item, Kind, Line, NodeNo,
     Order, Packet, ProducerNo,
@@ -51,7 +52,7 @@ const PACKET: Packet = Packet {
 fn posts_are_numbered_and_delivered_in_their_order(rt: HostRuntime) -> Result<(), Fail> {
     let charter = one_up(rt.alloc())?;
     let mut mail = Mail::new(rt.alloc(), &charter)?;
-    let mut facts = Facts::new(rt.alloc());
+    let mut facts = Told::new(Facts::new(rt.alloc()));
     mail.reserve(3)?;
     mail.push(Item::Post(PACKET));
     mail.out().push(Item::Fact(Fact::Nothing));
@@ -84,7 +85,7 @@ fn one_up(alloc: Global) -> Result<Charter, AllocError>
 fn a_node_comes_up(rt: HostRuntime) -> Result<(), Fail> {
     let charter = one_up(rt.alloc())?;
     let mut world = World::new(rt.alloc(), &charter, Counter::new())?;
-    let mut facts = Facts::new(rt.alloc());
+    let mut facts = Told::new(Facts::new(rt.alloc()));
     assert!(rt; world.step(&UP, &mut facts).is_ok());
     assert_eq!(rt; facts.as_slice().len(), 3);
     world.into_stores()?;
@@ -130,7 +131,7 @@ fn given_stores_are_settled(rt: HostRuntime) -> Result<(), Fail> {
     let charter = one_send(alloc, p, a)?;
     let stores = left(alloc, &charter)?;
     let mut world = World::from_stores(alloc, &charter, Counter::new(), stores)?;
-    let mut facts = Facts::new(alloc);
+    let mut facts = Told::new(Facts::new(alloc));
     assert!(rt; world.settle(&mut facts).is_ok());
     assert_eq!(rt; facts.as_slice().len(), 40);
     assert_eq!(rt; facts.as_slice()[39], Fact::Settled);

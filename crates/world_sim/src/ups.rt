@@ -14,11 +14,12 @@ use crate::yard::Yard;
 use behaviour_core::Behaviour;
 use node_core::Node;
 use std::alloc::AllocError;
-use yard_model::{Fact, Facts, Incarnation, NodeNo};
+use trace_notes::{Notes, Told};
+use yard_model::{Fact, Incarnation, NodeNo};
 
 impl<B: Behaviour + Copy + Drop> Yard<B> {
     /// A view of all members is posted to each, oldest first.
-    fn views(&mut self, facts: &mut Facts) -> Result<(), AllocError>
+    fn views<N: Notes>(&mut self, facts: &mut Told<N>) -> Result<(), AllocError>
         requires { (w : World) × IsSeen self.old w }
         ensures { Stepped IsSeen 0 views result self.old self.new facts.old facts.new }
     {
@@ -28,7 +29,11 @@ impl<B: Behaviour + Copy + Drop> Yard<B> {
     }
 
     /// A node that isn't up comes up, under the number after its last one; then the views.
-    pub(crate) fn come_up(&mut self, n: NodeNo, facts: &mut Facts) -> Result<(), AllocError>
+    pub(crate) fn come_up<N: Notes>(
+        &mut self,
+        n: NodeNo,
+        facts: &mut Told<N>,
+    ) -> Result<(), AllocError>
         requires world { (w : World) × IsSound self.old w }
         requires node { is_in 1 self.old.script.config.nodes n ≡ true }
         requires down { at self.old.nodes (n - 1) ≡ None }
@@ -41,7 +46,7 @@ impl<B: Behaviour + Copy + Drop> Yard<B> {
     }
 
     /// The node comes up; nobody is told yet.
-    fn enter(&mut self, n: NodeNo, facts: &mut Facts) -> Result<(), AllocError>
+    fn enter<N: Notes>(&mut self, n: NodeNo, facts: &mut Told<N>) -> Result<(), AllocError>
         requires world { (w : World) × IsSound self.old w }
         requires node { is_in 1 self.old.script.config.nodes n ≡ true }
         requires down { at self.old.nodes (n - 1) ≡ None }
@@ -62,7 +67,7 @@ impl<B: Behaviour + Copy + Drop> Yard<B> {
     }
 
     /// A node comes up, where it isn't up.
-    pub(crate) fn up(&mut self, n: NodeNo, facts: &mut Facts) -> Result<(), AllocError>
+    pub(crate) fn up<N: Notes>(&mut self, n: NodeNo, facts: &mut Told<N>) -> Result<(), AllocError>
         requires world { (w : World) × IsSound self.old w }
         requires node { is_in 1 self.old.script.config.nodes n ≡ true }
         requires version { self.old.version < 4000000000 }
@@ -77,7 +82,11 @@ impl<B: Behaviour + Copy + Drop> Yard<B> {
     }
 
     /// The node goes down, where it is up: it is gone, and what it held is freed. Nobody is told yet.
-    pub(crate) fn go_down(&mut self, n: NodeNo, facts: &mut Facts) -> Result<(), AllocError>
+    pub(crate) fn go_down<N: Notes>(
+        &mut self,
+        n: NodeNo,
+        facts: &mut Told<N>,
+    ) -> Result<(), AllocError>
         requires world { (w : World) × IsFirm self.old w }
         requires node { is_in 1 self.old.script.config.nodes n ≡ true }
         requires version { self.old.version < 4000000000 }
@@ -95,7 +104,11 @@ impl<B: Behaviour + Copy + Drop> Yard<B> {
     }
 
     /// A node crashes, where it is up; then the views.
-    pub(crate) fn crash(&mut self, n: NodeNo, facts: &mut Facts) -> Result<(), AllocError>
+    pub(crate) fn crash<N: Notes>(
+        &mut self,
+        n: NodeNo,
+        facts: &mut Told<N>,
+    ) -> Result<(), AllocError>
         requires world { (w : World) × IsSound self.old w }
         requires node { is_in 1 self.old.script.config.nodes n ≡ true }
         requires version { self.old.version < 4000000000 }

@@ -23,7 +23,8 @@ use shard_store::Stores;
 use std::alloc::{AllocError, Global};
 use std::marker::{Model, PhantomData};
 use std::snapshot::Snapshot;
-use yard_model::{Charter, Facts, Line, Members, NodeNo};
+use trace_notes::{Notes, Told};
+use yard_model::{Charter, Line, Members, NodeNo};
 
 /// All nodes of a script, one step after the other: the members, the packets between them, and the
 /// leases. It begins before the script's first order, or with given stores, which it settles. Seen as
@@ -126,7 +127,7 @@ impl<B: Behaviour + Copy + Drop> World<B> {
     /// confirmed. Every send of the script is settled then, the lists are lawful and go on from the given
     /// ones, and nobody holds a slot. The only error is want of memory: then a beginning of the facts was
     /// told, and the world is spent.
-    pub fn settle(&mut self, out: &mut Facts) -> Result<(), AllocError>
+    pub fn settle<N: Notes>(&mut self, out: &mut Told<N>) -> Result<(), AllocError>
         requires given { IsSome self.old.given }
         requires first { self.old.count ≡ 0 }
         requires going { self.old.fault ≡ None }
@@ -154,7 +155,7 @@ impl<B: Behaviour + Copy + Drop> World<B> {
     /// its journal's, and the lists are lawful; and what the world is then, its wire, the lists of its
     /// stores and the state of each node, is what the queries answer of that trace. A line that settles
     /// leaves every send so far settled.
-    pub fn step(&mut self, line: &Line, out: &mut Facts) -> Result<(), StepFault>
+    pub fn step<N: Notes>(&mut self, line: &Line, out: &mut Told<N>) -> Result<(), StepFault>
         requires new { self.old.given ≡ None }
         requires next { IfNone self.old.fault (slice_get self.old.script.orders self.old.count ≡ Some line.now) }
         ensures steps { Steps self.old line.now out.old result self.new out.new }
@@ -171,7 +172,7 @@ impl<B: Behaviour + Copy + Drop> World<B> {
     }
 
     /// Plays the next order, where the world isn't spent.
-    fn play(&mut self, line: &Line, out: &mut Facts) -> Result<(), StepFault>
+    fn play<N: Notes>(&mut self, line: &Line, out: &mut Told<N>) -> Result<(), StepFault>
         requires new { self.old.given ≡ None }
         requires going { self.old.fault ≡ None }
         requires next { slice_get self.old.script.orders self.old.count ≡ Some line.now }

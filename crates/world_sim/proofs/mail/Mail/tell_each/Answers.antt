@@ -6,7 +6,7 @@ use Rattle.world_sim.proofs.ToldLaws.{told_kept, rest_kept, past_kept, first_of,
 use Rattle.world_sim.proofs.mail.Mail.tell_each.Goals as goal
 
 pub loop-item-preserved-then-past : goal.loop-item-preserved-then-past
-loop-item-preserved-then-past c =
+loop-item-preserved-then-past g c =
     let start = with_items c.args.self.now c.args.out.now in
     let before = with_items c.loop-item.self c.loop-item.out in
     let m = with_items c.loop-item.self c.drop_first.new.self in
@@ -23,7 +23,7 @@ loop-item-preserved-then-past c =
     }
 
 pub loop-item-preserved : goal.loop-item-preserved
-loop-item-preserved c =
+loop-item-preserved g c =
     let start = with_items c.args.self.now c.args.out.now in
     let before = with_items c.loop-item.self c.loop-item.out in
     let m = with_items c.loop-item.self c.drop_first.new.self in

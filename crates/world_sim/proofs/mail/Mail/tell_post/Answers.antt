@@ -4,7 +4,7 @@ use Rattle.world_sim.proofs.ToldLaws.{posted_one}
 use Rattle.world_sim.proofs.mail.Mail.tell_post.Goals as goal
 
 pub returns-in_ok-push_sent-in-Ok-clause-ok : goal.returns-in_ok-push_sent-in-Ok-clause-ok
-returns-in_ok-push_sent-in-Ok-clause-ok c =
+returns-in_ok-push_sent-in-Ok-clause-ok g c =
     let wire = c.self.inside.wire in
     let room : length wire.packets ≢ wire_limit = λ e. let bad = c.in-Ok.ensures.full.1 e in cc in
     let under : length wire.packets < wire_limit = omega (arith, c.self.invariant.wire_is.fits) in

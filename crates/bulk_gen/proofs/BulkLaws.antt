@@ -24,7 +24,7 @@ use Rattle.plain_laws.proofs.Booleans.{and_both, both, left_of, right_of, within
 use Rattle.plain_laws.proofs.Lists.{all_join}
 use Rattle.plain_laws.proofs.Names.{name_cmp, name_itself, inserted_sorted}
 use Rattle.rand_pcg.specs.Lcg.{Lcg}
-use Rattle.bulk_gen.specs.Bulk.{bulk_config, bulk_orders, bulk_script, crashed, draw, drawn, entity, lines_from, of_kind, one_drawn, one_to, opening, passivated, rebalanced, seeded, sent, taken, ticked}
+use Rattle.bulk_gen.specs.Bulk.{bulk_config, bulk_orders, bulk_script, crashed, draw, drawn, entity, lines_from, of_kind, one_drawn, one_to, opening, passivated, rebalanced, seeded, sent, taken, ticked, with_lines}
 use Rattle.bulk_gen.proofs.DrawLaws.{all_below, draw_below}
 
 abbrev all_entities : List (List ℕ)
@@ -161,12 +161,50 @@ lines_length : (n : ℕ) (os : List Order) → length (lines_from n os) ≡ leng
 lines_length n [] = refl
 lines_length n (o ∷ os) = ap suc (lines_length (n + 1) os)
 
+-- orders on lines after lines, in two parts
+lines_join : (n : ℕ) (xs ys : List Order) → lines_from n (xs ++ ys) ≡ lines_from n xs ++ lines_from (n + length xs) ys
+lines_join n [] ys = ap (λ k. lines_from k ys) (omega arith)
+lines_join n (x ∷ xs) ys =
+    let there : (n + 1) + length xs ≡ n + length (x ∷ xs) = omega arith in
+    ap (λ ls. record { number = n; order = x } ∷ ls) (lines_join (n + 1) xs ys ∙ ap (λ k. lines_from (n + 1) xs ++ lines_from k ys) there)
+
+pub lines_with : (ls : List Line) (os : List Order) → length (with_lines ls os) ≡ length ls + length os
+lines_with ls os = length-append ls (lines_from (2 + length ls) os) ∙ ap (λ k. length ls + k) (lines_length (2 + length ls) os)
+
+pub with_both : (ls : List Line) (xs ys : List Order) → with_lines (with_lines ls xs) ys ≡ with_lines ls (xs ++ ys)
+with_both ls xs ys =
+    let there : 2 + length (with_lines ls xs) ≡ (2 + length ls) + length xs = ap (λ k. 2 + k) (lines_with ls xs) ∙ omega arith in
+    append_assoc ls (lines_from (2 + length ls) xs) (lines_from (2 + length (with_lines ls xs)) ys)
+    ∙ ap (λ k. ls ++ (lines_from (2 + length ls) xs ++ lines_from k ys)) there
+    ∙ ap (λ rest. ls ++ rest) (sym (lines_join (2 + length ls) xs ys))
+
 -- one drawing less is left
-pub drawn_more : (done after whole : List Order) (g h : Lcg) (i n : ℕ) → i < n → after ≡ done ++ (one_drawn g).0 → h ≡ (one_drawn g).1 → done ++ drawn (n - i) g ≡ whole
-    → after ++ drawn (n - (i + 1)) h ≡ whole
-drawn_more done after whole g h i n l a r w =
+pub drawn_more : (start done after : List Line) (os : List Order) (g h : Lcg) (i n : ℕ) → i < n → after ≡ with_lines done (one_drawn g).0 → h ≡ (one_drawn g).1
+    → with_lines done (drawn (n - i) g) ≡ with_lines start os → with_lines after (drawn (n - (i + 1)) h) ≡ with_lines start os
+drawn_more start done after os g h i n l a r w =
     let less : n - i ≡ suc (n - (i + 1)) = omega arith in
-    ap₂ (λ os x. os ++ drawn (n - (i + 1)) x) a r ∙ (append_assoc done (one_drawn g).0 (drawn (n - (i + 1)) (one_drawn g).1) ∙ (ap (λ k. done ++ drawn k g) (sym less) ∙ w))
+    ap₂ (λ ls x. with_lines ls (drawn (n - (i + 1)) x)) a r ∙ (with_both done (one_drawn g).0 (drawn (n - (i + 1)) (one_drawn g).1) ∙ (ap (λ k. with_lines done (drawn k g)) (sym less) ∙ w))
+
+-- a drawing brings two lines at most
+pub lines_few : (done after : List Line) (g : Lcg) → after ≡ with_lines done (one_drawn g).0 → length after ≤ length done + 2
+lines_few done after g a = let many : length after ≡ length done + length (one_drawn g).0 = ap length a ∙ lines_with done (one_drawn g).0 in omega (arith, many, kind_few (draw 16 g).0 (draw 16 g).1)
+
+-- the orders of a number, in three parts
+pub bulk_parts : (start first after whole : List Line) (n : ℕ) → start ≡ [] → first ≡ with_lines start opening → after ≡ with_lines first (drawn (6 * n) (seeded n))
+    → whole ≡ with_lines after (order.Settle ∷ []) → whole ≡ lines_from 2 (bulk_orders n)
+bulk_parts start first after whole n s f a w =
+    w ∙ (ap (λ ls. with_lines ls (order.Settle ∷ [])) (a ∙ ap (λ ls. with_lines ls (drawn (6 * n) (seeded n))) (f ∙ ap (λ ls. with_lines ls opening) s))
+    ∙ (ap (λ ls. with_lines ls (order.Settle ∷ [])) (with_both [] opening (drawn (6 * n) (seeded n))) ∙ (with_both [] (opening ++ drawn (6 * n) (seeded n)) (order.Settle ∷ [])
+    ∙ ap (with_lines []) (append_assoc opening (drawn (6 * n) (seeded n)) (order.Settle ∷ [])))))
+
+-- one line more after the drawings
+pub bulk_room : (start first after : List Line) (n : ℕ) → n ≤ 1000 → start ≡ [] → first ≡ with_lines start opening → after ≡ with_lines first (drawn (6 * n) (seeded n))
+    → length after + 1 ≤ 200000
+bulk_room start first after n h s f a =
+    let none : length start ≡ 0 = ap length s in
+    let ten : length first ≡ length start + 10 = ap length f ∙ lines_with start opening in
+    let rest : length after ≡ length first + length (drawn (6 * n) (seeded n)) = ap length a ∙ lines_with first (drawn (6 * n) (seeded n)) in
+    omega (arith, h, none, ten, rest, drawn_few (6 * n) (seeded n))
 
 -- The names are some of the 64.
 

@@ -7,12 +7,11 @@ use Rattle.std.specs.declared.cmp.Ordering.TheVariants.{Less, Equal, Greater}
 use Rattle.std.specs.Ordering.{nat_cmp, ordering_then, is_eq}
 use Rattle.std.specs.Cmp.{unsigned_ties}
 use Rattle.std.specs.Cmp.Lexicographic.{slice_cmp, nat_list_eq_equiv, texts_ties}
-use Rattle.std.specs.BTreeMap.{get, is_at, Updates}
+use Rattle.std.specs.BTreeMap.{BTreeMap, get, is_at, Updates}
 use Rattle.std.proofs.lemmas.List.Folds.{list_any-append, list_any_at}
 use Rattle.std.proofs.lemmas.Option.{slice_get_within, get_or_from_slice_get}
 use Rattle.yard_model.specs.Script.{is_name}
 use Rattle.plain_laws.proofs.Booleans.{or_both, true_is_not_false}
-use Rattle.bulk_gen.specs.declared.confirmed.Confirmed.{Confirmed}
 use Rattle.bulk_gen.specs.Counted.{AreConfirmed, last_of, pair_cmp}
 use Rattle.bulk_gen.specs.SummaryText.{Confirmation, is_of_pair, sum_of_last}
 
@@ -70,19 +69,19 @@ tied p q e f = by (nat_cmp p q) ∙ sym (ap₂ (λ a b. a && b) (unsigned_ties p
     by Equal = refl
     by Greater = refl
 
-pub confirmed_more : (old new : Confirmed) (x : Confirmation) (more before : ℕ) (was : Option ℕ) (xs : List Confirmation) → AreConfirmed old xs
-    → Updates pair_cmp old.numbers new.numbers (x.producer, x.entity) (Some x.number) → was ≡ get pair_cmp old.numbers (x.producer, x.entity) → before ≡ unwrap_or was 0
-    → more ≡ old.sum + x.number → new.sum ≡ more - before → AreConfirmed new (xs ++ x ∷ [])
-confirmed_more old new x more before was xs k u w b m s = record {
+pub confirmed_more : (old new : BTreeMap (ℕ × List ℕ) ℕ) (x : Confirmation) (sum more before after : ℕ) (was : Option ℕ) (xs : List Confirmation) → AreConfirmed (record { numbers = old.entries; sum = sum }) xs
+    → Updates pair_cmp old new (x.producer, x.entity) (Some x.number) → was ≡ get pair_cmp old (x.producer, x.entity) → before ≡ unwrap_or was 0
+    → more ≡ sum + x.number → after ≡ more - before → AreConfirmed (record { numbers = new.entries; sum = after }) (xs ++ x ∷ [])
+confirmed_more old new x sum more before after was xs k u w b m s = record {
   each = λ y. ap (λ o. unwrap_or o 0) (u.0 (y.producer, y.entity)) ∙ (by y (is_at (pair_cmp (x.producer, x.entity)) (y.producer, y.entity)) (tied x.producer y.producer x.entity y.entity ∙ pair_symm x y) ∙ sym (last_push y x xs));
   sum =
       let last : before ≡ last_of x xs = b ∙ (ap (λ o. unwrap_or o 0) w ∙ k.each x) in
       let total : sum_of_last (xs ++ x ∷ []) + last_of x xs ≡ sum_of_last xs + x.number = sum_push x xs in
-      let so_far : old.sum ≡ sum_of_last xs = k.sum in
+      let so_far : sum ≡ sum_of_last xs = k.sum in
       omega (arith, last, total, so_far, m, s);
 }
   where
-    by : (y : Confirmation) (c : Bool) → c ≡ is_of_pair y x → unwrap_or (cond c (Some x.number) (get pair_cmp old.numbers (y.producer, y.entity))) 0 ≡ (if is_of_pair y x then x.number else last_of y xs)
+    by : (y : Confirmation) (c : Bool) → c ≡ is_of_pair y x → unwrap_or (cond c (Some x.number) (get pair_cmp old (y.producer, y.entity))) 0 ≡ (if is_of_pair y x then x.number else last_of y xs)
     by y true e = ap (λ c. if c then x.number else last_of y xs) e
     by y false e = k.each y ∙ ap (λ c. if c then x.number else last_of y xs) e
 

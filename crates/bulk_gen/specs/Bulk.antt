@@ -1,5 +1,5 @@
 -- The script of a number: what is drawn, and the orders that it makes.
-use Rattle.std.specs.Prelude.{ℕ, zero, suc, ◌+◌, ◌*◌, ◌%◌, ◌==◌, true, nat_le, List, [], ◌∷◌, ◌++◌, map, codes, decimal, if◌then◌else◌}
+use Rattle.std.specs.Prelude.{ℕ, zero, suc, ◌+◌, ◌*◌, ◌%◌, ◌==◌, true, nat_le, List, [], ◌∷◌, ◌++◌, length, map, codes, decimal, if◌then◌else◌}
 use Rattle.rand_core.specs.Pcg32Seed.{pcg32_seed}
 use Rattle.rand_pcg.specs.Lcg.{Lcg}
 use Rattle.rand_pcg.specs.Pcg.{pcg32, pcg32_of_seed}
@@ -84,6 +84,10 @@ bulk_orders n = opening ++ drawn (6 * n) (seeded n) ++ order.Settle ∷ []
 abbrev pub lines_from : ℕ → List Order → List Line
 lines_from n [] = []
 lines_from n (o ∷ os) = record { number = n; order = o } ∷ lines_from (n + 1) os
+
+-- these orders on the lines after those that are there
+abbrev pub with_lines : List Line → List Order → List Line
+with_lines ls os = ls ++ lines_from (2 + length ls) os
 
 abbrev pub bulk_config : Config
 bulk_config = record { nodes = 4; shards = 32; producers = 4; buffer = 64; window = 16; snapshot = 8; keep = 2; remember = true; kind = kind.Counter }

@@ -1,10 +1,11 @@
 //! What is confirmed of each pair of producer and entity, and in sum.
-ghost use Rattle.std.specs.Prelude.{◌≡◌, ◌+◌, ◌++◌, ◌∷◌, List, [], IfOk, OnOk};
+ghost use Rattle.std.specs.Prelude.{◌≡◌, ◌+◌, ◌++◌, ◌∷◌, List, [], IfOk, OnOk, OnErr};
 ghost use Rattle.bulk_gen.specs.Counted.{AreConfirmed};
 ghost use Rattle.bulk_gen.specs.SummaryText.{Confirmation, confirmed_in};
 
 use std::alloc::{AllocError, Global};
 use std::collections::BTreeMap;
+use std::marker::Model;
 use yard_model::{EntityName, Fact, ProducerNo};
 
 /// The number that each pair is confirmed up to, and their sum.
@@ -12,6 +13,14 @@ use yard_model::{EntityName, Fact, ProducerNo};
 pub(crate) struct Confirmed {
     numbers: BTreeMap<(ProducerNo, EntityName), u32>,
     sum: u64,
+}
+
+impl Model for Confirmed {
+    ghost use Rattle.bulk_gen.specs.Counted.{Sums};
+
+    ghost Value = { Sums };
+
+    ghost view = { λ c. record { numbers = c.numbers.entries; sum = c.sum } };
 }
 
 impl Confirmed {
@@ -32,15 +41,16 @@ impl Confirmed {
         self.sum
     }
 
-    /// The pair is confirmed up to this number.
+    /// The pair is confirmed up to this number. On an error nothing changes.
     pub(crate) fn confirm(
         &mut self,
         producer: ProducerNo,
         entity: &EntityName,
         number: u32,
     ) -> Result<(), AllocError>
-        ensures { OnOk result ((xs : List Confirmation) → AreConfirmed self.old xs
+        ensures ok { OnOk result ((xs : List Confirmation) → AreConfirmed self.old xs
             → AreConfirmed self.new (xs ++ record { producer = producer; entity = entity.now; number = number } ∷ [])) }
+        ensures err { OnErr result (self.new ≡ self.old) }
     {
         let more = sum_with(self.sum, number)?;
         let before = self.numbers.insert((producer, *entity), number)?;

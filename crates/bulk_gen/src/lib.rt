@@ -4,6 +4,7 @@
 mod confirmed;
 mod draws;
 mod kinds;
+mod lines;
 mod rounds;
 mod script;
 mod summary;

@@ -1,8 +1,9 @@
 //! The script of a number.
-ghost use Rattle.std.specs.Prelude.{◌≡◌, ◌≤◌, ◌∷◌, [], IfOk, length};
+ghost use Rattle.std.specs.Prelude.{◌≡◌, ◌≤◌, ◌∷◌, [], IfOk};
 ghost use Rattle.bulk_gen.specs.Bulk.{seeded, opening, bulk_orders, bulk_config, bulk_script, lines_from};
 
 use crate::draws::{node, producer};
+use crate::lines::push_lines;
 use crate::rounds::push_drawn;
 use rand_core::SeedableRng;
 use rand_pcg::Lcg64Xsh32;
@@ -16,8 +17,7 @@ pub fn script_of(alloc: Global, number: u32) -> Result<Charter, AllocError>
     requires high { number ≤ 1000 }
     ensures { IfOk result (λ c. c ≡ bulk_script number) }
 {
-    let orders = orders_of(alloc, number)?;
-    let lines = on_lines(alloc, orders.as_slice())?;
+    let lines = lines_of(alloc, number)?;
     Charter::new(alloc, config(), lines)
 }
 
@@ -38,18 +38,18 @@ fn config() -> Config
     }
 }
 
-/// The orders of a number.
-fn orders_of(alloc: Global, number: u32) -> Result<Vec<Order>, AllocError>
+/// The orders of a number, each on a line of its own, from line 2 on.
+fn lines_of(alloc: Global, number: u32) -> Result<Vec<Line>, AllocError>
     requires { number ≤ 1000 }
-    ensures { IfOk result (λ v. v.items ≡ bulk_orders number) }
+    ensures { IfOk result (λ v. v.items ≡ lines_from 2 (bulk_orders number)) }
 {
     let mut rng = seeded(number);
     // each drawing brings two orders at most
-    let mut orders = Vec::with_capacity(alloc, 12 * number as usize + 11)?;
-    orders.extend_from_slice(&opening())?;
-    push_drawn(&mut orders, &mut rng, 6 * number)?;
-    orders.push(Order::Settle)?;
-    Ok(orders)
+    let mut lines = Vec::with_capacity(alloc, 12 * number as usize + 11)?;
+    push_lines(&mut lines, &opening())?;
+    push_drawn(&mut lines, &mut rng, 6 * number)?;
+    push_lines(&mut lines, &[Order::Settle])?;
+    Ok(lines)
 }
 
 /// The generator of a number.
@@ -93,21 +93,4 @@ fn produce(n: u8) -> Order
     ensures { result ≡ Order.Produce n n }
 {
     Order::Produce(producer(n), node(n))
-}
-
-/// Each order on a line of its own, from line 2 on.
-fn on_lines(alloc: Global, orders: &[Order]) -> Result<Vec<Line>, AllocError>
-    requires { length orders.now ≤ 200000 }
-    ensures { IfOk result (λ v. v.items ≡ lines_from 2 orders.now) }
-{
-    let mut lines = Vec::with_capacity(alloc, orders.len())?;
-    let mut number = 2;
-    for order in orders {
-        lines.push(Line {
-            number,
-            order: *order,
-        })?;
-        number += 1;
-    }
-    Ok(lines)
 }

@@ -77,17 +77,18 @@ fn note_all(summary: &mut Summary) -> Result<(), Fail> {
     for fact in facts {
         summary.note(&fact)?;
     }
+    summary.note_sent()?;
     Ok(())
 }
 
 #[test]
 fn a_small_run(rt: HostRuntime) -> Result<(), Fail> {
     let charter = script_of(rt.alloc(), 3)?;
-    let mut summary = Summary::new(rt.alloc(), 3);
+    let mut summary = Summary::new(rt.alloc());
     note_all(&mut summary)?;
     let mut text = Vec::new(rt.alloc());
-    push_summary(&mut text, &charter, &summary)?;
-    let expected = "bulk 3\norders 45\nfacts 10\npackets 1\nrecords 1\nconfirmed 7\nrounds 2\n";
+    push_summary(&mut text, &charter, 3, &summary)?;
+    let expected = "bulk 3\norders 45\nfacts 11\npackets 2\nrecords 1\nconfirmed 7\nrounds 2\n";
     assert_eq!(rt; text.as_slice(), expected.as_bytes());
     Ok(())
 }

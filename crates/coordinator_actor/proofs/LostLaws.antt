@@ -111,3 +111,8 @@ lost_step who given r s (Some h) = by_done h.done
     by_done : (d : Bool) → flat_map (lost_posts who given r) (one_of s (Some (record { owner = h.owner; awaited = h.awaited; done = d }))) ≡ step_posts who given s (step_without r (Some (record { owner = h.owner; awaited = h.awaited; done = d })))
     by_done true = none (is_same r h.owner)
     by_done false = by_three (is_same r h.owner) (is_among r h.awaited) (is_empty (without r h.awaited))
+
+-- no shard moves
+pub none_there : (xs : List Moving) → is_empty xs ≡ true → xs ≡ []
+none_there [] e = refl
+none_there (x ∷ xs) e = absurd (true_is_not_false (sym e))

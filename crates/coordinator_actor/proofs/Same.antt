@@ -30,6 +30,10 @@ pub not_so : (b : Bool) → (b ≡ true → ⊥) → b ≡ false
 not_so true h = absurd (h refl)
 not_so false h = refl
 
+pub none_so : (b : Bool) → not b ≡ false → b ≡ true
+none_so true e = refl
+none_so false e = absurd (true_is_not_false e)
+
 pub same_is : (x y : Incarnation) → is_same x y ≡ true → x ≡ y
 same_is x y e =
     let k : ((x.node == y.node) ≡ true) × ((x.number == y.number) ≡ true) = and_both (x.node == y.node) (x.number == y.number) e in

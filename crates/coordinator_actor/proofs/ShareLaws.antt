@@ -21,7 +21,7 @@ use Rattle.yard_model.specs.Turns.{where_some}
 use Rattle.yard_model.specs.Script.{Script}
 use Rattle.yard_model.specs.ShardSet.{has}
 use Rattle.yard_model.specs.SlotReads.{regions, allocation, allocation_step}
-use Rattle.yard_model.specs.Words.{is_at, is_among, numbers}
+use Rattle.yard_model.specs.Words.{is_at, is_among, is_empty, numbers}
 use Rattle.coordinator_state.specs.Coord.{IsLoadOf}
 use Rattle.coordinator_state.specs.Homes.{regions_of}
 use Rattle.least_shard.specs.Spread.{members, members_below, share_of, shares_of}
@@ -128,6 +128,12 @@ pub staying_registered : (quitting rs : List Incarnation) (loads : List Load) �
 staying_registered quitting rs loads e =
     all_filter (λ (l : Load). is_among l.region rs) (λ (l : Load). not (is_among l.region quitting)) loads
     (sym (list_all-map (λ r. is_among r rs) (λ (l : Load). l.region) loads) ∙ (ap (λ (xs : List Incarnation). list_all (λ r. is_among r rs) xs) e ∙ each_among rs))
+
+-- where nobody leaves, all stay
+pub all_stay : (quitting : List Incarnation) (loads : List Load) → is_empty quitting ≡ true → staying_of quitting loads ≡ loads
+all_stay [] [] e = refl
+all_stay [] (l ∷ ls) e = ap (λ (xs : List Load). l ∷ xs) (all_stay [] ls e)
+all_stay (q ∷ qs) ls e = absurd (true_is_not_false (sym e))
 
 -- The rule by the region that is chosen.
 

@@ -4,12 +4,13 @@ use Rattle.std.specs.Prelude.{Bool, true, false, ◌||◌, cond, fold, find, not
 use Rattle.std.specs.List.{flat_map}
 use Rattle.yard_model.specs.declared.packet.Body.TheVariants as body
 use Rattle.yard_model.specs.declared.incarnation.Incarnation.{Incarnation}
-use Rattle.yard_model.specs.Coordinator.{Coordinator, Moving, coordinator_after, hand_off, hand_off_again, host_again, homes_at, home_of, is_moving, stamp}
+use Rattle.yard_model.specs.Coordinator.{Coordinator, Moving, begin, begin_quitting, coordinator_after, hand_off, hand_off_again, host_again, homes_at, home_of, is_moving, registered, stamp, staying}
 use Rattle.yard_model.specs.Move.{post}
 use Rattle.yard_model.specs.Setting.{shards}
 use Rattle.yard_model.specs.Turns.{where_some}
 use Rattle.yard_model.specs.Words.{is_among, is_empty}
 use Rattle.coordinator_actor.specs.Parts.{ask, first_homes, host_all, host_at, leaving_homes}
+use Rattle.coordinator_actor.proofs.Same.{true_is_not_false}
 use Rattle.coordinator_actor.proofs.MoveLaws.{Changes, of_if, hand_off_changes, all_change, asked_state}
 
 again_changes : (st : Coordinator) (x : Moving) → Changes (hand_off_again st x)
@@ -39,3 +40,16 @@ first_more st r rs ss e = step (is_among r st.quitting) ∙ ap (λ (l : List ℕ
         ≡ (if is_empty (if b then homes_at st r else []) then first_homes st rs else (if b then homes_at st r else []))
     step true = some (homes_at st r)
     step false = refl
+
+-- nobody leaves
+none_leaves : (qs rs : List Incarnation) → is_empty qs ≡ true → filter (λ r. is_among r qs) rs ≡ []
+none_leaves [] [] e = refl
+none_leaves [] (r ∷ rs) e = none_leaves [] rs e
+none_leaves (q ∷ qs) rs e = absurd (true_is_not_false (sym e))
+
+pub none_quits : (st : Coordinator) → is_empty st.quitting ≡ true → begin_quitting st ≡ []
+none_quits st e = by (is_empty (staying st))
+  where
+    by : (b : Bool) → (if b then [] else begin (unwrap_or (find (λ ss. not (is_empty ss)) (map (homes_at st) (filter (λ r. is_among r st.quitting) (registered st)))) []) st) ≡ []
+    by true = refl
+    by false = ap (λ (rs : List Incarnation). begin (unwrap_or (find (λ ss. not (is_empty ss)) (map (homes_at st) rs)) []) st) (none_leaves st.quitting (registered st) e)

@@ -184,6 +184,25 @@ impl Coordinator {
         self.quitting.staying(self.store.lent_loads())
     }
 
+    /// The loads of the registered regions, in order of registration, where no region leaves.
+    pub(crate) fn loads(&self) -> &Loads
+        requires stays { is_empty self.now.state.quitting ≡ true }
+        ensures shares { shares_of result.now ≡ shares self.now.state }
+        ensures registered { list_all (λ (l : Load). is_among l.region (registered self.now.state)) result.now ≡ true }
+        ensures homes { All (IsLoadOf self.now.state.entries) result.now }
+        ensures different { AreOfDifferentRegions result.now }
+    {
+        self.store.entries();
+        self.store.lent_loads()
+    }
+
+    /// Whether some region has said that it leaves.
+    pub(crate) fn has_leaving(&self) -> bool
+        ensures { result ≡ not (is_empty self.now.state.quitting) }
+    {
+        !self.quitting.is_empty()
+    }
+
     /// Whether some registered region doesn't leave.
     pub(crate) fn has_staying(&self) -> bool
         ensures { result ≡ not (is_empty (staying self.now.state)) }

@@ -1,16 +1,18 @@
 //! Homes of shards.
 ghost use Rattle.std.specs.Prelude.{◌≡◌, ℕ, ◌+◌, ◌<◌, ◌≤◌, ◌++◌, length, fold, true, false, IfSome, is_none, option_map};
-ghost use Rattle.std.specs.List.{flat_map};
+ghost use Rattle.std.specs.List.{flat_map, list_all};
 ghost use Rattle.std.specs.Option.{ForSome};
+ghost use Rattle.yard_model.specs.declared.load.Load.{Load};
 ghost use Rattle.yard_model.specs.Coordinator.{coordinator_after, registered, home_of, is_moving, smallest, shares, allocate, tell_home, get_home, shard_started};
 ghost use Rattle.yard_model.specs.Genuine.{is_shard};
 ghost use Rattle.yard_model.specs.Move.{item_of};
 ghost use Rattle.yard_model.specs.Words.{is_among};
+ghost use Rattle.least_shard.specs.Spread.{shares_of};
 ghost use Rattle.coordinator_actor.specs.Parts.{allocate_to, allocate_new, allocate_and_tell};
 
 use crate::coordinator::Coordinator;
 use least_shard::choose;
-use yard_model::{Body, Incarnation, Out, ShardNo};
+use yard_model::{Body, Incarnation, Loads, Out, ShardNo};
 
 impl Coordinator {
     /// A region asks for the home of a shard: where it is registered and the shard isn't moving,
@@ -132,7 +134,29 @@ impl Coordinator {
         ensures region { result ≡ option_map (λ x. x.region) (smallest (shares self.now.state)) }
         ensures registered { ForSome result (λ r. is_among r (registered self.now.state) ≡ true) }
     {
+        if self.has_leaving() {
+            self.least_staying()
+        } else {
+            self.least_of(self.loads())
+        }
+    }
+
+    /// The same, where some region leaves.
+    fn least_staying(&self) -> Option<Incarnation>
+        ensures region { result ≡ option_map (λ x. x.region) (smallest (shares self.now.state)) }
+        ensures registered { ForSome result (λ r. is_among r (registered self.now.state) ≡ true) }
+    {
         let loads = self.staying();
+        self.least_of(&loads)
+    }
+
+    /// The same, of these loads of the regions that don't leave.
+    fn least_of(&self, loads: &Loads) -> Option<Incarnation>
+        requires shares { shares_of loads.now ≡ shares self.now.state }
+        requires registered { list_all (λ (l : Load). is_among l.region (registered self.now.state)) loads.now ≡ true }
+        ensures region { result ≡ option_map (λ x. x.region) (smallest (shares self.now.state)) }
+        ensures registered { ForSome result (λ r. is_among r (registered self.now.state) ≡ true) }
+    {
         let staying = loads.as_slice();
         match choose(staying) {
             Some(place) => Some(staying[place].region),

@@ -67,6 +67,20 @@ pub(crate) fn lose_all(round: &mut Round, who: &Incarnation, r: &Incarnation, ou
     ensures stamp { round.new.stamp ≡ round.old.stamp }
     ensures spare { out.new.spare + length (flat_map item_of (flat_map (lost_posts who.now round.old.stamp r.now) (moving round.old))) ≡ out.old.spare }
 {
+    if round.is_done() {
+        return;
+    }
+    lose_each(round, who, r, out);
+}
+
+/// The same, of each shard that there can be.
+fn lose_each(round: &mut Round, who: &Incarnation, r: &Incarnation, out: &mut Out)
+    requires room { length (flat_map item_of (flat_map (lost_posts who.now round.old.stamp r.now) (moving round.old))) ≤ out.old.spare }
+    ensures items { out.new.items ≡ out.old.items ++ flat_map item_of (flat_map (lost_posts who.now round.old.stamp r.now) (moving round.old)) }
+    ensures moving { moving round.new ≡ lost_all r.now (moving round.old) }
+    ensures stamp { round.new.stamp ≡ round.old.stamp }
+    ensures spare { out.new.spare + length (flat_map item_of (flat_map (lost_posts who.now round.old.stamp r.now) (moving round.old))) ≡ out.old.spare }
+{
     round.stamp();
     for place in 0..128u8 {
         lose_shard(round, who, r, shard_at(place), out);

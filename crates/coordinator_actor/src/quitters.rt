@@ -1,6 +1,6 @@
 //! The regions that leave.
 ghost use Rattle.std.specs.Prelude.{◌≡◌, ℕ, ◌+◌, ◌<◌, ◌≤◌, [], ◌∷◌, ◌++◌, length, OnOk, OnErr};
-ghost use Rattle.yard_model.specs.Words.{is_among};
+ghost use Rattle.yard_model.specs.Words.{is_among, is_empty};
 ghost use Rattle.coordinator_actor.specs.Parts.{staying_of};
 
 use crate::regions::is_same;
@@ -65,6 +65,16 @@ impl Quitters {
             Err(_) => unreachable!(),
         }
         self.free -= 1;
+    }
+
+    /// Whether no region leaves.
+    pub(crate) fn is_empty(&self) -> bool
+        ensures { result ≡ is_empty self.now.items }
+    {
+        match self.list.as_slice().first() {
+            Some(_) => false,
+            None => true,
+        }
     }
 
     /// Whether this region leaves.

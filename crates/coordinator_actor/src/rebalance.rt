@@ -1,17 +1,19 @@
 //! Rebalancing.
 ghost use Rattle.std.specs.Prelude.{◌≡◌, ◌+◌, ◌<◌, ◌≤◌, ◌++◌, ◌∷◌, [], length, fold};
-ghost use Rattle.std.specs.List.{flat_map};
-ghost use Rattle.yard_model.specs.Coordinator.{coordinator_after, picked, rebalance};
+ghost use Rattle.std.specs.List.{All, flat_map};
+ghost use Rattle.yard_model.specs.Coordinator.{coordinator_after, picked, rebalance, shares};
 ghost use Rattle.yard_model.specs.Move.{item_of};
 ghost use Rattle.yard_model.specs.ShardSet.{has};
 ghost use Rattle.yard_model.specs.Words.{is_empty};
+ghost use Rattle.coordinator_state.specs.Coord.{IsLoadOf};
+ghost use Rattle.least_shard.specs.Spread.{shares_of, AreOfDifferentRegions};
 ghost use Rattle.coordinator_actor.specs.Held.{AreHomed};
 ghost use Rattle.coordinator_actor.specs.Parts.{begin_picked, shards_in};
 
 use crate::coordinator::Coordinator;
 use crate::rounds::shard_at;
 use least_shard::round;
-use yard_model::{Fact, Item, Out, ShardSet};
+use yard_model::{Fact, Item, Loads, Out, ShardSet};
 
 impl Coordinator {
     /// At most `limit` shards begin to move from the largest shares to the smallest (Akka 2.6,
@@ -36,9 +38,31 @@ impl Coordinator {
         ensures picks { shards_in result self.now.state ≡ picked limit self.now.state }
         ensures homed { AreHomed result self.now.state }
     {
+        if self.has_leaving() {
+            self.picked_staying(limit)
+        } else {
+            self.picked_of(self.loads(), limit)
+        }
+    }
+
+    /// The same, where some region leaves.
+    fn picked_staying(&self, limit: u8) -> ShardSet
+        ensures picks { shards_in result self.now.state ≡ picked limit self.now.state }
+        ensures homed { AreHomed result self.now.state }
+    {
         let loads = self.staying();
-        let staying = loads.as_slice();
-        round(staying, limit)
+        self.picked_of(&loads, limit)
+    }
+
+    /// The same, of these loads of the regions that don't leave.
+    fn picked_of(&self, loads: &Loads, limit: u8) -> ShardSet
+        requires shares { shares_of loads.now ≡ shares self.now.state }
+        requires homes { All (IsLoadOf self.now.state.entries) loads.now }
+        requires different { AreOfDifferentRegions loads.now }
+        ensures picks { shards_in result self.now.state ≡ picked limit self.now.state }
+        ensures homed { AreHomed result self.now.state }
+    {
+        round(loads.as_slice(), limit)
     }
 
     /// These shards begin to move, where there are any and no round is open.
@@ -62,6 +86,13 @@ impl Coordinator {
 
     /// Whether there is no shard of this set.
     pub(crate) fn has_none_of(&self, shards: &ShardSet) -> bool
+        ensures { result ≡ is_empty (shards_in shards.now self.now.state) }
+    {
+        *shards == ShardSet::empty() || self.has_none_in_force(shards)
+    }
+
+    /// The same, one shard after the other.
+    fn has_none_in_force(&self, shards: &ShardSet) -> bool
         ensures { result ≡ is_empty (shards_in shards.now self.now.state) }
     {
         let count = self.shards();

@@ -63,6 +63,23 @@ impl Coordinator {
         ensures entries { self.new.spare ≡ self.old.spare }
         ensures places { self.new.places ≡ self.old.places }
     {
+        if self.has_leaving() {
+            self.begin_staying(out);
+        }
+    }
+
+    /// The same, where some region leaves.
+    fn begin_staying(&mut self, out: &mut Out)
+        requires closed { is_empty self.old.state.moving ≡ true }
+        requires room { length (flat_map item_of (begin_quitting self.old.state)) ≤ out.old.spare }
+        ensures items { out.new.items ≡ out.old.items ++ flat_map item_of (begin_quitting self.old.state) }
+        ensures state { self.new.state ≡ fold coordinator_after self.old.state (begin_quitting self.old.state) }
+        ensures kept { self.new.state.entries ≡ self.old.state.entries }
+        ensures script { self.new.script ≡ self.old.script }
+        ensures spare { out.new.spare + length (flat_map item_of (begin_quitting self.old.state)) ≡ out.old.spare }
+        ensures entries { self.new.spare ≡ self.old.spare }
+        ensures places { self.new.places ≡ self.old.places }
+    {
         if self.has_staying() {
             self.begin_first(out);
         }

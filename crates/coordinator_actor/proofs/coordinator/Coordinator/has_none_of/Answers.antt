@@ -1,18 +1,12 @@
-use Rattle.std.proofs.Common.{◌≡◌, ◌+◌, ◌-◌, ℕ, List, ◌∷◌, sym, ap, ◌∙◌, false, arith}
-use Rattle.std.specs.Prelude.{cond, filter}
+use Rattle.std.proofs.Common.{◌≡◌, sym, ap, ◌∙◌}
+use Rattle.std.specs.Prelude.{List, ℕ}
+use Rattle.std.proofs.lemmas.Bool.Decides.{Decides-eqb}
 use Rattle.yard_model.specs.ShardSet.{has}
-use Rattle.yard_model.specs.Words.{numbers}
-use Rattle.coordinator_actor.proofs.RoundLaws.{numbers_first}
+use Rattle.yard_model.specs.Words.{is_empty}
+use Rattle.coordinator_actor.proofs.ShareLaws.{none_in}
 use Rattle.coordinator_actor.proofs.coordinator.Coordinator.has_none_of.Goals as goal
 
-pub loop-place-preserved : goal.loop-place-preserved
-loop-place-preserved c =
-    let set = c.args.shards.now in
-    let i = c.loop-place.place in
-    let n = c.shards-count.result in
-    let rest : List ℕ = filter (has set) (numbers (i + 1) (n - (i + 1))) in
-    let out : has set i ≡ false = sym (c.has.ensures ∙ ap (has set) c.shard_at-s.ensures) ∙ c.if-has.false in
-    record {
-      left = sym (ap (λ (l : List ℕ). filter (has set) l) (numbers_first i n c.loop-place-test.true) ∙ ap (λ b. cond b (i ∷ rest) rest) out) ∙ c.loop-place.invariant.left;
-      within = omega (arith, c.loop-place-test.true);
-    }
+pub returns-then-eq : goal.returns-then-eq
+returns-then-eq c =
+    let same : c.args.shards.now ≡ c.empty.result = (Decides-eqb c.args.shards.now c.empty.result).0 (sym c.eq.ensures ∙ c.if-eq.true) in
+    c.if-eq.true ∙ sym (ap (λ (ss : List ℕ). is_empty ss) (none_in (has c.args.shards.now) 0 c.args.self.now.state.set.config.shards (λ t u. ap (λ k. has k t) same ∙ c.empty.ensures.none t)))

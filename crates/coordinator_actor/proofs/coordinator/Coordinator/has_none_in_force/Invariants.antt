@@ -3,7 +3,7 @@ use Rattle.std.specs.Prelude.{filter}
 use Rattle.yard_model.specs.ShardSet.{has}
 use Rattle.yard_model.specs.Words.{numbers}
 use Rattle.coordinator_actor.specs.Parts.{shards_in}
-use Rattle.coordinator_actor.proofs.coordinator.Coordinator.has_none_of.Given as goal
+use Rattle.coordinator_actor.proofs.coordinator.Coordinator.has_none_in_force.Given as goal
 
 abbrev pub invariant-loop-place : goal.invariant-loop-place
 invariant-loop-place l = record {

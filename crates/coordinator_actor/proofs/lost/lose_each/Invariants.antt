@@ -4,7 +4,7 @@ use Rattle.yard_model.specs.Move.{item_of}
 use Rattle.handoff_steps.specs.Places.{all_shards, moving}
 use Rattle.coordinator_actor.specs.Parts.{at_shard, lost_posts}
 use Rattle.coordinator_actor.proofs.LostLaws.{lost_below}
-use Rattle.coordinator_actor.proofs.lost.lose_all.Given as goal
+use Rattle.coordinator_actor.proofs.lost.lose_each.Given as goal
 
 abbrev pub invariant-loop-place : goal.invariant-loop-place
 invariant-loop-place l = record {

@@ -22,18 +22,21 @@ pub struct Round {
     regions: [Incarnation; 16],
     count: u8,
     cells: [Cell; 128],
+    // whether it is known that no shard moves
+    done: bool,
 }
 
 impl Model for Round {
-    ghost use Rattle.std.specs.Prelude.{◌≡◌, ◌≤◌, length, map, take};
-    ghost use Rattle.handoff_steps.specs.Places.{Handoffs};
+    ghost use Rattle.std.specs.Prelude.{◌≡◌, ◌≤◌, true, length, map, take};
+    ghost use Rattle.yard_model.specs.Words.{is_empty};
+    ghost use Rattle.handoff_steps.specs.Places.{Handoffs, moving_from};
     ghost use Rattle.handoff_steps.specs.Seen.{seen};
 
     ghost Value = { Handoffs };
 
     ghost view = { λ r. record { stamp = r.stamp; places = map (seen (take r.count r.regions)) r.cells } };
 
-    ghost invariant = { λ r. (r.count ≤ 16) × (length r.regions ≡ 16) × (length r.cells ≡ 128) };
+    ghost invariant = { λ r. (r.count ≤ 16) × (length r.regions ≡ 16) × (length r.cells ≡ 128) × (r.done ≡ true → is_empty (moving_from 0 (map (seen (take r.count r.regions)) r.cells)) ≡ true) };
 }
 
 impl Round {
@@ -47,6 +50,7 @@ impl Round {
             regions: [NO_REGION; 16],
             count: 0,
             cells: [Cell::Out; 128],
+            done: true,
         }
     }
 
@@ -64,6 +68,7 @@ impl Round {
             regions: regions_of(loads),
             count: loads.len() as u8,
             cells: cells_of(picks, loads),
+            done: false,
         }
     }
 
@@ -114,7 +119,7 @@ impl Round {
     pub fn is_done(&self) -> bool
         ensures { result ≡ is_empty (moving self.now) }
     {
-        is_none_open(&self.cells, &self.regions[..self.count as usize])
+        self.done || is_none_open(&self.cells, &self.regions[..self.count as usize])
     }
 
     /// The home of the shard when the round began; None exactly where it isn't in the round.
@@ -144,6 +149,7 @@ impl Round {
         let next = cell.acknowledged_by(regions, &from);
         let step = next.next_step(regions);
         self.cells[place] = next;
+        self.done = false;
         step
     }
 
@@ -166,6 +172,8 @@ impl Round {
         }
         let next = cell.ended(regions);
         self.cells[place] = next;
+        let done = is_none_open(&self.cells, &self.regions[..self.count as usize]);
+        self.done = done;
         Step::Done
     }
 
@@ -184,12 +192,15 @@ impl Round {
         if cell.is_owned(regions, &who) {
             let next = cell.ended(regions);
             self.cells[place] = next;
+            let done = is_none_open(&self.cells, &self.regions[..self.count as usize]);
+            self.done = done;
             return Step::Done;
         }
         let was_awaited = cell.is_awaiting(regions, &who);
         let next = cell.acknowledged_by(regions, &who);
         let answer = next.next_step(regions);
         self.cells[place] = next;
+        self.done = false;
         if was_awaited { answer } else { Step::Wait }
     }
 }

@@ -1,15 +1,17 @@
 -- A rule for each shard, rising, each of which reads what those before it leave as it was.
 use Rattle.std.proofs.Common.{◌≡◌, ◌≢◌, ℕ, ◌+◌, ◌-◌, ◌<◌, ◌≤◌, List, [], ◌∷◌, ◌++◌, length, sym, ap, ◌∙◌, refl, arith, append_assoc, append-nil, length-append, get_or-set_other}
-use Rattle.std.specs.Prelude.{Bool, true, false, ◌&&◌, not, zero, suc, fold, Option, Some, None, is_none, if◌then◌else◌}
+use Rattle.std.specs.Prelude.{Bool, true, false, ◌&&◌, not, zero, suc, fold, sum_by, Option, Some, None, is_none, if◌then◌else◌}
 use Rattle.std.specs.List.{flat_map}
-use Rattle.std.proofs.lemmas.List.Sums.{fold-append}
+use Rattle.std.proofs.lemmas.List.Sums.{fold-append, sum_by-cons}
 use Rattle.std.proofs.lemmas.Grind.{flat_map-append}
 use Rattle.yard_model.specs.declared.fact.Fact.TheVariants as fact
 use Rattle.yard_model.specs.declared.incarnation.Incarnation.{Incarnation}
 use Rattle.yard_model.specs.declared.out.Item.{Item}
 use Rattle.yard_model.specs.declared.packet.Body.TheVariants as body
+use Rattle.yard_model.specs.declared.packet.Message.{Message}
 use Rattle.yard_model.specs.Move.{Move, told, post, item_of}
-use Rattle.yard_model.specs.Region.{Region, region_after, home, oldest, forget_lost, ask_again, kept_of}
+use Rattle.yard_model.specs.Region.{Region, region_after, home, oldest, forget_lost, ask_again, kept_of, post_oldest}
+use Rattle.yard_model.specs.Setting.{shards}
 use Rattle.yard_model.specs.Turns.{where_some}
 use Rattle.yard_model.specs.Words.{numbers, is_among, is_empty}
 
@@ -116,3 +118,29 @@ ask_apart st s t h =
     let P : List Move → Type 0 = λ ms. ask_again (fold region_after st ms) t ≡ ask_again st t in
     by_bool P (where_some (λ x. post st.who x (body.GetShardHome s) ∷ []) (oldest st)) [] (ask_cases P st s refl (λ x. refl) (oldest st)) refl
     (is_none (home st s) && not (is_empty (kept_of st.kept s)))
+
+-- Where no message is kept, no home is asked for again.
+
+none_of_shard : (kept : List (List Message)) (s : ℕ) → sum_by length kept ≡ 0 → kept_of kept s ≡ []
+none_of_shard [] s e = refl
+none_of_shard (k ∷ ks) zero e = let all : length k + sum_by length ks ≡ 0 = sym (sum_by-cons length k ks) ∙ e in by k (omega (arith, all))
+  where
+    by : (k : List Message) → length k ≡ 0 → k ≡ []
+    by [] h = refl
+    by (m ∷ ms) h = absurd (omega (arith, h))
+none_of_shard (k ∷ ks) (suc s) e = let all : length k + sum_by length ks ≡ 0 = sym (sum_by-cons length k ks) ∙ e in none_of_shard ks s (omega (arith, all))
+
+none_again : (st : Region) → sum_by length st.kept ≡ 0 → (s : ℕ) → ask_again st s ≡ []
+none_again st e s = by (is_none (home st s)) (kept_of st.kept s) (none_of_shard st.kept s e)
+  where
+    by : (b : Bool) (ms : List Message) → ms ≡ [] → (if b && not (is_empty ms) then post_oldest (body.GetShardHome s) st else []) ≡ []
+    by true [] h = refl
+    by false [] h = refl
+    by b (m ∷ ms) h = absurd (omega (arith, ap length h))
+
+nothing_from : (p : ℕ → List Move) → ((s : ℕ) → p s ≡ []) → (a n : ℕ) → flat_map p (numbers a n) ≡ []
+nothing_from p h a zero = refl
+nothing_from p h a (suc n) = rw (h a) (nothing_from p h (a + 1) n)
+
+pub none_kept : (st : Region) → sum_by length st.kept ≡ 0 → flat_map (ask_again st) (shards st.set) ≡ []
+none_kept st e = nothing_from (ask_again st) (none_again st e) 0 st.set.config.shards

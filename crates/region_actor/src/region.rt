@@ -263,6 +263,13 @@ impl Region {
         !self.kept.is_empty(s)
     }
 
+    /// Whether no message is kept; where it answers that, there is none of any shard.
+    pub(crate) fn keeps_none(&self) -> bool
+        ensures { IsTrue result → sum_by length self.now.state.kept ≡ 0 }
+    {
+        self.kept.total() == 0
+    }
+
     /// The shard of a message.
     pub(crate) fn shard_of(&self, message: &Message) -> ShardNo
         ensures shard { result ≡ shard_of self.now.state.set message.now.entity }

@@ -72,6 +72,20 @@ impl Region {
         ensures script { self.new.script ≡ self.old.script }
         ensures spare { out.new.spare + length (flat_map item_of (flat_map (ask_again self.old.state) (shards self.old.state.set))) ≡ out.old.spare }
     {
+        if self.keeps_none() {
+            return;
+        }
+        self.ask_each_again(out);
+    }
+
+    /// The same, of each shard.
+    fn ask_each_again(&mut self, out: &mut Out)
+        requires room { length (flat_map item_of (flat_map (ask_again self.old.state) (shards self.old.state.set))) ≤ out.old.spare }
+        ensures items { out.new.items ≡ out.old.items ++ flat_map item_of (flat_map (ask_again self.old.state) (shards self.old.state.set)) }
+        ensures state { self.new.state ≡ fold region_after self.old.state (flat_map (ask_again self.old.state) (shards self.old.state.set)) }
+        ensures script { self.new.script ≡ self.old.script }
+        ensures spare { out.new.spare + length (flat_map item_of (flat_map (ask_again self.old.state) (shards self.old.state.set))) ≡ out.old.spare }
+    {
         let shards = self.shards();
         for i in 0..shards {
             match ShardNo::new(i, shards) {

@@ -3,7 +3,7 @@ use Rattle.std.specs.List.{flat_map}
 use Rattle.yard_model.specs.Region.{ask_again}
 use Rattle.yard_model.specs.Setting.{shards}
 use Rattle.region_actor.proofs.EachLaws.{IsOnTheWay}
-use Rattle.region_actor.proofs.region.Region.ask_all_again.Given as goal
+use Rattle.region_actor.proofs.region.Region.ask_each_again.Given as goal
 
 abbrev pub invariant-loop-i : goal.invariant-loop-i
 invariant-loop-i l = record {

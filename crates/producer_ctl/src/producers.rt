@@ -150,6 +150,7 @@ impl Producers {
 
     /// Makes room in each queue that is held for all that a turn may write there. The only error is
     /// want of memory; then nothing else changes.
+    #[inline(always)]
     pub fn reserve(&mut self) -> Result<(), AllocError>
         ensures state { self.new ≡ record self.old { rooms = self.new.rooms } }
         ensures more { AreMore self.old.rooms self.new.rooms }
@@ -435,6 +436,7 @@ fn take_table(tables: &mut Vec<Option<Blank>>, place: usize) -> Blank
 }
 
 /// Makes room in each queue that is held, where that wasn't done since one was written to.
+#[inline(always)]
 fn reserve_all(held: &mut Vec<Option<Producer>>, ready: &mut bool) -> Result<(), AllocError>
     requires ready { ready.old ≡ true → AreReady held.old.items }
     ensures there { length held.new.items ≡ length held.old.items }
@@ -451,6 +453,7 @@ fn reserve_all(held: &mut Vec<Option<Producer>>, ready: &mut bool) -> Result<(),
 }
 
 /// Makes room in each queue that is held.
+#[inline(never)]
 fn reserve_each(held: &mut Vec<Option<Producer>>) -> Result<(), AllocError>
     ensures there { length held.new.items ≡ length held.old.items }
     ensures kept { (i : ℕ) → IsReserved (at held.old.items i) (at held.new.items i) }

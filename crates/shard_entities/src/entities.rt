@@ -113,6 +113,7 @@ impl Entities {
 
     /// Makes room in the store of each hosted shard for all that a turn may write there. The only
     /// error is want of memory; then nothing else changes.
+    #[inline(always)]
     pub fn reserve(&mut self) -> Result<(), AllocError>
         ensures state { self.new ≡ record self.old { rooms = self.new.rooms } }
         ensures more { AreMore self.old.rooms self.new.rooms }

@@ -216,13 +216,14 @@ impl Shards {
 
     /// Makes room in the store of each hosted shard for all that a turn may write there. The only
     /// error is want of memory; then no entry is lost, and no room.
+    #[inline(always)]
     pub(crate) fn reserve(&mut self) -> Result<(), AllocError>
         ensures state { self.new ≡ record self.old { rooms = self.new.rooms } }
         ensures more { AreMore self.old.rooms self.new.rooms }
         ensures ok { OnOk result ((s : ℕ) → (hosted self.old.state s ≡ None → ⊥) → room_wanted self.old.script s ≤ slice_index_or self.new.rooms s 0) }
     {
         self.knows();
-        reserve_each(
+        reserve_touched(
             &mut self.hosted,
             &mut self.touched,
             &self.places,
@@ -406,7 +407,7 @@ fn none_hosted(alloc: Global, shards: u8) -> Result<Vec<Option<Hosting>>, AllocE
 {
     let mut hosted = Vec::with_capacity(alloc, shards as usize)?;
     for _ in 0..shards {
-        hosted.push(None)?;
+        hosted.push_reserved(None);
     }
     Ok(hosted)
 }
@@ -433,7 +434,30 @@ fn hosted_in(hosted: &Vec<Option<Hosting>>) -> ShardSet
     all
 }
 
+/// Makes room in the store of each shard that was touched, if one was; none is then.
+#[inline(always)]
+fn reserve_touched(
+    hosted: &mut Vec<Option<Hosting>>,
+    touched: &mut ShardSet,
+    places: &Places,
+    config: &Config,
+) -> Result<(), AllocError>
+    requires script { IsScript places.now }
+    requires shards { length hosted.old.items ≡ places.now.config.shards }
+    requires config { config.now ≡ places.now.config }
+    requires ready { AreReady places.now touched.old hosted.old.items }
+    ensures kept { AreReserved hosted.old.items hosted.new.items }
+    ensures ready { AreReady places.now touched.new hosted.new.items }
+    ensures ok { OnOk result ((s : ℕ) → (at hosted.old.items s ≡ None → ⊥) → room_wanted places.now s ≤ room_of (at hosted.new.items s)) }
+{
+    match touched.lowest(config.shards) {
+        Some(_) => reserve_each(hosted, touched, places, config),
+        None => Ok(()),
+    }
+}
+
 /// Makes room in the store of each shard that was touched, lowest first; none is then.
+#[inline(never)]
 fn reserve_each(
     hosted: &mut Vec<Option<Hosting>>,
     touched: &mut ShardSet,

@@ -1,6 +1,6 @@
 -- The end of a node: the slots that are freed one after another, and that together they are its crash.
 use Rattle.std.proofs.Common.{◌≡◌, ◌≢◌, ◌⊎◌, inl, inr, ℕ, zero, suc, ◌+◌, ◌-◌, ◌*◌, ◌<◌, ◌≤◌, List, [], ◌∷◌, ◌++◌, length, map, sym, ap, subst, ◌∙◌, refl, append-nil, append_assoc, true, false, arith}
-use Rattle.std.specs.Prelude.{Bool, ◌==◌, ◌||◌, fold, nat_le, slice_index_or, slice_set, Option, Some, None, is_some, IfSome, MatchOption}
+use Rattle.std.specs.Prelude.{Bool, ◌==◌, ◌||◌, fold, nat_le, not, slice_index_or, slice_set, Option, Some, None, is_none, is_some, IfSome, MatchOption}
 use Rattle.std.specs.Option.{option_map}
 use Rattle.std.specs.List.{flat_map, list_all, list_any}
 use Rattle.std.proofs.lemmas.Grind.{flat_map-append}
@@ -14,7 +14,7 @@ use Rattle.yard_model.specs.declared.incarnation.Slot.{Slot}
 use Rattle.yard_model.specs.declared.incarnation.Slot.TheVariants as slot
 use Rattle.yard_model.specs.declared.out.Item.{Item}
 use Rattle.yard_model.specs.Coordinator.{Coordinator}
-use Rattle.yard_model.specs.Entities.{Hosted, hosted}
+use Rattle.yard_model.specs.Entities.{Hosted, hosted, is_hosted}
 use Rattle.yard_model.specs.Genuine.{is_node, is_producer, is_slot_of}
 use Rattle.yard_model.specs.Node.{Node, freed_stopped, crash}
 use Rattle.yard_model.specs.Producer.{Producer}
@@ -209,6 +209,31 @@ freed_one v w s o old new before late same valid held frees freed rests ending =
     room (Some list) f = let e : late.spare + 1 ≡ before.spare = f.spare_is in omega (arith, e)
 
 -- A shard.
+
+-- a slot that isn't held: nothing is freed
+pub none_freed : (v : Standing) (s : Slot) (m : Meaning) (out : Spared Item) → is_slot_of v.script s ≡ true → held_list s v.state ≡ None → Rests m v.script v.state → IsEnding v → AreFreed (s ∷ []) v v m m out out
+none_freed v s m out valid none rests ending = freed_one v v s None m m out out refl valid none (record { who_is = refl; held_is = none; else_is = λ t there other. refl }) (refl, refl) rests ending
+
+pub not_hosted : (st : Node) (s : ℕ) → is_hosted st.entities s ≡ false → held_list (slot.Shard s) st ≡ None
+not_hosted st s not_there = by (hosted st.entities s) not_there
+  where
+    by : (o : Option Hosted) → not (is_none o) ≡ false → option_map (λ (h : Hosted). h.entries) o ≡ None
+    by None e = refl
+    by (Some h) e = absurd (true_is_not_false e)
+
+pub no_queue : (st : Node) (p : ℕ) → is_some (at st.producers (p - 1)) ≡ false → held_list (slot.Queue p) st ≡ None
+no_queue st p not_there = by (at st.producers (p - 1)) not_there
+  where
+    by : (o : Option Producer) → is_some o ≡ false → option_map (λ (x : Producer). x.entries) o ≡ None
+    by None e = refl
+    by (Some x) e = absurd (true_is_not_false e)
+
+pub no_office : (st : Node) → is_some st.coordinator ≡ false → held_list slot.Coordinator st ≡ None
+no_office st not_there = by st.coordinator not_there
+  where
+    by : (o : Option Coordinator) → is_some o ≡ false → option_map (λ (x : Coordinator). x.entries) o ≡ None
+    by None e = refl
+    by (Some x) e = absurd (true_is_not_false e)
 
 pub shard_list_is : (c : Script) (r : Region) (e : Lodged) (ps : Producing) (k : Option Held) (s : ℕ) (o : Option Shelf) → MatchOption o (hosted e.state s ≡ None) (IsStore e s) → held_list (slot.Shard s) (node_of c r e ps k) ≡ option_map (λ (x : Shelf). x.entries) o
 shard_list_is c r e ps k s None none = ap (option_map (λ (h : Hosted). h.entries)) none

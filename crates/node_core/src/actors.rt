@@ -1,10 +1,9 @@
 //! The actors of a node.
-ghost use Rattle.std.specs.Prelude.{◌≡◌, ℕ, ◌+◌, ◌-◌, ◌<◌, ◌≤◌, true, is_some, IfOk, OnOk, Some, IfSome, MatchOption, length, slice_get};
+ghost use Rattle.std.specs.Prelude.{◌≡◌, ℕ, ◌+◌, ◌-◌, ◌<◌, ◌≤◌, true, is_some, OnOk, Some, IfSome, MatchOption, length, slice_get};
 ghost use Rattle.yard_model.specs.declared.input.Phase.TheVariants as phase;
 ghost use Rattle.yard_model.specs.Entities.{is_in_phase};
-ghost use Rattle.yard_model.specs.Genuine.{is_node, is_brought};
-ghost use Rattle.yard_model.specs.Node.{new_node};
-ghost use Rattle.yard_model.specs.Script.{IsScript, setting, is_version};
+ghost use Rattle.yard_model.specs.Genuine.{is_brought};
+ghost use Rattle.yard_model.specs.Script.{IsScript, setting};
 ghost use Rattle.yard_model.specs.Words.{at};
 ghost use Rattle.actor_laws.specs.Hands.{held_list};
 ghost use Rattle.shard_store.specs.Stores.{script_of_ref, slot_of_ref, entries_of_ref};
@@ -54,39 +53,6 @@ impl<B: Behaviour> Model for Actors<B> {
 }
 
 impl<B: Behaviour + Drop> Actors<B> {
-    /// Those of a node that comes up. The only error is want of memory.
-    pub(crate) fn new(
-        alloc: Global,
-        who: Incarnation,
-        charter: &Charter,
-        behaviour: B,
-    ) -> Result<Actors<B>, AllocError>
-        requires who { is_node charter.now who ≡ true }
-        requires kind { B.kind_of behaviour ≡ charter.now.config.kind }
-        requires version { is_version charter.now (B.version_of behaviour) ≡ true }
-        ensures script { IfOk result (λ n. n.script ≡ charter.now) }
-        ensures state { IfOk result (λ n. n.state ≡ new_node (setting charter.now) (B.version_of behaviour) who) }
-    {
-        let buffer = charter.config().buffer;
-        let queues = charter.config().producers;
-        let version = behaviour.version();
-        let region = Region::new(alloc, who, charter)?;
-        let entities = Entities::new(alloc, region.who(), version, charter)?;
-        let producers = Producers::new(alloc, region.who(), charter)?;
-        Ok(Actors {
-            alloc,
-            script: Snapshot::of(charter),
-            buffer,
-            behaviour,
-            region,
-            entities,
-            producers,
-            queues,
-            coordinator: None,
-            holds: PhantomData,
-        })
-    }
-
     /// Whose they are.
     pub(crate) fn who(&self) -> Incarnation
         ensures { result ≡ self.now.state.who }

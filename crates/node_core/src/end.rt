@@ -21,10 +21,10 @@ use yard_model::{Cause, Fact, Incarnation, Item, Out, ProducerNo, ShardNo, Slot}
 impl<B: Behaviour + Drop> Actors<B> {
     /// The node is gone: every slot that it held is freed, as its list stood: shards rising, then the
     /// coordinator's, then queues rising.
-    pub(crate) fn end<L: Leases>(mut self, leases: &mut L, out: &mut Out)
-        requires ready { IsReady self out.old.spare }
-        requires rests { Rests (L.meaning leases.old) self.script self.state }
-        ensures { IsGone self.script (moment (L.meaning leases.old) self.state out.old.items) (L.meaning leases.new) out.new.items }
+    pub(crate) fn end<L: Leases>(&mut self, leases: &mut L, out: &mut Out)
+        requires ready { IsReady self.old out.old.spare }
+        requires rests { Rests (L.meaning leases.old) self.old.script self.old.state }
+        ensures { IsGone self.old.script (moment (L.meaning leases.old) self.old.state out.old.items) (L.meaning leases.new) out.new.items }
     {
         self.knows();
         self.let_shards_go(leases, out);
@@ -52,12 +52,37 @@ impl<B: Behaviour + Drop> Actors<B> {
         requires rests { Rests (L.meaning leases.old) self.old.script self.old.state }
         ensures { AreFreed (slot.Shard s ∷ []) self.old self.new (L.meaning leases.old) (L.meaning leases.new) out.old out.new }
     {
+        if self.is_hosted(s) {
+            self.let_hosted_go(s, leases, out);
+        }
+    }
+
+    /// A shard, which is hosted, is freed, and none of its entities is left.
+    fn let_hosted_go<L: Leases>(&mut self, s: ShardNo, leases: &mut L, out: &mut Out)
+        requires shard { is_shard self.old.script s ≡ true }
+        requires ending { IsEnding self.old }
+        requires room { 1 ≤ out.old.spare }
+        requires rests { Rests (L.meaning leases.old) self.old.script self.old.state }
+        ensures { AreFreed (slot.Shard s ∷ []) self.old self.new (L.meaning leases.old) (L.meaning leases.new) out.old out.new }
+    {
         let store = self.entities.take_all(s);
         free_shard_if_there(self.region.who(), s, store, leases, out);
     }
 
     /// The coordinator's slot is freed, if it is held.
     fn let_office_go<L: Leases>(&mut self, leases: &mut L, out: &mut Out)
+        requires ending { IsEnding self.old }
+        requires room { 1 ≤ out.old.spare }
+        requires rests { Rests (L.meaning leases.old) self.old.script self.old.state }
+        ensures { AreFreed (slot.Coordinator ∷ []) self.old self.new (L.meaning leases.old) (L.meaning leases.new) out.old out.new }
+    {
+        if self.is_coordinator() {
+            self.let_held_office_go(leases, out);
+        }
+    }
+
+    /// The coordinator's slot, which is held, is freed.
+    fn let_held_office_go<L: Leases>(&mut self, leases: &mut L, out: &mut Out)
         requires ending { IsEnding self.old }
         requires room { 1 ≤ out.old.spare }
         requires rests { Rests (L.meaning leases.old) self.old.script self.old.state }
@@ -81,6 +106,19 @@ impl<B: Behaviour + Drop> Actors<B> {
 
     /// A queue is freed, if it is held.
     fn let_queue_go<L: Leases>(&mut self, p: ProducerNo, leases: &mut L, out: &mut Out)
+        requires producer { is_producer self.old.script p ≡ true }
+        requires ending { IsEnding self.old }
+        requires room { 1 ≤ out.old.spare }
+        requires rests { Rests (L.meaning leases.old) self.old.script self.old.state }
+        ensures { AreFreed (slot.Queue p ∷ []) self.old self.new (L.meaning leases.old) (L.meaning leases.new) out.old out.new }
+    {
+        if self.holds_queue(p) {
+            self.let_held_queue_go(p, leases, out);
+        }
+    }
+
+    /// A queue, which is held, is freed.
+    fn let_held_queue_go<L: Leases>(&mut self, p: ProducerNo, leases: &mut L, out: &mut Out)
         requires producer { is_producer self.old.script p ≡ true }
         requires ending { IsEnding self.old }
         requires room { 1 ≤ out.old.spare }

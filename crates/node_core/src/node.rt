@@ -22,10 +22,14 @@ ghost use Rattle.node_core.specs.Turned.{Turned, Ended};
 use crate::actors::Actors;
 use behaviour_core::Behaviour;
 use node_laws::node::{crash_stands, new_node_stands, turn_stands, turn_viewed};
+use producer_ctl::Producers;
+use region_actor::Region;
+use shard_entities::Entities;
 use shard_lease::Leases;
 use shard_store::StoreRef;
 use std::alloc::{AllocError, Global};
-use std::marker::Model;
+use std::marker::{Model, PhantomData};
+use std::snapshot::Snapshot;
 use yard_model::{Charter, EntityName, Incarnation, Input, Out, Packet, ProducerNo, Slot};
 
 /// A node from its start to its end: its region, its entities and, while it holds the coordinator's
@@ -62,8 +66,23 @@ impl<B: Behaviour + Drop> Node<B> {
         ensures state { IfOk result (λ n. n.state ≡ new_node (setting charter.now) (B.version_of behaviour) who) }
     {
         new_node_stands();
-        let actors = Actors::new(alloc, who, charter, behaviour)?;
-        Ok(Node { actors })
+        let region = Region::new(alloc, who, charter)?;
+        let entities = Entities::new(alloc, region.who(), behaviour.version(), charter)?;
+        let producers = Producers::new(alloc, region.who(), charter)?;
+        Ok(Node {
+            actors: Actors {
+                alloc,
+                script: Snapshot::of(charter),
+                buffer: charter.config().buffer,
+                behaviour,
+                region,
+                entities,
+                producers,
+                queues: charter.config().producers,
+                coordinator: None,
+                holds: PhantomData,
+            },
+        })
     }
 }
 
@@ -180,8 +199,8 @@ impl<B: Behaviour + Drop> Node<B> {
         ensures { Ended self.script (moment (L.meaning leases.old) self.state out.old.items) (L.meaning leases.new) out.new.items }
     {
         crash_stands();
-        let Node { actors } = self;
-        actors.end(leases, out)
+        let Node { mut actors } = self;
+        actors.end(leases, out);
     }
 
     /// Whether an entity, which the script brings, is active here.

@@ -1,8 +1,8 @@
 -- The trace as it arises: the facts of the first orders, and their lines.
 use Rattle.std.proofs.Common.{◌≡◌, refl, sym, ap, ◌∙◌, subst, ℕ, ◌+◌, ◌<◌, length, get_or, Bool, true, false, List, [], ◌∷◌, ◌++◌, take, drop, append_assoc, take-append-drop}
-use Rattle.std.specs.Prelude.{map, fold, slice_get, Some, Result, Ok, Err, OnOk}
+use Rattle.std.specs.Prelude.{map, fold, slice_get, Some}
 use Rattle.std.specs.List.{flat_map}
-use Rattle.std.proofs.lemmas.List.{append-nil, map-append, take_more}
+use Rattle.std.proofs.lemmas.List.{append-nil, map-append}
 use Rattle.std.proofs.lemmas.Option.{slice_get_read}
 use Rattle.std.proofs.lemmas.List.Concat.{flat_map-append}
 use Rattle.std.proofs.lemmas.List.Sums.{fold-append}
@@ -11,8 +11,6 @@ use Rattle.yard_model.specs.declared.fact.Fact.{Fact}
 use Rattle.yard_model.specs.Script.{Script}
 use Rattle.yard_model.specs.Text.{fact_line}
 use Rattle.yard_model.specs.World.{World, Made, Step, in_order, play_line, new_world, wire_limit, trace_of}
-use Rattle.bulk_gen.specs.declared.summary.Summary.{Summary}
-use Rattle.bulk_gen.specs.Counted.{IsSummary}
 use Rattle.world_sim.specs.Played.{Played, made_of, next_of, MadeNext}
 use Rattle.yard_top.specs.declared.course.Course.{Course}
 use Rattle.yard_top.specs.declared.writing.WriteError.{WriteError}
@@ -112,26 +110,12 @@ front_next law c n world l e s t u on it one two =
     subst (λ fs. TookFront (flat_map fact_line fs) e s u) (sym more.1)
     (subst (λ b. TookFront b e s u) (sym (flat_map-append fact_line (made_of c (n + 1)).facts more.0)) (front_more _ (flat_map fact_line more.0) e s u here))
 
--- What is noted of the facts so far is noted of those of one order more.
-pub told_here : MadeNext → (c : Script) (n : ℕ) (world : Played) (l : Line) (P Q : List Fact → Type 0) (facts : List Fact) → IsOn c n world → slice_get c.orders n ≡ Some l
-    → facts ≡ (next_of world.script world.count l).facts → ((before : List Fact) → P before → Q (before ++ facts)) → P (made_of c n).facts → Q (made_of c (n + 1)).facts
-told_here law c n world l P Q facts on it is more told =
-    subst Q (ap (λ fs. (made_of c n).facts ++ fs) is ∙ sym (facts_next law c n world l on it)) (more (made_of c n).facts told)
+-- What was told so far, and one order more.
+pub facts_here : MadeNext → (c : Script) (n : ℕ) (world : Played) (l : Line) (old new : List Fact) → IsOn c n world → slice_get c.orders n ≡ Some l → old ≡ (made_of c n).facts
+    → new ≡ old ++ (next_of world.script world.count l).facts → new ≡ (made_of c (n + 1)).facts
+facts_here law c n world l old new on it before after = after ∙ (ap (λ fs. fs ++ (next_of world.script world.count l).facts) before ∙ sym (facts_next law c n world l on it))
 
 -- and it was the last
-pub told_all : MadeNext → (c : Script) (n : ℕ) (world late : Played) (l : Line) (P Q : List Fact → Type 0) (facts : List Fact) → IsOn c n world → slice_get c.orders n ≡ Some l → IsThrough c (n + 1) late
-    → facts ≡ (next_of world.script world.count l).facts → ((before : List Fact) → P before → Q (before ++ facts)) → P (made_of c n).facts → Q (trace_of c)
-told_all law c n world late l P Q facts on it through is more told =
-    subst (λ (m : Made). Q m.facts) through.made_is (told_here law c n world l P Q facts on it is more told)
-
--- One fact more of a list that is told.
-pub told_more : (told xs : List Fact) (i : ℕ) (x : Fact) → i < length xs → x ≡ get_or xs i x → (told ++ take i xs) ++ x ∷ [] ≡ told ++ take (i + 1) xs
-told_more told xs i x h is = append_assoc told (take i xs) (x ∷ []) ∙ ap (λ ys. told ++ ys) (ap (λ y. take i xs ++ y ∷ []) is ∙ sym (take_more xs i x h))
-
--- How far a trace has come, and what is counted of it, with these facts more.
-pub counts_more : {E : Type 0} (r : Result (Unit {0}) E) (old new : Course) (s t : Summary) (facts : List Fact) → new ≡ fold course_step old facts
-    → OnOk r ((n : ℕ) (told : List Fact) → IsSummary s n told → IsSummary t n (told ++ facts))
-    → OnOk r ((n : ℕ) (told : List Fact) → (old ≡ course told) × IsSummary s n told → (new ≡ course (told ++ facts)) × IsSummary t n (told ++ facts))
-counts_more (Ok x) old new s t facts is more =
-    λ n told before. (is ∙ (ap (λ k. fold course_step k facts) before.0 ∙ sym (fold-append course_step start told facts)), more n told before.1)
-counts_more (Err e) old new s t facts is more = tt
+pub facts_all : MadeNext → (c : Script) (n : ℕ) (world late : Played) (l : Line) (old new : List Fact) → IsOn c n world → slice_get c.orders n ≡ Some l → IsThrough c (n + 1) late → old ≡ (made_of c n).facts
+    → new ≡ old ++ (next_of world.script world.count l).facts → new ≡ trace_of c
+facts_all law c n world late l old new on it through before after = facts_here law c n world l old new on it before after ∙ ap (λ (m : Made). m.facts) through.made_is

@@ -1,24 +1,23 @@
 //! `bulk`: a run of the script of a number, and its summary.
-ghost use Rattle.std.specs.Prelude.{◌≡◌, ℕ, ◌++◌, List, IfOk, OnOk, IsTrue, fold};
-ghost use Rattle.yard_model.specs.declared.fact.Fact.{Fact};
+ghost use Rattle.std.specs.Prelude.{◌≡◌, IfOk, IsTrue};
 ghost use Rattle.yard_model.specs.Safe.{safe};
 ghost use Rattle.yard_model.specs.World.{trace_of};
 ghost use Rattle.bulk_gen.specs.Bulk.{bulk_script};
-ghost use Rattle.bulk_gen.specs.Counted.{IsSummary};
 ghost use Rattle.bulk_gen.specs.SummaryText.{summary};
 ghost use Rattle.yard_top.specs.Stops.{stop_in};
 ghost use Rattle.yard_top.specs.Writing.{Writes};
 
-use crate::course::{Course, course_after};
-use crate::following::{Notes, follow};
+use crate::course::Course;
+use crate::following::follow;
 use crate::replay::is_safe;
 use crate::writing::{WriteError, write_part};
 use behaviour_kinds::Counter;
 use bulk_gen::{Summary, push_summary};
 use std::alloc::{AllocError, Global};
+use trace_notes::{Notes, Told};
 use world_sim::World;
 use yard_io::Sink;
-use yard_model::{Charter, Fact, Facts};
+use yard_model::{Charter, Fact, Packet};
 
 /// Plays the script of a number, and writes the summary of its trace, once that is through. The line
 /// with which the trace stops, where it does. Nothing is flushed.
@@ -49,28 +48,23 @@ struct Counts {
 }
 
 impl Notes for Counts {
-    ghost use Rattle.std.specs.Prelude.{ℕ};
+    ghost use Rattle.std.specs.Prelude.{◌≡◌};
     ghost use Rattle.bulk_gen.specs.Counted.{IsSummary};
     ghost use Rattle.yard_top.specs.Stops.{course};
 
-    ghost About = { ℕ };
+    ghost are_of = { λ counts facts. (counts.course ≡ course facts) × IsSummary counts.summary facts };
 
-    ghost told = { λ counts n facts. (counts.course ≡ course facts) × IsSummary counts.summary n facts };
-
-    fn note(&mut self, facts: &[Fact]) -> Result<(), AllocError> {
-        self.course = course_after(self.course, facts);
-        count(&mut self.summary, facts)
+    fn note(&mut self, fact: &Fact) -> Result<(), AllocError> {
+        self.summary.note(fact)?;
+        self.course = self.course.after(fact);
+        Ok(())
     }
-}
 
-/// Counts these facts more. The only error is want of memory, or of room for a count.
-fn count(run: &mut Summary, facts: &[Fact]) -> Result<(), AllocError>
-    ensures { OnOk result ((n : ℕ) (told : List Fact) → IsSummary run.old n told → IsSummary run.new n (told ++ facts.now)) }
-{
-    for fact in facts {
-        run.note(fact)?;
+    fn note_sent(&mut self, number: u32, packet: &Packet) -> Result<(), AllocError> {
+        let _ = number;
+        let _ = packet;
+        self.summary.note_sent()
     }
-    Ok(())
 }
 
 /// The summary of a run of the script of this number, and the line with which its trace stops, where it
@@ -85,13 +79,13 @@ fn summary_of(
     ensures stop { IfOk result (λ r. r.1 ≡ stop_in (trace_of charter.now)) }
 {
     let mut world = World::new(alloc, charter, Counter::new())?;
-    let mut facts = Facts::new(alloc);
-    let mut counts = Counts {
+    let mut facts = Told::new(Counts {
         course: Course::start(),
-        summary: Summary::new(alloc, number),
-    };
-    follow(&mut world, &mut facts, &mut counts)?;
+        summary: Summary::new(alloc),
+    });
+    follow(&mut world, &mut facts)?;
+    let counts = facts.notes();
     let mut text = Vec::new(alloc);
-    push_summary(&mut text, charter, &counts.summary)?;
+    push_summary(&mut text, charter, number, &counts.summary)?;
     Ok((text, counts.course.stop))
 }

@@ -2,9 +2,9 @@
 ghost use Rattle.std.specs.Prelude.{◌≡◌, fold};
 ghost use Rattle.yard_top.specs.Stops.{start, course_step};
 
-use crate::following::Notes;
 use std::alloc::AllocError;
-use yard_model::Fact;
+use trace_notes::Notes;
+use yard_model::{Fact, Packet};
 
 /// How far a trace has come.
 #[derive(Clone, Copy, Debug)]
@@ -25,6 +25,24 @@ impl Course {
             stop: None,
         }
     }
+
+    /// The course with one fact more.
+    #[inline(always)]
+    pub(crate) fn after(&self, fact: &Fact) -> Course
+        ensures { result ≡ course_step self.now fact.now }
+    {
+        match fact {
+            Fact::At(line) => Course {
+                line: *line,
+                stop: self.stop,
+            },
+            Fact::WireFull => Course {
+                line: self.line,
+                stop: Some(self.line),
+            },
+            _ => *self,
+        }
+    }
 }
 
 /// How far a trace has come with these facts more.
@@ -33,37 +51,25 @@ pub fn course_after(course: Course, facts: &[Fact]) -> Course
 {
     let mut course = course;
     for fact in facts {
-        course = after(course, fact);
+        course = course.after(fact);
     }
     course
 }
 
-/// The course with one fact more.
-fn after(course: Course, fact: &Fact) -> Course
-    ensures { result ≡ course_step course fact.now }
-{
-    match fact {
-        Fact::At(line) => Course {
-            line: *line,
-            stop: course.stop,
-        },
-        Fact::WireFull => Course {
-            line: course.line,
-            stop: Some(course.line),
-        },
-        _ => course,
-    }
-}
-
 impl Notes for Course {
+    ghost use Rattle.std.specs.Prelude.{◌≡◌};
     ghost use Rattle.yard_top.specs.Stops.{course};
 
-    ghost About = { Unit {0} };
+    ghost are_of = { λ notes facts. notes ≡ course facts };
 
-    ghost told = { λ notes u facts. notes ≡ course facts };
+    fn note(&mut self, fact: &Fact) -> Result<(), AllocError> {
+        *self = self.after(fact);
+        Ok(())
+    }
 
-    fn note(&mut self, facts: &[Fact]) -> Result<(), AllocError> {
-        *self = course_after(*self, facts);
+    fn note_sent(&mut self, number: u32, packet: &Packet) -> Result<(), AllocError> {
+        let _ = number;
+        let _ = packet;
         Ok(())
     }
 }

@@ -13,10 +13,11 @@ use crate::writing::{WriteError, write_part};
 use behaviour_core::Behaviour;
 use behaviour_kinds::{Account, Cart, Counter};
 use std::alloc::{AllocError, Global};
+use trace_notes::Told;
 use trace_text::push_json;
 use world_sim::World;
 use yard_io::Sink;
-use yard_model::{Charter, Facts, Kind};
+use yard_model::{Charter, Kind};
 
 /// Plays a script, and writes its report as JSON, once the trace is through. The line with which the
 /// trace stops, where it does. Nothing is flushed.
@@ -54,11 +55,10 @@ fn json_of<B: Behaviour + Copy + Drop>(
     ensures stop { IfOk result (λ r. r.1 ≡ stop_in (trace_of charter)) }
 {
     let mut world = World::of(alloc, charter, behaviour)?;
-    let mut facts = Facts::new(alloc);
-    let mut course = Course::start();
-    follow(&mut world, &mut facts, &mut course)?;
+    let mut facts = Told::new(Course::start());
+    follow(&mut world, &mut facts)?;
     let (last, stores) = stores_of(world)?;
     let mut text = Vec::new(alloc);
     push_json(&mut text, &last, &stores)?;
-    Ok((text, course.stop))
+    Ok((text, facts.notes().stop))
 }

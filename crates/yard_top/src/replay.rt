@@ -27,6 +27,7 @@ use play_laws::play::{replay_is_safe, trace_is_safe};
 use settle_laws::worlds::settle_line_settles;
 use shard_store::Stores;
 use std::alloc::{AllocError, Global};
+use trace_notes::Told;
 use trace_text::{ReportNames, Sheet, count_of_parts, parts_law};
 use world_sim::World;
 use world_sim::laws::made_law;
@@ -73,7 +74,7 @@ pub(crate) fn is_safe(charter: &Charter)
 /// trace has come.
 #[derive(Drop)]
 struct Desk {
-    facts: Facts,
+    facts: Told<Facts>,
     lines: Sheet,
     course: Course,
 }
@@ -93,7 +94,7 @@ fn replayed<B: Behaviour + Copy + Drop, K: Sink>(
 {
     let mut world = World::of(alloc, charter, behaviour)?;
     let mut desk = Desk {
-        facts: Facts::new(alloc),
+        facts: Told::new(Facts::new(alloc)),
         lines: Sheet::new(alloc),
         course: Course::start(),
     };

@@ -1,11 +1,11 @@
-use Rattle.std.specs.Prelude.{[]}
+use Rattle.std.proofs.Common.{◌≡◌}
 use Rattle.world_sim.specs.Played.{made_of}
 use Rattle.yard_top.specs.Replays.{IsOn}
 use Rattle.yard_top.proofs.following.follow.Given as goal
 
--- the trace goes on after the orders so far, whose facts are noted
+-- the trace goes on after the orders so far, whose facts were told
 abbrev pub invariant-loop-k : goal.invariant-loop-k
 invariant-loop-k g l = record {
   on : IsOn l.fn.world.script l.k l.world;
-  told : (x : g.N.Notes.About) → g.N.Notes.told l.fn.notes x [] → g.N.Notes.told l.notes x (made_of l.fn.world.script l.k).facts;
+  told : l.facts ≡ (made_of l.fn.world.script l.k).facts;
 }

@@ -1,4 +1,4 @@
-use Rattle.std.proofs.Common.{◌∙◌, ap, sym, subst}
+use Rattle.std.proofs.Common.{◌≡◌, ◌∙◌, ap, sym, subst}
 use Rattle.yard_model.specs.Script.{Script}
 use Rattle.yard_model.specs.World.{trace_of}
 use Rattle.world_sim.specs.Played.{Played}
@@ -19,4 +19,6 @@ returns-clause-text g c =
     after_nothing _ _ _ c.in_ok-push_json.ensures c.new-text.ensures.items ∙ (c.in_ok-last.ensures.json ∙ ap (λ (s : Script). replay_json s) script)
 
 pub returns-clause-stop : goal.returns-clause-stop
-returns-clause-stop g c = ap (λ (k : Course). k.stop) (c.in_ok-follow.ensures.told tt c.start-course.ensures ∙ ap (λ (w : Played). course (trace_of w.script)) c.in_ok-world.ensures)
+returns-clause-stop g c =
+    let told : c.follow.new.facts ≡ trace_of c.args.charter = c.in_ok-follow.ensures.told ∙ ap (λ (w : Played). trace_of w.script) c.in_ok-world.ensures in
+    ap (λ (k : Course). k.stop) (c.notes.ensures ∙ ap course told)

@@ -6,7 +6,7 @@ ghost use Rattle.std.specs.BTreeSet.{insert_key};
 ghost use Rattle.std.specs.List.Sorted.{IsStrictlySortedBy};
 ghost use Rattle.yard_model.specs.Counts.{names, count_of, place_of, no_row, with_count, IsCounted, CountsNone, CountsOneMore, CountsTheSame};
 
-use crate::hints::{NEAR, hash_of, hint_in, new_hints, set_hint};
+use crate::hints::{NEAR, hint_in, new_hints, set_hint};
 use crate::laws::name_law;
 use crate::name::EntityName;
 use crate::number::ProducerNo;
@@ -17,8 +17,8 @@ use std::marker::Model;
 /// Names, and for each of them how many sends each producer has to it. A count stays at
 /// 4,294,967,295 once it is there.
 ///
-/// The counts of a name stand where the tree says. A hint by the first and the last bytes of the name says
-/// the same most of the time, and the name that stands there is compared; so nothing is required of hints.
+/// The counts of a name stand where the tree says. A hint by the bytes of the name says the same most of the
+/// time, and the name that stands there is compared; so nothing is required of hints.
 #[derive(Drop)]
 pub struct Counts {
     places: BTreeMap<EntityName, usize>,
@@ -123,7 +123,7 @@ impl Counts {
     fn hinted(&self, entity: &EntityName) -> Option<usize>
         ensures { IfSome result (λ i. place_of self.now entity.now ≡ Some i) }
     {
-        let from = hash_of(entity.bytes());
+        let from = entity.hash();
         for step in 0..NEAR {
             let hint = hint_in(self.hints.as_slice(), from + step);
             if hint == 0 {
@@ -154,7 +154,7 @@ impl Counts {
             self.rows.pop();
             return Err(AllocError);
         }
-        set_hint(&mut self.hints, hash_of(entity.bytes()), place);
+        set_hint(&mut self.hints, entity.hash(), place);
         Ok(place)
     }
 

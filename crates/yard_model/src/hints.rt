@@ -1,6 +1,6 @@
 //! Hints by a hash of a name's bytes: where the name may stand. Nothing is said of them; who takes one looks
 //! whether the name stands there.
-ghost use Rattle.std.specs.Prelude.{◌+◌, ◌<◌, ◌≤◌, ◌^◌, length};
+ghost use Rattle.std.specs.Prelude.{◌+◌, ◌<◌, ◌≤◌, ◌^◌};
 
 use std::alloc::{AllocError, Global};
 
@@ -56,40 +56,19 @@ fn put_hint(hints: &mut Vec<u16>, from: usize, hint: u16)
     }
 }
 
-/// A number for these bytes, of their first eight and their last eight.
+/// A number for the 32 bytes of a name, padded with zeros: each of its four words takes a part in it, so no
+/// step hangs on how long the name is. The factors are odd numbers of 64 bits.
 #[inline(always)]
-pub(crate) fn hash_of(bytes: &[u8]) -> usize
+pub(crate) fn hash_of(cells: &[u8; 32]) -> usize
     ensures { result < 4294967296 }
 {
-    let count = bytes.len();
-    if count < 8 {
-        return hash_of_few(bytes);
-    }
-    folded(hash_with(
-        hash_with(count as u64, word_at(bytes, 0)),
-        word_at(bytes, count - 8),
-    ))
-}
-
-/// The same of less than a word: its first four bytes and its last, or its first, middle and last one.
-fn hash_of_few(bytes: &[u8]) -> usize
-    ensures { result < 4294967296 }
-{
-    let count = bytes.len();
-    if count == 0 {
-        return 0;
-    }
-    let word = if count < 4 {
-        u64::from(bytes[0]) << 16 | u64::from(bytes[count / 2]) << 8 | u64::from(bytes[count - 1])
-    } else {
-        u64::from(half_at(bytes, 0)) << 32 | u64::from(half_at(bytes, count - 4))
-    };
-    folded(hash_with(count as u64, word))
-}
-
-/// A word more. The factor is an odd number near 2^64 divided by the golden ratio.
-fn hash_with(hash: u64, word: u64) -> u64 {
-    (hash.rotate_left(29) ^ word).wrapping_mul(0x9e37_79b9_7f4a_7c15)
+    let front = word_at(cells, 0)
+        .wrapping_mul(0x9e37_79b9_7f4a_7c15)
+        .wrapping_add(word_at(cells, 8).wrapping_mul(0xc2b2_ae3d_27d4_eb4f));
+    let back = word_at(cells, 16)
+        .wrapping_mul(0xd6e8_feb8_6659_fd93)
+        .wrapping_add(word_at(cells, 24).wrapping_mul(0xa076_1d64_78bd_642f));
+    folded(front.wrapping_add(back))
 }
 
 /// Its higher half, the highest bits of which are put over the lowest: a product's highest bits hang on all
@@ -102,24 +81,17 @@ fn folded(hash: u64) -> usize
 }
 
 /// The number that eight bytes from a place on spell.
-fn word_at(bytes: &[u8], at: usize) -> u64
-    requires { at + 8 ≤ length bytes.now }
+fn word_at(cells: &[u8; 32], at: usize) -> u64
+    requires { at + 8 ≤ 32 }
 {
     u64::from_le_bytes([
-        bytes[at],
-        bytes[at + 1],
-        bytes[at + 2],
-        bytes[at + 3],
-        bytes[at + 4],
-        bytes[at + 5],
-        bytes[at + 6],
-        bytes[at + 7],
+        cells[at],
+        cells[at + 1],
+        cells[at + 2],
+        cells[at + 3],
+        cells[at + 4],
+        cells[at + 5],
+        cells[at + 6],
+        cells[at + 7],
     ])
-}
-
-/// The number that four bytes from a place on spell.
-fn half_at(bytes: &[u8], at: usize) -> u32
-    requires { at + 4 ≤ length bytes.now }
-{
-    u32::from_le_bytes([bytes[at], bytes[at + 1], bytes[at + 2], bytes[at + 3]])
 }

@@ -5,7 +5,7 @@ ghost use Rattle.std.specs.Ordering.{nat_cmp};
 ghost use Rattle.std.specs.Cmp.Lexicographic.{slice_cmp};
 ghost use Rattle.std.specs.List.Sorted.{IsStrictlySortedBy};
 
-use crate::hints::{NEAR, hash_of, hint_in, new_hints, set_hint};
+use crate::hints::{NEAR, hint_in, new_hints, set_hint};
 use crate::laws::name_law;
 use crate::name::EntityName;
 use std::alloc::{AllocError, Global};
@@ -15,8 +15,8 @@ use std::sync::Arc;
 /// Names in the order of their bytes, each once; seen as their list. What it keeps is shared by all that
 /// `share` gives, in any threads.
 ///
-/// A hint by a name's first and last bytes says where it stands most of the time, and the name that stands
-/// there is compared; so nothing is required of hints.
+/// A hint by a name's bytes says where it stands most of the time, and the name that stands there is
+/// compared; so nothing is required of hints.
 #[derive(Drop)]
 pub struct NameList {
     kept: Arc<Kept, Global>,
@@ -86,7 +86,7 @@ impl NameList {
 fn hinted_in(names: &[EntityName], hints: &[u16], name: &EntityName) -> Option<usize>
     ensures { IfSome result (λ k. (k < length names.now) × (slice_index_or names.now k [] ≡ name.now)) }
 {
-    let from = hash_of(name.bytes());
+    let from = name.hash();
     for step in 0..NEAR {
         let hint = hint_in(hints, from + step);
         if hint == 0 {
@@ -115,7 +115,7 @@ fn stands_at(names: &[EntityName], place: usize, name: &EntityName) -> bool
 fn hints_of(alloc: Global, names: &[EntityName]) -> Result<Vec<u16>, AllocError> {
     let mut hints = new_hints(alloc, names.len())?;
     for place in 0..names.len() {
-        set_hint(&mut hints, hash_of(names[place].bytes()), place);
+        set_hint(&mut hints, names[place].hash(), place);
     }
     Ok(hints)
 }

@@ -53,6 +53,7 @@ impl Out {
     }
 
     /// Makes the spare at least `n`. The only error is want of memory.
+    #[inline(always)]
     pub fn reserve(&mut self, n: u32) -> Result<(), AllocError>
         ensures items { self.new.items ≡ self.old.items }
         ensures ok { OnOk result (n ≤ self.new.spare) }
@@ -61,9 +62,22 @@ impl Out {
     {
         let wanted = n as usize;
         if wanted > self.free {
-            self.list.reserve(wanted)?;
-            self.free = wanted;
+            self.grow(wanted)
+        } else {
+            Ok(())
         }
+    }
+
+    /// Makes the spare so much, which is more than it is. The only error is want of memory.
+    #[inline(never)]
+    fn grow(&mut self, wanted: usize) -> Result<(), AllocError>
+        requires { self.old.spare ≤ wanted }
+        ensures items { self.new.items ≡ self.old.items }
+        ensures ok { OnOk result (self.new.spare ≡ wanted) }
+        ensures err { OnErr result (self.new ≡ self.old) }
+    {
+        self.list.reserve(wanted)?;
+        self.free = wanted;
         Ok(())
     }
 

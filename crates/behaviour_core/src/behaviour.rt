@@ -57,6 +57,12 @@ pub trait Behaviour {
         requires event { IsTrue (is_applicable state.now event.now) }
         ensures { result ≡ apply state.now event.now };
 
+    /// The same in its place: a journal that is read again makes no state for each of its events.
+    fn apply_in_place(&self, state: &mut State, event: &Event)
+        requires state { IsTrue (is_valid (kind_of self.now) state.old) }
+        requires event { IsTrue (is_applicable state.old event.now) }
+        ensures { state.new ≡ apply state.old event.now };
+
     /// The event of version 2: an event of version 1 that has one there becomes it, and every other
     /// event is itself.
     fn adapt(&self, event: &Event) -> Event

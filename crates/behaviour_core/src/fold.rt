@@ -13,8 +13,18 @@ pub fn state_after<B: Behaviour>(behaviour: &B, state: &State, events: &[Event])
     ensures valid { IsTrue (is_valid (B.kind_of behaviour.now) result) }
 {
     let mut current = *state;
-    for event in events {
-        current = behaviour.apply(&current, event);
-    }
+    apply_all(behaviour, &mut current, events);
     current
+}
+
+/// The same in its place: a state goes on to that after these events.
+pub fn apply_all<B: Behaviour>(behaviour: &B, state: &mut State, events: &[Event])
+    requires state { IsTrue (is_valid (B.kind_of behaviour.now) state.old) }
+    requires events { IsTrue (are_applicable state.old events.now) }
+    ensures value { state.new ≡ fold apply state.old events.now }
+    ensures valid { IsTrue (is_valid (B.kind_of behaviour.now) state.new) }
+{
+    for event in events {
+        behaviour.apply_in_place(state, event);
+    }
 }

@@ -9,5 +9,5 @@ pub mod laws;
 
 pub use behaviour::Behaviour;
 pub use conditions::{is_applicable, is_of_kind, is_valid};
-pub use fold::state_after;
+pub use fold::{apply_all, state_after};
 pub use yard_model::Decision;

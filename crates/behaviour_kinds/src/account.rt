@@ -68,6 +68,10 @@ impl Behaviour for Account {
         state.after(event)
     }
 
+    fn apply_in_place(&self, state: &mut State, event: &Event) {
+        *state = state.after(event);
+    }
+
     fn adapt(&self, event: &Event) -> Event {
         adapted(event)
     }

@@ -1,9 +1,10 @@
 //! Counters.
-ghost use Rattle.std.specs.Prelude.{◌≡◌, ◌≤◌};
+ghost use Rattle.std.specs.Prelude.{◌≡◌, ◌≤◌, IsTrue};
 ghost use Rattle.yard_model.specs.declared.event.Kind.TheVariants as kind;
 ghost use Rattle.behaviour_kinds.specs.declared.version.Version.TheVariants as version;
 ghost use Rattle.behaviour_kinds.specs.Versions.{number};
-ghost use Rattle.yard_model.specs.Behaviour.{decide, most};
+ghost use Rattle.yard_model.specs.declared.event.Event.TheVariants as event;
+ghost use Rattle.yard_model.specs.Behaviour.{apply, decide, is_applicable, most};
 
 use crate::decisions::{MOST, answered, refused, taken};
 use crate::version::{Version, adapted};
@@ -67,8 +68,28 @@ impl Behaviour for Counter {
         state.after(event)
     }
 
+    #[inline(always)]
+    fn apply_in_place(&self, state: &mut State, event: &Event) {
+        match event {
+            Event::Added(k) => add_to(state, *k),
+            _ => *state = state.after(event),
+        }
+    }
+
     fn adapt(&self, event: &Event) -> Event {
         adapted(event)
+    }
+}
+
+/// A counter's total rises.
+#[inline(always)]
+fn add_to(state: &mut State, k: u16)
+    requires { IsTrue (is_applicable state.old (event.Added k)) }
+    ensures { state.new ≡ apply state.old (event.Added k) }
+{
+    match state {
+        State::Counter(total) => *total += u64::from(k),
+        _ => {}
     }
 }
 

@@ -50,6 +50,10 @@ impl Behaviour for Tally {
         state.after(event)
     }
 
+    fn apply_in_place(&self, state: &mut State, event: &Event) {
+        *state = state.after(event);
+    }
+
     fn adapt(&self, event: &Event) -> Event {
         match event {
             Event::Deposited(k) => Event::DepositedWithMemo(*k, 0),

@@ -41,20 +41,30 @@ impl Entries {
 
     /// Makes the spare at least `n`. It answers want of memory too where there would be 2^32
     /// entries; after want of memory nothing changes.
+    #[inline(always)]
     pub(crate) fn reserve(&mut self, n: u32) -> Result<(), AllocError>
         ensures items { self.new.items ≡ self.old.items }
         ensures ok { OnOk result (n ≤ self.new.spare) }
         ensures spare { self.old.spare ≤ self.new.spare }
         ensures err { OnErr result (self.new ≡ self.old) }
     {
-        if n > self.spare {
-            let count = self.list.len();
-            if count + n as usize > u32::MAX as usize {
-                return Err(AllocError);
-            }
-            self.list.reserve(n as usize)?;
-            self.spare = n;
+        if n > self.spare { self.grow(n) } else { Ok(()) }
+    }
+
+    /// The same of a spare that is less.
+    #[inline(never)]
+    fn grow(&mut self, n: u32) -> Result<(), AllocError>
+        requires { self.old.spare < n }
+        ensures items { self.new.items ≡ self.old.items }
+        ensures ok { OnOk result (self.new.spare ≡ n) }
+        ensures err { OnErr result (self.new ≡ self.old) }
+    {
+        let count = self.list.len();
+        if count + n as usize > u32::MAX as usize {
+            return Err(AllocError);
         }
+        self.list.reserve(n as usize)?;
+        self.spare = n;
         Ok(())
     }
 

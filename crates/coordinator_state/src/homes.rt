@@ -19,7 +19,8 @@ const SHARDS: usize = 128;
 #[derive(Drop)]
 pub(crate) struct Homes {
     homes: Vec<Option<Incarnation>>,
-    loads: Loads,
+    // on the heap, so that a store is moved without them
+    loads: Box<Loads, Global>,
 }
 
 impl Model for Homes {
@@ -27,9 +28,9 @@ impl Model for Homes {
 
     ghost Value = { Placed };
 
-    ghost view = { λ h. record { regions = regions_of h.loads; homes = h.homes.items } };
+    ghost view = { λ h. record { regions = regions_of h.loads.value; homes = h.homes.items } };
 
-    ghost invariant = { λ h. AreHomes h.homes.items h.loads };
+    ghost invariant = { λ h. AreHomes h.homes.items h.loads.value };
 }
 
 impl Homes {
@@ -39,10 +40,8 @@ impl Homes {
         ensures homes { IfOk result (λ h. h.homes ≡ replicate 128 None) }
     {
         let homes = vec![in alloc; None; SHARDS]?;
-        Ok(Homes {
-            homes,
-            loads: Loads::empty(),
-        })
+        let loads = boxed(alloc, Loads::empty())?;
+        Ok(Homes { homes, loads })
     }
 
     /// A new region, with no shards.
@@ -64,7 +63,7 @@ impl Homes {
         ensures homes { self.new.homes ≡ map (home_without r.now) self.old.homes }
     {
         let others = loads_without(&self.loads, r);
-        self.loads = others;
+        *self.loads = others;
         clear_homes(self.homes.as_mut_slice(), r);
     }
 
@@ -76,7 +75,8 @@ impl Homes {
         ensures within { s < length self.old.homes }
     {
         let place = s.get() as usize;
-        self.loads = loads_after(&self.loads, s, &home);
+        let after = loads_after(&self.loads, s, &home);
+        *self.loads = after;
         self.homes[place] = home;
     }
 
@@ -86,10 +86,8 @@ impl Homes {
         ensures homes { IfOk result (λ h. h.homes ≡ replicate 128 None) }
     {
         let homes = vec![in alloc; None; SHARDS]?;
-        Ok(Homes {
-            homes,
-            loads: loads_cleared(&self.loads),
-        })
+        let loads = boxed(alloc, loads_cleared(&self.loads))?;
+        Ok(Homes { homes, loads })
     }
 
     pub(crate) fn home(&self, s: ShardNo) -> Option<Incarnation>
@@ -111,5 +109,15 @@ impl Homes {
         ensures apart { AllPairs AreApart result.now }
     {
         &self.loads
+    }
+}
+
+/// These loads on the heap. The only error is want of memory.
+fn boxed(alloc: Global, loads: Loads) -> Result<Box<Loads, Global>, AllocError>
+    ensures { IfOk result (λ b. b.value ≡ loads) }
+{
+    match Box::new(alloc, loads) {
+        Ok(kept) => Ok(kept),
+        Err(_) => Err(AllocError),
     }
 }

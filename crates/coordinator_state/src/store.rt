@@ -64,6 +64,7 @@ impl CoordStore {
 
     /// Makes the spare at least `n`. The only error is want of memory, which is answered too where
     /// entries and spare would come to 2^32; then nothing changes.
+    #[inline(always)]
     pub fn reserve(&mut self, n: u32) -> Result<(), AllocError>
         ensures script { self.new.script ≡ self.old.script }
         ensures entries { self.new.entries ≡ self.old.entries }

@@ -201,6 +201,7 @@ impl QueueStore {
 
     /// Makes the spare at least `n`. The only error is want of memory, which comes too where the
     /// entries and the spare would be 2^32 or more; then nothing changes.
+    #[inline(always)]
     pub fn reserve(&mut self, n: u32) -> Result<(), AllocError>
         ensures script { self.new.script ≡ self.old.script }
         ensures producer { self.new.producer ≡ self.old.producer }
@@ -211,12 +212,25 @@ impl QueueStore {
     {
         let wanted = n as usize;
         if wanted > self.free {
-            if self.entries.len() + wanted >= ENTRIES {
-                return Err(AllocError);
-            }
-            self.entries.reserve(wanted)?;
-            self.free = wanted;
+            self.grow(wanted)
+        } else {
+            Ok(())
         }
+    }
+
+    /// The same of a spare that is less.
+    #[inline(never)]
+    fn grow(&mut self, wanted: usize) -> Result<(), AllocError>
+        requires less { self.old.spare ≤ wanted }
+        requires fits { wanted < 4294967296 }
+        ensures ok { OnOk result (self.new ≡ record self.old { spare = wanted }) }
+        ensures err { OnErr result (self.new ≡ self.old) }
+    {
+        if self.entries.len() + wanted >= ENTRIES {
+            return Err(AllocError);
+        }
+        self.entries.reserve(wanted)?;
+        self.free = wanted;
         Ok(())
     }
 

@@ -1,9 +1,10 @@
 //! A shard's place in a round.
 ghost use Rattle.std.specs.Prelude.{◌≡◌, ◌<◌, ◌≤◌, true, length, option_map};
 ghost use Rattle.yard_model.specs.ShardSet.{has};
+ghost use Rattle.handoff_steps.specs.Seen.{owner_at};
 ghost use Rattle.handoff_steps.specs.Places.{is_open, is_awaiting, is_stopping, is_owned, awaited_in, acknowledged_by, ended, next_step, home_in, regions_of, first_place};
 
-use crate::regions::Regions;
+use crate::regions::{NO_REGION, Regions};
 use crate::step::Step;
 use crate::waits::{awaited_of, is_awaited, is_none_awaited, without};
 use yard_model::{Incarnation, Load, ShardNo, ShardSet};
@@ -15,17 +16,19 @@ pub(crate) enum Cell {
     Out,
     /// It moves.
     Moves {
-        /// Its home when the round began.
-        owner: Incarnation,
+        /// Its home when the round began, by its place among the round's regions.
+        owner: u8,
         /// A bit for each region, one where it is awaited.
         awaited: u16,
     },
     /// It is done.
     Done {
-        /// Its home when the round began.
-        owner: Incarnation,
+        /// Its home when the round began, by its place among the round's regions.
+        owner: u8,
     },
 }
+
+const _: () = prove!(size_of::<Cell>() == 4);
 
 impl Cell {
     ghost use Rattle.handoff_steps.specs.Seen.{seen};
@@ -74,7 +77,8 @@ impl Cell {
         ensures { result ≡ is_stopping who.now (seen regions.now self.now) }
     {
         match self {
-            Cell::Moves { owner, awaited } => is_none_awaited(regions, *awaited) && *who == *owner,
+            Cell::Moves { owner, awaited } => is_none_awaited(regions, *awaited)
+                && *who == owner_at(regions, *owner),
             _ => false,
         }
     }
@@ -85,8 +89,8 @@ impl Cell {
     {
         match self {
             Cell::Out => None,
-            Cell::Moves { owner, .. } => Some(*owner),
-            Cell::Done { owner } => Some(*owner),
+            Cell::Moves { owner, .. } => Some(owner_at(regions, *owner)),
+            Cell::Done { owner } => Some(owner_at(regions, *owner)),
         }
     }
 
@@ -134,7 +138,7 @@ impl Cell {
         match self {
             Cell::Moves { owner, awaited } => {
                 if is_none_awaited(regions, *awaited) {
-                    Step::HandOff(*owner)
+                    Step::HandOff(owner_at(regions, *owner))
                 } else {
                     Step::Wait
                 }
@@ -149,19 +153,30 @@ impl Cell {
     {
         match self {
             Cell::Out => false,
-            Cell::Moves { owner, .. } => *who == *owner,
-            Cell::Done { owner } => *who == *owner,
+            Cell::Moves { owner, .. } => *who == owner_at(regions, *owner),
+            Cell::Done { owner } => *who == owner_at(regions, *owner),
         }
     }
 }
 
-/// The region of the first load that has the shard.
-fn home_of(loads: &[Load], s: ShardNo) -> Option<Incarnation>
-    ensures { result ≡ home_in loads.now s }
+/// The region at this place; a fixed one where there is none.
+fn owner_at(regions: &[Incarnation], place: u8) -> Incarnation
+    ensures { result ≡ owner_at regions.now place }
 {
-    for load in loads {
-        if load.shards.has(s) {
-            return Some(load.region);
+    match regions.get(place as usize) {
+        Some(region) => *region,
+        None => NO_REGION,
+    }
+}
+
+/// The place of the first load that has the shard.
+fn home_of(loads: &[Load], s: ShardNo) -> Option<u8>
+    requires { length loads.now ≤ 16 }
+    ensures { option_map (owner_at (regions_of loads.now)) result ≡ home_in loads.now s }
+{
+    for place in 0..loads.len() {
+        if loads[place].shards.has(s) {
+            return Some(place as u8);
         }
     }
     None

@@ -1,4 +1,5 @@
 use Rattle.std.proofs.Common.{take, get_or, if◌then◌else◌, ap, sym, ◌∙◌, arith}
+use Rattle.handoff_steps.specs.declared.cell.Cell.TheVariants as cell
 use Rattle.handoff_steps.specs.Places.{place_at, moving, acknowledged_by, ended, place_without, lost_at}
 use Rattle.handoff_steps.specs.Seen.{seen}
 use Rattle.handoff_steps.proofs.PlaceLaws.{found, placed, moving_with, all_there, lost_acts, lost_here}
@@ -8,8 +9,8 @@ pub returns-then-is_owned-clause-place : goal.returns-then-is_owned-clause-place
 returns-then-is_owned-clause-place c =
     let i = c.self.inside in
     let f = seen (take i.count i.regions) in
-    let p = f (get_or i.cells c.get-place.result c.index-self-place.result) in
-    placed f c.args.self.now i.stamp i.cells c.get-place.result c.args.s c.index-self-place.result c.ended-next.result (place_without c.args.who)
+    let p = f (get_or i.cells c.get-place.result cell.Out) in
+    placed f c.args.self.now i.stamp i.cells c.get-place.result c.args.s cell.Out c.ended-next.result (place_without c.args.who)
     c.self.view_is c.get-place.ensures.value (omega (arith, c.self.invariant, c.get-place.ensures))
     (c.ended-next.ensures ∙ ap (λ b. if b then ended p else acknowledged_by c.args.who p) (sym (sym c.is_owned.ensures ∙ c.if-is_owned.true)))
 
@@ -25,8 +26,8 @@ pub returns-clause-place : goal.returns-clause-place
 returns-clause-place c =
     let i = c.self.inside in
     let f = seen (take i.count i.regions) in
-    let p = f (get_or i.cells c.get-place.result c.index-self-place.result) in
-    placed f c.args.self.now i.stamp i.cells c.get-place.result c.args.s c.index-self-place.result c.acknowledged_by-next.result (place_without c.args.who)
+    let p = f (get_or i.cells c.get-place.result cell.Out) in
+    placed f c.args.self.now i.stamp i.cells c.get-place.result c.args.s cell.Out c.acknowledged_by-next.result (place_without c.args.who)
     c.self.view_is c.get-place.ensures.value (omega (arith, c.self.invariant, c.get-place.ensures))
     (c.acknowledged_by-next.ensures ∙ ap (λ b. if b then ended p else acknowledged_by c.args.who p) (sym (sym c.is_owned.ensures ∙ c.if-is_owned.false)))
 

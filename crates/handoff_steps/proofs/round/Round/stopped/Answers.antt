@@ -1,4 +1,5 @@
 use Rattle.std.proofs.Common.{take, ap, ◌∙◌, arith}
+use Rattle.handoff_steps.specs.declared.cell.Cell.TheVariants as cell
 use Rattle.handoff_steps.specs.Places.{place_at, moving, ended}
 use Rattle.handoff_steps.specs.Seen.{seen}
 use Rattle.handoff_steps.proofs.PlaceLaws.{found, placed, moving_with, all_there, stop, stop_acts, stop_here}
@@ -8,7 +9,7 @@ pub returns-clause-place : goal.returns-clause-place
 returns-clause-place c = λ taken.
     let i = c.self.inside in
     let f = seen (take i.count i.regions) in
-    placed f c.args.self.now i.stamp i.cells c.get-place.result c.args.s c.index-self-place.result c.ended-next.result ended
+    placed f c.args.self.now i.stamp i.cells c.get-place.result c.args.s cell.Out c.ended-next.result ended
     c.self.view_is c.get-place.ensures.value (omega (arith, c.self.invariant, c.get-place.ensures)) c.ended-next.ensures
 
 pub returns-clause-moving : goal.returns-clause-moving

@@ -129,15 +129,12 @@ fn next_of(next: &Vec<u16>, place: u16) -> u16
 fn no_chains(alloc: Global, chains: usize) -> Result<Vec<Chain>, AllocError>
     ensures { IfOk result (λ v. v.items ≡ replicate chains no_chain) }
 {
-    let mut none = Vec::with_capacity(alloc, chains)?;
-    for _ in 0..chains {
-        none.push(Chain {
-            first: 0,
-            last: 0,
-            len: 0,
-        })?;
-    }
-    Ok(none)
+    let none = Chain {
+        first: 0,
+        last: 0,
+        len: 0,
+    };
+    vec![in alloc; none; chains]
 }
 
 /// One item more at the end, for which there is room.
@@ -146,8 +143,5 @@ pub(crate) fn push_within<T: Copy>(items: &mut Vec<T>, item: T)
     ensures items { items.new.items ≡ items.old.items ++ item ∷ [] }
     ensures room { vec_capacity items.old ≤ vec_capacity items.new }
 {
-    match items.push(item) {
-        Ok(()) => {}
-        Err(_) => unreachable!(),
-    }
+    items.push_reserved(item);
 }

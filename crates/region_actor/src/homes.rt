@@ -36,6 +36,7 @@ impl Region {
     }
 
     /// Learns that this is a shard's home.
+    #[inline(never)]
     pub(crate) fn learn(&mut self, s: ShardNo, home: &Incarnation, stamp: &Stamp, out: &mut Out)
         requires shard { s < self.old.script.config.shards }
         requires room { length (flat_map item_of (learn s home.now stamp.now self.old.state)) ≤ out.old.spare }
@@ -52,6 +53,7 @@ impl Region {
 
     /// A shard is to move: its home is forgotten where the stamp is a new one, and the coordinator
     /// is told. A stamp that is older than the last that was taken does nothing.
+    #[inline(never)]
     pub(crate) fn begin_hand_off(
         &mut self,
         s: ShardNo,

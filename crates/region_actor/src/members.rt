@@ -27,6 +27,7 @@ impl Region {
 
     /// Takes these members as its view, of a version greater than its own, and forgets each home
     /// that isn't among them, shards rising.
+    #[inline(never)]
     pub(crate) fn take_view(&mut self, version: u32, members: &Members, out: &mut Out)
         requires newer { self.old.state.version < version }
         requires room { length (flat_map item_of (take_view version members.now self.old.state)) ≤ out.old.spare }

@@ -308,6 +308,7 @@ impl Region {
     }
 
     /// A home is known no more.
+    #[inline(never)]
     pub(crate) fn lose_home(&mut self, s: ShardNo, out: &mut Out)
         requires shard { s < self.old.script.config.shards }
         requires room { 0 < out.old.spare }
@@ -331,6 +332,7 @@ impl Region {
     }
 
     /// A home is known.
+    #[inline(never)]
     pub(crate) fn set_home(&mut self, s: ShardNo, home: &Incarnation, out: &mut Out)
         requires shard { s < self.old.script.config.shards }
         requires room { 0 < out.old.spare }
@@ -344,6 +346,7 @@ impl Region {
     }
 
     /// This member is asked for the home of a shard.
+    #[inline(never)]
     pub(crate) fn ask_member(&mut self, s: ShardNo, member: &Incarnation, out: &mut Out)
         requires shard { s < self.old.script.config.shards }
         requires room { 0 < out.old.spare }
@@ -357,6 +360,7 @@ impl Region {
     }
 
     /// A message is kept as the newest of its shard, which is this one, where the buffer has room; else it is dropped.
+    #[inline(never)]
     pub(crate) fn keep(&mut self, s: ShardNo, message: &Message, out: &mut Out)
         requires shard { s ≡ shard_of self.old.state.set message.now.entity }
         requires range { s < self.old.script.config.shards }
@@ -388,6 +392,7 @@ impl Region {
     }
 
     /// A message is posted; what the region knows stays.
+    #[inline(never)]
     pub(crate) fn post_message(&self, to: &Incarnation, message: &Message, out: &mut Out)
         requires room { 0 < out.old.spare }
         ensures items { out.new.items ≡ out.old.items ++ item.Post (record { from = self.now.state.who; to = to.now; body = body.Sequenced message.now }) ∷ [] }

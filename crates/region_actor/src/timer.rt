@@ -52,6 +52,7 @@ impl Region {
     }
 
     /// Asks the oldest member to move the shards away.
+    #[inline(never)]
     fn ask_shutdown(&self, out: &mut Out)
         requires room { length (flat_map item_of (post_oldest body.GracefulShutdownReq self.now.state)) ≤ out.old.spare }
         ensures items { out.new.items ≡ out.old.items ++ flat_map item_of (post_oldest body.GracefulShutdownReq self.now.state) }
@@ -79,6 +80,7 @@ impl Region {
     }
 
     /// The same, of each shard.
+    #[inline(never)]
     fn ask_each_again(&mut self, out: &mut Out)
         requires room { length (flat_map item_of (flat_map (ask_again self.old.state) (shards self.old.state.set))) ≤ out.old.spare }
         ensures items { out.new.items ≡ out.old.items ++ flat_map item_of (flat_map (ask_again self.old.state) (shards self.old.state.set)) }

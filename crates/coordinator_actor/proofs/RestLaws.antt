@@ -1,9 +1,12 @@
 -- The registered regions, looked at one after the other: who is in the view stays, who isn't is terminated.
 use Rattle.std.proofs.Common.{◌≡◌, sym, ap, ◌∙◌, refl}
-use Rattle.std.specs.Prelude.{Bool, true, false, ◌||◌, not, cond, List, [], ◌∷◌, if◌then◌else◌}
+use Rattle.std.specs.Prelude.{Bool, true, false, ◌||◌, not, cond, List, [], ◌∷◌, filter, if◌then◌else◌}
 use Rattle.std.specs.List.{list_all}
 use Rattle.yard_model.specs.declared.incarnation.Incarnation.{Incarnation}
+use Rattle.yard_model.specs.Coordinator.{Coordinator, coordinator_after, registered, terminate, terminate_lost}
+use Rattle.yard_model.specs.Turns.{for_each}
 use Rattle.yard_model.specs.Words.{is_same, is_among, without}
+use Rattle.coordinator_actor.specs.Held.{are_viewed}
 use Rattle.coordinator_actor.proofs.Same.{and_both, both, or_left, or_right, same_is, same_itself, same_turned}
 use Rattle.coordinator_actor.specs.Parts.{stay}
 use Rattle.coordinator_actor.proofs.Differ.{differ, of_not, left_among}
@@ -79,3 +82,13 @@ rest_none view regs k = all_to (λ x. is_among x view || false) (λ x. is_among 
     left : (b : Bool) → (b || false) ≡ true → b ≡ true
     left true e = refl
     left false e = e
+
+-- where all are in the view, none is lost
+none_left : (view regs : List Incarnation) → list_all (λ r. is_among r view) regs ≡ true → filter (λ r. not (is_among r view)) regs ≡ []
+none_left view [] e = refl
+none_left view (x ∷ xs) e =
+    let k : _ × _ = and_both (is_among x view) (list_all (λ r. is_among r view) xs) e in
+    ap (λ b. cond (not b) (x ∷ filter (λ r. not (is_among r view)) xs) (filter (λ r. not (is_among r view)) xs)) k.0 ∙ none_left view xs k.1
+
+pub all_stay_viewed : (view : List Incarnation) (st : Coordinator) → are_viewed view st.entries ≡ true → terminate_lost view st ≡ []
+all_stay_viewed view st e = ap (λ (rs : List Incarnation). for_each coordinator_after terminate rs st) (none_left view (registered st) e)

@@ -15,15 +15,16 @@ ghost use Rattle.yard_model.specs.Words.{is_among, is_at, is_empty};
 ghost use Rattle.coordinator_state.specs.Coord.{IsLoadOf};
 ghost use Rattle.handoff_steps.specs.Places.{moving, all_shards};
 ghost use Rattle.least_shard.specs.Spread.{shares_of, AreOfDifferentRegions};
-ghost use Rattle.coordinator_actor.specs.Held.{AreHomed, Held};
+ghost use Rattle.coordinator_actor.specs.Held.{AreHomed, Held, are_viewed};
 ghost use Rattle.coordinator_actor.specs.Parts.{at_shard, is_stopped_by, next_stamp, opened, shards_in, step_posts};
 
 use crate::flags::Flags;
 use crate::lost::lose_all;
 use crate::quitters::Quitters;
-use crate::regions::{is_same, of_loads};
+use crate::regions::{all_viewed, is_same, of_loads};
 use coordinator_state::CoordStore;
 use handoff_steps::{Regions, Round, Step};
+use membership_view::View;
 use std::alloc::{AllocError, Global};
 use std::marker::{Model, PhantomData};
 use yard_model::{
@@ -113,6 +114,7 @@ impl Coordinator {
 
     /// Makes the store's spare at least 300 entries, and room for one region more that leaves. The
     /// only error is want of memory; then its state is as before.
+    #[inline(always)]
     pub fn reserve(&mut self) -> Result<(), AllocError>
         ensures script { self.new.script ≡ self.old.script }
         ensures state { self.new.state ≡ self.old.state }
@@ -121,8 +123,32 @@ impl Coordinator {
         ensures enough { OnOk result (300 ≤ self.new.spare) }
         ensures place { OnOk result (1 ≤ self.new.places) }
     {
+        if self.is_ready() {
+            return Ok(());
+        }
+        self.reserve_more()
+    }
+
+    /// Whether there is room for all that a turn may write, and for one region more that leaves.
+    fn is_ready(&self) -> bool
+        ensures entries { result ≡ true → 300 ≤ self.now.spare }
+        ensures places { result ≡ true → 1 ≤ self.now.places }
+    {
+        self.store.spare() >= 300 && self.quitting.spare() >= 1
+    }
+
+    /// The same as `reserve`, where there isn't; with room for some turns more.
+    #[inline(never)]
+    fn reserve_more(&mut self) -> Result<(), AllocError>
+        ensures script { self.new.script ≡ self.old.script }
+        ensures state { self.new.state ≡ self.old.state }
+        ensures spare { self.old.spare ≤ self.new.spare }
+        ensures places { self.old.places ≤ self.new.places }
+        ensures enough { OnOk result (300 ≤ self.new.spare) }
+        ensures place { OnOk result (1 ≤ self.new.places) }
+    {
         self.quitting.reserve(1)?;
-        self.store.reserve(300)
+        self.store.reserve(364)
     }
 
     /// Whose coordinator it is.
@@ -194,6 +220,13 @@ impl Coordinator {
     {
         self.store.entries();
         self.store.lent_loads()
+    }
+
+    /// Whether every registered region is in the view.
+    pub(crate) fn are_viewed(&self, view: &View) -> bool
+        ensures { result ≡ are_viewed view.now.members self.now.state.entries }
+    {
+        all_viewed(self.store.lent_loads(), view)
     }
 
     /// Whether some region has said that it leaves.

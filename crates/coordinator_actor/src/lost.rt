@@ -31,6 +31,26 @@ impl Coordinator {
         ensures least { self.old.spare ≤ self.new.spare + 16 }
         ensures places { self.new.places ≡ self.old.places }
     {
+        if self.are_viewed(view) {
+            return;
+        }
+        self.lose_regions(view, out);
+    }
+
+    /// The same, where some registered region isn't in the view.
+    #[inline(never)]
+    fn lose_regions(&mut self, view: &View, out: &mut Out)
+        requires store { 16 ≤ self.old.spare }
+        requires room { length (flat_map item_of (terminate_lost view.now.members self.old.state)) ≤ out.old.spare }
+        ensures items { out.new.items ≡ out.old.items ++ flat_map item_of (terminate_lost view.now.members self.old.state) }
+        ensures state { self.new.state ≡ fold coordinator_after self.old.state (terminate_lost view.now.members self.old.state) }
+        ensures script { self.new.script ≡ self.old.script }
+        ensures viewed { IsTrue (are_viewed view.now.members self.new.state.entries) }
+        ensures spare { out.new.spare + length (flat_map item_of (terminate_lost view.now.members self.old.state)) ≡ out.old.spare }
+        ensures entries { length self.new.state.entries + self.new.spare ≡ length self.old.state.entries + self.old.spare }
+        ensures least { self.old.spare ≤ self.new.spare + 16 }
+        ensures places { self.new.places ≡ self.old.places }
+    {
         let regions = self.regions();
         for region in regions.as_slice() {
             self.terminate_if_lost(region, view, out);

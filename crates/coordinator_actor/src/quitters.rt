@@ -39,6 +39,13 @@ impl Quitters {
         }
     }
 
+    /// How many regions more it takes with no memory.
+    pub(crate) fn spare(&self) -> usize
+        ensures { result ≡ self.now.spare }
+    {
+        self.free
+    }
+
     /// Makes the spare at least `n`. The only error is want of memory; then nothing changes.
     pub(crate) fn reserve(&mut self, n: u32) -> Result<(), AllocError>
         ensures items { self.new.items ≡ self.old.items }

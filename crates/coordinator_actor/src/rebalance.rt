@@ -29,6 +29,10 @@ impl Coordinator {
         ensures entries { self.new.spare ≡ self.old.spare }
         ensures places { self.new.places ≡ self.old.places }
     {
+        if !self.is_closed() {
+            out.push(Item::Fact(Fact::Nothing));
+            return;
+        }
         let shards = self.picked(limit);
         self.begin_picked(&shards, out);
     }

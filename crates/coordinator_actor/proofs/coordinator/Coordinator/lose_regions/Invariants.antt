@@ -5,7 +5,7 @@ use Rattle.yard_model.specs.Coordinator.{coordinator_after, registered, terminat
 use Rattle.yard_model.specs.Move.{item_of}
 use Rattle.coordinator_actor.proofs.MoveLaws.{rest_of}
 use Rattle.coordinator_actor.proofs.RestLaws.{IsRest}
-use Rattle.coordinator_actor.proofs.coordinator.Coordinator.view_taken.Given as goal
+use Rattle.coordinator_actor.proofs.coordinator.Coordinator.lose_regions.Given as goal
 
 abbrev pub invariant-loop-region : goal.invariant-loop-region
 invariant-loop-region l = record {

@@ -9,10 +9,18 @@ use Rattle.yard_model.specs.declared.incarnation.Incarnation.{Incarnation}
 use Rattle.yard_model.specs.Script.{Script, setting}
 use Rattle.yard_model.specs.Shard.{shard, absolute, java_hash}
 use Rattle.yard_model.specs.Words.{at}
-use Rattle.producer_ctl.specs.Named.{IsNamed}
+use Rattle.producer_ctl.specs.declared.names.Kept.{Kept}
+use Rattle.producer_ctl.specs.Named.{AreKept, IsNamed}
 use Rattle.producer_ctl.specs.Paired.{name_at}
 use Rattle.producer_ctl.specs.Produced.{Produced}
 use Rattle.producer_ctl.specs.Producing.{IsProducing, IsHeld, HasPlaces}
+
+-- what is lent of what is kept is so too
+pub lent : {k x : Kept} → k ≡ x → AreKept x → AreKept k
+lent {k} {x} e are = subst AreKept (sym e) are
+
+pub lent_script : {k x : Kept} {v : Script} → k ≡ x → x.script.value ≡ v → k.script.value ≡ v
+lent_script {k} {x} {v} e seen = ap (λ (k : Kept). k.script.value) e ∙ seen
 
 -- what is kept at a place is the shard of the name there
 pub named_shard : (i r : ℕ) {c v : Script} {names : List (List ℕ)} {shards : List ℕ} → IsNamed c names shards → c ≡ v → i < length (setting v).names → r ≡ slice_index_or shards i r → r ≡ shard v.config.shards (name_at (setting v).names i)

@@ -23,7 +23,7 @@ use Rattle.plain_laws.proofs.Names.{name_itself}
 use Rattle.name_index.proofs.NameLaws.{another_name}
 use Rattle.producer_ctl.specs.declared.pair.Pair.{Pair}
 use Rattle.producer_ctl.specs.declared.place.Place.{Place}
-use Rattle.producer_ctl.specs.Paired.{IsPair, IsPlace, name_at, no_pair, progress_of}
+use Rattle.producer_ctl.specs.Paired.{IsPair, IsPlace, is_waiting, name_at, no_pair, progress_of}
 use Rattle.producer_ctl.specs.Produced.{Produced, IsProduced, produced, moved, room_step}
 
 -- a place of the script that contracts see is one of the script that is kept
@@ -40,6 +40,11 @@ pair_is {who} {number} {store} {pairs} {v} {p} {was} k seen is read =
     let here : IsPlace store.script p = placed_in k seen is in
     let kept : slice_index_or pairs p.at no_pair ≡ was = get_or_default pairs p.at no_pair was (within k seen is) ∙ sym read in
     subst (λ e. IsPair store.script.config.window e store.entries was) here.it (subst (IsPair store.script.config.window (name_at (setting store.script).names p.at) store.entries) kept (k.each p.at here.within))
+
+-- whether it waits
+pub as_before : {who : Incarnation} {number : ℕ} {store : Queue} {pairs : List Pair} {v : Produced} {p : Place} {was : Pair}
+    → IsProduced who number store pairs → produced who number store pairs ≡ v → IsPlace v.script p → was ≡ slice_index_or pairs p.at was → is_waiting was ≡ is_waiting (slice_index_or pairs p.at no_pair)
+as_before {who} {number} {store} {pairs} {v} {p} {was} k seen is read = ap is_waiting (read ∙ get_or_default pairs p.at was no_pair (within k seen is))
 
 -- the same, in terms of the value
 pub pair_of : {who : Incarnation} {number : ℕ} {store : Queue} {pairs : List Pair} {v : Produced} {p : Place} {was : Pair}

@@ -1,6 +1,6 @@
 -- What is routed next; what is queued next; what stands of a producer.
-use Rattle.std.proofs.Common.{◌≡◌, ℕ, ◌<◌, ◌≤◌, ◌+◌, ◌-◌, List, [], ◌∷◌, length, map, replicate, sym, ap, subst, ◌∙◌, refl, true, arith}
-use Rattle.std.specs.Prelude.{zero, suc, Option, None, Some, IfSome, Result, Ok, Err, OnOk, slice_index_or}
+use Rattle.std.proofs.Common.{◌≡◌, ℕ, ◌<◌, ◌≤◌, ◌+◌, ◌-◌, List, [], ◌∷◌, length, map, replicate, sym, ap, subst, ◌∙◌, refl, true, arith, get_or-set_other}
+use Rattle.std.specs.Prelude.{zero, suc, Bool, Option, None, Some, IfSome, Result, Ok, Err, OnOk, slice_index_or, slice_set}
 use Rattle.std.specs.Option.{option_map, option_and_then}
 use Rattle.std.proofs.lemmas.List.{length-map, get_or-map, ext_get_or}
 use Rattle.yard_model.specs.declared.charter.Sending.{Sending}
@@ -13,12 +13,12 @@ use Rattle.yard_model.specs.Setting.{shard_of}
 use Rattle.yard_model.specs.SlotReads.{confirmed, queued_in_all}
 use Rattle.yard_model.specs.Words.{at, numbers}
 use Rattle.durable_queue.specs.Queue.{Queue}
-use Rattle.plain_laws.proofs.Lists.{none_is_not_some, some_is}
+use Rattle.plain_laws.proofs.Lists.{by_place, none_is_not_some, some_is}
 use Rattle.producer_ctl.specs.declared.pair.Pair.{Pair}
 use Rattle.producer_ctl.specs.declared.producers.Pending.{Pending}
 use Rattle.producer_ctl.specs.Paired.{IsPair, IsPlace, name_at, no_pair, numbers_of, progress_of}
 use Rattle.producer_ctl.specs.Produced.{Produced, IsProduced, StandsAs, produced, queueing}
-use Rattle.producer_ctl.specs.Producing.{Producing, producing, IsProducing, IsHeld, IsPending, IsQueued, IsReserved, IsBounded, Stands, AreMore, AreReady, after_message, first_of, held, next_message, no_routing, place_at, rest_of, room_of, sending, state_of, with_room}
+use Rattle.producer_ctl.specs.Producing.{Producing, producing, IsProducing, IsHeld, IsPending, IsQueued, IsReserved, IsBounded, Stands, AreMore, AreReady, IsRoomy, after_message, first_of, held, next_message, no_routing, place_at, rest_of, room_of, sending, state_of, with_room}
 use Rattle.producer_ctl.proofs.NamedLaws.{none_at}
 use Rattle.producer_ctl.proofs.ProducingLaws.{item_read, held_is, numbered}
 use Rattle.producer_ctl.proofs.SentLaws.{sent_is_brought}
@@ -350,3 +350,9 @@ room_there p {c} {who} {names} {items} {tables} {pending} {v} {i} {o} k seen its
     by : (o : Option Produced) → IfSome (option_map state_of o) (λ st. 0 < slice_index_or v.rooms (p - 1) 0) → slice_index_or v.rooms (p - 1) 0 ≡ room_of o → IfSome o (λ k. 0 < k.room)
     by None h e = tt
     by (Some k) h e = subst (λ n. 0 < n) e h
+
+-- each was ready, and the one that was written to has room still
+pub written_ready : (i : ℕ) (items : List (Option Produced)) (new : Option Produced) {before after : Bool} → (before ≡ true → AreReady items) → (after ≡ true → before ≡ true) → (after ≡ true → IsRoomy (at (slice_set items i new) i)) → after ≡ true → AreReady (slice_set items i new)
+written_ready i items new were still its e j = by_place (IsRoomy (at (slice_set items i new) j)) j i
+    (λ same. subst (λ n. IsRoomy (at (slice_set items i new) n)) (sym same) (its e))
+    (λ apart. subst IsRoomy (sym (get_or-set_other items i j new None apart)) (were (still e) j))

@@ -166,6 +166,10 @@ pub record IsProducing (c : Script) (who : Incarnation) (names : List (List ℕ)
   pub free : (i : ℕ) → i < c.config.producers → at items i ≡ None → HasPlaces (length names) (at tables i)
   pub pending_is : IfSome pending (IsPending c items)
 
+-- where it is held, the queue has room for all that a turn may write there
+abbrev pub IsRoomy : Option Produced → Type 0
+IsRoomy o = (o ≡ None → ⊥) → 300 ≤ room_of o
+
 -- each queue that is held has room for all that a turn may write there
 abbrev pub AreReady : List (Option Produced) → Type 0
 AreReady items = (i : ℕ) → (at items i ≡ None → ⊥) → 300 ≤ room_of (at items i)

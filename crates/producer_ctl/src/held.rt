@@ -150,6 +150,16 @@ pub(crate) fn knows_in(held: &Option<Producer>)
     }
 }
 
+/// Whether there is room for so many entries in the queue, where it is held.
+pub(crate) fn has_room_in(held: &Option<Producer>, wanted: u32) -> bool
+    ensures { result ≡ true → (held.now ≡ None → ⊥) → wanted ≤ room_of held.now }
+{
+    match held {
+        Some(producer) => producer.has_room(wanted),
+        None => true,
+    }
+}
+
 /// Makes room for so many entries in the queue, where it is held. The only error is want of memory.
 pub(crate) fn reserve_in(held: &mut Option<Producer>, wanted: u32) -> Result<(), AllocError>
     ensures kept { IsReserved held.old held.new }

@@ -13,4 +13,5 @@ mod producers;
 mod table;
 
 pub use laws::rules_are_calls;
+pub use names::Names;
 pub use producers::Producers;

@@ -14,47 +14,70 @@ use shard_extract::shard_of;
 use std::alloc::{AllocError, Global};
 use std::marker::Model;
 use std::snapshot::Snapshot;
+use std::sync::Arc;
 use yard_model::{Charter, EntityName, ShardNo};
 
-/// The names of a script, each at its place, with its shard at hand; seen as the script.
+/// The names of a script, each at its place, with its shard at hand; seen as the script. What it keeps
+/// is shared by all that `share` gives.
 #[derive(Drop)]
-pub(crate) struct Names {
+pub struct Names {
+    kept: Arc<Kept, Global>,
+}
+
+/// What all of them share.
+#[derive(Drop)]
+struct Kept {
     script: Snapshot<Charter>,
     index: NameIndex,
     shards: Vec<ShardNo>,
 }
 
 impl Model for Names {
+    ghost use Rattle.std.specs.Arc.{arc_value};
     ghost use Rattle.yard_model.specs.Script.{Script};
-    ghost use Rattle.producer_ctl.specs.Named.{IsNamed};
+    ghost use Rattle.producer_ctl.specs.Named.{AreKept};
 
     ghost Value = { Script };
 
-    ghost view = { λ n. n.script.value };
+    ghost view = { λ n. (arc_value n.kept).script.value };
 
-    ghost invariant = { λ n. IsNamed n.script.value n.index n.shards.items };
+    ghost invariant = { λ n. AreKept (arc_value n.kept) };
 }
 
 impl Names {
     /// The names of a charter. The only error is want of memory.
-    pub(crate) fn new(alloc: Global, charter: &Charter) -> Result<Names, AllocError>
+    pub fn new(alloc: Global, charter: &Charter) -> Result<Names, AllocError>
         ensures script { IfOk result (λ n. n ≡ charter.now) }
         ensures sorted { IfOk result (λ n. IsStrictlySortedBy (slice_cmp nat_cmp) (setting n).names) }
     {
         let index = NameIndex::new(charter)?;
         let shards = shards_of(alloc, index.as_slice(), charter.config().shards)?;
-        Ok(Names {
+        let kept = Kept {
             script: Snapshot::of(charter),
             index,
             shards,
-        })
+        };
+        match Arc::new(alloc, kept) {
+            Ok(kept) => Ok(Names { kept }),
+            Err(_) => Err(AllocError),
+        }
+    }
+
+    /// The same names, of which no copy is made. The only error is that there are too many to count that
+    /// share them.
+    pub fn share(&self) -> Result<Names, AllocError>
+        ensures script { IfOk result (λ n. n ≡ self.now) }
+        ensures sorted { IfOk result (λ n. IsStrictlySortedBy (slice_cmp nat_cmp) (setting n).names) }
+    {
+        let kept = Arc::try_clone(&self.kept)?;
+        Ok(Names { kept })
     }
 
     /// How many there are.
     pub(crate) fn len(&self) -> usize
         ensures { result ≡ length (setting self.now).names }
     {
-        self.index.len()
+        self.kept.index.len()
     }
 
     /// The place of a name of the script.
@@ -63,7 +86,7 @@ impl Names {
         ensures within { result < length (setting self.now).names }
         ensures it { name_at (setting self.now).names result ≡ entity.now }
     {
-        self.index.place(entity)
+        self.kept.index.place(entity)
     }
 
     /// The name at a place.
@@ -71,7 +94,7 @@ impl Names {
         requires { at < length (setting self.now).names }
         ensures { result.now ≡ name_at (setting self.now).names at }
     {
-        &self.index.as_slice()[at]
+        &self.kept.index.as_slice()[at]
     }
 
     /// The shard of the name at a place.
@@ -80,7 +103,8 @@ impl Names {
         ensures shard { result ≡ shard_of (setting self.now) (name_at (setting self.now).names at) }
         ensures range { result < self.now.config.shards }
     {
-        self.shards[at]
+        let kept = &*self.kept;
+        kept.shards[at]
     }
 }
 

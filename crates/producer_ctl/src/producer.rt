@@ -1,5 +1,5 @@
 //! One producer whose queue the node holds.
-ghost use Rattle.std.specs.Prelude.{◌≡◌, ℕ, ◌+◌, ◌<◌, ◌≤◌, List, [], ◌∷◌, length, Some, OnOk, slice_index_or, max};
+ghost use Rattle.std.specs.Prelude.{◌≡◌, ℕ, ◌+◌, ◌<◌, ◌≤◌, List, [], ◌∷◌, length, true, Some, OnOk, slice_index_or, max};
 ghost use Rattle.std.specs.List.Sorted.{IsStrictlySortedBy};
 ghost use Rattle.std.specs.Ordering.{nat_cmp};
 ghost use Rattle.std.specs.Cmp.Lexicographic.{slice_cmp};
@@ -125,6 +125,13 @@ impl Producer {
         self.pairs.next(from)
     }
 
+    /// Whether there is room for so many entries in the queue.
+    pub(crate) fn has_room(&self, wanted: u32) -> bool
+        ensures { result ≡ true → wanted ≤ self.now.room }
+    {
+        wanted <= self.store.spare()
+    }
+
     /// Makes room for so many entries in the queue. The only error is want of memory; then nothing
     /// changes.
     pub(crate) fn reserve(&mut self, wanted: u32) -> Result<(), AllocError>
@@ -219,7 +226,7 @@ impl Producer {
     {
         let mut pair = self.pairs.get(place.at);
         pair.ask(up_to);
-        self.pairs.put(place.at, pair);
+        self.pairs.put_as_before(place.at, pair);
     }
 
     /// A move: it is sent up to this number.
@@ -229,7 +236,7 @@ impl Producer {
     {
         let mut pair = self.pairs.get(place.at);
         pair.mark(number);
-        self.pairs.put(place.at, pair);
+        self.pairs.put_as_before(place.at, pair);
     }
 }
 

@@ -20,11 +20,11 @@ ghost use Rattle.durable_queue.specs.Queue.{Queue};
 ghost use Rattle.producer_ctl.specs.declared.pair.Sends.{Sends};
 ghost use Rattle.producer_ctl.specs.Paired.{IsPlace, IsNext, name_at};
 ghost use Rattle.producer_ctl.specs.Produced.{given, acking, asking, queueing, resending, repeating};
-ghost use Rattle.producer_ctl.specs.Producing.{no_routing, routing, held, waits, of_held, sending, moves_of, moved_by, stepped, holding, without, next_message, after_message, IsStore, IsReserved, Stands, AreMore, AreReady, HasPlaces, room_of};
+ghost use Rattle.producer_ctl.specs.Producing.{no_routing, routing, held, waits, of_held, sending, moves_of, moved_by, stepped, holding, without, next_message, after_message, IsStore, IsReserved, Stands, AreMore, AreReady, IsRoomy, HasPlaces, room_of};
 
 use crate::held::{
-    ack_in, demand_in, knows_in, message_in, next_in, next_waiting_in, queue_in, resend_in,
-    reserve_in, tick_in,
+    ack_in, demand_in, has_room_in, knows_in, message_in, next_in, next_waiting_in, queue_in,
+    resend_in, reserve_in, tick_in,
 };
 use crate::names::Names;
 use crate::pair::Sends;
@@ -41,6 +41,10 @@ use yard_model::{
 
 /// For how many entries a turn may write to a queue that is held there is room.
 const ROOM: u32 = 300;
+
+/// For how many there is room where it is made anew, so that many turns may write before it is so
+/// again.
+const AMPLE: u32 = 364;
 
 /// Numbers that a producer is still to route.
 #[derive(Clone, Copy)]
@@ -84,12 +88,19 @@ impl Model for Producers {
 }
 
 impl Producers {
-    /// The producers of a node that comes up: it holds no queue. The only error is want of memory.
-    pub fn new(alloc: Global, who: Incarnation, charter: &Charter) -> Result<Producers, AllocError>
+    /// The producers of a node that comes up: it holds no queue; the script's names are shared with it.
+    /// The only error is want of memory.
+    pub fn new(
+        alloc: Global,
+        who: Incarnation,
+        charter: &Charter,
+        names: &Names,
+    ) -> Result<Producers, AllocError>
+        requires { names.now ≡ charter.now }
         ensures { IfOk result (λ v. v ≡ record { script = charter.now; who = who; producers = replicate charter.now.config.producers None; rooms = replicate charter.now.config.producers 0; pending = no_routing }) }
     {
         let producers = charter.config().producers;
-        let names = Names::new(alloc, charter)?;
+        let names = names.share()?;
         let held = none_held(alloc, producers)?;
         let tables = new_tables(alloc, producers, names.len())?;
         Ok(Producers {
@@ -246,8 +257,9 @@ impl Producers {
         ensures out { out.new ≡ given out.old (moves_of (of_held (queueing sending.now) p self.old)) }
     {
         let place = self.find(&sending.entity);
-        self.ready = false;
-        let sends = queue_in(&mut self.held[place_of(p)], &place, sending, out);
+        let own = place_of(p);
+        let sends = queue_in(&mut self.held[own], &place, sending, out);
+        self.ready = is_ready(self.ready, &self.held, own);
         self.pending = pending_of(p, place.at, sends);
     }
 
@@ -271,8 +283,9 @@ impl Producers {
         ensures out { out.new ≡ given out.old (moves_of (of_held (asking entity.now confirmed up_to) p self.old)) }
     {
         let place = self.find(entity);
-        self.ready = false;
-        let sends = demand_in(&mut self.held[place_of(p)], &place, confirmed, up_to, out);
+        let own = place_of(p);
+        let sends = demand_in(&mut self.held[own], &place, confirmed, up_to, out);
+        self.ready = is_ready(self.ready, &self.held, own);
         self.pending = pending_of(p, place.at, sends);
     }
 
@@ -287,8 +300,9 @@ impl Producers {
         ensures out { out.new ≡ given out.old (moves_of (of_held (acking entity.now confirmed) p self.old)) }
     {
         let place = self.find(entity);
-        self.ready = false;
-        let sends = ack_in(&mut self.held[place_of(p)], &place, confirmed, out);
+        let own = place_of(p);
+        let sends = ack_in(&mut self.held[own], &place, confirmed, out);
+        self.ready = is_ready(self.ready, &self.held, own);
         self.pending = pending_of(p, place.at, sends);
     }
 
@@ -312,8 +326,9 @@ impl Producers {
         ensures { self.new ≡ stepped p self.old (of_held (repeating (name_at (setting self.old.script).names at)) p self.old) }
     {
         let place = self.nth(at);
-        self.ready = false;
-        let sends = tick_in(&mut self.held[place_of(p)], &place);
+        let own = place_of(p);
+        let sends = tick_in(&mut self.held[own], &place);
+        self.ready = is_ready(self.ready, &self.held, own);
         self.pending = pending_of(p, place.at, sends);
     }
 
@@ -372,9 +387,10 @@ impl Producers {
         ensures place { IsPlace self.now.script result }
         ensures entity { result.entity ≡ entity.now }
     {
+        let at = self.names.place(entity);
         Place {
             entity: *entity,
-            at: self.names.place(entity),
+            at,
         }
     }
 
@@ -435,7 +451,16 @@ fn take_table(tables: &mut Vec<Option<Blank>>, place: usize) -> Blank
     }
 }
 
-/// Makes room in each queue that is held, where that wasn't done since one was written to.
+/// Whether there is room in each queue that is held, where there was before this one was written to.
+fn is_ready(ready: bool, held: &Vec<Option<Producer>>, own: usize) -> bool
+    requires { own < length held.now.items }
+    ensures before { result ≡ true → ready ≡ true }
+    ensures own { result ≡ true → IsRoomy (at held.now.items own) }
+{
+    ready && has_room_in(&held[own], ROOM)
+}
+
+/// Makes room in each queue that is held, where there wasn't enough in one since it was written to.
 #[inline(always)]
 fn reserve_all(held: &mut Vec<Option<Producer>>, ready: &mut bool) -> Result<(), AllocError>
     requires ready { ready.old ≡ true → AreReady held.old.items }
@@ -460,7 +485,7 @@ fn reserve_each(held: &mut Vec<Option<Producer>>) -> Result<(), AllocError>
     ensures ok { OnOk result ((i : ℕ) → (at held.old.items i ≡ None → ⊥) → 300 ≤ room_of (at held.new.items i)) }
 {
     for place in 0..held.len() {
-        reserve_in(&mut held[place], ROOM)?;
+        reserve_in(&mut held[place], AMPLE)?;
     }
     Ok(())
 }

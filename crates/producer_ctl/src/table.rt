@@ -48,6 +48,15 @@ impl Table {
         self.pairs[at] = pair;
     }
 
+    /// This is kept at a place, where a pair waits, or doesn't, as the one before did.
+    pub(crate) fn put_as_before(&mut self, at: usize, pair: Pair)
+        requires within { at < length self.old }
+        requires waits { is_waiting pair ≡ is_waiting (slice_index_or self.old at no_pair) }
+        ensures { self.new ≡ slice_set self.old at pair }
+    {
+        self.pairs[at] = pair;
+    }
+
     /// Its room, with no place any more.
     pub(crate) fn into_blank(self) -> Blank
         ensures { result ≡ length self }

@@ -2,4 +2,4 @@ use Rattle.producer_ctl.proofs.StoreLaws.{place_stands}
 use Rattle.producer_ctl.proofs.producers.Producers.find.Goals as goal
 
 pub returns-clause-place : goal.returns-clause-place
-returns-clause-place c = place_stands c.place.result c.args.entity.now c.self.invariant.0 c.self.view_is c.place.ensures.within c.place.ensures.it
+returns-clause-place c = place_stands c.place-at.result c.args.entity.now c.self.invariant.0 c.self.view_is c.place-at.ensures.within c.place-at.ensures.it

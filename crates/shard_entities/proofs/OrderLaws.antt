@@ -13,7 +13,8 @@ use Rattle.yard_model.specs.Script.{Script, Setting, IsScript, setting, is_name}
 use Rattle.yard_model.specs.Setting.{shard_of, names_of}
 use Rattle.shard_store.specs.Shelved.{name_at}
 use Rattle.name_index.proofs.NameLaws.{placed}
-use Rattle.shard_entities.specs.Placed.{IsPlace, AreFirst, AreCounts, AreStarts, AreOrdered, ArePlaces, place_of, place_in, no_spot, start_of}
+use Rattle.shard_entities.specs.declared.places.Kept.{Kept}
+use Rattle.shard_entities.specs.Placed.{IsPlace, AreFirst, AreCounts, AreStarts, AreOrdered, ArePlaces, AreKept, place_of, place_in, no_spot, start_of}
 use Rattle.shard_entities.specs.declared.places.Spot.{Spot}
 use Rattle.shard_entities.proofs.LodgedLaws.{is_same, is_other}
 use Rattle.shard_entities.proofs.PlacesLaws.{list_any_at}
@@ -233,6 +234,13 @@ spot_inside c k spots order {x} {start} first are within read begin =
     omega (arith, inside, long, begin)
 
 -- What is read of them.
+
+-- what is lent of what is kept is so too
+pub lent : {k x : Kept} → k ≡ x → AreKept x → AreKept k
+lent {k} {x} e are = subst AreKept (sym e) are
+
+pub lent_script : {k x : Kept} {v : Script} → k ≡ x → x.script.value ≡ v → k.script.value ≡ v
+lent_script {k} {x} {v} e seen = ap (λ (k : Kept). k.script.value) e ∙ seen
 
 pub start_read : {c v : Script} {names : List (List ℕ)} {spots : List Spot} {starts order : List ℕ} (j : ℕ) {n : ℕ} → ArePlaces c names spots starts order → c ≡ v → j ≤ v.config.shards → n ≡ slice_index_or starts j 0 → n ≡ start_of (setting v) j
 start_read {c} {v} {names} {spots} {starts} {order} j {n} k seen most read =

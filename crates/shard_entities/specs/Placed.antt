@@ -8,6 +8,7 @@ use Rattle.yard_model.specs.Script.{Script, Setting, IsScript, setting}
 use Rattle.yard_model.specs.Setting.{shard_of, names_of, place}
 use Rattle.shard_store.specs.Shelved.{IsNamed, name_at}
 use Rattle.shard_entities.specs.declared.place.Place.{Place}
+use Rattle.shard_entities.specs.declared.places.Kept.{Kept}
 use Rattle.shard_entities.specs.declared.places.Spot.{Spot}
 
 pub record IsPlace (c : Script) (p : Place) : Type 0 where
@@ -64,3 +65,7 @@ pub record ArePlaces (c : Script) (names : List (List ℕ)) (spots : List Spot) 
   pub first : AreFirst c (length (setting c).names) spots
   pub begin : AreStarts (setting c) (c.config.shards + 1) starts
   pub ordered : AreOrdered c (length (setting c).names) order
+
+-- what the places of a script keep
+abbrev pub AreKept : Kept → Type 0
+AreKept k = ArePlaces k.script.value k.names k.spots.items k.starts.items k.order.items

@@ -17,6 +17,7 @@ ghost use Rattle.shard_entities.specs.Roomy.{AreMore, IsRoomy, Takes, room_wante
 ghost use Rattle.shard_entities.specs.Settled.{IsSettled, IsStopped, IsFreed, frees};
 
 use crate::handoff::Stopped;
+use crate::places::Places;
 use crate::shards::Shards;
 use behaviour_core::Behaviour;
 use consumer_ctl::Stash;
@@ -51,17 +52,20 @@ impl Model for Entities {
 
 impl Entities {
     /// The entities of a node that comes up with behaviours of this version, which the script admits:
-    /// it hosts no shard, and none was started. The only error is want of memory.
+    /// it hosts no shard, and none was started; the places of the script's names are shared with it. The
+    /// only error is want of memory.
     pub fn new(
         alloc: Global,
         who: Incarnation,
         version: u8,
         charter: &Charter,
+        places: &Places,
     ) -> Result<Entities, AllocError>
-        requires { is_version charter.now version ≡ true }
+        requires version { is_version charter.now version ≡ true }
+        requires places { places.now ≡ charter.now }
         ensures { IfOk result (λ e. e ≡ record { script = charter.now; state = new_entities (setting charter.now) version who; rooms = replicate charter.now.config.shards 0 }) }
     {
-        let shards = Shards::new(alloc, who, version, charter)?;
+        let shards = Shards::new(alloc, who, version, charter, places)?;
         let pending = Stash::new(alloc, charter.config().window)?;
         Ok(Entities { shards, pending })
     }

@@ -24,6 +24,7 @@ mod writing;
 
 pub use entities::Entities;
 pub use handoff::Stopped;
+pub use places::Places;
 
 #[cfg(test)]
 mod tests;

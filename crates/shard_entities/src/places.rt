@@ -15,6 +15,7 @@ use shard_extract::shard_of;
 use std::alloc::{AllocError, Global};
 use std::marker::{Model, PhantomData};
 use std::snapshot::Snapshot;
+use std::sync::Arc;
 use yard_model::{Charter, EntityName, ShardNo};
 
 /// Where a name stands, but for what its own place among all names says.
@@ -26,32 +27,40 @@ pub(crate) struct Spot {
     pub inner: u16,
 }
 
-/// The names of a script, in order, each with its place; seen as the script. The places of the names
-/// lie shard after shard in one list, of which it is kept where each shard's part begins.
+/// The names of a script, in order, each with its place; seen as the script. What it keeps is shared by
+/// all that `share` gives.
 #[derive(Drop)]
-pub(crate) struct Places {
+pub struct Places {
+    kept: Arc<Kept, Global>,
+    holds: PhantomData<(ShardNo, Place)>,
+}
+
+/// What all of them share. The places of the names lie shard after shard in one list, of which it is
+/// kept where each shard's part begins.
+#[derive(Drop)]
+struct Kept {
     script: Snapshot<Charter>,
     names: NameIndex,
     spots: Vec<Spot>,
     starts: Vec<u32>,
     order: Vec<u16>,
-    holds: PhantomData<(ShardNo, Place)>,
 }
 
 impl Model for Places {
+    ghost use Rattle.std.specs.Arc.{arc_value};
     ghost use Rattle.yard_model.specs.Script.{Script};
-    ghost use Rattle.shard_entities.specs.Placed.{ArePlaces};
+    ghost use Rattle.shard_entities.specs.Placed.{AreKept};
 
     ghost Value = { Script };
 
-    ghost view = { λ p. p.script.value };
+    ghost view = { λ p. (arc_value p.kept).script.value };
 
-    ghost invariant = { λ p. ArePlaces p.script.value p.names p.spots.items p.starts.items p.order.items };
+    ghost invariant = { λ p. AreKept (arc_value p.kept) };
 }
 
 impl Places {
     /// The places of the names of this script. The only error is want of memory.
-    pub(crate) fn new(alloc: Global, charter: &Charter) -> Result<Places, AllocError>
+    pub fn new(alloc: Global, charter: &Charter) -> Result<Places, AllocError>
         ensures { IfOk result (λ p. p ≡ charter.now) }
     {
         let mut counts = [0u16; 128];
@@ -60,12 +69,30 @@ impl Places {
         let order = all_ordered(alloc, charter, spots.as_slice(), &starts)?;
         let names = NameIndex::new(charter)?;
         charter.config();
-        Ok(Places {
+        let kept = Kept {
             script: Snapshot::of(charter),
             names,
             spots,
             starts,
             order,
+        };
+        match Arc::new(alloc, kept) {
+            Ok(kept) => Ok(Places {
+                kept,
+                holds: PhantomData,
+            }),
+            Err(_) => Err(AllocError),
+        }
+    }
+
+    /// The same places, of which no copy is made. The only error is that there are too many to count
+    /// that share them.
+    pub fn share(&self) -> Result<Places, AllocError>
+        ensures { IfOk result (λ p. p ≡ self.now) }
+    {
+        let kept = Arc::try_clone(&self.kept)?;
+        Ok(Places {
+            kept,
             holds: PhantomData,
         })
     }
@@ -76,8 +103,9 @@ impl Places {
         ensures place { IsPlace self.now result }
         ensures entity { result.entity ≡ entity.now }
     {
-        let at = self.names.place(entity);
-        let spot = self.spots[at];
+        let kept = &*self.kept;
+        let at = kept.names.place(entity);
+        let spot = kept.spots[at];
         Place {
             entity: *entity,
             shard: spot.shard,
@@ -92,7 +120,8 @@ impl Places {
         ensures count { result ≡ length (names_of (setting self.now) s) }
         ensures few { result ≤ 1000 }
     {
-        end_in(&self.starts, s) - start_in(&self.starts, s)
+        let kept = &*self.kept;
+        end_in(&kept.starts, s) - start_in(&kept.starts, s)
     }
 
     /// The place of the name of a shard that stands there among its names.
@@ -103,9 +132,10 @@ impl Places {
         ensures shard { result.shard ≡ s }
         ensures entity { result.entity ≡ name_at (names_of (setting self.now) s) k }
     {
-        let at = self.order[start_in(&self.starts, s) + k] as usize;
+        let kept = &*self.kept;
+        let at = kept.order[start_in(&kept.starts, s) + k] as usize;
         Place {
-            entity: self.names.as_slice()[at],
+            entity: kept.names.as_slice()[at],
             shard: s,
             at,
             inner: k,
@@ -113,27 +143,32 @@ impl Places {
     }
 
     /// Where the names of a shard begin, shard after shard.
+    #[inline(always)]
     pub(crate) fn start(&self, s: ShardNo) -> usize
         requires { s < self.now.config.shards }
         ensures start { result ≡ start_of (setting self.now) s }
         ensures few { result < 4294967296 }
     {
-        start_in(&self.starts, s)
+        let kept = &*self.kept;
+        start_in(&kept.starts, s)
     }
 
     /// Where a name stands among all, shard after shard.
+    #[inline(always)]
     pub(crate) fn spot(&self, place: &Place) -> usize
         requires { IsPlace self.now place.now }
         ensures { result ≡ start_of (setting self.now) place.now.shard + place.now.inner }
     {
-        start_in(&self.starts, place.shard) + place.inner
+        let kept = &*self.kept;
+        start_in(&kept.starts, place.shard) + place.inner
     }
 
     /// How many names there are in all shards.
     pub(crate) fn total(&self) -> usize
         ensures { result ≡ start_of (setting self.now) self.now.config.shards }
     {
-        self.order.len()
+        let kept = &*self.kept;
+        kept.order.len()
     }
 }
 
@@ -205,6 +240,7 @@ fn put(order: &mut Vec<u16>, start: usize, inner: u16, at: usize)
 }
 
 /// Where a shard begins.
+#[inline(always)]
 fn start_in(starts: &Vec<u32>, s: ShardNo) -> usize
     requires { s < length starts.now.items }
     ensures start { result ≡ slice_index_or starts.now.items s 0 }
@@ -214,6 +250,7 @@ fn start_in(starts: &Vec<u32>, s: ShardNo) -> usize
 }
 
 /// Where a shard ends.
+#[inline(always)]
 fn end_in(starts: &Vec<u32>, s: ShardNo) -> usize
     requires { s + 1 < length starts.now.items }
     ensures { result ≡ slice_index_or starts.now.items (s + 1) 0 }

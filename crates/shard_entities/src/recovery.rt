@@ -16,7 +16,7 @@ ghost use Rattle.shard_entities.specs.Settled.{IsSettled};
 
 use crate::place::Place;
 use crate::shards::Shards;
-use behaviour_core::{Behaviour, state_after};
+use behaviour_core::{Behaviour, apply_all};
 use consumer_ctl::Stash;
 use shard_store::ShardStore;
 use yard_model::laws::{command_law, decision_law};
@@ -201,7 +201,7 @@ fn replayed<B: Behaviour>(behaviour: &B, state: &State, records: &[Record]) -> S
 {
     let mut current = *state;
     for record in records {
-        current = state_after(behaviour, &current, record.events.as_slice());
+        apply_all(behaviour, &mut current, record.events.as_slice());
     }
     current
 }

@@ -101,13 +101,15 @@ impl Shards {
         who: Incarnation,
         version: u8,
         charter: &Charter,
+        places: &Places,
     ) -> Result<Shards, AllocError>
-        requires { is_version charter.now version ≡ true }
+        requires version { is_version charter.now version ≡ true }
+        requires places { places.now ≡ charter.now }
         ensures { IfOk result (λ e. e ≡ record { script = charter.now; state = new_entities (setting charter.now) version who; rooms = replicate charter.now.config.shards 0 }) }
     {
         let config = *charter.config();
         let count = charter.names().len();
-        let places = Places::new(alloc, charter)?;
+        let places = places.share()?;
         let cells = Cells::new(alloc, count, config.producers, config.window)?;
         let hosted = none_hosted(alloc, config.shards)?;
         let existing = none_counted(alloc, config.shards)?;

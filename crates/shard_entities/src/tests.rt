@@ -9,7 +9,7 @@ ghost use Rattle.yard_model.specs.Genuine.{is_genuine, is_producer, is_brought};
 ghost use Rattle.yard_model.specs.Script.{IsScript, is_version, setting};
 ghost use Rattle.yard_model.specs.Setting.{shard_of, names_of};
 
-use crate::Entities;
+use crate::{Entities, Places};
 use behaviour_kinds::Counter;
 use shard_extract::shard_of;
 use shard_store::ShardStore;
@@ -286,7 +286,8 @@ fn hosting(alloc: Global, charter: &Charter, s: ShardNo, out: &mut Out) -> Resul
     ensures version { IfOk result (λ e. e.state.version ≡ 1) }
 {
     charter.config();
-    let mut entities = Entities::new(alloc, WHO, 1, charter)?;
+    let places = Places::new(alloc, charter)?;
+    let mut entities = Entities::new(alloc, WHO, 1, charter, &places)?;
     let mut store = ShardStore::new(alloc, charter, s)?;
     store.reserve(1)?;
     store.grant(WHO);

@@ -2,17 +2,18 @@
 //! it holds the coordinator's slot, the shard coordinator (Akka 2.6, Cluster Sharding concepts). Each
 //! input is handled whole before the next.
 //!
-//! `node` is the type that others see. `actors` has the parts side by side; `region_part`,
-//! `coordinator_part` and `entities_part` are the steps of one actor each, which ask for no lease;
-//! `producing` has those of the producers; `lead` asks for a lease; so does `starting`, and `releasing`
-//! routes what was kept, which `homes` puts together; `ticking` is the tick; `packets` and `inputs` put
-//! steps together; `end` is the crash.
+//! `node` is the type that others see, and `grounds` what all nodes of a script share. `actors` has the
+//! parts side by side; `region_part`, `coordinator_part` and `entities_part` are the steps of one actor
+//! each, which ask for no lease; `producing` has those of the producers; `lead` asks for a lease; so does
+//! `starting`, and `releasing` routes what was kept, which `homes` puts together; `ticking` is the tick;
+//! `packets` and `inputs` put steps together; `end` is the crash.
 #![tactic(auto)]
 
 mod actors;
 mod coordinator_part;
 mod end;
 mod entities_part;
+mod grounds;
 mod homes;
 mod inputs;
 mod lead;
@@ -24,4 +25,5 @@ mod releasing;
 mod starting;
 mod ticking;
 
+pub use grounds::Grounds;
 pub use node::Node;

@@ -20,6 +20,7 @@ ghost use Rattle.node_core.specs.Gave.{moment};
 ghost use Rattle.node_core.specs.Turned.{Turned, Ended};
 
 use crate::actors::Actors;
+use crate::grounds::Grounds;
 use behaviour_core::Behaviour;
 use node_laws::node::{crash_stands, new_node_stands, turn_stands, turn_viewed};
 use producer_ctl::Producers;
@@ -52,13 +53,15 @@ impl<B: Behaviour> Model for Node<B> {
 }
 
 impl<B: Behaviour + Drop> Node<B> {
-    /// A node that comes up. The only error is want of memory.
+    /// A node that comes up, on the grounds of its script. The only error is want of memory.
     pub fn new(
         alloc: Global,
         who: Incarnation,
         charter: &Charter,
+        grounds: &Grounds,
         behaviour: B,
     ) -> Result<Node<B>, AllocError>
+        requires grounds { grounds.now ≡ charter.now }
         requires who { is_node charter.now who ≡ true }
         requires kind { B.kind_of behaviour ≡ charter.now.config.kind }
         requires version { is_version charter.now (B.version_of behaviour) ≡ true }
@@ -67,8 +70,14 @@ impl<B: Behaviour + Drop> Node<B> {
     {
         new_node_stands();
         let region = Region::new(alloc, who, charter)?;
-        let entities = Entities::new(alloc, region.who(), behaviour.version(), charter)?;
-        let producers = Producers::new(alloc, region.who(), charter)?;
+        let entities = Entities::new(
+            alloc,
+            region.who(),
+            behaviour.version(),
+            charter,
+            grounds.places(),
+        )?;
+        let producers = Producers::new(alloc, region.who(), charter, grounds.names())?;
         Ok(Node {
             actors: Actors {
                 alloc,

@@ -19,7 +19,7 @@ ghost use Rattle.node_runner.specs.Rested.{Rested, ArePublished, SeesOn, means};
 
 use behaviour_core::Behaviour;
 use lease_table::{LeasePass, LeaseTable, TablePass};
-use node_core::Node;
+use node_core::{Grounds, Node};
 use std::alloc::{AllocError, Global};
 use yard_model::{Charter, Incarnation, Input, NodeNo, Out};
 
@@ -100,7 +100,8 @@ pub fn node_starts<B: Behaviour + Drop>(
 {
     let _ = table;
     let _ = pass;
-    Node::new(alloc, who, charter, behaviour)
+    let grounds = Grounds::new(alloc, charter)?;
+    Node::new(alloc, who, charter, &grounds, behaviour)
 }
 
 /// The node is gone, and its pass holds nothing: every slot that it held is freed, as its list stood.

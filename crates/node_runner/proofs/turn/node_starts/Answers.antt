@@ -3,12 +3,17 @@ use Rattle.yard_model.specs.Genuine.{is_node}
 use Rattle.yard_model.specs.Node.{new_node}
 use Rattle.yard_model.specs.Script.{Script, setting}
 use Rattle.lease_table.specs.Belongs.{id_of, charter_of}
-use Rattle.node_runner.proofs.Fresh.{new_node_rests}
-use Rattle.node_runner.proofs.Stepping.{if_ok_both}
+use Rattle.node_runner.proofs.Fresh.{new_node_rests, new_shown}
+use Rattle.node_runner.proofs.Stepping.{if_ok, if_ok_both}
 use Rattle.node_runner.proofs.turn.node_starts.Goals as goal
 
 pub returns-clause-rested : goal.returns-clause-rested
 returns-clause-rested g c =
     let node : is_node (charter_of c.args.table.now) c.args.who ≡ true = subst (λ (y : Script). is_node y c.args.who ≡ true) c.requires.charter c.requires.who in
-    if_ok_both c.new.result (λ n script state. new_node_rests (id_of c.args.table.now) (charter_of c.args.table.now) (g.B.Behaviour.version_of c.args.behaviour) c.args.who c.args.pass.now n c.requires.idle node c.requires.within (script ∙ c.requires.charter)
-    (state ∙ ap (λ (y : Script). new_node (setting y) (g.B.Behaviour.version_of c.args.behaviour) c.args.who) c.requires.charter)) c.new.ensures.script c.new.ensures.state
+    if_ok_both c.new-2.result (λ n script state. new_node_rests (id_of c.args.table.now) (charter_of c.args.table.now) (g.B.Behaviour.version_of c.args.behaviour) c.args.who c.args.pass.now n c.requires.idle node c.requires.within (script ∙ c.requires.charter)
+    (state ∙ ap (λ (y : Script). new_node (setting y) (g.B.Behaviour.version_of c.args.behaviour) c.args.who) c.requires.charter)) c.new-2.ensures.script c.new-2.ensures.state
+
+pub returns-clause-published : goal.returns-clause-published
+returns-clause-published g c =
+    if_ok c.new-2.result (λ n state. new_shown (charter_of c.args.table.now) (g.B.Behaviour.version_of c.args.behaviour) c.args.who c.args.pass.now n
+    (state ∙ ap (λ (y : Script). new_node (setting y) (g.B.Behaviour.version_of c.args.behaviour) c.args.who) c.requires.charter)) c.new-2.ensures.state

@@ -10,6 +10,7 @@ ghost use Rattle.world_sim.specs.Yard.{IsBacked, IsSound};
 
 use crate::laws::standing_is_kept;
 use crate::places::is_any_up;
+use crate::scene::Scene;
 use crate::yard::Yard;
 use behaviour_core::Behaviour;
 use shard_lease::LeaseBook;
@@ -44,7 +45,7 @@ impl<B: Behaviour + Copy + Drop> Yard<B> {
     fn keeps_shards(&self, shards: u8) -> bool
         ensures { result ≡ (list_any is_some self.now.nodes || (shards == self.now.script.config.shards)) }
     {
-        is_any_up(&self.nodes) || shards == self.charter.config().shards
+        is_any_up(&self.nodes) || shards == self.scene.config().shards
     }
 
     /// The number of shards is another from now on: the leases are those of stores whose lists begin
@@ -58,13 +59,14 @@ impl<B: Behaviour + Copy + Drop> Yard<B> {
     {
         standing_is_kept();
         let epoch = self.book.greatest_epoch();
-        let charter = self.charter.with_shards(shards)?;
+        let charter = self.scene.charter().with_shards(shards)?;
         let stores = Stores::new(self.alloc, &charter)?;
         let empty = LeaseBook::new(self.alloc, stores)?;
         let book = mem::replace(&mut self.book, empty);
         self.book = book.reshape(self.alloc, &charter)?;
+        let scene = Scene::new(self.alloc, charter)?;
         facts.push(Fact::Reshard(shards, epoch))?;
-        self.charter = charter;
+        self.scene = scene;
         self.past = self.mail.len();
         Ok(())
     }

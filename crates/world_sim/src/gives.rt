@@ -29,7 +29,7 @@ impl<B: Behaviour + Copy + Drop> Yard<B> {
         hand_at(
             &mut self.nodes,
             n,
-            &self.charter,
+            self.scene.charter(),
             input,
             &mut self.book,
             &mut self.mail,
@@ -51,7 +51,7 @@ impl<B: Behaviour + Copy + Drop> Yard<B> {
         hand_packet_at(
             &mut self.nodes,
             n,
-            &self.charter,
+            self.scene.charter(),
             packet,
             &mut self.book,
             &mut self.mail,

@@ -66,7 +66,7 @@ impl<B: Behaviour + Copy + Drop> Yard<B> {
     {
         let ordered = count_at(&self.ordered, p);
         let store = self.queue(p);
-        is_left_in(store, ordered, self.charter.names())
+        is_left_in(store, ordered, self.scene.names())
     }
 
     /// Whether something is left of some producer.
@@ -74,7 +74,7 @@ impl<B: Behaviour + Copy + Drop> Yard<B> {
         requires { (w : World) × IsSound self.now w }
         ensures { (w : World) → IsSound self.now w → result ≡ list_any (is_left w) (producers w.set) }
     {
-        let count = self.charter.config().producers;
+        let count = self.scene.config().producers;
         for i in 0..count {
             let Some(p) = ProducerNo::new(i + 1) else {
                 unreachable!()
@@ -104,7 +104,7 @@ impl<B: Behaviour + Copy + Drop> Yard<B> {
     {
         let ordered = count_at(&self.ordered, p);
         let store = self.queue(p);
-        outstanding_in(store, ordered, self.charter.names())
+        outstanding_in(store, ordered, self.scene.names())
     }
 
     /// How many of all ordered sends aren't confirmed.
@@ -114,7 +114,7 @@ impl<B: Behaviour + Copy + Drop> Yard<B> {
         ensures sent { (w : World) → IsSound self.now w → result ≡ sum (map (outstanding w) (producers w.set)) }
         ensures few { result ≤ 200000 * 32 }
     {
-        let count = self.charter.config().producers;
+        let count = self.scene.config().producers;
         let mut total = 0;
         for i in 0..count {
             let Some(p) = ProducerNo::new(i + 1) else {
@@ -132,8 +132,8 @@ impl<B: Behaviour + Copy + Drop> Yard<B> {
         ensures { (w : World) → IsSound self.now w → result ≡ settle_bound w }
     {
         let outstanding = self.outstanding_in_all();
-        let config = self.charter.config();
-        let names = self.charter.names().len() as u32;
+        let config = self.scene.config();
+        let names = self.scene.names().len() as u32;
         40 * (outstanding + config.shards as u32 + config.producers as u32 + names + 1)
     }
 }

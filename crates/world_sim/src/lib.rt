@@ -16,6 +16,7 @@ mod places;
 mod produces;
 mod queues;
 mod runs;
+mod scene;
 mod seek;
 mod sent;
 mod settle;

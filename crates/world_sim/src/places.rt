@@ -25,6 +25,7 @@ pub(crate) fn is_any_up<B: Behaviour>(nodes: &Vec<Option<Node<B>>>) -> bool
 }
 
 /// Puts a node at the place of this number.
+#[inline(always)]
 pub(crate) fn put_node<B: Behaviour + Drop>(
     nodes: &mut Vec<Option<Node<B>>>,
     n: NodeNo,

@@ -74,7 +74,7 @@ impl<B: Behaviour + Copy + Drop> Yard<B> {
         ensures { Stepped IsSound 16 (all_down self.old.script) result self.old self.new facts.old facts.new }
     {
         standing_is_kept();
-        let count = self.charter.config().nodes;
+        let count = self.scene.config().nodes;
         for i in 0..count {
             let Some(n) = NodeNo::new(i + 1) else {
                 unreachable!()
@@ -152,7 +152,7 @@ impl<B: Behaviour + Copy + Drop> Yard<B> {
         ensures { Stepped IsSound 0 (all_taken self.old.script) result self.old self.new facts.old facts.new }
     {
         standing_is_kept();
-        let count = self.charter.config().producers;
+        let count = self.scene.config().producers;
         for i in 0..count {
             let Some(p) = ProducerNo::new(i + 1) else {
                 unreachable!()

@@ -27,7 +27,7 @@ impl<B: Behaviour + Copy + Drop> Yard<B> {
     {
         let mut yard = self;
         yard.stop()?;
-        Ok((yard.charter, yard.book.into_stores()))
+        Ok((yard.scene.into_charter(), yard.book.into_stores()))
     }
 
     /// Every node that is up goes down.
@@ -38,7 +38,7 @@ impl<B: Behaviour + Copy + Drop> Yard<B> {
         ensures script { self.new.script ≡ self.old.script }
     {
         standing_is_kept();
-        let count = self.charter.config().nodes;
+        let count = self.scene.config().nodes;
         let mut facts = Told::new(NoNotes);
         for i in 0..count {
             let Some(n) = NodeNo::new(i + 1) else {

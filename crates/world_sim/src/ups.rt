@@ -12,7 +12,6 @@ use crate::places::{is_down, next_number, put_node, set_number};
 use crate::turns::end_at;
 use crate::yard::Yard;
 use behaviour_core::Behaviour;
-use node_core::Node;
 use std::alloc::AllocError;
 use trace_notes::{Notes, Told};
 use yard_model::{Fact, Incarnation, NodeNo};
@@ -46,6 +45,7 @@ impl<B: Behaviour + Copy + Drop> Yard<B> {
     }
 
     /// The node comes up; nobody is told yet.
+    #[inline(never)]
     fn enter<N: Notes>(&mut self, n: NodeNo, facts: &mut Told<N>) -> Result<(), AllocError>
         requires world { (w : World) × IsSound self.old w }
         requires node { is_in 1 self.old.script.config.nodes n ≡ true }
@@ -57,7 +57,10 @@ impl<B: Behaviour + Copy + Drop> Yard<B> {
         let number = next_number(&self.ups, n);
         let version = self.version + 1;
         let who = &Incarnation { node: n, number };
-        let node = Node::new(self.alloc, *who, &self.charter, self.behaviour)?;
+        let node = match self.scene.node(self.alloc, *who, self.behaviour) {
+            Ok(node) => node,
+            Err(fault) => return Err(fault),
+        };
         facts.push(Fact::Up(*who))?;
         self.members = with(&self.members, *who);
         self.version = version;

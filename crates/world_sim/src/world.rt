@@ -14,6 +14,7 @@ use crate::laws::{made_is_known, made_is_safe, standing_is_kept};
 use crate::mail::Mail;
 use crate::numbers::greatest_number;
 use crate::places::{no_nodes, set_number, zeros};
+use crate::scene::Scene;
 use crate::sent::all_sent;
 use crate::yard::Yard;
 use behaviour_core::Behaviour;
@@ -91,7 +92,7 @@ impl<B: Behaviour + Copy + Drop> World<B> {
         requires going { self.now.fault ≡ None }
         ensures { result.now ≡ self.now.script.orders }
     {
-        self.yard.charter.orders()
+        self.yard.scene.charter().orders()
     }
 
     /// The world of given stores of the script, in which every send of it is ordered, no node is up and
@@ -224,9 +225,11 @@ fn given_yard<B: Behaviour + Copy + Drop>(
     set_number(&mut ups, NodeNo::FIRST, greatest);
     let ordered = all_sent(alloc, &charter)?;
     let mail = Mail::new(alloc, &charter)?;
+    let scene = Scene::new(alloc, charter)?;
+    scene.config();
     Ok(Yard {
         alloc,
-        charter,
+        scene,
         behaviour,
         book,
         nodes,
@@ -268,9 +271,11 @@ fn new_yard<B: Behaviour + Copy + Drop>(
     let ups = zeros(alloc, count)?;
     let ordered = zeros(alloc, producers)?;
     let mail = Mail::new(alloc, &charter)?;
+    let scene = Scene::new(alloc, charter)?;
+    scene.config();
     Ok(Yard {
         alloc,
-        charter,
+        scene,
         behaviour,
         book,
         nodes,

@@ -2,12 +2,13 @@
 ghost use Rattle.std.specs.Prelude.{◌≡◌};
 
 use crate::mail::Mail;
+use crate::scene::Scene;
 use behaviour_core::Behaviour;
 use node_core::Node;
 use shard_lease::LeaseBook;
 use std::alloc::Global;
 use std::marker::{Model, PhantomData};
-use yard_model::{Body, Charter, Fact, Item, Members, Packet, Slot, State};
+use yard_model::{Body, Fact, Item, Members, Packet, Slot, State};
 
 /// What a world keeps: the nodes that are up, who is a member, the leases, the packets, and how many of
 /// each producer's sends were ordered; the script with the number of shards in force, the behaviour in
@@ -15,7 +16,7 @@ use yard_model::{Body, Charter, Fact, Item, Members, Packet, Slot, State};
 #[derive(Drop)]
 pub(crate) struct Yard<B: Behaviour> {
     pub(crate) alloc: Global,
-    pub(crate) charter: Charter,
+    pub(crate) scene: Scene,
     pub(crate) behaviour: B,
     pub(crate) book: LeaseBook,
     pub(crate) nodes: Vec<Option<Node<B>>>,
@@ -34,7 +35,7 @@ impl<B: Behaviour> Model for Yard<B> {
     ghost Value = { Yard };
 
     ghost view = { λ y. record {
-      script = y.charter;
+      script = y.scene;
       force = record { kind = B.kind_of y.behaviour; version = B.version_of y.behaviour; past = y.past };
       book = y.book;
       nodes = y.nodes.items;

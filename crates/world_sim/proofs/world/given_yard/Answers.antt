@@ -28,7 +28,7 @@ returns-clause-seen g c =
     let nodes = ap (λ (f : Config). f.nodes) c.config.ensures.value ∙ ap (λ (s : Script). s.config.nodes) same in
     let greatest = c.greatest_number-greatest.ensures version ∙ ap (λ (s : Script). fold number_step 0 (opening_of version (lists_at s.config c.args.stores.places))) c.requires.script in
     seen_given _ c.args.charter.now version (lists_at c.args.charter.now.config c.args.stores.places) c.requires.given.unheld (record {
-      script_is = same;
+      script_is = c.in_ok-scene.ensures ∙ same;
       members_none = c.empty.ensures;
       version_none = refl;
       kind_is = c.requires.kind;

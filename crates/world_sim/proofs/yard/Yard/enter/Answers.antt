@@ -11,13 +11,13 @@ use Rattle.world_sim.proofs.UpLaws.{none_of_down, room_for, entered_whole, yard_
 use Rattle.world_sim.proofs.StepLaws.{cut_none, step_err, whole_as}
 use Rattle.world_sim.proofs.yard.Yard.enter.Goals as goal
 
-pub new-requires-clause-version : goal.new-requires-clause-version
-new-requires-clause-version g c =
+pub node-requires-clause-version : goal.node-requires-clause-version
+node-requires-clause-version g c =
     let r = c.requires.world in
     admitted _ r.0 (subst (λ v. IsSound v r.0) (sym c.self.view_is) r.1)
 
-pub new-requires-clause-kind : goal.new-requires-clause-kind
-new-requires-clause-kind g c =
+pub node-requires-clause-kind : goal.node-requires-clause-kind
+node-requires-clause-kind g c =
     let r = c.requires.world in
     (subst (λ v. IsSound v r.0) (sym c.self.view_is) r.1).seen_is.kind_is
 
@@ -37,40 +37,40 @@ pub set_number-requires : goal.set_number-requires
 set_number-requires g c =
     let r = c.requires.world in
     let s = subst (λ v. IsSound v r.0) (sym c.self.view_is) r.1 in
-    let l : length c.self.inside.ups.items ≡ c.self.inside.charter.config.nodes = ups_count _ r.0 s in
-    let h : c.args.n ≤ c.self.inside.charter.config.nodes = (node_within c.args.n _ (ap (λ v. is_in 1 v.script.config.nodes c.args.n) c.self.view_is ∙ c.requires.node)).1 in
+    let l : length c.self.inside.ups.items ≡ c.self.inside.scene.config.nodes = ups_count _ r.0 s in
+    let h : c.args.n ≤ c.self.inside.scene.config.nodes = (node_within c.args.n _ (ap (λ v. is_in 1 v.script.config.nodes c.args.n) c.self.view_is ∙ c.requires.node)).1 in
     omega (arith, l, h)
 
 pub put_node-requires : goal.put_node-requires
 put_node-requires g c =
     let r = c.requires.world in
     let s = subst (λ v. IsSound v r.0) (sym c.self.view_is) r.1 in
-    let l : length c.self.inside.nodes.items ≡ c.self.inside.charter.config.nodes = nodes_count _ r.0 (firm_of _ r.0 s) in
-    let h : c.args.n ≤ c.self.inside.charter.config.nodes = (node_within c.args.n _ (ap (λ v. is_in 1 v.script.config.nodes c.args.n) c.self.view_is ∙ c.requires.node)).1 in
+    let l : length c.self.inside.nodes.items ≡ c.self.inside.scene.config.nodes = nodes_count _ r.0 (firm_of _ r.0 s) in
+    let h : c.args.n ≤ c.self.inside.scene.config.nodes = (node_within c.args.n _ (ap (λ v. is_in 1 v.script.config.nodes c.args.n) c.self.view_is ∙ c.requires.node)).1 in
     omega (arith, l, h)
 
 pub returns : goal.returns
 returns g c =
     let who = came_is c.self.inside.ups.items c.args.n c.next_number-number.result c.next_number-number.ensures in
     whole_as IsSound 1 (entered c.args.n) _ c.args.self.now _ _ _ c.self.view_is
-    (entered_whole _ _ c.args.n c.in_ok-node.node c.args.facts.now c.push.new.self
+    (entered_whole _ _ c.args.n c.in-Ok.node c.args.facts.now c.push.new.self
     (yard_is _ _ refl refl refl c.put_node.ensures (c.with-self-inside.ensures ∙ ap (λ x. c.self.inside.members ++ x ∷ []) who) refl
     (c.set_number.ensures ∙ ap (λ k. slice_set c.self.inside.ups.items (c.args.n - 1) k) c.next_number-number.ensures) refl refl)
     (ap (λ v. is_in 1 v.script.config.nodes c.args.n) c.self.view_is ∙ c.requires.node)
-    c.in_ok-node.ensures.script
-    (c.in_ok-node.ensures.state ∙ ap (λ x. new_node (setting c.self.inside.charter) (g.B.Behaviour.version_of c.self.inside.behaviour) x) who)
+    c.in-Ok.ensures.script
+    (c.in-Ok.ensures.state ∙ ap (λ x. new_node (setting c.self.inside.scene) (g.B.Behaviour.version_of c.self.inside.behaviour) x) who)
     (c.in_ok-push.ensures.ok ∙ ap (λ x. c.args.facts.now ++ fact.Up x ∷ []) who))
 
-pub returns-in_err-node : goal.returns-in_err-node
-returns-in_err-node g c = step_err IsSound 1 (entered c.args.n) c.from_residual.result _ _ _ _ c.from_residual.ensures.0 (cut_none IsSound (entered c.args.n) _ _ _ _ refl refl)
+pub returns-in-Err : goal.returns-in-Err
+returns-in-Err g c = cut_none IsSound (entered c.args.n) _ _ _ _ refl refl
 
 pub returns-in_err-push : goal.returns-in_err-push
-returns-in_err-push g c = step_err IsSound 1 (entered c.args.n) c.from_residual-in_err-push.result _ _ _ _ c.from_residual-in_err-push.ensures.0 (cut_none IsSound (entered c.args.n) _ _ _ _ refl c.in_err-push.ensures.err)
+returns-in_err-push g c = step_err IsSound 1 (entered c.args.n) c.from_residual.result _ _ _ _ c.from_residual.ensures.0 (cut_none IsSound (entered c.args.n) _ _ _ _ refl c.in_err-push.ensures.err)
 
 pub next_number-number-requires-clause-within : goal.next_number-number-requires-clause-within
 next_number-number-requires-clause-within g c =
     let r = c.requires.world in
     let s = subst (λ v. IsSound v r.0) (sym c.self.view_is) r.1 in
-    let l : length c.self.inside.ups.items ≡ c.self.inside.charter.config.nodes = ups_count _ r.0 s in
-    let h : c.args.n ≤ c.self.inside.charter.config.nodes = (node_within c.args.n _ (ap (λ v. is_in 1 v.script.config.nodes c.args.n) c.self.view_is ∙ c.requires.node)).1 in
+    let l : length c.self.inside.ups.items ≡ c.self.inside.scene.config.nodes = ups_count _ r.0 s in
+    let h : c.args.n ≤ c.self.inside.scene.config.nodes = (node_within c.args.n _ (ap (λ v. is_in 1 v.script.config.nodes c.args.n) c.self.view_is ∙ c.requires.node)).1 in
     omega (arith, l, h)

@@ -29,7 +29,7 @@ returns-clause-script g c =
     c.into_stores.ensures.script ∙ (ap (λ (v : Yard). v.book.script) c.yard.view_is ∙ (r.1.firm_is.seen_is.book_is ∙ c.stop.ensures.script))
 
 pub returns-clause-charter : goal.returns-clause-charter
-returns-clause-charter g c = ap (λ (v : Yard). v.script) c.yard.view_is ∙ c.stop.ensures.script
+returns-clause-charter g c = c.into_charter.ensures ∙ (ap (λ (v : Yard). v.script) c.yard.view_is ∙ c.stop.ensures.script)
 
 pub returns-clause-same : goal.returns-clause-same
 returns-clause-same g c = λ w f q.

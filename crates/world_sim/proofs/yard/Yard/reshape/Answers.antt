@@ -1,12 +1,13 @@
-use Rattle.std.proofs.Common.{◌≡◌, ◌==◌, false, true, ap, sym, refl, subst}
+use Rattle.std.proofs.Common.{◌≡◌, ◌==◌, ◌∙◌, false, true, ap, sym, refl, subst}
 use Rattle.std.specs.Prelude.{None, is_some}
 use Rattle.std.specs.List.{list_any}
 use Rattle.yard_model.specs.declared.incarnation.Slot.{Slot}
 use Rattle.yard_model.specs.Genuine.{is_slot_of}
 use Rattle.yard_model.specs.Lawful.{is_held}
+use Rattle.yard_model.specs.Script.{Script, with_shards}
 use Rattle.yard_model.specs.Words.{at}
 use Rattle.shard_lease.specs.Book.{Book}
-use Rattle.shard_store.specs.Stores.{place_of}
+use Rattle.shard_store.specs.Stores.{lists_at, place_of}
 use Rattle.world_sim.specs.Steps.{resharded}
 use Rattle.world_sim.specs.Yard.{Yard, IsBacked}
 use Rattle.world_sim.proofs.ReshardLaws.{nobody_holds, relisted, played_as, reshaped_played}
@@ -40,6 +41,9 @@ returns-in_err-empty g c = plays_err 0 (resharded c.args.shards) c.from_residual
 pub returns-in_err-self-inside : goal.returns-in_err-self-inside
 returns-in_err-self-inside g c = plays_err 0 (resharded c.args.shards) c.from_residual-in_err-self-inside.result _ _ _ _ c.from_residual-in_err-self-inside.ensures.0 (cut_none IsBacked (resharded c.args.shards) _ _ _ _ (ap (λ (v : Yard). v.script) c.self.view_is) refl)
 
+pub returns-in_err-scene : goal.returns-in_err-scene
+returns-in_err-scene g c = plays_err 0 (resharded c.args.shards) c.from_residual-in_err-scene.result _ _ _ _ c.from_residual-in_err-scene.ensures.0 (cut_none IsBacked (resharded c.args.shards) _ _ _ _ (ap (λ (v : Yard). v.script) c.self.view_is) refl)
+
 pub returns-in_err-push : goal.returns-in_err-push
 returns-in_err-push g c = plays_err 0 (resharded c.args.shards) c.from_residual-in_err-push.result _ _ _ _ c.from_residual-in_err-push.ensures.0 (cut_none IsBacked (resharded c.args.shards) _ _ _ _ (ap (λ (v : Yard). v.script) c.self.view_is) c.in_err-push.ensures.err)
 
@@ -49,7 +53,7 @@ returns g c =
     (reshaped_played c.standing_is_kept.ensures c.args.shards c.greatest_epoch-epoch.result _ _ c.args.facts.now c.push.new.self (subst (λ (v : Yard). list_any is_some v.nodes ≡ false) (sym c.self.view_is) c.requires.quiet) c.requires.shards
     (subst (λ (v : Yard). (c.args.shards == v.script.config.shards) ≡ false) (sym c.self.view_is) c.requires.other) c.greatest_epoch-epoch.ensures
     (record {
-      script_is = c.in_ok-charter.ensures;
+      script_is = c.in_ok-scene.ensures ∙ (c.in_ok-charter.ensures ∙ ap (with_shards c.args.shards) c.charter.ensures);
       kind_is = refl;
       version_kept = refl;
       past_is = c.len-self-inside.ensures.len;
@@ -59,8 +63,8 @@ returns g c =
       ups_are = refl;
       ordered_are = refl;
       mail_is = refl;
-      book_is = c.in_ok-self-inside.ensures.script;
+      book_is = c.in_ok-self-inside.ensures.script ∙ sym c.in_ok-scene.ensures;
       holders_none = c.in_ok-self-inside.ensures.holders;
-      lists_are = relisted c.self.inside.book c.replace-book.result c.self.inside.charter c.in_ok-charter.charter c.args.shards _ c.replace-book.ensures.value c.in_ok-charter.ensures c.in_ok-self-inside.ensures.lists;
+      lists_are = ap (λ (s : Script). lists_at s.config c.in_ok-self-inside.field-0.places) c.in_ok-scene.ensures ∙ relisted c.self.inside.book c.replace-book.result c.self.inside.scene c.in_ok-charter.charter c.args.shards _ c.replace-book.ensures.value (c.in_ok-charter.ensures ∙ ap (with_shards c.args.shards) c.charter.ensures) c.in_ok-self-inside.ensures.lists;
     })
     c.in_ok-push.ensures.ok)

@@ -42,6 +42,7 @@ impl Confirmed {
     }
 
     /// The pair is confirmed up to this number. On an error nothing changes.
+    #[inline(never)]
     pub(crate) fn confirm(
         &mut self,
         producer: ProducerNo,

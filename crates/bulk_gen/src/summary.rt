@@ -98,6 +98,7 @@ fn one_more(count: u64) -> Result<u64, AllocError>
 }
 
 /// The stamp of a shard that moves, once. On an error nothing changes.
+#[inline(never)]
 fn note_stamp(stamps: &mut Vec<Stamp>, stamp: &Stamp) -> Result<(), AllocError>
     ensures ok { OnOk result (stamps.new.items ≡ (if list_any (is_stamp stamp.now) stamps.old.items then stamps.old.items else stamps.old.items ++ stamp.now ∷ [])) }
     ensures err { OnErr result (stamps.new.items ≡ stamps.old.items) }

@@ -56,7 +56,7 @@ impl Notes for Counts {
 
     fn note(&mut self, fact: &Fact) -> Result<(), AllocError> {
         self.summary.note(fact)?;
-        self.course = self.course.after(fact);
+        self.course.go_on(fact);
         Ok(())
     }
 

@@ -31,16 +31,20 @@ impl Course {
     pub(crate) fn after(&self, fact: &Fact) -> Course
         ensures { result ≡ course_step self.now fact.now }
     {
+        let mut course = *self;
+        course.go_on(fact);
+        course
+    }
+
+    /// It goes on by one fact, in its place.
+    #[inline(always)]
+    pub(crate) fn go_on(&mut self, fact: &Fact)
+        ensures { self.new ≡ course_step self.old fact.now }
+    {
         match fact {
-            Fact::At(line) => Course {
-                line: *line,
-                stop: self.stop,
-            },
-            Fact::WireFull => Course {
-                line: self.line,
-                stop: Some(self.line),
-            },
-            _ => *self,
+            Fact::At(line) => self.line = *line,
+            Fact::WireFull => self.stop = Some(self.line),
+            _ => {}
         }
     }
 }
@@ -63,7 +67,7 @@ impl Notes for Course {
     ghost are_of = { λ notes facts. notes ≡ course facts };
 
     fn note(&mut self, fact: &Fact) -> Result<(), AllocError> {
-        *self = self.after(fact);
+        self.go_on(fact);
         Ok(())
     }
 

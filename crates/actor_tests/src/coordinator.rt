@@ -19,7 +19,7 @@ fn a_new_coordinator_knows_nobody(rt: HostRuntime) -> Result<(), Fail> {
     assert!(rt; coordinator.who() == WHO);
     assert!(rt; coordinator.home(s) == None);
     assert!(rt; !coordinator.is_registered(&WHO));
-    assert_eq!(rt; coordinator.store().spare(), 300);
+    assert!(rt; coordinator.store().spare() >= 300);
     let store = coordinator.into_store();
     assert_eq!(rt; store.len(), 1);
     Ok(())

@@ -9,7 +9,7 @@ ghost use Rattle.producer_ctl.specs.Producing.{held};
 
 use crate::sample::WHO;
 use durable_queue::QueueStore;
-use producer_ctl::Producers;
+use producer_ctl::{Names, Producers};
 use std::alloc::{AllocError, Global};
 use std::test::Fail;
 use yard_model::{Charter, Command, Config, EntityName, Kind, Line, Order, Out, ProducerNo};
@@ -222,7 +222,8 @@ fn a_window_of_one(rt: HostRuntime) -> Result<(), Fail> {
     let mut store = QueueStore::new(alloc, &charter, p)?;
     store.reserve(1)?;
     store.grant(WHO);
-    let mut producers = Producers::new(alloc, WHO, &charter)?;
+    let names = Names::new(alloc, &charter)?;
+    let mut producers = Producers::new(alloc, WHO, &charter, &names)?;
     let mut out = Out::new(alloc);
     producers.begin(p, store);
     producers.reserve()?;

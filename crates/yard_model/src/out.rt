@@ -1,5 +1,5 @@
 //! What a node's turn makes: facts, and packets to be posted.
-ghost use Rattle.std.specs.Prelude.{◌≡◌, ◌+◌, ◌<◌, ◌≤◌, [], ◌∷◌, ◌++◌, drop, OnOk, OnErr, MatchOption};
+ghost use Rattle.std.specs.Prelude.{◌≡◌, ◌+◌, ◌*◌, ◌<◌, ◌≤◌, [], ◌∷◌, ◌++◌, drop, OnOk, OnErr, MatchOption};
 
 use crate::fact::Fact;
 use crate::incarnation::Slot;
@@ -68,16 +68,19 @@ impl Out {
         }
     }
 
-    /// Makes the spare so much, which is more than it is. The only error is want of memory.
+    /// Makes the spare twice so much, so that the turns after this one ask for nothing. The only error is
+    /// want of memory.
     #[inline(never)]
     fn grow(&mut self, wanted: usize) -> Result<(), AllocError>
-        requires { self.old.spare ≤ wanted }
+        requires more { self.old.spare ≤ wanted }
+        requires few { wanted ≤ 4294967295 }
         ensures items { self.new.items ≡ self.old.items }
-        ensures ok { OnOk result (self.new.spare ≡ wanted) }
+        ensures ok { OnOk result (self.new.spare ≡ 2 * wanted) }
         ensures err { OnErr result (self.new ≡ self.old) }
     {
-        self.list.reserve(wanted)?;
-        self.free = wanted;
+        let room = 2 * wanted;
+        self.list.reserve(room)?;
+        self.free = room;
         Ok(())
     }
 

@@ -358,10 +358,10 @@ impl QueueStore {
     }
 }
 
-/// Room for the entries of so many sends, each queued and confirmed, and for leases: where a list grows it
-/// moves.
+/// Room for the entries of so many sends, each queued and confirmed, for leases, and for the spare that is
+/// asked for at the end: where a list grows it moves.
 fn room_for(sends: usize) -> usize {
-    sends.saturating_mul(2).saturating_add(128)
+    sends.saturating_mul(2).saturating_add(640)
 }
 
 /// One entry more, for which there is room.

@@ -39,6 +39,7 @@ impl<N: Notes> Told<N> {
     }
 
     /// One fact more. The only error is want of memory, and then nothing changes.
+    #[inline(always)]
     pub fn push(&mut self, fact: Fact) -> Result<(), AllocError>
         ensures ok { OnOk result (self.new ≡ self.old ++ fact ∷ []) }
         ensures err { OnErr result (self.new ≡ self.old) }
@@ -48,6 +49,7 @@ impl<N: Notes> Told<N> {
 
     /// One fact more, of which no copy is made that isn't kept. The only error is want of memory, and then
     /// nothing changes.
+    #[inline(always)]
     pub fn push_copy(&mut self, fact: &Fact) -> Result<(), AllocError>
         ensures ok { OnOk result (self.new ≡ self.old ++ fact.now ∷ []) }
         ensures err { OnErr result (self.new ≡ self.old) }
@@ -58,6 +60,7 @@ impl<N: Notes> Told<N> {
     }
 
     /// The packet of this number is posted. The only error is want of memory, and then nothing changes.
+    #[inline(always)]
     pub fn push_sent(&mut self, number: u32, packet: &Packet) -> Result<(), AllocError>
         ensures ok { OnOk result (self.new ≡ self.old ++ fact.Sent number packet.now ∷ []) }
         ensures err { OnErr result (self.new ≡ self.old) }

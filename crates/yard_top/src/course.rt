@@ -66,11 +66,13 @@ impl Notes for Course {
 
     ghost are_of = { λ notes facts. notes ≡ course facts };
 
+    #[inline(always)]
     fn note(&mut self, fact: &Fact) -> Result<(), AllocError> {
         self.go_on(fact);
         Ok(())
     }
 
+    #[inline(always)]
     fn note_sent(&mut self, number: u32, packet: &Packet) -> Result<(), AllocError> {
         let _ = number;
         let _ = packet;

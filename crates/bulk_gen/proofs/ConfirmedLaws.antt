@@ -1,18 +1,17 @@
 -- What is confirmed, after one more; counts and stamps after one fact more.
-use Rattle.std.proofs.Common.{◌≡◌, ℕ, ◌+◌, ◌-◌, Bool, true, false, List, [], ◌∷◌, ◌++◌, refl, sym, ap, ap₂, ◌∙◌, arith}
-use Rattle.std.specs.Prelude.{◌==◌, ◌&&◌, ◌||◌, if◌then◌else◌, cond, Option, Some, unwrap_or}
-use Rattle.std.specs.List.{list_any, slice_get}
-use Rattle.std.specs.declared.cmp.Ordering.{Ordering}
-use Rattle.std.specs.declared.cmp.Ordering.TheVariants.{Less, Equal, Greater}
-use Rattle.std.specs.Ordering.{nat_cmp, ordering_then, is_eq}
-use Rattle.std.specs.Cmp.{unsigned_ties}
-use Rattle.std.specs.Cmp.Lexicographic.{slice_cmp, nat_list_eq_equiv, texts_ties}
-use Rattle.std.specs.BTreeMap.{BTreeMap, get, is_at, Updates}
+use Rattle.std.proofs.Common.{◌≡◌, ℕ, ◌+◌, ◌-◌, Bool, true, false, List, [], ◌∷◌, ◌++◌, refl, sym, subst, ap, ap₂, ◌∙◌, arith}
+use Rattle.std.specs.Prelude.{◌==◌, ◌&&◌, ◌||◌, ◌<◌, ◌≢◌, if◌then◌else◌, length, replicate, slice_index_or, slice_set, Some, zero, suc}
+use Rattle.std.specs.List.{list_any, position_or_len, slice_get}
+use Rattle.std.specs.Cmp.Lexicographic.{nat_list_eq_equiv}
+use Rattle.std.proofs.lemmas.Grind.{get_or-set_at}
+use Rattle.std.proofs.lemmas.List.{get_or_default, get_or-set_other}
 use Rattle.std.proofs.lemmas.List.Folds.{list_any-append, list_any_at}
+use Rattle.std.proofs.lemmas.List.Sums.{passes_at_first}
 use Rattle.std.proofs.lemmas.Option.{slice_get_within, get_or_from_slice_get}
 use Rattle.yard_model.specs.Script.{is_name}
-use Rattle.plain_laws.proofs.Booleans.{or_both, true_is_not_false}
-use Rattle.bulk_gen.specs.Counted.{AreConfirmed, last_of, pair_cmp}
+use Rattle.name_index.proofs.NameLaws.{placed}
+use Rattle.plain_laws.proofs.Booleans.{get_replicate, number_itself, or_both, same_name, same_number, true_is_not_false}
+use Rattle.bulk_gen.specs.Counted.{AreConfirmed, IsTable, last_of, number_of}
 use Rattle.bulk_gen.specs.SummaryText.{Confirmation, is_of_pair, sum_of_last}
 
 -- pairs as names
@@ -60,30 +59,83 @@ sum_push x (z ∷ zs) =
     by false false true l t u f g e = let none : l ≡ 0 = g refl in omega (arith, e, none)
     by false false false l t u f g e = let none : l ≡ 0 = g refl in omega (arith, e, none)
 
--- keys that are found equal
-tied : (p q : ℕ) (e f : List ℕ) → is_eq (ordering_then (nat_cmp p q) (slice_cmp nat_cmp e f)) ≡ ((p == q) && is_name e f)
-tied p q e f = by (nat_cmp p q) ∙ sym (ap₂ (λ a b. a && b) (unsigned_ties p q) (texts_ties e f))
+-- the number of a pair, once that of one pair is another
+number_after : (names rows : List (List ℕ)) (k sum after : ℕ) (x y : Confirmation) → IsTable names rows → k < length names → slice_index_or names k [] ≡ x.entity → x.producer < length (slice_index_or rows k [])
+    → number_of (record { names = names; rows = slice_set rows k (slice_set (slice_index_or rows k []) x.producer x.number); sum = after }) y.producer y.entity
+    ≡ (if is_of_pair y x then x.number else number_of (record { names = names; rows = rows; sum = sum }) y.producer y.entity)
+number_after names rows k sum after x y t within it wide = by (is_name y.entity x.entity) refl
   where
-    by : (a : Ordering) → is_eq (ordering_then a (slice_cmp nat_cmp e f)) ≡ (is_eq a && is_eq (slice_cmp nat_cmp e f))
-    by Less = refl
-    by Equal = refl
-    by Greater = refl
+    row : List ℕ
+    row = slice_index_or rows k []
 
-pub confirmed_more : (old new : BTreeMap (ℕ × List ℕ) ℕ) (x : Confirmation) (sum more before after : ℕ) (was : Option ℕ) (xs : List Confirmation) → AreConfirmed (record { numbers = old.entries; sum = sum }) xs
-    → Updates pair_cmp old new (x.producer, x.entity) (Some x.number) → was ≡ get pair_cmp old (x.producer, x.entity) → before ≡ unwrap_or was 0
-    → more ≡ sum + x.number → after ≡ more - before → AreConfirmed (record { numbers = new.entries; sum = after }) (xs ++ x ∷ [])
-confirmed_more old new x sum more before after was xs k u w b m s = record {
-  each = λ y. ap (λ o. unwrap_or o 0) (u.0 (y.producer, y.entity)) ∙ (by y (is_at (pair_cmp (x.producer, x.entity)) (y.producer, y.entity)) (tied x.producer y.producer x.entity y.entity ∙ pair_symm x y) ∙ sym (last_push y x xs));
+    now : List ℕ
+    now = slice_set row x.producer x.number
+
+    there : k < length rows
+    there = let sized : length rows ≡ length names = t.sized in omega (arith, sized, within)
+
+    j : ℕ
+    j = position_or_len (is_name y.entity) names
+
+    same : (s : Bool) → (y.producer == x.producer) ≡ s → slice_index_or now y.producer 0 ≡ (if s && true then x.number else slice_index_or row y.producer 0)
+    same true e = get_or-set_at row x.producer y.producer x.number 0 (same_number y.producer x.producer e) wide
+    same false e = get_or-set_other row x.producer y.producer x.number 0 (λ z. true_is_not_false (sym (number_itself y.producer x.producer z) ∙ e))
+
+    by : (b : Bool) → is_name y.entity x.entity ≡ b → slice_index_or (slice_index_or (slice_set rows k now) j []) y.producer 0 ≡ (if is_of_pair y x then x.number else slice_index_or (slice_index_or rows j []) y.producer 0)
+    by true e =
+        let one : y.entity ≡ x.entity = same_name y.entity x.entity e in
+        let at : k ≡ j = placed names y.entity k t.sorted within (it ∙ sym one) in
+        ap (λ (r : List ℕ). slice_index_or r y.producer 0) (get_or-set_at rows k j now [] (sym at) there)
+        ∙ (same (y.producer == x.producer) refl
+        ∙ (ap (λ b. if (y.producer == x.producer) && b then x.number else slice_index_or row y.producer 0) (sym e)
+        ∙ ap (λ i. if is_of_pair y x then x.number else slice_index_or (slice_index_or rows i []) y.producer 0) at))
+    by false e =
+        let apart : j ≢ k = λ z. true_is_not_false (sym (found z) ∙ e) in
+        ap (λ (r : List ℕ). slice_index_or r y.producer 0) (get_or-set_other rows k j now [] apart)
+        ∙ sym (none (y.producer == x.producer) ∙ refl)
+      where
+        found : j ≡ k → is_name y.entity x.entity ≡ true
+        found z = ap (is_name y.entity) (sym it ∙ ap (λ i. slice_index_or names i []) (sym z)) ∙ passes_at_first (is_name y.entity) names [] (let h : k < length names = within in omega (arith, h, z))
+
+        none : (s : Bool) → (if s && is_name y.entity x.entity then x.number else slice_index_or (slice_index_or rows j []) y.producer 0) ≡ slice_index_or (slice_index_or rows j []) y.producer 0
+        none true = ap (λ b. if b then x.number else slice_index_or (slice_index_or rows j []) y.producer 0) e
+        none false = refl
+
+-- one more is confirmed, where a row is read and then written
+pub confirmed_more : (names rows : List (List ℕ)) (k : ℕ) (read row now : List ℕ) (x : Confirmation) (sum more before after : ℕ) (xs : List Confirmation) → AreConfirmed (record { names = names; rows = rows; sum = sum }) xs
+    → IsTable names rows → k < length names → slice_index_or names k [] ≡ x.entity → read ≡ slice_index_or rows k read → row ≡ slice_index_or rows k row → now ≡ slice_set row x.producer x.number → x.producer < length row
+    → before ≡ slice_index_or read x.producer 0 → more ≡ sum + x.number → after ≡ more - before → AreConfirmed (record { names = names; rows = slice_set rows k now; sum = after }) (xs ++ x ∷ [])
+confirmed_more names rows k read row now x sum more before after xs c t within it reads writes sets wide b m s = record {
+  each = λ y. ap (λ (l : List ℕ). number_of (record { names = names; rows = slice_set rows k l; sum = after }) y.producer y.entity) (sets ∙ ap (λ (l : List ℕ). slice_set l x.producer x.number) there)
+      ∙ (number_after names rows k sum after x y t within it (subst (λ (l : List ℕ). x.producer < length l) there wide) ∙ (ap (λ n. if is_of_pair y x then x.number else n) (c.each y) ∙ sym (last_push y x xs)));
   sum =
-      let last : before ≡ last_of x xs = b ∙ (ap (λ o. unwrap_or o 0) w ∙ k.each x) in
+      let at : k ≡ position_or_len (is_name x.entity) names = placed names x.entity k t.sorted within it in
+      let last : before ≡ last_of x xs = b ∙ (ap (λ (l : List ℕ). slice_index_or l x.producer 0) (reads ∙ get_or_default rows k read [] inside) ∙ (ap (λ i. slice_index_or (slice_index_or rows i []) x.producer 0) at ∙ c.each x)) in
       let total : sum_of_last (xs ++ x ∷ []) + last_of x xs ≡ sum_of_last xs + x.number = sum_push x xs in
-      let so_far : sum ≡ sum_of_last xs = k.sum in
+      let so_far : sum ≡ sum_of_last xs = c.sum in
       omega (arith, last, total, so_far, m, s);
 }
   where
-    by : (y : Confirmation) (c : Bool) → c ≡ is_of_pair y x → unwrap_or (cond c (Some x.number) (get pair_cmp old (y.producer, y.entity))) 0 ≡ (if is_of_pair y x then x.number else last_of y xs)
-    by y true e = ap (λ c. if c then x.number else last_of y xs) e
-    by y false e = k.each y ∙ ap (λ c. if c then x.number else last_of y xs) e
+    inside : k < length rows
+    inside = let sized : length rows ≡ length names = t.sized in omega (arith, sized, within)
+
+    there : row ≡ slice_index_or rows k []
+    there = writes ∙ get_or_default rows k row [] inside
+
+-- nothing is confirmed in rows of zeros
+abbrev zeros : List ℕ
+zeros = replicate 33 0
+
+none_at : (n j p : ℕ) → slice_index_or (slice_index_or (replicate n zeros) j []) p 0 ≡ 0
+none_at zero j p = refl
+none_at (suc n) zero p = get_replicate 33 p 0
+none_at (suc n) (suc j) p = none_at n j p
+
+pub none_confirmed : (names rows : List (List ℕ)) (n : ℕ) → rows ≡ replicate n (replicate 33 0) → AreConfirmed (record { names = names; rows = rows; sum = 0 }) []
+none_confirmed names rows n e = record {
+  each = λ x. ap (λ (rs : List (List ℕ)). slice_index_or (slice_index_or rs (position_or_len (is_name x.entity) names) []) x.producer 0) e ∙ none_at n (position_or_len (is_name x.entity) names) x.producer;
+  sum = refl;
+}
 
 -- the last of a list passes
 pub any_last : {A : Type 0} (p : A → Bool) (xs : List A) (i : ℕ) (y : A) → slice_get xs i ≡ Some y → p y ≡ true → list_any p xs ≡ true

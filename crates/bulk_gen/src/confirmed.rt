@@ -1,37 +1,45 @@
 //! What is confirmed of each pair of producer and entity, and in sum.
-ghost use Rattle.std.specs.Prelude.{◌≡◌, ◌+◌, ◌++◌, ◌∷◌, List, [], IfOk, OnOk, OnErr};
+ghost use Rattle.std.specs.Prelude.{◌≡◌, ◌+◌, ◌++◌, ◌∷◌, List, [], replicate, IfOk, OnOk, OnErr};
 ghost use Rattle.bulk_gen.specs.Counted.{AreConfirmed};
-ghost use Rattle.bulk_gen.specs.SummaryText.{Confirmation, confirmed_in};
+ghost use Rattle.bulk_gen.specs.SummaryText.{Confirmation};
 
+use crate::row::Row;
+use name_index::NameIndex;
 use std::alloc::{AllocError, Global};
-use std::collections::BTreeMap;
 use std::marker::Model;
-use yard_model::{EntityName, Fact, ProducerNo};
+use yard_model::{Charter, EntityName, ProducerNo};
 
-/// The number that each pair is confirmed up to, and their sum.
+/// The number that each pair is confirmed up to, and their sum: of each name of a script, by its place,
+/// the numbers of all producers.
 #[derive(Drop)]
 pub(crate) struct Confirmed {
-    numbers: BTreeMap<(ProducerNo, EntityName), u32>,
+    names: NameIndex,
+    rows: Vec<Row>,
     sum: u64,
 }
 
 impl Model for Confirmed {
-    ghost use Rattle.bulk_gen.specs.Counted.{Sums};
+    ghost use Rattle.bulk_gen.specs.Counted.{Sums, IsTable};
 
     ghost Value = { Sums };
 
-    ghost view = { λ c. record { numbers = c.numbers.entries; sum = c.sum } };
+    ghost view = { λ c. record { names = c.names; rows = c.rows.items; sum = c.sum } };
+
+    ghost invariant = { λ c. IsTable c.names c.rows.items };
 }
 
 impl Confirmed {
-    /// Nothing is confirmed.
-    pub(crate) fn new(alloc: Global) -> Confirmed
-        ensures { AreConfirmed result [] }
+    /// Nothing is confirmed, of a script with these orders' names. The only error is want of memory.
+    pub(crate) fn new(alloc: Global, charter: &Charter) -> Result<Confirmed, AllocError>
+        ensures { IfOk result (λ c. AreConfirmed c []) }
     {
-        Confirmed {
-            numbers: BTreeMap::new(alloc),
+        let names = NameIndex::new(charter)?;
+        let rows = zero_rows(alloc, names.len())?;
+        Ok(Confirmed {
+            names,
+            rows,
             sum: 0,
-        }
+        })
     }
 
     /// The sum.
@@ -53,12 +61,24 @@ impl Confirmed {
             → AreConfirmed self.new (xs ++ record { producer = producer; entity = entity.now; number = number } ∷ [])) }
         ensures err { OnErr result (self.new ≡ self.old) }
     {
+        let Some(place) = self.names.find(entity) else {
+            // a script's run confirms none but its names
+            return Err(AllocError);
+        };
         let more = sum_with(self.sum, number)?;
-        let before = self.numbers.insert((producer, *entity), number)?;
+        let before = self.rows[place].of(producer);
+        self.rows[place].set(producer, number);
         // what it was before is part of the sum, so nothing is cut off
-        self.sum = more.saturating_sub(u64::from(before.unwrap_or(0)));
+        self.sum = more.saturating_sub(u64::from(before));
         Ok(())
     }
+}
+
+/// So many rows of zeros. The only error is want of memory.
+fn zero_rows(alloc: Global, count: usize) -> Result<Vec<Row>, AllocError>
+    ensures { IfOk result (λ rows. rows.items ≡ replicate count (replicate 33 0)) }
+{
+    vec![in alloc; Row::zero(); count]
 }
 
 /// The sum of both, where 64 bits have room for it.

@@ -6,6 +6,7 @@ mod draws;
 mod kinds;
 mod lines;
 mod rounds;
+mod row;
 mod script;
 mod summary;
 #[cfg(test)]

@@ -11,7 +11,7 @@ ghost use Rattle.bulk_gen.specs.SummaryText.{is_sent, is_wrote, with_stamp};
 use crate::confirmed::Confirmed;
 use std::alloc::{AllocError, Global};
 use std::marker::Model;
-use yard_model::{Fact, Stamp};
+use yard_model::{Charter, Fact, Stamp};
 
 /// Counts over the facts of a run.
 #[derive(Drop)]
@@ -32,20 +32,23 @@ impl Model for Summary {
 }
 
 impl Summary {
-    /// No facts yet.
-    pub fn new(alloc: Global) -> Summary
-        ensures { IsSummary result [] }
+    /// No facts yet, of a run of this charter's script. The only error is want of memory.
+    pub fn new(alloc: Global, charter: &Charter) -> Result<Summary, AllocError>
+        ensures { IfOk result (λ s. IsSummary s []) }
     {
-        Summary {
+        let confirmed = Confirmed::new(alloc, charter)?;
+        Ok(Summary {
             facts: 0,
             packets: 0,
             records: 0,
-            confirmed: Confirmed::new(alloc),
+            confirmed,
             stamps: Vec::new(alloc),
-        }
+        })
     }
 
-    /// One fact more. The only error is want of memory, or of room for a count; then nothing changes.
+    /// One fact more. The only error is want of memory, or of room for a count, as for a confirmation to a
+    /// name that the script doesn't have; then nothing changes.
+    #[inline(always)]
     pub fn note(&mut self, fact: &Fact) -> Result<(), AllocError>
         ensures ok { OnOk result ((facts : List Fact) → IsSummary self.old facts → IsSummary self.new (facts ++ fact.now ∷ [])) }
         ensures err { OnErr result (self.new ≡ self.old) }
@@ -58,6 +61,7 @@ impl Summary {
 
     /// One fact more, that a packet is posted, whichever it is. The only error is want of room for a
     /// count; then nothing changes.
+    #[inline(always)]
     pub fn note_sent(&mut self) -> Result<(), AllocError>
         ensures ok { OnOk result ((facts : List Fact) (number : ℕ) (packet : Packet) → IsSummary self.old facts → IsSummary self.new (facts ++ fact.Sent number packet ∷ [])) }
         ensures err { OnErr result (self.new ≡ self.old) }
@@ -69,6 +73,7 @@ impl Summary {
     }
 
     /// What is counted of a fact beside that it is one. On an error nothing changes.
+    #[inline(always)]
     fn note_kind(&mut self, fact: &Fact) -> Result<(), AllocError>
         ensures ok { OnOk result ((facts : List Fact) → IsSummary self.old facts
             → IsSummary (record self.new { facts = self.old.facts + 1 }) (facts ++ fact.now ∷ [])) }

@@ -84,7 +84,7 @@ fn note_all(summary: &mut Summary) -> Result<(), Fail> {
 #[test]
 fn a_small_run(rt: HostRuntime) -> Result<(), Fail> {
     let charter = script_of(rt.alloc(), 3)?;
-    let mut summary = Summary::new(rt.alloc());
+    let mut summary = Summary::new(rt.alloc(), &charter)?;
     note_all(&mut summary)?;
     let mut text = Vec::new(rt.alloc());
     push_summary(&mut text, &charter, 3, &summary)?;

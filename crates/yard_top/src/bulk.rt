@@ -54,12 +54,14 @@ impl Notes for Counts {
 
     ghost are_of = { λ counts facts. (counts.course ≡ course facts) × IsSummary counts.summary facts };
 
+    #[inline(always)]
     fn note(&mut self, fact: &Fact) -> Result<(), AllocError> {
         self.summary.note(fact)?;
         self.course.go_on(fact);
         Ok(())
     }
 
+    #[inline(always)]
     fn note_sent(&mut self, number: u32, packet: &Packet) -> Result<(), AllocError> {
         let _ = number;
         let _ = packet;
@@ -79,9 +81,10 @@ fn summary_of(
     ensures stop { IfOk result (λ r. r.1 ≡ stop_in (trace_of charter.now)) }
 {
     let mut world = World::new(alloc, charter, Counter::new())?;
+    let summary = Summary::new(alloc, charter)?;
     let mut facts = Told::new(Counts {
         course: Course::start(),
-        summary: Summary::new(alloc),
+        summary,
     });
     follow(&mut world, &mut facts)?;
     let counts = facts.notes();

@@ -228,6 +228,9 @@ impl Mail {
         ensures past { IfOk result (λ past. past ≡ is_past wire_limit (length self.old.packets) self.old.items) }
         ensures told { OnErr result (ToldSome facts.old facts.new (numbered wire_limit (length self.old.packets) self.old.items)) }
     {
+        if self.out.first().is_none() {
+            return Ok(false);
+        }
         let mut out = mem::replace(&mut self.out, Out::new(self.alloc));
         let past = self.tell_each(&mut out, facts)?;
         self.out = out;

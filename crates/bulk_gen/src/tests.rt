@@ -2,8 +2,8 @@
 use crate::{Summary, push_summary, script_of};
 use std::test::Fail;
 use yard_model::{
-    Body, Command, EntityName, Events, Fact, Incarnation, Line, NodeNo, Order, Packet, ProducerNo,
-    Record, Reply, ShardNo, Stamp,
+    Body, Charter, Command, EntityName, Events, Fact, Incarnation, Line, NodeNo, Order, Packet,
+    ProducerNo, Record, Reply, ShardNo, Stamp,
 };
 
 const WHO: Incarnation = Incarnation {
@@ -42,12 +42,12 @@ fn drawn_orders(rt: HostRuntime) -> Result<(), Fail> {
     Ok(())
 }
 
-/// The facts of a small run.
-fn note_all(summary: &mut Summary) -> Result<(), Fail> {
+/// The facts of a small run, to the first two names of the script.
+fn note_all(charter: &Charter, summary: &mut Summary) -> Result<(), Fail> {
     let p = ProducerNo::new(1).ok_or("a producer")?;
     let s = ShardNo::new(0, 1).ok_or("a shard")?;
-    let e1 = EntityName::new(b"e1").ok_or("a name")?;
-    let e2 = EntityName::new(b"e2").ok_or("a name")?;
+    let e1 = *charter.names().first().ok_or("a name")?;
+    let e2 = *charter.names().get(1).ok_or("another name")?;
     let packet = Packet {
         from: WHO,
         to: WHO,
@@ -85,7 +85,7 @@ fn note_all(summary: &mut Summary) -> Result<(), Fail> {
 fn a_small_run(rt: HostRuntime) -> Result<(), Fail> {
     let charter = script_of(rt.alloc(), 3)?;
     let mut summary = Summary::new(rt.alloc(), &charter)?;
-    note_all(&mut summary)?;
+    note_all(&charter, &mut summary)?;
     let mut text = Vec::new(rt.alloc());
     push_summary(&mut text, &charter, 3, &summary)?;
     let expected = "bulk 3\norders 45\nfacts 11\npackets 2\nrecords 1\nconfirmed 7\nrounds 2\n";

@@ -26,8 +26,8 @@ abbrev has_numbers : Command → Bool
 has_numbers (command.Add k) = is_in 1 1000 k
 has_numbers (command.Deposit k) = is_amount k
 has_numbers (command.Withdraw k) = is_amount k
-has_numbers (command.DepositWithMemo k m) = is_amount k && is_memo m
-has_numbers (command.WithdrawWithMemo k m) = is_amount k && is_memo m
+has_numbers (command.DepositWithMemo m k) = is_amount k && is_memo m
+has_numbers (command.WithdrawWithMemo m k) = is_amount k && is_memo m
 has_numbers (command.AddItem x) = is_item x
 has_numbers (command.RemoveItem i) = is_item_number i
 has_numbers (command.AdjustItem x) = is_item x
@@ -37,8 +37,8 @@ numbers_of_kind : (k : Kind) (c : Command) → IsTrue (is_of_kind k c) → IsTru
 numbers_of_kind kind.Counter (command.Add k) h = h
 numbers_of_kind kind.Account (command.Deposit k) h = h
 numbers_of_kind kind.Account (command.Withdraw k) h = h
-numbers_of_kind kind.Account (command.DepositWithMemo k m) h = h
-numbers_of_kind kind.Account (command.WithdrawWithMemo k m) h = h
+numbers_of_kind kind.Account (command.DepositWithMemo m k) h = h
+numbers_of_kind kind.Account (command.WithdrawWithMemo m k) h = h
 numbers_of_kind kind.Cart (command.AddItem x) h = h
 numbers_of_kind kind.Cart (command.RemoveItem i) h = h
 numbers_of_kind kind.Cart (command.AdjustItem x) h = h
@@ -123,21 +123,21 @@ memo_from k m h = second (nat_le 1 m) (nat_le m most_memo) (second (is_amount k)
 open_applies : (v b m : ℕ) (c : Command) → IsTrue (has_numbers c) → IsTrue (are_applicable (state.Open b m) (decide v (state.Open b m) c).events)
 open_applies v b m (command.Deposit k) h = pays_apply b m k (in_version v (event.Deposited k)) (λ f. told_applies v (state.Open b m) (event.Deposited k) (both (is_amount k) (nat_le (b + k) most) h f))
 open_applies v b m (command.Withdraw k) h = takes_apply b m k (in_version v (event.Withdrawn k)) (λ f. told_applies v (state.Open b m) (event.Withdrawn k) (both (is_amount k) (nat_le k b) h f))
-open_applies v b m (command.DepositWithMemo k n) h = memo_applies v (state.Open b m) (pays_in b k (event.DepositedWithMemo k n)) (pays_apply b m k (event.DepositedWithMemo k n) (λ f. memo_may k n (nat_le (b + k) most) (first (is_amount k) (is_memo n) h) (memo_from k n h) f))
-open_applies v b m (command.WithdrawWithMemo k n) h = memo_applies v (state.Open b m) (takes_out b k (event.WithdrawnWithMemo k n)) (takes_apply b m k (event.WithdrawnWithMemo k n) (λ f. memo_may k n (nat_le k b) (first (is_amount k) (is_memo n) h) (memo_from k n h) f))
+open_applies v b m (command.DepositWithMemo n k) h = memo_applies v (state.Open b m) (pays_in b k (event.DepositedWithMemo n k)) (pays_apply b m k (event.DepositedWithMemo n k) (λ f. memo_may k n (nat_le (b + k) most) (first (is_amount k) (is_memo n) h) (memo_from k n h) f))
+open_applies v b m (command.WithdrawWithMemo n k) h = memo_applies v (state.Open b m) (takes_out b k (event.WithdrawnWithMemo n k)) (takes_apply b m k (event.WithdrawnWithMemo n k) (λ f. memo_may k n (nat_le k b) (first (is_amount k) (is_memo n) h) (memo_from k n h) f))
 open_applies v b m command.Close h = refused_unless (b == 0) (state.Open b m) event.AccountClosed 0 4 (λ f. f)
 open_applies v b m c h = refl
 
 none_applies : (v : ℕ) (c : Command) → IsTrue (are_applicable state.NoAccount (decide v state.NoAccount c).events)
 none_applies v command.Create = refl
-none_applies v (command.DepositWithMemo k m) = memo_applies v state.NoAccount (no 1) refl
-none_applies v (command.WithdrawWithMemo k m) = memo_applies v state.NoAccount (no 1) refl
+none_applies v (command.DepositWithMemo m k) = memo_applies v state.NoAccount (no 1) refl
+none_applies v (command.WithdrawWithMemo m k) = memo_applies v state.NoAccount (no 1) refl
 none_applies v c = refl
 
 closed_applies : (v : ℕ) (c : Command) → IsTrue (are_applicable state.Closed (decide v state.Closed c).events)
 closed_applies v command.Create = refl
-closed_applies v (command.DepositWithMemo k m) = memo_applies v state.Closed (no 1) refl
-closed_applies v (command.WithdrawWithMemo k m) = memo_applies v state.Closed (no 1) refl
+closed_applies v (command.DepositWithMemo m k) = memo_applies v state.Closed (no 1) refl
+closed_applies v (command.WithdrawWithMemo m k) = memo_applies v state.Closed (no 1) refl
 closed_applies v c = refl
 
 -- an item that is new, where there is room
@@ -185,8 +185,8 @@ few_takes b k e = few_if (nat_lt b k) (no 3) (gives e (b - k)) (lit≤ tt) (lit�
 few_open : (v b m : ℕ) (c : Command) → length (decide v (state.Open b m) c).events ≤ 4
 few_open v b m (command.Deposit k) = few_pays b k (in_version v (event.Deposited k))
 few_open v b m (command.Withdraw k) = few_takes b k (in_version v (event.Withdrawn k))
-few_open v b m (command.DepositWithMemo k n) = few_memo v (pays_in b k (event.DepositedWithMemo k n)) (few_pays b k (event.DepositedWithMemo k n))
-few_open v b m (command.WithdrawWithMemo k n) = few_memo v (takes_out b k (event.WithdrawnWithMemo k n)) (few_takes b k (event.WithdrawnWithMemo k n))
+few_open v b m (command.DepositWithMemo n k) = few_memo v (pays_in b k (event.DepositedWithMemo n k)) (few_pays b k (event.DepositedWithMemo n k))
+few_open v b m (command.WithdrawWithMemo n k) = few_memo v (takes_out b k (event.WithdrawnWithMemo n k)) (few_takes b k (event.WithdrawnWithMemo n k))
 few_open v b m command.Close = few_if (b == 0) (gives event.AccountClosed 0) (no 4) (lit≤ tt) (lit≤ tt)
 few_open v b m c = lit≤ tt
 
@@ -203,14 +203,14 @@ few_counter v n c = lit≤ tt
 
 few_none : (v : ℕ) (c : Command) → length (decide v state.NoAccount c).events ≤ 4
 few_none v command.Create = lit≤ tt
-few_none v (command.DepositWithMemo k m) = few_memo v (no 1) (lit≤ tt)
-few_none v (command.WithdrawWithMemo k m) = few_memo v (no 1) (lit≤ tt)
+few_none v (command.DepositWithMemo m k) = few_memo v (no 1) (lit≤ tt)
+few_none v (command.WithdrawWithMemo m k) = few_memo v (no 1) (lit≤ tt)
 few_none v c = lit≤ tt
 
 few_closed : (v : ℕ) (c : Command) → length (decide v state.Closed c).events ≤ 4
 few_closed v command.Create = lit≤ tt
-few_closed v (command.DepositWithMemo k m) = few_memo v (no 1) (lit≤ tt)
-few_closed v (command.WithdrawWithMemo k m) = few_memo v (no 1) (lit≤ tt)
+few_closed v (command.DepositWithMemo m k) = few_memo v (no 1) (lit≤ tt)
+few_closed v (command.WithdrawWithMemo m k) = few_memo v (no 1) (lit≤ tt)
 few_closed v c = lit≤ tt
 
 pub decided_events_are_few : (v : ℕ) (st : State) (c : Command) → length (decide v st c).events ≤ 4
@@ -257,8 +257,8 @@ memo_of k n fits may = second (is_amount k) (nat_le n most_memo) (first (is_amou
 open_after : (b m : ℕ) (e : Event) → IsTrue (is_valid kind.Account (state.Open b m)) → IsTrue (is_applicable (state.Open b m) e) → IsTrue (is_valid kind.Account (apply (state.Open b m) e))
 open_after b m (event.Deposited k) valid may = valid_open (b + k) 0 (second (is_amount k) (nat_le (b + k) most) may) refl
 open_after b m (event.Withdrawn k) valid may = valid_open (b - k) 0 (le_of_sub b k most (first (nat_le b most) (nat_le m most_memo) valid)) refl
-open_after b m (event.DepositedWithMemo k n) valid may = valid_open (b + k) n (second (is_amount k && nat_le n most_memo) (nat_le (b + k) most) may) (memo_of k n (nat_le (b + k) most) may)
-open_after b m (event.WithdrawnWithMemo k n) valid may = valid_open (b - k) n (le_of_sub b k most (first (nat_le b most) (nat_le m most_memo) valid)) (memo_of k n (nat_le k b) may)
+open_after b m (event.DepositedWithMemo n k) valid may = valid_open (b + k) n (second (is_amount k && nat_le n most_memo) (nat_le (b + k) most) may) (memo_of k n (nat_le (b + k) most) may)
+open_after b m (event.WithdrawnWithMemo n k) valid may = valid_open (b - k) n (le_of_sub b k most (first (nat_le b most) (nat_le m most_memo) valid)) (memo_of k n (nat_le k b) may)
 open_after b m event.AccountClosed valid may = refl
 open_after b m e valid may = cc
 

@@ -19,7 +19,7 @@ pub fn is_of_kind(kind: Kind, command: &Command) -> bool
         (Kind::Counter, Command::Add(k)) => is_in(1, 1000, u64::from(*k)),
         (Kind::Counter, Command::Read) => true,
         (Kind::Account, Command::Deposit(k) | Command::Withdraw(k)) => is_amount(*k),
-        (Kind::Account, Command::DepositWithMemo(k, m) | Command::WithdrawWithMemo(k, m)) => {
+        (Kind::Account, Command::DepositWithMemo(m, k) | Command::WithdrawWithMemo(m, k)) => {
             is_amount(*k) && is_memo(*m)
         }
         (Kind::Account, Command::Create | Command::Balance | Command::Close) => true,
@@ -65,10 +65,10 @@ fn is_applicable_in_account(balance: u64, event: &Event) -> bool
     match event {
         Event::Deposited(k) => is_amount(*k) && fits(balance, u64::from(*k)),
         Event::Withdrawn(k) => is_amount(*k) && u64::from(*k) <= balance,
-        Event::DepositedWithMemo(k, m) => {
+        Event::DepositedWithMemo(m, k) => {
             is_amount(*k) && *m <= MOST_MEMO && fits(balance, u64::from(*k))
         }
-        Event::WithdrawnWithMemo(k, m) => {
+        Event::WithdrawnWithMemo(m, k) => {
             is_amount(*k) && *m <= MOST_MEMO && u64::from(*k) <= balance
         }
         Event::AccountClosed => balance == 0,

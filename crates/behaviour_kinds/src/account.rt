@@ -100,13 +100,13 @@ fn decide_open(version: Version, balance: u64, command: &Command) -> Decision
         Command::Create => refused(2),
         Command::Deposit(k) => pay_in(balance, *k, in_version(version, Event::Deposited(*k))),
         Command::Withdraw(k) => take_out(balance, *k, in_version(version, Event::Withdrawn(*k))),
-        Command::DepositWithMemo(k, m) => with_memo(
+        Command::DepositWithMemo(m, k) => with_memo(
             version,
-            pay_in(balance, *k, Event::DepositedWithMemo(*k, *m)),
+            pay_in(balance, *k, Event::DepositedWithMemo(*m, *k)),
         ),
-        Command::WithdrawWithMemo(k, m) => with_memo(
+        Command::WithdrawWithMemo(m, k) => with_memo(
             version,
-            take_out(balance, *k, Event::WithdrawnWithMemo(*k, *m)),
+            take_out(balance, *k, Event::WithdrawnWithMemo(*m, *k)),
         ),
         Command::Balance => answered(balance),
         Command::Close if balance == 0 => taken(Event::AccountClosed, 0),

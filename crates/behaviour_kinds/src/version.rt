@@ -44,8 +44,8 @@ pub fn adapted(event: &Event) -> Event
     ensures { result ≡ adapt event.now }
 {
     match event {
-        Event::Deposited(k) => Event::DepositedWithMemo(*k, 0),
-        Event::Withdrawn(k) => Event::WithdrawnWithMemo(*k, 0),
+        Event::Deposited(k) => Event::DepositedWithMemo(0, *k),
+        Event::Withdrawn(k) => Event::WithdrawnWithMemo(0, *k),
         _ => *event,
     }
 }

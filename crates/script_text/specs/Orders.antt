@@ -67,11 +67,11 @@ amount ws = first ws >>= λ k. number 1 1000000 k.0 & memo k.1
 
 abbrev pub paid_in : ℕ → Option ℕ → Command
 paid_in k None = command.Deposit k
-paid_in k (Some m) = command.DepositWithMemo k m
+paid_in k (Some m) = command.DepositWithMemo m k
 
 abbrev pub taken_out : ℕ → Option ℕ → Command
 taken_out k None = command.Withdraw k
-taken_out k (Some m) = command.WithdrawWithMemo k m
+taken_out k (Some m) = command.WithdrawWithMemo m k
 
 -- the words after `deposit`
 unfoldable pub deposit : List (List ℕ) → Result Command Why

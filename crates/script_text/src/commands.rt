@@ -71,7 +71,7 @@ fn deposit(line: &[u8]) -> Result<Command, Why>
 {
     match amount(line)? {
         (k, None) => Ok(Command::Deposit(k)),
-        (k, Some(m)) => Ok(Command::DepositWithMemo(k, m)),
+        (k, Some(m)) => Ok(Command::DepositWithMemo(m, k)),
     }
 }
 
@@ -83,7 +83,7 @@ fn withdraw(line: &[u8]) -> Result<Command, Why>
 {
     match amount(line)? {
         (k, None) => Ok(Command::Withdraw(k)),
-        (k, Some(m)) => Ok(Command::WithdrawWithMemo(k, m)),
+        (k, Some(m)) => Ok(Command::WithdrawWithMemo(m, k)),
     }
 }
 

@@ -56,8 +56,8 @@ impl Behaviour for Tally {
 
     fn adapt(&self, event: &Event) -> Event {
         match event {
-            Event::Deposited(k) => Event::DepositedWithMemo(*k, 0),
-            Event::Withdrawn(k) => Event::WithdrawnWithMemo(*k, 0),
+            Event::Deposited(k) => Event::DepositedWithMemo(0, *k),
+            Event::Withdrawn(k) => Event::WithdrawnWithMemo(0, *k),
             _ => *event,
         }
     }
@@ -126,9 +126,9 @@ fn commands_are_of_a_kind_with_their_numbers_in_range(rt: HostRuntime) {
         (Kind::Account, Command::Deposit(1_000_000), true),
         (Kind::Account, Command::Deposit(1_000_001), false),
         (Kind::Account, Command::Withdraw(0), false),
-        (Kind::Account, Command::DepositWithMemo(1, 0), false),
-        (Kind::Account, Command::DepositWithMemo(1, 9999), true),
-        (Kind::Account, Command::WithdrawWithMemo(1, 10_000), false),
+        (Kind::Account, Command::DepositWithMemo(0, 1), false),
+        (Kind::Account, Command::DepositWithMemo(9999, 1), true),
+        (Kind::Account, Command::WithdrawWithMemo(10_000, 1), false),
         (Kind::Account, Command::Checkout, false),
         (Kind::Cart, Command::AddItem(item(9999, 1000)), true),
         (Kind::Cart, Command::AddItem(item(10000, 1)), false),
@@ -164,8 +164,8 @@ fn states_are_valid_and_events_applicable(rt: HostRuntime) {
     assert!(rt; !is_applicable(cart, &Event::ItemAdded(item(2, 5))));
     assert!(rt; is_applicable(&State::NoAccount, &Event::Created));
     assert!(rt; !is_applicable(&open(5, 0), &Event::AccountClosed));
-    assert!(rt; is_applicable(&open(5, 3), &Event::WithdrawnWithMemo(5, 0)));
-    assert!(rt; !is_applicable(&open(5, 3), &Event::WithdrawnWithMemo(6, 0)));
+    assert!(rt; is_applicable(&open(5, 3), &Event::WithdrawnWithMemo(0, 5)));
+    assert!(rt; !is_applicable(&open(5, 3), &Event::WithdrawnWithMemo(0, 6)));
 }
 
 fn open(balance: u64, memo: u16) -> State {

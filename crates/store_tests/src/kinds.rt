@@ -192,11 +192,11 @@ fn open(balance: u64, memo: u16) -> State {
 fn an_account_gets_memos_in_version_2(rt: HostRuntime) {
     let first = Account::new();
     let steps = [
-        no(Command::DepositWithMemo(5, 7), 6),
+        no(Command::DepositWithMemo(7, 5), 6),
         ok(Command::Create, Event::Created, 0),
         ok(Command::Deposit(100), Event::Deposited(100), 100),
-        no(Command::DepositWithMemo(5, 7), 6),
-        no(Command::WithdrawWithMemo(500, 7), 6),
+        no(Command::DepositWithMemo(7, 5), 6),
+        no(Command::WithdrawWithMemo(7, 500), 6),
     ];
     let middle = played(&rt, &first, &first.empty(), &steps);
     assert_eq!(rt; middle, open(100, 0));
@@ -205,29 +205,29 @@ fn an_account_gets_memos_in_version_2(rt: HostRuntime) {
     assert_eq!(rt; second.at_version(1), first);
     let steps = [
         ok(
-            Command::WithdrawWithMemo(30, 12),
-            Event::WithdrawnWithMemo(30, 12),
+            Command::WithdrawWithMemo(12, 30),
+            Event::WithdrawnWithMemo(12, 30),
             70,
         ),
-        no(Command::WithdrawWithMemo(71, 13), 3),
+        no(Command::WithdrawWithMemo(13, 71), 3),
     ];
     let end = played(&rt, &second, &middle, &steps);
     assert_eq!(rt; end, open(70, 12));
     let steps = [
-        ok(Command::Deposit(5), Event::DepositedWithMemo(5, 0), 75),
+        ok(Command::Deposit(5), Event::DepositedWithMemo(0, 5), 75),
         ok(
-            Command::DepositWithMemo(25, 9999),
-            Event::DepositedWithMemo(25, 9999),
+            Command::DepositWithMemo(9999, 25),
+            Event::DepositedWithMemo(9999, 25),
             100,
         ),
-        ok(Command::Withdraw(100), Event::WithdrawnWithMemo(100, 0), 0),
+        ok(Command::Withdraw(100), Event::WithdrawnWithMemo(0, 100), 0),
         ok(Command::Close, Event::AccountClosed, 0),
-        no(Command::DepositWithMemo(5, 7), 1),
+        no(Command::DepositWithMemo(7, 5), 1),
     ];
     let end = played(&rt, &second, &end, &steps);
     assert_eq!(rt; end, State::Closed);
     assert_eq!(rt;
         second.adapt(&Event::Deposited(5)),
-        Event::DepositedWithMemo(5, 0)
+        Event::DepositedWithMemo(0, 5)
     );
 }

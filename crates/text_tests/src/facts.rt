@@ -60,7 +60,7 @@ fn facts_have_their_lines(rt: HostRuntime) -> Result<(), Fail> {
         command: Command::AddItem(ITEM),
         events: Events::empty()
             .with(Event::ItemAdded(ITEM))
-            .with(Event::DepositedWithMemo(4, 0)),
+            .with(Event::DepositedWithMemo(0, 4)),
         reply: Reply::Rejected(2),
     };
     let cart = State::Cart {
@@ -88,7 +88,7 @@ fn facts_have_their_lines(rt: HostRuntime) -> Result<(), Fail> {
         (Fact::Moving(s, STAMP), "moving 0 1/2\n"),
         (Fact::Kept(WHO, *message), "kept 1.1 1 c1 2\n"),
         (
-            Fact::Queued(p, entity, 1, Command::DepositWithMemo(5, 7)),
+            Fact::Queued(p, entity, 1, Command::DepositWithMemo(7, 5)),
             "queued 1 c1 1 deposit 5 7\n",
         ),
         (

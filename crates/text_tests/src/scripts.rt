@@ -47,7 +47,7 @@ const SENDS: [(&str, Command); 5] = [
     ),
     (
         "config kind=account\nsend 2 a deposit 5 9999",
-        Command::DepositWithMemo(5, 9999),
+        Command::DepositWithMemo(9999, 5),
     ),
 ];
 

@@ -146,8 +146,8 @@ pub(crate) fn put_command(cells: &mut [u8], at: usize, command: &Command) -> usi
         Command::Create => put_word(cells, at, b"create"),
         Command::Deposit(k) => put_counted(cells, at, b"deposit ", *k),
         Command::Withdraw(k) => put_counted(cells, at, b"withdraw ", *k),
-        Command::DepositWithMemo(k, m) => put_two_counts(cells, at, b"deposit ", *k, u32::from(*m)),
-        Command::WithdrawWithMemo(k, m) => put_two_counts(
+        Command::DepositWithMemo(m, k) => put_two_counts(cells, at, b"deposit ", *k, u32::from(*m)),
+        Command::WithdrawWithMemo(m, k) => put_two_counts(
             cells,
             at,
             b"withdraw ",
@@ -173,8 +173,8 @@ fn put_event(cells: &mut [u8], at: usize, event: &Event) -> usize
         Event::Created => put_word(cells, at, b"created"),
         Event::Deposited(k) => put_counted(cells, at, b"deposited ", *k),
         Event::Withdrawn(k) => put_counted(cells, at, b"withdrawn ", *k),
-        Event::DepositedWithMemo(k, m) => put_with_memo(cells, at, b"deposited ", *k, *m),
-        Event::WithdrawnWithMemo(k, m) => put_with_memo(cells, at, b"withdrawn ", *k, *m),
+        Event::DepositedWithMemo(m, k) => put_with_memo(cells, at, b"deposited ", *k, *m),
+        Event::WithdrawnWithMemo(m, k) => put_with_memo(cells, at, b"withdrawn ", *k, *m),
         Event::AccountClosed => put_word(cells, at, b"closed"),
         Event::ItemAdded(x) => put_with_item(cells, at, b"added ", x),
         Event::ItemRemoved(item) => put_counted(cells, at, b"removed ", u32::from(*item)),

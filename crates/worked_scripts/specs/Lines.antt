@@ -76,7 +76,7 @@ lines_of_shards =
 -- commands, as they wait, and one that is queued and confirmed
 abbrev pub commands : List Command
 commands =
-    command.Read ∷ command.Create ∷ command.Deposit 4 ∷ command.Withdraw 4 ∷ command.DepositWithMemo 5 7 ∷ command.WithdrawWithMemo 5 7 ∷ command.Balance ∷ command.Close
+    command.Read ∷ command.Create ∷ command.Deposit 4 ∷ command.Withdraw 4 ∷ command.DepositWithMemo 7 5 ∷ command.WithdrawWithMemo 7 5 ∷ command.Balance ∷ command.Close
     ∷ command.AddItem item ∷ command.RemoveItem 7 ∷ command.AdjustItem item ∷ command.Checkout ∷ []
 
 abbrev pub facts_of_queues : List Fact
@@ -116,7 +116,7 @@ abbrev pub facts_of_records : List Fact
 facts_of_records =
     written [] (reply.Rejected 2) ∷ written (event.Added 5 ∷ []) (reply.Value 8) ∷ written (event.Created ∷ event.Deposited 4 ∷ []) (reply.Value 4)
     ∷ written (event.Withdrawn 4 ∷ event.AccountClosed ∷ []) (reply.Value 0) ∷ written (event.ItemAdded item ∷ event.ItemAdjusted item ∷ []) (reply.Value 1)
-    ∷ written (event.ItemRemoved 7 ∷ event.CheckedOut ∷ []) (reply.Value 1) ∷ written (event.DepositedWithMemo 4 0 ∷ event.WithdrawnWithMemo 3 12 ∷ []) (reply.Value 1) ∷ []
+    ∷ written (event.ItemRemoved 7 ∷ event.CheckedOut ∷ []) (reply.Value 1) ∷ written (event.DepositedWithMemo 0 4 ∷ event.WithdrawnWithMemo 12 3 ∷ []) (reply.Value 1) ∷ []
 
 abbrev pub lines_of_records : List Bytes
 lines_of_records =

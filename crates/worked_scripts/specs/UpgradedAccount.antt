@@ -14,11 +14,11 @@ script = script_of (record { nodes = 1; shards = 1; producers = 1; buffer = 100;
     (order.Produce 1 1) ∷
     (order.Send 1 (codes "a") command.Create) ∷
     (order.Send 1 (codes "a") (command.Deposit 100)) ∷
-    (order.Send 1 (codes "a") (command.DepositWithMemo 5 7)) ∷
+    (order.Send 1 (codes "a") (command.DepositWithMemo 7 5)) ∷
     (order.Pump 40) ∷
     (order.Crash 1) ∷
     (order.Upgrade) ∷
-    (order.Send 1 (codes "a") (command.WithdrawWithMemo 30 12)) ∷
+    (order.Send 1 (codes "a") (command.WithdrawWithMemo 12 30)) ∷
     (order.Settle) ∷
     [])
 

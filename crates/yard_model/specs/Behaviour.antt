@@ -51,8 +51,8 @@ is_of_kind kind.Counter command.Read = true
 is_of_kind kind.Account command.Create = true
 is_of_kind kind.Account (command.Deposit k) = is_amount k
 is_of_kind kind.Account (command.Withdraw k) = is_amount k
-is_of_kind kind.Account (command.DepositWithMemo k m) = is_amount k && is_memo m
-is_of_kind kind.Account (command.WithdrawWithMemo k m) = is_amount k && is_memo m
+is_of_kind kind.Account (command.DepositWithMemo m k) = is_amount k && is_memo m
+is_of_kind kind.Account (command.WithdrawWithMemo m k) = is_amount k && is_memo m
 is_of_kind kind.Account command.Balance = true
 is_of_kind kind.Account command.Close = true
 is_of_kind kind.Cart (command.AddItem x) = is_item x
@@ -75,8 +75,8 @@ gives e v = record { events = e ∷ []; reply = reply.Value v }
 
 -- Adapt: the event of version 2; an event that has none of its own there stays
 abbrev pub adapt : Event → Event
-adapt (event.Deposited k) = event.DepositedWithMemo k 0
-adapt (event.Withdrawn k) = event.WithdrawnWithMemo k 0
+adapt (event.Deposited k) = event.DepositedWithMemo 0 k
+adapt (event.Withdrawn k) = event.WithdrawnWithMemo 0 k
 adapt e = e
 
 -- an event of version 1, as this version tells it
@@ -98,8 +98,8 @@ abbrev pub decide_open : ℕ → ℕ → Command → Decision
 decide_open v b command.Create = no 2
 decide_open v b (command.Deposit k) = pays_in b k (in_version v (event.Deposited k))
 decide_open v b (command.Withdraw k) = takes_out b k (in_version v (event.Withdrawn k))
-decide_open v b (command.DepositWithMemo k m) = with_memo v (pays_in b k (event.DepositedWithMemo k m))
-decide_open v b (command.WithdrawWithMemo k m) = with_memo v (takes_out b k (event.WithdrawnWithMemo k m))
+decide_open v b (command.DepositWithMemo m k) = with_memo v (pays_in b k (event.DepositedWithMemo m k))
+decide_open v b (command.WithdrawWithMemo m k) = with_memo v (takes_out b k (event.WithdrawnWithMemo m k))
 decide_open v b command.Balance = ok b
 decide_open v b command.Close = if b == 0 then gives event.AccountClosed 0 else no 4
 decide_open v b c = no 0
@@ -108,8 +108,8 @@ decide_open v b c = no 0
 abbrev pub decide_shut : ℕ → State → Command → Decision
 decide_shut v state.NoAccount command.Create = gives event.Created 0
 decide_shut v st command.Create = no 2
-decide_shut v st (command.DepositWithMemo k m) = with_memo v (no 1)
-decide_shut v st (command.WithdrawWithMemo k m) = with_memo v (no 1)
+decide_shut v st (command.DepositWithMemo m k) = with_memo v (no 1)
+decide_shut v st (command.WithdrawWithMemo m k) = with_memo v (no 1)
 decide_shut v st c = no 1
 
 abbrev pub has_item : ℕ → List CartItem → Bool
@@ -151,8 +151,8 @@ items_adjusted x items = map (adjusted x) items
 abbrev pub apply_adapted : State → Event → State
 apply_adapted (state.Counter n) (event.Added k) = state.Counter (n + k)
 apply_adapted state.NoAccount event.Created = state.Open 0 0
-apply_adapted (state.Open b m) (event.DepositedWithMemo k n) = state.Open (b + k) n
-apply_adapted (state.Open b m) (event.WithdrawnWithMemo k n) = state.Open (b - k) n
+apply_adapted (state.Open b m) (event.DepositedWithMemo n k) = state.Open (b + k) n
+apply_adapted (state.Open b m) (event.WithdrawnWithMemo n k) = state.Open (b - k) n
 apply_adapted (state.Open b m) event.AccountClosed = state.Closed
 apply_adapted (state.Cart out items) (event.ItemAdded x) = state.Cart out (item_among x items)
 apply_adapted (state.Cart out items) (event.ItemRemoved i) = state.Cart out (items_without i items)
@@ -170,8 +170,8 @@ is_applicable (state.Counter n) (event.Added k) = is_in 1 1000 k && nat_le (n + 
 is_applicable state.NoAccount event.Created = true
 is_applicable (state.Open b m) (event.Deposited k) = is_amount k && nat_le (b + k) most
 is_applicable (state.Open b m) (event.Withdrawn k) = is_amount k && nat_le k b
-is_applicable (state.Open b m) (event.DepositedWithMemo k n) = is_amount k && nat_le n most_memo && nat_le (b + k) most
-is_applicable (state.Open b m) (event.WithdrawnWithMemo k n) = is_amount k && nat_le n most_memo && nat_le k b
+is_applicable (state.Open b m) (event.DepositedWithMemo n k) = is_amount k && nat_le n most_memo && nat_le (b + k) most
+is_applicable (state.Open b m) (event.WithdrawnWithMemo n k) = is_amount k && nat_le n most_memo && nat_le k b
 is_applicable (state.Open b m) event.AccountClosed = b == 0
 is_applicable (state.Cart false items) (event.ItemAdded x) = is_item x && not (has_item x.item items) && nat_lt (length items) most_items
 is_applicable (state.Cart false items) (event.ItemRemoved i) = is_item_number i && has_item i items

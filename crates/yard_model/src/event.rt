@@ -26,10 +26,11 @@ pub enum Command {
     Deposit(u32),
     /// To an account: take out.
     Withdraw(u32),
-    /// To an account: pay in, with a memo of 1 to 9999 (from version 2 of the behaviour on).
-    DepositWithMemo(u32, u16),
-    /// To an account: take out, with a memo of 1 to 9999 (from version 2 of the behaviour on).
-    WithdrawWithMemo(u32, u16),
+    /// To an account: pay in, with a memo of 1 to 9999 (from version 2 of the behaviour on). The memo
+    /// stands before the amount, so that a command takes eight bytes.
+    DepositWithMemo(u16, u32),
+    /// To an account: take out, with a memo of 1 to 9999, likewise before the amount.
+    WithdrawWithMemo(u16, u32),
     /// To an account: tell the balance.
     Balance,
     /// To an account: close it.
@@ -55,10 +56,11 @@ pub enum Event {
     Deposited(u32),
     /// An account's balance has fallen.
     Withdrawn(u32),
-    /// An account's balance has risen, and this is its last memo; 0 where the command had none.
-    DepositedWithMemo(u32, u16),
-    /// An account's balance has fallen, and this is its last memo; 0 where the command had none.
-    WithdrawnWithMemo(u32, u16),
+    /// An account's balance has risen, and this is its last memo; 0 where the command had none. The
+    /// memo stands before the amount, as in a command.
+    DepositedWithMemo(u16, u32),
+    /// An account's balance has fallen, and this is its last memo; likewise.
+    WithdrawnWithMemo(u16, u32),
     /// An account is closed.
     AccountClosed,
     /// An item is in the cart.

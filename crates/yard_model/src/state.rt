@@ -82,8 +82,8 @@ fn after_in_account(balance: u64, memo: u16, event: &Event) -> State
     match event {
         Event::Deposited(k) => open(balance + u64::from(*k), 0),
         Event::Withdrawn(k) => open(balance - u64::from(*k), 0),
-        Event::DepositedWithMemo(k, m) => open(balance + u64::from(*k), *m),
-        Event::WithdrawnWithMemo(k, m) => open(balance - u64::from(*k), *m),
+        Event::DepositedWithMemo(m, k) => open(balance + u64::from(*k), *m),
+        Event::WithdrawnWithMemo(m, k) => open(balance - u64::from(*k), *m),
         Event::AccountClosed => State::Closed,
         _ => open(balance, memo),
     }

@@ -1,5 +1,5 @@
 -- Sets of places, as the bits of words of 64.
-use Rattle.std.specs.Prelude.{◌≡◌, ℕ, ◌+◌, ◌/◌, ◌%◌, ◌==◌, Bool, List, length, slice_index_or}
+use Rattle.std.specs.Prelude.{◌≡◌, ℕ, ◌*◌, ◌^◌, ◌≤◌, ◌/◌, ◌%◌, ◌==◌, Bool, List, length, slice_index_or}
 use Rattle.std.specs.Int.{bit_at}
 
 -- bit i of the word is 1
@@ -20,4 +20,5 @@ is_in s i = has_place s.words i
 
 -- there is a word for each place
 pub record IsPlaces (bound : ℕ) (words : List ℕ) : Type 0 where
-  pub there : length words ≡ bound / 64 + 1
+  pub there : bound ≤ 64 * length words
+  pub few : 64 * length words ≤ 2 ^ 64

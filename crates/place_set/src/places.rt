@@ -6,31 +6,40 @@ use crate::words::{has, lowest, with, without};
 use std::alloc::{AllocError, Global};
 use std::marker::Model;
 
-/// A set of places below a bound, a bit each; contracts see which are in it.
+/// A set of places below a bound, a bit each; contracts see which are in it. The bits of the first 64
+/// places stand in the set itself, so that a set whose bound is at most 64 takes no memory of its
+/// own.
 #[derive(Drop)]
 pub struct PlaceSet {
     bound: usize,
-    words: Vec<u64>,
+    first: u64,
+    more: Vec<u64>,
 }
 
 impl Model for PlaceSet {
+    ghost use Rattle.std.specs.Prelude.{◌∷◌};
     ghost use Rattle.place_set.specs.Places.{Places, IsPlaces};
 
     ghost Value = { Places };
 
-    ghost view = { λ s. record { bound = s.bound; words = s.words.items } };
+    ghost view = { λ s. record { bound = s.bound; words = s.first ∷ s.more.items } };
 
-    ghost invariant = { λ s. IsPlaces s.bound s.words.items };
+    ghost invariant = { λ s. IsPlaces s.bound (s.first ∷ s.more.items) };
 }
 
 impl PlaceSet {
-    /// No places. The only error is want of memory.
+    /// No places, for which no memory is taken where the bound is at most 64. The only error is want of
+    /// memory.
     pub fn new(alloc: Global, bound: usize) -> Result<PlaceSet, AllocError>
         ensures bound { IfOk result (λ s. s.bound ≡ bound) }
         ensures none { IfOk result (λ s. (i : ℕ) → is_in s i ≡ false) }
     {
-        let words = vec![in alloc; 0; bound / 64 + 1]?;
-        Ok(PlaceSet { bound, words })
+        let more = vec![in alloc; 0; bound.saturating_sub(1) / 64]?;
+        Ok(PlaceSet {
+            bound,
+            first: 0,
+            more,
+        })
     }
 
     /// The place comes into it.
@@ -40,8 +49,12 @@ impl PlaceSet {
         ensures it { is_in self.new place ≡ true }
         ensures others { (i : ℕ) → i ≢ place → is_in self.new i ≡ is_in self.old i }
     {
-        let at = place / 64;
-        self.words[at] = with(self.words[at], bit_of(place));
+        if place < 64 {
+            self.first = with(self.first, bit_of(place));
+        } else {
+            let at = place / 64 - 1;
+            self.more[at] = with(self.more[at], bit_of(place));
+        }
     }
 
     /// The place goes out of it.
@@ -51,8 +64,12 @@ impl PlaceSet {
         ensures it { is_in self.new place ≡ false }
         ensures others { (i : ℕ) → i ≢ place → is_in self.new i ≡ is_in self.old i }
     {
-        let at = place / 64;
-        self.words[at] = without(self.words[at], bit_of(place));
+        if place < 64 {
+            self.first = without(self.first, bit_of(place));
+        } else {
+            let at = place / 64 - 1;
+            self.more[at] = without(self.more[at], bit_of(place));
+        }
     }
 
     /// All places go out of it.
@@ -60,7 +77,8 @@ impl PlaceSet {
         ensures bound { self.new.bound ≡ self.old.bound }
         ensures none { (i : ℕ) → is_in self.new i ≡ false }
     {
-        clear_all(&mut self.words);
+        self.first = 0;
+        clear_all(&mut self.more);
     }
 
     /// Whether the place is in it.
@@ -68,7 +86,11 @@ impl PlaceSet {
         requires { place < self.now.bound }
         ensures { result ≡ is_in self.now place }
     {
-        has(self.words[place / 64], bit_of(place))
+        if place < 64 {
+            has(self.first, bit_of(place))
+        } else {
+            has(self.more[place / 64 - 1], bit_of(place))
+        }
     }
 
     /// The lowest place that is in it, from one on; the bound where there is none.
@@ -79,12 +101,17 @@ impl PlaceSet {
         ensures it { result < self.now.bound → is_in self.now result ≡ true }
         ensures between { (i : ℕ) → from ≤ i → i < result → is_in self.now i ≡ false }
     {
-        let place = next_in(self.words.as_slice(), self.bound, from);
-        if place < self.bound {
-            place
-        } else {
-            self.bound
+        if from >= 64 {
+            return 64 + next_below(self.more.as_slice(), self.bound - 64, from - 64);
         }
+        let place = lowest(self.first, bit_of(from)) as usize;
+        if self.bound <= place {
+            return self.bound;
+        }
+        if place < 64 {
+            return place;
+        }
+        64 + next_below(self.more.as_slice(), self.bound - 64, 0)
     }
 }
 
@@ -105,10 +132,28 @@ fn clear_all(words: &mut Vec<u64>)
     }
 }
 
+/// The lowest place that is in these words, from one on; the bound where there is none.
+fn next_below(words: &[u64], bound: usize, from: usize) -> usize
+    requires there { bound ≤ 64 * length words.now }
+    requires few { 64 * length words.now ≤ 2 ^ 64 }
+    requires from { from ≤ bound }
+    ensures from { from ≤ result }
+    ensures within { result ≤ bound }
+    ensures it { result < bound → has_place words.now result ≡ true }
+    ensures between { (i : ℕ) → from ≤ i → i < result → has_place words.now i ≡ false }
+{
+    if from >= bound {
+        return bound;
+    }
+    let place = next_in(words, bound, from);
+    if place < bound { place } else { bound }
+}
+
 /// The lowest place that is in these words, from one on; none of the words' where there is none.
 fn next_in(words: &[u64], bound: usize, from: usize) -> usize
-    requires there { length words.now ≡ bound / 64 + 1 }
-    requires from { from ≤ bound }
+    requires there { bound ≤ 64 * length words.now }
+    requires few { 64 * length words.now ≤ 2 ^ 64 }
+    requires from { from < bound }
     ensures from { from ≤ result }
     ensures it { result < bound → has_place words.now result ≡ true }
     ensures between { (i : ℕ) → from ≤ i → i < result → has_place words.now i ≡ false }

@@ -1,6 +1,7 @@
 //! The view of one node.
 ghost use Rattle.std.specs.Prelude.{◌≡◌, ◌<◌, ◌↔◌, [], true, false, slice_get, IfOk, IsTrue};
 ghost use Rattle.yard_model.specs.Words.{is_among};
+ghost use Rattle.membership_view.specs.ByNode.{AreByNode};
 ghost use Rattle.membership_view.specs.Known.{Known};
 
 use std::alloc::{AllocError, Global};
@@ -8,19 +9,25 @@ use std::marker::Model;
 use yard_model::{Incarnation, Members};
 
 /// The newest members that this node has heard of, oldest first; seen as its version and their
-/// list. It takes no memory.
+/// list. The numbers of the members stand in a table by their nodes, so that whether one is a member
+/// is a single look. It takes no memory.
 #[derive(Drop)]
 pub struct View {
     members: Members,
+    // at each node less 1, one more than its member's number; 0 where it has no member
+    numbers: [u64; 16],
     version: u32,
 }
 
 impl Model for View {
+    ghost use Rattle.membership_view.specs.ByNode.{AreByNode};
     ghost use Rattle.membership_view.specs.Known.{Known};
 
     ghost Value = { Known };
 
     ghost view = { λ v. record { version = v.version; members = v.members } };
+
+    ghost invariant = { λ v. AreByNode v.members v.numbers };
 }
 
 impl View {
@@ -32,6 +39,7 @@ impl View {
         let _ = alloc;
         Ok(View {
             members: Members::empty(),
+            numbers: [0; 16],
             version: 0,
         })
     }
@@ -46,6 +54,7 @@ impl View {
         if version <= self.version {
             return false;
         }
+        self.numbers = numbers_of(members);
         self.members = *members;
         self.version = version;
         true
@@ -62,7 +71,7 @@ impl View {
     pub fn has(&self, who: Incarnation) -> bool
         ensures { result ≡ is_among who self.now.members }
     {
-        self.members.has(&who)
+        self.numbers[usize::from(who.node.get()) - 1] == u64::from(who.number) + 1
     }
 
     /// The members, oldest first.
@@ -78,4 +87,18 @@ impl View {
     {
         self.members.get(0)
     }
+}
+
+/// At each node less 1, one more than the number of its member; 0 where it has none.
+fn numbers_of(members: &Members) -> [u64; 16]
+    ensures { AreByNode members.now result }
+{
+    let mut numbers = [0; 16];
+    for place in 0..members.len() {
+        let Some(member) = members.get(place) else {
+            unreachable!()
+        };
+        numbers[usize::from(member.node.get()) - 1] = u64::from(member.number) + 1;
+    }
+    numbers
 }

@@ -66,8 +66,19 @@ impl Journal {
         ensures items { self.new.items ≡ self.old.items ++ entry ∷ [] }
         ensures spare { self.new.spare + 1 ≡ self.old.spare }
     {
+        self.append_copy(&entry);
+    }
+
+    /// The same, of which one copy is made.
+    pub fn append_copy(&mut self, entry: &Record)
+        requires spare { 0 < self.old.spare }
+        requires number { entry.now.number ≡ length self.old.items + 1 }
+        ensures items { self.new.items ≡ self.old.items ++ entry.now ∷ [] }
+        ensures spare { self.new.spare + 1 ≡ self.old.spare }
+    {
+        let _number = entry.number;
         let place = (entry.producer.get() - 1) as usize;
-        match self.records.push(entry) {
+        match self.records.push(*entry) {
             Ok(()) => {}
             Err(_) => unreachable!(),
         }

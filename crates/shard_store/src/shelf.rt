@@ -217,7 +217,7 @@ impl ShardStore {
         requires next { IsTrue (may self.old (fact.Wrote entity.now entry.now)) }
         ensures { self.new ≡ with_entry self.old (fact.Wrote entity.now entry.now) }
     {
-        self.journals[place].append(*entry);
+        self.journals[place].append_copy(entry);
         self.list.write(ShardEntry::Wrote(*entity, *entry));
     }
 

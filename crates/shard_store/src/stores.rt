@@ -31,6 +31,10 @@ use yard_model::{
 /// How many entries a store takes with no memory while it isn't leased.
 pub(crate) const SPARE: u32 = 100;
 
+/// For how many a shard's list is made at first, so that it seldom moves; of its memory none is
+/// touched before it is written to.
+const FIRST: u32 = 500;
+
 /// The store of each slot of a charter: the shards, the coordinator, the queues. Each one that isn't
 /// leased takes a hundred entries with no memory taken; seen as the charter's script and the stores
 /// by place.
@@ -197,7 +201,7 @@ fn new_shard(
         unreachable!()
     };
     let mut store = ShardStore::with_table(alloc, charter, table, shard)?;
-    store.reserve(SPARE)?;
+    store.reserve(FIRST)?;
     Ok(Store::Shard(store))
 }
 

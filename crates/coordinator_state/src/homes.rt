@@ -62,8 +62,7 @@ impl Homes {
         ensures regions { self.new.regions ≡ without r.now self.old.regions }
         ensures homes { self.new.homes ≡ map (home_without r.now) self.old.homes }
     {
-        let others = loads_without(&self.loads, r);
-        *self.loads = others;
+        *self.loads = loads_without(&self.loads, r);
         clear_homes(self.homes.as_mut_slice(), r);
     }
 
@@ -75,8 +74,7 @@ impl Homes {
         ensures within { s < length self.old.homes }
     {
         let place = s.get() as usize;
-        let after = loads_after(&self.loads, s, &home);
-        *self.loads = after;
+        *self.loads = loads_after(&self.loads, s, &home);
         self.homes[place] = home;
     }
 

@@ -15,7 +15,7 @@ use Rattle.yard_model.specs.declared.input.Input.TheVariants as input
 use Rattle.yard_model.specs.declared.packet.Packet.{Packet}
 use Rattle.yard_model.specs.Behaviour.{is_in, is_of_kind}
 use Rattle.yard_model.specs.Genuine.{is_node, is_genuine_body}
-use Rattle.yard_model.specs.Words.{at, is_among, is_empty}
+use Rattle.yard_model.specs.Words.{at, is_among, is_empty, is_same}
 use Rattle.yard_model.specs.Node.{Node}
 use Rattle.yard_model.specs.Script.{Script, is_order, with_shards}
 use Rattle.yard_model.specs.SlotLists.{SlotLists}
@@ -23,12 +23,14 @@ use Rattle.yard_model.specs.World as world
 use Rattle.yard_model.specs.World.{World, Made, Step, tell, then_step, node_at, with_order}
 use Rattle.wire_packet.specs.Wire.{packet_at}
 use Rattle.node_core.specs.Standing.{Standing}
-use Rattle.plain_laws.proofs.Booleans.{and_both, both, at_most}
+use Rattle.plain_laws.proofs.Booleans.{and_both, both, at_most, true_is_not_false}
 use Rattle.plain_laws.proofs.Lists.{none_is_not_some, some_is}
+use Rattle.plain_laws.proofs.Members.{itself_is, same_is}
 use Rattle.node_laws.specs.Members.{IsThere}
 use Rattle.play_laws.specs.Confirming.{MayHand, MayDeliver, MayNext, MayDrain}
 use Rattle.play_laws.specs.Sound.{AreQueued, IsWell}
 use Rattle.play_laws.proofs.Orders.{may_deliver}
+use Rattle.world_sim.specs.Found.{is_up_in, is_who}
 use Rattle.world_sim.specs.Keeps.{Keeps}
 use Rattle.world_sim.specs.Mail.{Mails, Heads, ToldSome}
 use Rattle.world_sim.specs.Stands.{Stands}
@@ -173,6 +175,24 @@ here y w x s m =
     let t : IsThere w x = s.stands_is.sound.members_are x (ap (is_among x) (sym s.seen_is.members_are) ∙ m) in
     let k = state_some (at y.nodes (x.node - 1)) t.node (sym (state_at y.nodes (x.node - 1)) ∙ (ap (λ l. at l (x.node - 1)) s.seen_is.nodes_are ∙ t.is_up)) in
     record { node = k.0; is_up = k.1; who_is = ap (λ (st : Node). st.who) k.2 ∙ t.who_is }
+
+up_alone : (y : Yard) (w : World) (x : Incarnation) (o : Option Standing) → IsSound y w → at y.nodes (x.node - 1) ≡ o → is_among x y.members ≡ false → is_who x o ≡ false
+up_alone y w x None s e m = refl
+up_alone y w x (Some v) s e m = step (is_same x v.state.who) refl
+  where
+    step : (b : Bool) → is_same x v.state.who ≡ b → b ≡ false
+    step false f = refl
+    step true f =
+        let it : is_among v.state.who w.members ≡ true = s.stands_is.sound.are_members (x.node - 1) v.state (kept_is x.node v y w s.seen_is e) in
+        absurd (true_is_not_false (sym (ap (λ z. is_among z w.members) (same_is x v.state.who f) ∙ it) ∙ (ap (is_among x) (sym s.seen_is.members_are) ∙ m)))
+
+-- a member is up, and what is up is a member
+pub up_is : (y : Yard) (w : World) (x : Incarnation) → IsSound y w → is_up_in x y.nodes ≡ is_among x y.members
+up_is y w x s = step (is_among x y.members) refl
+  where
+    step : (b : Bool) → is_among x y.members ≡ b → is_up_in x y.nodes ≡ b
+    step true m = let h : IsHere y x = here y w x s m in ap (is_who x) h.is_up ∙ itself_is x h.node.state.who (sym h.who_is)
+    step false m = up_alone y w x (at y.nodes (x.node - 1)) s refl m
 
 to_some : (c : Script) (lists : SlotLists) (p : Packet) → IsWell c lists p → 1 ≤ p.to.node
 to_some c lists p well =

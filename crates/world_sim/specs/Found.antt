@@ -1,11 +1,12 @@
 -- The node that is looked for.
 use Rattle.std.specs.Prelude.{◌≡◌, ℕ, ◌-◌, ◌≤◌, ◌<◌, Bool, true, false, List, Option, Some, None, is_some, MatchOption}
+use Rattle.yard_model.specs.declared.incarnation.Incarnation.{Incarnation}
 use Rattle.yard_model.specs.declared.input.Phase.TheVariants as phase
 use Rattle.yard_model.specs.Entities.{is_in_phase}
 use Rattle.yard_model.specs.Genuine.{is_brought}
 use Rattle.yard_model.specs.Node.{Node}
 use Rattle.yard_model.specs.Script.{Script}
-use Rattle.yard_model.specs.Words.{at}
+use Rattle.yard_model.specs.Words.{at, is_same}
 use Rattle.node_core.specs.Standing.{Standing}
 use Rattle.world_sim.specs.declared.seek.Sought.{Sought}
 use Rattle.world_sim.specs.declared.seek.Sought.TheVariants as sought
@@ -24,6 +25,15 @@ MaySeek c s = Unit {0}
 abbrev pub is_it : Sought → Option Standing → Bool
 is_it s None = false
 is_it s (Some v) = is_sought s v.state
+
+-- it is up, and is this incarnation
+abbrev pub is_who : Incarnation → Option Standing → Bool
+is_who x None = false
+is_who x (Some v) = is_same x v.state.who
+
+-- the node of its number is up, and is it
+abbrev pub is_up_in : Incarnation → List (Option Standing) → Bool
+is_up_in x nodes = is_who x (at nodes (x.node - 1))
 
 -- of the first m nodes the last that has it, by its number, from 1
 pub record IsLast (s : Sought) (nodes : List (Option Standing)) (m n : ℕ) : Type 0 where

@@ -7,6 +7,7 @@ ghost use Rattle.world_sim.specs.Steps.{marked};
 ghost use Rattle.world_sim.specs.Yard.{IsSound, IsSoundFor, IsSoundTo, IsBacked, Delivers, Drains};
 
 use crate::laws::standing_is_kept;
+use crate::places::is_up;
 use crate::yard::Yard;
 use behaviour_core::Behaviour;
 use std::alloc::AllocError;
@@ -74,7 +75,7 @@ impl<B: Behaviour + Copy + Drop> Yard<B> {
         if number <= self.past {
             return Ok(());
         }
-        if !self.members.has(&packet.to) {
+        if !is_up(&self.nodes, &packet.to) {
             return Ok(());
         }
         self.give_packet(packet.to.node, packet, facts)

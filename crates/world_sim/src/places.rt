@@ -2,11 +2,12 @@
 ghost use Rattle.std.specs.Prelude.{◌≡◌, ◌+◌, ◌-◌, ◌<◌, ◌≤◌, length, is_none, is_some, slice_set, slice_index_or, replicate, IfOk, Some, None, if◌then◌else◌};
 ghost use Rattle.std.specs.List.{list_any};
 ghost use Rattle.yard_model.specs.Words.{at};
+ghost use Rattle.world_sim.specs.Found.{is_up_in, is_who};
 
 use behaviour_core::Behaviour;
 use node_core::Node;
 use std::alloc::{AllocError, Global};
-use yard_model::{NodeNo, ProducerNo};
+use yard_model::{Incarnation, NodeNo, ProducerNo};
 
 /// Whether no incarnation of this node is up.
 pub(crate) fn is_down<B: Behaviour>(nodes: &Vec<Option<Node<B>>>, n: NodeNo) -> bool
@@ -22,6 +23,27 @@ pub(crate) fn is_any_up<B: Behaviour>(nodes: &Vec<Option<Node<B>>>) -> bool
     ensures { result ≡ list_any is_some nodes.now.items }
 {
     nodes.as_slice().iter().any(|node| node.is_some())
+}
+
+/// Whether this incarnation is up: the node of its number is, and is it.
+pub(crate) fn is_up<B: Behaviour + Drop>(nodes: &Vec<Option<Node<B>>>, who: &Incarnation) -> bool
+    ensures { result ≡ is_up_in who.now nodes.now.items }
+{
+    let place = who.node.get() as usize - 1;
+    match nodes.get(place) {
+        Some(node) => is_who(node, who),
+        None => false,
+    }
+}
+
+/// Whether a node is up, and is this incarnation.
+fn is_who<B: Behaviour + Drop>(node: &Option<Node<B>>, who: &Incarnation) -> bool
+    ensures { result ≡ is_who who.now node.now }
+{
+    match node {
+        Some(node) => *who == node.who(),
+        None => false,
+    }
 }
 
 /// Puts a node at the place of this number.

@@ -1,4 +1,5 @@
 pub mod Cuts
+pub mod FitLaws
 pub mod Gaps
 pub mod Lanes
 pub mod Names

@@ -20,7 +20,9 @@ number_of why.BadName = 10
 number_of why.TooManyLines = 11
 number_of why.TooLong = 12
 number_of why.WrongMode = 13
-number_of why.NotBuilt = 14
+number_of why.SecondJob = 15
+number_of why.WrongKind = 16
+number_of why.TooManyPings = 17
 
 -- what comes after a part that isn't refused
 infixl 10 ◌>>=◌

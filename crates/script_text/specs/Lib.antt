@@ -1,5 +1,6 @@
 pub mod Drafts
 pub mod Faults
+pub mod Fit
 pub mod Orders
 pub mod Reading
 pub mod Settings

@@ -1,6 +1,6 @@
 -- The orders of a script and the words that spell them. A word is missed where it would stand. Two words that are
 -- read side by side (`&`) are refused for the one of their reasons that is tried first.
-use Rattle.std.specs.Prelude.{ℕ, if◌then◌else◌, List, [], ◌∷◌, Option, Some, None, Result, Ok, Err, codes}
+use Rattle.std.specs.Prelude.{ℕ, Bool, false, ◌==◌, not, if◌then◌else◌, List, [], ◌∷◌, Option, Some, None, Result, Ok, Err, codes}
 use Rattle.yard_model.specs.declared.charter.Config.{Config}
 use Rattle.yard_model.specs.declared.charter.Order.{Order}
 use Rattle.yard_model.specs.declared.charter.Order.TheVariants as order
@@ -12,6 +12,8 @@ use Rattle.yard_model.specs.declared.incarnation.Keep.{Keep}
 use Rattle.yard_model.specs.declared.incarnation.Keep.TheVariants as keep
 use Rattle.yard_model.specs.declared.state.CartItem.{CartItem}
 use Rattle.yard_model.specs.Behaviour.{is_in}
+use Rattle.script_text.specs.declared.fault.Mode.{Mode}
+use Rattle.script_text.specs.declared.fault.Mode.TheVariants as mode
 use Rattle.script_text.specs.declared.fault.Why.{Why}
 use Rattle.script_text.specs.declared.fault.Why.TheVariants as why
 use Rattle.script_text.specs.declared.orders.Verb.{Verb}
@@ -166,28 +168,40 @@ verb_of w =
     else if is_text w (codes "ping") then Ok verb.Ping
     else Err why.UnknownWord
 
+-- the settings that a producer is read by: `pull` knows the first one alone
+abbrev pub under : Mode → Config → Config
+under mode.Pull c = record c { producers = 1 }
+under m c = c
+
+-- an order of a producer that the command doesn't know
+abbrev pub is_foreign : Mode → Order → Bool
+is_foreign mode.Pull (order.Produce p n) = not (p == 1)
+is_foreign mode.Pull (order.Rest p) = not (p == 1)
+is_foreign mode.Pull (order.Send p e k) = not (p == 1)
+is_foreign m o = false
+
 -- the words after it
-unfoldable pub said : Config → Verb → List (List ℕ) → Result Order Why
-said c verb.Up ws = only_number 1 c.nodes ws >>= λ n. Ok (order.Up n)
-said c verb.Crash ws = only_number 1 c.nodes ws >>= λ n. Ok (order.Crash n)
-said c verb.Leave ws = only_number 1 c.nodes ws >>= λ n. Ok (order.Leave n)
-said c verb.Tick ws = only_number 1 c.nodes ws >>= λ n. Ok (order.Tick n)
-said c verb.Produce ws = produce c ws
-said c verb.Rest ws = only_number 1 c.producers ws >>= λ p. Ok (order.Rest p)
-said c verb.Send ws = send c ws
-said c verb.Passivate ws = only ws >>= λ w. name w >>= λ e. Ok (order.Passivate e)
-said c verb.FailWrite ws = fail_write ws
-said c verb.Deliver ws = only_number 1 1000000 ws >>= λ k. Ok (order.Deliver k)
-said c verb.Pump ws = only_number 1 10000 ws >>= λ k. Ok (order.Pump k)
-said c verb.Rebalance ws = only_number 1 128 ws >>= λ l. Ok (order.Rebalance l)
-said c verb.Settle ws = no_more ws >>= λ end. Ok order.Settle
-said c verb.Reshard ws = only_number 1 128 ws >>= λ n. Ok (order.Reshard n)
-said c verb.Upgrade ws = no_more ws >>= λ end. Ok order.Upgrade
-said c verb.Ping ws = only_number 1 c.producers ws >>= λ p. Ok (order.Ping p)
+unfoldable pub said : Mode → Config → Verb → List (List ℕ) → Result Order Why
+said m c verb.Up ws = only_number 1 c.nodes ws >>= λ n. Ok (order.Up n)
+said m c verb.Crash ws = only_number 1 c.nodes ws >>= λ n. Ok (order.Crash n)
+said m c verb.Leave ws = only_number 1 c.nodes ws >>= λ n. Ok (order.Leave n)
+said m c verb.Tick ws = only_number 1 c.nodes ws >>= λ n. Ok (order.Tick n)
+said m c verb.Produce ws = produce (under m c) ws
+said m c verb.Rest ws = only_number 1 (under m c).producers ws >>= λ p. Ok (order.Rest p)
+said m c verb.Send ws = send (under m c) ws
+said m c verb.Passivate ws = only ws >>= λ w. name w >>= λ e. Ok (order.Passivate e)
+said m c verb.FailWrite ws = fail_write ws
+said m c verb.Deliver ws = only_number 1 1000000 ws >>= λ k. Ok (order.Deliver k)
+said m c verb.Pump ws = only_number 1 10000 ws >>= λ k. Ok (order.Pump k)
+said m c verb.Rebalance ws = only_number 1 128 ws >>= λ l. Ok (order.Rebalance l)
+said m c verb.Settle ws = no_more ws >>= λ end. Ok order.Settle
+said m c verb.Reshard ws = only_number 1 128 ws >>= λ n. Ok (order.Reshard n)
+said m c verb.Upgrade ws = no_more ws >>= λ end. Ok order.Upgrade
+said m c verb.Ping ws = only_number 1 c.producers ws >>= λ p. Ok (order.Ping p)
 
 -- the words of an order
-unfoldable pub order_of : Config → List (List ℕ) → Result Order Why
-order_of c ws = do
+unfoldable pub order_of : Mode → Config → List (List ℕ) → Result Order Why
+order_of m c ws = do
   w ← first ws
   v ← verb_of w.0
-  said c v w.1
+  said m c v w.1

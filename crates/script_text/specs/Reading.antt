@@ -1,11 +1,13 @@
 -- What a script says: the charter that its bytes spell, or the first fault. The lines are read in turn, and the
 -- first that is refused ends the reading. On one line the tests stand here in the order of their reasons.
 use Rattle.std.specs.Prelude.{◌≡◌, ◌≤◌, ℕ, ◌+◌, Bool, true, false, ◌==◌, ◌||◌, ◌&&◌, not, nat_lt, if◌then◌else◌, List, [], ◌∷◌, ◌++◌, length, Option, Some, None, Result, Ok, Err, codes}
-use Rattle.std.specs.List.{list_all}
+use Rattle.std.specs.List.{list_all, list_any}
 use Rattle.std.specs.Str.Lines.{lines}
 use Rattle.yard_model.specs.declared.charter.Order.{Order}
 use Rattle.yard_model.specs.declared.charter.Order.TheVariants as order
-use Rattle.yard_model.specs.Script.{Script, names_in, pairs_in}
+use Rattle.yard_model.specs.declared.event.Kind.{Kind}
+use Rattle.yard_model.specs.declared.event.Kind.TheVariants as kind
+use Rattle.yard_model.specs.Script.{Script, Pair, is_pair, names_in, pairs_in}
 use Rattle.script_text.specs.declared.fault.Mode.{Mode}
 use Rattle.script_text.specs.declared.fault.Mode.TheVariants as mode
 use Rattle.script_text.specs.declared.fault.ScriptFault.{ScriptFault}
@@ -15,6 +17,7 @@ use Rattle.script_text.specs.declared.fault.Stop.TheVariants as stop
 use Rattle.script_text.specs.declared.fault.Why.{Why}
 use Rattle.script_text.specs.declared.fault.Why.TheVariants as why
 use Rattle.script_text.specs.Faults.{◌>>=◌, refuse}
+use Rattle.script_text.specs.Fit.{IsFit, pings}
 use Rattle.script_text.specs.Words.{words, is_text, is_blank, is_comment, is_plain}
 use Rattle.script_text.specs.Orders.{order_of}
 use Rattle.script_text.specs.Settings.{settings}
@@ -38,14 +41,56 @@ takes mode.Live (order.Reshard n) = false
 takes mode.Live order.Upgrade = false
 takes mode.Live (order.Ping p) = false
 takes mode.Live o = true
+takes mode.Pull (order.Up n) = true
+takes mode.Pull (order.Crash n) = true
+takes mode.Pull (order.Tick n) = true
+takes mode.Pull (order.Produce p n) = true
+takes mode.Pull (order.Rest p) = true
+takes mode.Pull (order.Send p e c) = true
+takes mode.Pull (order.Deliver k) = true
+takes mode.Pull (order.Pump k) = true
+takes mode.Pull o = false
+takes mode.Daemon (order.Send p e c) = false
+takes mode.Daemon (order.FailWrite e k) = false
+takes mode.Daemon (order.Reshard n) = false
+takes mode.Daemon order.Upgrade = false
+takes mode.Daemon o = true
 
 -- a script with one order more, on this line
 abbrev pub with_line : Script → ℕ → Order → Script
 with_line s n o = record { config = s.config; orders = s.orders ++ record { number = n; order = o } ∷ [] }
 
--- more than 1,000 names, or more than 4,000 pairs of producer and entity
-abbrev pub is_over : Script → Bool
-is_over s = nat_lt 1000 (length (names_in s.orders)) || nat_lt 4000 (length (pairs_in s.orders))
+-- the most names: beside those of `daemon` there are its instances
+abbrev pub most_names : Mode → ℕ
+most_names mode.Daemon = 900
+most_names m = 1000
+
+-- too many names, or more than 4,000 pairs of producer and entity
+abbrev pub is_over : Mode → Script → Bool
+is_over m s = nat_lt (most_names m) (length (names_in s.orders)) || nat_lt 4000 (length (pairs_in s.orders))
+
+-- the instances of a daemon are counters
+abbrev pub is_wrong_kind : Mode → Kind → Bool
+is_wrong_kind mode.Daemon kind.Account = true
+is_wrong_kind mode.Daemon kind.Cart = true
+is_wrong_kind m k = false
+
+-- a send of a pair that is among these
+abbrev pub is_sent : List Pair → Order → Bool
+is_sent pairs (order.Send p e c) = list_any (is_pair p e) pairs
+is_sent pairs o = false
+
+abbrev pub is_pull : Mode → Bool
+is_pull mode.Pull = true
+is_pull m = false
+
+-- under `pull` each name is one job
+abbrev pub is_second_job : Mode → Script → Order → Bool
+is_second_job m s o = is_pull m && is_sent (pairs_in s.orders) o
+
+-- more than 1,000 pings
+abbrev pub has_many_pings : Script → Bool
+has_many_pings s = nat_lt 1000 (pings s.orders)
 
 -- the first line too many
 abbrev pub is_late : ℕ → Bool
@@ -58,12 +103,13 @@ plain line = do
   refuse (nat_lt 256 (length line)) why.LongLine
 
 -- the words of the first line that isn't blank, with the tests in the order of their reasons
-unfoldable pub first_line : ℕ → List (List ℕ) → Result Script Why
-first_line n [] = Err why.NoConfig
-first_line n (w ∷ ws) = do
+unfoldable pub first_line : Mode → ℕ → List (List ℕ) → Result Script Why
+first_line m n [] = Err why.NoConfig
+first_line m n (w ∷ ws) = do
   first ← refuse (not (is_text w (codes "config"))) why.NoConfig
   c ← settings ws
   early ← refuse (is_late n) why.TooManyLines
+  kind ← refuse (is_wrong_kind m c.kind) why.WrongKind
   Ok (record { config = c; orders = [] })
 
 -- a `config`
@@ -75,15 +121,17 @@ is_config_line (w ∷ ws) = is_text w (codes "config")
 unfoldable pub next_line : Mode → Script → ℕ → List (List ℕ) → Result Script Why
 next_line m s n ws = do
   once ← refuse (is_config_line ws) why.SecondConfig
-  o ← order_of s.config ws
-  within ← refuse (is_over (with_line s n o)) why.OutOfRange
+  o ← order_of m s.config ws
+  within ← refuse (is_over m (with_line s n o)) why.OutOfRange
   early ← refuse (is_late n) why.TooManyLines
   taken ← refuse (not (takes m o)) why.WrongMode
+  job ← refuse (is_second_job m s o) why.SecondJob
+  few ← refuse (has_many_pings (with_line s n o)) why.TooManyPings
   Ok (with_line s n o)
 
 -- what was read, with these words
 abbrev pub with_words : Mode → Option Script → ℕ → List (List ℕ) → Result Script Why
-with_words m None n ws = first_line n ws
+with_words m None n ws = first_line m n ws
 with_words m (Some s) n ws = next_line m s n ws
 
 -- what was read, with the words of a line that has some; a comment adds nothing
@@ -127,10 +175,16 @@ abbrev pub TellsFault : ScriptFault → Reading → Type 0
 TellsFault (fault.At line w) r = r ≡ Refused line w
 TellsFault fault.OutOfMemory r = Unit {0}
 
--- within the limits, and with at most n orders
-abbrev pub IsWithin : ℕ → Option Script → Type 0
-IsWithin n None = Unit {0}
-IsWithin n (Some s) = (is_over s ≡ false) × (length s.orders ≤ n)
+-- within the limits, with at most n orders, and fit for the command
+pub record IsFitWithin (m : Mode) (n : ℕ) (s : Script) : Type 0 where
+  pub few_names : length (names_in s.orders) ≤ 1000
+  pub few_pairs : length (pairs_in s.orders) ≤ 4000
+  pub few_orders : length s.orders ≤ n
+  pub fit : IsFit m s
+
+abbrev pub IsWithin : Mode → ℕ → Option Script → Type 0
+IsWithin m n None = Unit {0}
+IsWithin m n (Some s) = IsFitWithin m n s
 
 -- the fault of a line
 abbrev pub stopped_at : ℕ → Stop → ScriptFault

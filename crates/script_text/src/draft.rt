@@ -1,10 +1,12 @@
 //! A script that is being read.
 ghost use Rattle.std.specs.Prelude.{◌≡◌, ◌==◌, ℕ, ◌+◌, ◌≤◌, if◌then◌else◌, List, [], ◌∷◌, ◌++◌, length, min, false, IfOk, OnOk, IsTrue};
 ghost use Rattle.yard_model.specs.Counts.{names};
-ghost use Rattle.yard_model.specs.Script.{is_config, is_order, brought, with_brought, with_pair, Pair};
+ghost use Rattle.yard_model.specs.Script.{is_config, is_order, brought, names_in, pairs_in, with_brought, with_pair, Pair};
 ghost use Rattle.script_text.specs.Drafts.{KeepsPairs};
-ghost use Rattle.script_text.specs.Reading.{with_line, is_over};
+ghost use Rattle.script_text.specs.Fit.{is_ping};
+ghost use Rattle.script_text.specs.Reading.{with_line, is_over, is_sent, most_names, has_many_pings};
 
+use crate::fault::Mode;
 use std::alloc::{AllocError, Global};
 use std::marker::{Model, PhantomData};
 use yard_model::{Charter, Command, Config, Counts, Line, Order};
@@ -13,13 +15,14 @@ use yard_model::{Charter, Command, Config, Counts, Line, Order};
 const MOST_ORDERS: usize = 20_000;
 
 /// What was read so far; seen as a script. It keeps at hand the names and the pairs of producer
-/// and entity that the orders bring.
+/// and entity that the orders bring, and how many of them are pings.
 #[derive(Drop)]
 pub struct Draft {
     config: Config,
     orders: Vec<Line>,
     counts: Counts,
     pairs: u32,
+    pings: u32,
     holds: PhantomData<(Order, Command)>,
 }
 
@@ -31,7 +34,7 @@ impl Model for Draft {
 
     ghost view = { λ d. record { config = d.config; orders = d.orders.items } };
 
-    ghost invariant = { λ d. IsDraft (record { config = d.config; orders = d.orders.items }) d.counts d.pairs };
+    ghost invariant = { λ d. IsDraft (record { config = d.config; orders = d.orders.items }) d.counts d.pairs d.pings };
 }
 
 impl Draft {
@@ -45,6 +48,7 @@ impl Draft {
             orders: Vec::with_capacity(alloc, MOST_ORDERS)?,
             counts: Counts::new(alloc),
             pairs: 0,
+            pings: 0,
             holds: PhantomData,
         })
     }
@@ -57,10 +61,12 @@ impl Draft {
         &self.config
     }
 
-    /// One order more, on this line. The only error is want of memory; nothing of it is kept then.
-    pub fn add(&mut self, alloc: Global, number: u32, order: &Order) -> Result<(), AllocError>
+    /// One order more, on this line; whether it is a send of a pair that was there already. The only
+    /// error is want of memory; nothing of it is kept then.
+    pub fn add(&mut self, alloc: Global, number: u32, order: &Order) -> Result<bool, AllocError>
         requires { IsTrue (is_order self.old.config order.now) }
-        ensures { IfOk result (λ _. self.new ≡ with_line self.old number order.now) }
+        ensures line { IfOk result (λ _. self.new ≡ with_line self.old number order.now) }
+        ensures sent { IfOk result (λ again. again ≡ is_sent (pairs_in self.old.orders) order.now) }
     {
         match put_order(
             &mut self.orders,
@@ -69,29 +75,39 @@ impl Draft {
             number,
             order,
         ) {
-            Ok(pairs) => {
+            Ok((pairs, again)) => {
                 self.pairs = pairs;
-                Ok(())
+                self.pings = pings_after(self.pings, order);
+                Ok(again)
             }
             Err(error) => {
                 self.orders = Vec::new(alloc);
                 self.counts = Counts::new(alloc);
                 self.pairs = 0;
+                self.pings = 0;
                 Err(error)
             }
         }
     }
 
-    /// Whether there are too many names or pairs.
-    pub fn is_over(&self) -> bool
-        ensures { result ≡ is_over self.now }
+    /// Whether there are too many names or pairs for this command.
+    pub fn is_over(&self, mode: Mode) -> bool
+        ensures { result ≡ is_over mode self.now }
     {
-        self.counts.len() > 1000 || self.pairs > 4000
+        self.counts.len() > most_names(mode) || self.pairs > 4000
+    }
+
+    /// Whether there are more than 1,000 pings.
+    pub fn has_many_pings(&self) -> bool
+        ensures { result ≡ has_many_pings self.now }
+    {
+        self.pings > 1000
     }
 
     /// The charter of all that was read. The only error is want of memory.
     pub fn finish(self, alloc: Global) -> Result<Charter, AllocError>
-        requires over { is_over self ≡ false }
+        requires names { length (names_in self.orders) ≤ 1000 }
+        requires pairs { length (pairs_in self.orders) ≤ 4000 }
         requires few { length self.orders ≤ 200000 }
         ensures { IfOk result (λ c. c ≡ self) }
     {
@@ -100,51 +116,76 @@ impl Draft {
             orders,
             counts: _,
             pairs: _,
+            pings: _,
             holds: _,
         } = self;
         Charter::new(alloc, config, orders)
     }
 }
 
-/// One order more, on this line, and how many pairs there are then.
+/// The most names of a script: those of a daemon's instances come to them.
+fn most_names(mode: Mode) -> usize
+    ensures { result ≡ most_names mode }
+{
+    match mode {
+        Mode::Daemon => 900,
+        Mode::Solo | Mode::Replay | Mode::Live | Mode::Pull => 1000,
+    }
+}
+
+/// How many pings there are after this order.
+fn pings_after(pings: u32, order: &Order) -> u32
+    ensures { result ≡ (if is_ping order.now then min (pings + 1) 4294967295 else pings) }
+{
+    match order {
+        Order::Ping(_) => pings.saturating_add(1),
+        _ => pings,
+    }
+}
+
+/// One order more, on this line; how many pairs there are then, and whether it is a send of one that
+/// was there.
 fn put_order(
     orders: &mut Vec<Line>,
     counts: &mut Counts,
     pairs: u32,
     number: u32,
     order: &Order,
-) -> Result<u32, AllocError>
+) -> Result<(u32, bool), AllocError>
     ensures orders { OnOk result (orders.new.items ≡ orders.old.items ++ record { number = number; order = order.now } ∷ []) }
     ensures names { OnOk result (names counts.new ≡ with_brought (names counts.old) (brought order.now)) }
-    ensures pairs { IfOk result (λ more. (known : List Pair) → KeepsPairs counts.old pairs known → KeepsPairs counts.new more (with_pair known order.now)) }
+    ensures pairs { IfOk result (λ r. (known : List Pair) → KeepsPairs counts.old pairs known → KeepsPairs counts.new r.0 (with_pair known order.now)) }
+    ensures sent { IfOk result (λ r. (known : List Pair) → KeepsPairs counts.old pairs known → r.1 ≡ is_sent known order.now) }
 {
-    let pairs = add_order(counts, pairs, order)?;
+    let (pairs, again) = add_order(counts, pairs, order)?;
     orders.push(Line {
         number,
         order: *order,
     })?;
-    Ok(pairs)
+    Ok((pairs, again))
 }
 
-/// The names and the sends with those of one order more, and how many pairs there are then.
-fn add_order(counts: &mut Counts, pairs: u32, order: &Order) -> Result<u32, AllocError>
+/// The names and the sends with those of one order more; how many pairs there are then, and whether it
+/// is a send of one that was there.
+fn add_order(counts: &mut Counts, pairs: u32, order: &Order) -> Result<(u32, bool), AllocError>
     ensures names { OnOk result (names counts.new ≡ with_brought (names counts.old) (brought order.now)) }
-    ensures pairs { IfOk result (λ more. (known : List Pair) → KeepsPairs counts.old pairs known → KeepsPairs counts.new more (with_pair known order.now)) }
+    ensures pairs { IfOk result (λ r. (known : List Pair) → KeepsPairs counts.old pairs known → KeepsPairs counts.new r.0 (with_pair known order.now)) }
+    ensures sent { IfOk result (λ r. (known : List Pair) → KeepsPairs counts.old pairs known → r.1 ≡ is_sent known order.now) }
 {
     match order {
         Order::Send(producer, entity, _) => {
             let count = counts.add(*producer, entity)?;
-            Ok(pairs_after(pairs, count))
+            Ok((pairs_after(pairs, count), count != 1))
         }
         Order::Passivate(entity) => {
             counts.add_name(entity)?;
-            Ok(pairs)
+            Ok((pairs, false))
         }
         Order::FailWrite(entity, _) => {
             counts.add_name(entity)?;
-            Ok(pairs)
+            Ok((pairs, false))
         }
-        _ => Ok(pairs),
+        _ => Ok((pairs, false)),
     }
 }
 

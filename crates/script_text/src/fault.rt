@@ -14,6 +14,10 @@ pub enum Mode {
     Replay,
     /// All nodes, each in a thread of its own.
     Live,
+    /// Jobs of the first producer, which workers ask for.
+    Pull,
+    /// Numbered instances, which pings keep running.
+    Daemon,
 }
 
 /// Why a line is refused. On one line the reasons are tried in this order.
@@ -45,12 +49,16 @@ pub enum Why {
     TooLong,
     /// The command doesn't take this order.
     WrongMode,
-    /// The command doesn't do this yet.
-    NotBuilt,
+    /// Under `pull`, there is another job of this name.
+    SecondJob,
+    /// Under `daemon`, the entities aren't counters.
+    WrongKind,
+    /// There are more than 1,000 pings.
+    TooManyPings,
 }
 
 impl Why {
-    /// The number of the reason, 1 to 14.
+    /// The number of the reason, 1 to 13 and 15 to 17.
     pub fn number(self) -> u8
         ensures { result ≡ number_of self }
     {
@@ -68,7 +76,9 @@ impl Why {
             Why::TooManyLines => 11,
             Why::TooLong => 12,
             Why::WrongMode => 13,
-            Why::NotBuilt => 14,
+            Why::SecondJob => 15,
+            Why::WrongKind => 16,
+            Why::TooManyPings => 17,
         }
     }
 }

@@ -1,13 +1,13 @@
 //! The words of orders.
-ghost use Rattle.std.specs.Prelude.{◌≡◌, IfOk, IsTrue};
+ghost use Rattle.std.specs.Prelude.{◌≡◌, false, IfOk, IsTrue};
 ghost use Rattle.yard_model.specs.declared.charter.Config.{Config};
 ghost use Rattle.yard_model.specs.Script.{is_config, is_order};
 ghost use Rattle.yard_model.specs.Behaviour.{is_in};
 ghost use Rattle.script_text.specs.Words.{words};
-ghost use Rattle.script_text.specs.Orders.{number, only_number, joined, send, produce, kept_or_lost, fail_write, verb_of, said, order_of};
+ghost use Rattle.script_text.specs.Orders.{number, only_number, joined, send, produce, kept_or_lost, fail_write, verb_of, said, order_of, under, is_foreign};
 
 use crate::commands::command;
-use crate::fault::Why;
+use crate::fault::{Mode, Why};
 use crate::words::{both, first, is, name, no_more, number_of, only, only_number};
 use yard_model::{Command, Config, EntityName, Keep, NodeNo, Order, ProducerNo};
 
@@ -48,16 +48,17 @@ pub enum Verb {
     Ping,
 }
 
-/// The order that these words say.
+/// The order that these words say under this command.
 #[tactic(auto, unfolding(crate::specs::Orders::order_of))]
-pub fn order(config: &Config, line: &[u8]) -> Result<Order, Why>
+pub fn order(mode: Mode, config: &Config, line: &[u8]) -> Result<Order, Why>
     requires { IsTrue (is_config config.now) }
-    ensures value { result ≡ order_of config.now (words line.now) }
+    ensures value { result ≡ order_of mode config.now (words line.now) }
     ensures valid { IfOk result (λ o. IsTrue (is_order config.now o)) }
+    ensures known { IfOk result (λ o. is_foreign mode o ≡ false) }
 {
     let (word, rest) = first(line)?;
     let verb = verb_of(word)?;
-    said(config, verb, rest)
+    said(mode, config, verb, rest)
 }
 
 /// What an order's first word says.
@@ -102,21 +103,37 @@ fn verb_of(word: &[u8]) -> Result<Verb, Why>
     }
 }
 
+/// The settings that a producer is read by: `pull` knows the first one alone.
+fn under(mode: Mode, config: &Config) -> Config
+    requires { IsTrue (is_config config.now) }
+    ensures value { result ≡ under mode config.now }
+    ensures valid { IsTrue (is_config result) }
+{
+    match mode {
+        Mode::Pull => Config {
+            producers: 1,
+            ..*config
+        },
+        Mode::Solo | Mode::Replay | Mode::Live | Mode::Daemon => *config,
+    }
+}
+
 /// The order of this first word and the words after it.
 #[tactic(auto, unfolding(crate::specs::Orders::said))]
-fn said(config: &Config, verb: Verb, line: &[u8]) -> Result<Order, Why>
+fn said(mode: Mode, config: &Config, verb: Verb, line: &[u8]) -> Result<Order, Why>
     requires { IsTrue (is_config config.now) }
-    ensures value { result ≡ said config.now verb (words line.now) }
+    ensures value { result ≡ said mode config.now verb (words line.now) }
     ensures valid { IfOk result (λ o. IsTrue (is_order config.now o)) }
+    ensures known { IfOk result (λ o. is_foreign mode o ≡ false) }
 {
     match verb {
         Verb::Up => Ok(Order::Up(only_node(config, line)?)),
         Verb::Crash => Ok(Order::Crash(only_node(config, line)?)),
         Verb::Leave => Ok(Order::Leave(only_node(config, line)?)),
         Verb::Tick => Ok(Order::Tick(only_node(config, line)?)),
-        Verb::Produce => produce(config, line),
-        Verb::Rest => Ok(Order::Rest(only_producer(config, line)?)),
-        Verb::Send => send(config, line),
+        Verb::Produce => produce(&under(mode, config), line),
+        Verb::Rest => Ok(Order::Rest(only_producer(&under(mode, config), line)?)),
+        Verb::Send => send(&under(mode, config), line),
         Verb::Passivate => Ok(Order::Passivate(name(only(line)?)?)),
         Verb::FailWrite => fail_write(line),
         Verb::Deliver => Ok(Order::Deliver(only_number(line, 1, 1_000_000)?)),

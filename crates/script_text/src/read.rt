@@ -1,11 +1,12 @@
 //! Reading a script, line by line.
-ghost use Rattle.std.specs.Prelude.{◌≡◌, ◌==◌, ℕ, ◌+◌, ◌<◌, ◌≤◌, ◌≢◌, nat_lt, IfOk, IfErr, length, true, false, Some, slice_index};
+ghost use Rattle.std.specs.Prelude.{◌≡◌, ◌==◌, ◌&&◌, ℕ, ◌+◌, ◌<◌, ◌≤◌, ◌≢◌, nat_lt, IfOk, IfErr, length, true, false, Some, slice_index};
 ghost use Rattle.std.specs.List.{list_all};
 ghost use Rattle.script_text.specs.declared.fault.Mode.TheVariants as mode;
 ghost use Rattle.script_text.specs.declared.fault.Why.TheVariants as why;
 ghost use Rattle.script_text.specs.Faults.{Gives, Leaves, refuse};
+ghost use Rattle.script_text.specs.Fit.{IsFit};
 ghost use Rattle.script_text.specs.Words.{words, is_gap, is_plain};
-ghost use Rattle.script_text.specs.Reading.{Reading, Spelled, Refused, reading, line_read, text_read, first_line, next_line, is_over, is_late, takes, is_config_line, plain, ended, TellsFault, IsWithin, stopped_at};
+ghost use Rattle.script_text.specs.Reading.{Reading, Spelled, Refused, reading, line_read, text_read, first_line, next_line, is_late, is_pull, is_wrong_kind, takes, is_config_line, plain, ended, TellsFault, IsWithin, IsFitWithin, stopped_at};
 
 use crate::cut::{Cut, next_line, next_word, word_start};
 use crate::draft::Draft;
@@ -14,7 +15,7 @@ use crate::orders::order;
 use crate::settings::settings;
 use crate::words::{is, is_blank, is_comment, is_plain_text};
 use std::alloc::{AllocError, Global};
-use yard_model::{Charter, Order};
+use yard_model::{Charter, Kind, Order};
 
 /// The most bytes of a script.
 const MOST_BYTES: usize = 4_194_304;
@@ -27,6 +28,7 @@ const LATE_LINE: u32 = 20_001;
 pub fn read_script(alloc: Global, bytes: &[u8], mode: Mode) -> Result<Charter, ScriptFault>
     ensures ok { IfOk result (λ c. reading mode bytes.now ≡ Spelled c) }
     ensures few { IfOk result (λ c. length c.orders ≤ 20000) }
+    ensures fit { IfOk result (λ c. IsFit mode c) }
     ensures at { IfErr result (λ e. TellsFault e (reading mode bytes.now)) }
 {
     if bytes.len() > MOST_BYTES {
@@ -46,7 +48,7 @@ pub fn read_script(alloc: Global, bytes: &[u8], mode: Mode) -> Result<Charter, S
             Err(stop) => return Err(stopped_at(number, stop)),
         }
     }
-    finish(alloc, draft)
+    finish(alloc, mode, draft)
 }
 
 /// The fault of this line.
@@ -60,12 +62,14 @@ fn stopped_at(line: u32, stop: Stop) -> ScriptFault
 }
 
 /// The charter, once all lines are read.
-fn finish(alloc: Global, draft: Option<Draft>) -> Result<Charter, ScriptFault>
-    requires { IsWithin 20000 draft }
+fn finish(alloc: Global, mode: Mode, draft: Option<Draft>) -> Result<Charter, ScriptFault>
+    requires { IsWithin mode 20000 draft }
     ensures ok { IfOk result (λ c. ended draft ≡ Spelled c) }
     ensures few { IfOk result (λ c. length c.orders ≤ 20000) }
+    ensures fit { IfOk result (λ c. IsFit mode c) }
     ensures at { IfErr result (λ e. TellsFault e (ended draft)) }
 {
+    let _ = mode;
     let Some(draft) = draft else {
         return Err(ScriptFault::At {
             line: 1,
@@ -89,7 +93,7 @@ fn read_line(
 ) -> Result<(), Stop>
     requires { cut.now.is_clean ≡ true → list_all is_plain cut.now.line.now ≡ true }
     ensures value { Leaves result (line_read mode draft.old number cut.now.line.now) draft.new }
-    ensures within { (n : ℕ) → IsWithin n draft.old → IfOk result (λ _. IsWithin (n + 1) draft.new) }
+    ensures within { (n : ℕ) → IsWithin mode n draft.old → IfOk result (λ _. IsWithin mode (n + 1) draft.new) }
     ensures early { IfOk result (λ _. number ≢ 20001) }
 {
     check_text(cut)?;
@@ -110,7 +114,7 @@ fn read_text(
     requires first { is_gap (slice_index text.now 0) ≡ false }
     requires some { 0 < length text.now }
     ensures value { Leaves result (text_read mode draft.old number (words text.now)) draft.new }
-    ensures within { (n : ℕ) → IsWithin n draft.old → IfOk result (λ _. IsWithin (n + 1) draft.new) }
+    ensures within { (n : ℕ) → IsWithin mode n draft.old → IfOk result (λ _. IsWithin mode (n + 1) draft.new) }
     ensures early { IfOk result (λ _. number ≢ 20001) }
 {
     if is_blank(text) {
@@ -119,7 +123,7 @@ fn read_text(
     if let Some(draft) = draft {
         return read_next(alloc, mode, draft, number, text);
     }
-    *draft = Some(read_first(alloc, number, text)?);
+    *draft = Some(read_first(alloc, mode, number, text)?);
     Ok(())
 }
 
@@ -136,9 +140,9 @@ fn check_number(number: u32) -> Result<(), Stop>
 
 /// The first line that isn't blank.
 #[tactic(auto, unfolding(crate::specs::Reading::first_line))]
-fn read_first(alloc: Global, number: u32, line: &[u8]) -> Result<Draft, Stop>
-    ensures value { Gives result (first_line number (words line.now)) }
-    ensures within { (n : ℕ) → IfOk result (λ d. IsWithin n (Some d)) }
+fn read_first(alloc: Global, mode: Mode, number: u32, line: &[u8]) -> Result<Draft, Stop>
+    ensures value { Gives result (first_line mode number (words line.now)) }
+    ensures within { (n : ℕ) → IfOk result (λ d. IsWithin mode n (Some d)) }
     ensures early { IfOk result (λ _. number ≢ 20001) }
 {
     let Some((word, rest)) = next_word(line) else {
@@ -150,6 +154,9 @@ fn read_first(alloc: Global, number: u32, line: &[u8]) -> Result<Draft, Stop>
     let config = settings(rest)?;
     if number == LATE_LINE {
         return Err(Stop::Refused(Why::TooManyLines));
+    }
+    if is_wrong_kind(mode, config.kind) {
+        return Err(Stop::Refused(Why::WrongKind));
     }
     Ok(Draft::new(alloc, config)?)
 }
@@ -166,22 +173,48 @@ fn read_next(
     requires first { is_gap (slice_index text.now 0) ≡ false }
     requires some { 0 < length text.now }
     ensures value { Leaves result (next_line mode draft.old number (words text.now)) draft.new }
-    ensures within { IfOk result (λ _. (is_over draft.new ≡ false) × (length draft.new.orders ≡ length draft.old.orders + 1)) }
+    ensures within { (n : ℕ) → IsFitWithin mode n draft.old → IfOk result (λ _. IsFitWithin mode (n + 1) draft.new) }
     ensures early { IfOk result (λ _. number ≢ 20001) }
 {
     if is_config_line(text) {
         return Err(Stop::Refused(Why::SecondConfig));
     }
-    let order = order(draft.config(), text)?;
-    draft.add(alloc, number, &order)?;
-    if draft.is_over() {
+    let order = order(mode, draft.config(), text)?;
+    let is_sent = draft.add(alloc, number, &order)?;
+    if draft.is_over(mode) {
         return Err(Stop::Refused(Why::OutOfRange));
     }
     check_number(number)?;
     if !takes(mode, &order) {
         return Err(Stop::Refused(Why::WrongMode));
     }
+    if is_second_job(mode, is_sent) {
+        return Err(Stop::Refused(Why::SecondJob));
+    }
+    if draft.has_many_pings() {
+        return Err(Stop::Refused(Why::TooManyPings));
+    }
     Ok(())
+}
+
+/// Whether a send of a pair that is there already is a second job of its name.
+fn is_second_job(mode: Mode, is_sent: bool) -> bool
+    ensures { result ≡ (is_pull mode && is_sent) }
+{
+    match mode {
+        Mode::Pull => is_sent,
+        Mode::Solo | Mode::Replay | Mode::Live | Mode::Daemon => false,
+    }
+}
+
+/// Whether the command doesn't take entities of this kind: a daemon's instances are counters.
+fn is_wrong_kind(mode: Mode, kind: Kind) -> bool
+    ensures { result ≡ is_wrong_kind mode kind }
+{
+    match mode {
+        Mode::Daemon => !matches!(kind, Kind::Counter),
+        Mode::Solo | Mode::Replay | Mode::Live | Mode::Pull => false,
+    }
 }
 
 /// The tests that come first, of any line.
@@ -243,6 +276,8 @@ fn takes(mode: Mode, order: &Order) -> bool
         Mode::Solo => matches!(order, Order::Send(_, _, _) | Order::Deliver(_)),
         Mode::Replay => !matches!(order, Order::Ping(_)),
         Mode::Live => is_taken_live(order),
+        Mode::Pull => is_taken_pulled(order),
+        Mode::Daemon => is_taken_pinged(order),
     }
 }
 
@@ -258,5 +293,32 @@ fn is_taken_live(order: &Order) -> bool
             | Order::Reshard(_)
             | Order::Upgrade
             | Order::Ping(_)
+    )
+}
+
+/// Whether `pull` takes this order.
+fn is_taken_pulled(order: &Order) -> bool
+    ensures { result ≡ takes mode.Pull order.now }
+{
+    matches!(
+        order,
+        Order::Up(_)
+            | Order::Crash(_)
+            | Order::Tick(_)
+            | Order::Produce(_, _)
+            | Order::Rest(_)
+            | Order::Send(_, _, _)
+            | Order::Deliver(_)
+            | Order::Pump(_)
+    )
+}
+
+/// Whether `daemon` takes this order.
+fn is_taken_pinged(order: &Order) -> bool
+    ensures { result ≡ takes mode.Daemon order.now }
+{
+    !matches!(
+        order,
+        Order::Send(_, _, _) | Order::FailWrite(_, _) | Order::Reshard(_) | Order::Upgrade
     )
 }

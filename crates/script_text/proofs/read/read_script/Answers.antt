@@ -1,5 +1,6 @@
 use Rattle.std.proofs.Common.{◌≡◌, ◌+◌, subst, sym, ◌∙◌, arith, IfOk, IfErr}
 use Rattle.script_text.specs.Reading.{Spelled, TellsFault, reading, ended}
+use Rattle.script_text.proofs.FitLaws.{within_more}
 use Rattle.script_text.proofs.Steps.{reading_long, reading_short, lines_more, lines_stop, lines_end}
 use Rattle.script_text.proofs.read.read_script.Goals as goal
 
@@ -28,3 +29,6 @@ pub returns-clause-at : goal.returns-clause-at
 returns-clause-at c =
     let whole : reading c.args.mode c.args.bytes.now ≡ ended c.loop-cut.draft = reading_short c.args.mode c.args.bytes.now (omega arith) ∙ (sym c.loop-cut.invariant.read ∙ lines_end c.args.mode c.loop-cut.draft (c.loop-cut.number + 1) c.loop-cut.rest.now c.in_default.ensures.lines) in
     subst (λ r. IfErr c.finish.result (λ e. TellsFault e r)) (sym whole) c.finish.ensures.at
+
+pub finish-requires : goal.finish-requires
+finish-requires c = within_more c.args.mode c.loop-cut.number 20000 c.loop-cut.draft c.loop-cut.invariant.early c.loop-cut.invariant.within

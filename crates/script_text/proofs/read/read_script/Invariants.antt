@@ -6,7 +6,7 @@ use Rattle.script_text.proofs.read.read_script.Given as goal
 abbrev pub invariant-loop-cut : goal.invariant-loop-cut
 invariant-loop-cut l = record {
   read : lines_read l.mode l.draft (l.number + 1) (lines l.rest) ≡ lines_read l.mode None 1 (lines l.bytes);
-  within : IsWithin l.number l.draft;
+  within : IsWithin l.mode l.number l.draft;
   early : l.number ≤ 20000;
 }
 

@@ -1,7 +1,7 @@
 //! What safety says of instances. Each law is a function that does nothing, whose contract is the law.
 ghost use Rattle.daemon_process.specs.Daemon.{ExpandedIsScript};
 ghost use Rattle.daemon_process.specs.Lines.{DrawnIsText};
-ghost use Rattle.daemon_process.specs.Single.{SafeIsSingle, InstancesAreSingle, SafeIsAlwaysSingle};
+ghost use Rattle.daemon_process.specs.Single.{SafeIsSingle, InstancesAreSingle, SafeIsAlwaysSingle, WrittenIsLive};
 
 /// A script whose pings are sends to at most 100 counters is one that a charter may be made of.
 pub fn expanded_is_script()
@@ -27,4 +27,9 @@ pub fn safe_is_always_single()
 /// And the text that was written of a safe trace is the text of its facts (`DaemonLines`).
 pub fn drawn_is_text()
     ensures { DrawnIsText }
+{}
+
+/// In a safe trace an entity is live where a record of it is written.
+pub fn written_is_live()
+    ensures { WrittenIsLive }
 {}

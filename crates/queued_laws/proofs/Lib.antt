@@ -1,0 +1,4 @@
+mod Along
+mod Quiet
+mod Orders
+mod Scripts

@@ -1,0 +1,4 @@
+//! That a record stands behind the entry by which its command was queued, in the trace of every script. Each law is a function that does nothing, whose contract is the law.
+#![tactic(auto)]
+
+pub mod laws;

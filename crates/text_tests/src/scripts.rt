@@ -64,7 +64,7 @@ fn words_become_commands(rt: HostRuntime) -> Result<(), Fail> {
     Ok(())
 }
 
-const REFUSED: [(&str, Mode, u32, Why); 43] = [
+const REFUSED: [(&str, Mode, u32, Why); 54] = [
     ("", Mode::Replay, 1, Why::NoConfig),
     ("\n# config\n\n", Mode::Replay, 1, Why::NoConfig),
     ("\nup 1\n", Mode::Replay, 2, Why::NoConfig),
@@ -142,6 +142,27 @@ const REFUSED: [(&str, Mode, u32, Why); 43] = [
         Mode::Replay,
         2,
         Why::OutOfRange,
+    ),
+    ("config kind=cart", Mode::Daemon, 1, Why::WrongKind),
+    (
+        "config kind=cart shards=0",
+        Mode::Daemon,
+        1,
+        Why::OutOfRange,
+    ),
+    ("config\nsend 1 a read", Mode::Daemon, 2, Why::WrongMode),
+    ("config\nping 3", Mode::Daemon, 2, Why::OutOfRange),
+    ("config\nupgrade", Mode::Daemon, 2, Why::WrongMode),
+    ("config\nleave 1", Mode::Pull, 2, Why::WrongMode),
+    ("config\nproduce 2 1", Mode::Pull, 2, Why::OutOfRange),
+    ("config\nrest 2", Mode::Pull, 2, Why::OutOfRange),
+    ("config\nsend 2 a.b read", Mode::Pull, 2, Why::OutOfRange),
+    ("config\nping 2", Mode::Pull, 2, Why::WrongMode),
+    (
+        "config\nsend 1 a read\nsend 1 a add 1",
+        Mode::Pull,
+        3,
+        Why::SecondJob,
     ),
 ];
 
@@ -234,5 +255,31 @@ fn many_names(rt: HostRuntime) -> Result<(), Fail> {
         4002,
         Why::OutOfRange,
     );
+    Ok(())
+}
+
+#[test]
+fn limits_of_a_daemon(rt: HostRuntime) -> Result<(), Fail> {
+    let alloc = rt.alloc();
+    let mut text = String::from_str(alloc, "config\n")?;
+    for k in 0..900 {
+        let line = format!(in alloc; "passivate n{k}\n")?;
+        text.push_str(line.as_str())?;
+    }
+    for _ in 0..1000u32 {
+        text.push_str("ping 1\n")?;
+    }
+    let charter = read_script(alloc, text.as_bytes(), Mode::Daemon)?;
+    assert_eq!(rt; charter.orders().len(), 1900);
+    let cases = [
+        ("ping 1", Why::TooManyPings),
+        ("passivate other", Why::OutOfRange),
+        ("send 1 other read", Why::OutOfRange),
+        ("send 1 n1 read", Why::WrongMode),
+    ];
+    for (last, why) in cases {
+        let text = format!(in alloc; "{text}{last}")?;
+        expect_fault(&rt, alloc, text.as_bytes(), Mode::Daemon, 1902, why);
+    }
     Ok(())
 }

@@ -20,10 +20,15 @@ form_of_word w =
 abbrev pub bulk_form : List ℕ → Option Form
 bulk_form w = if is_number w && is_in 1 1000 (value_of w) then Some (form.Bulk (value_of w)) else None
 
+-- `daemon` and how many instances, 1 to 100
+abbrev pub daemon_form : List ℕ → Option Form
+daemon_form w = if is_number w && is_in 1 100 (value_of w) then Some (form.Daemon (value_of w)) else None
+
 abbrev pub form_of_words : List ℕ → List ℕ → Option Form
 form_of_words w v =
     if pointwise nat_eq w (codes "replay") && pointwise nat_eq v (codes "json") then Some form.ReplayJson
     else if pointwise nat_eq w (codes "bulk") then bulk_form v
+    else if pointwise nat_eq w (codes "daemon") then daemon_form v
     else None
 
 -- a seed below 2^32
@@ -37,7 +42,7 @@ live_form v u = if is_number v && is_in 1 100000 (value_of v) then live_seed (va
 abbrev pub form_of_three : List ℕ → List ℕ → List ℕ → Option Form
 form_of_three w v u = if pointwise nat_eq w (codes "live") then live_form v u else None
 
--- the form of these words: `solo` or `replay` alone, `replay json`, `bulk` and a number, or `live`, turns and a seed
+-- the form of these words: `solo` or `replay` alone, `replay json`, `bulk` and a number, `daemon` and a number, or `live`, turns and a seed
 abbrev pub form_in : List (String Global) → Option Form
 form_in [] = None
 form_in (w ∷ []) = form_of_word (string_bytes w)
@@ -64,8 +69,14 @@ from_of form.Replay = script_from.Input mode.Replay
 from_of form.ReplayJson = script_from.Input mode.Replay
 from_of (form.Bulk n) = script_from.Number n
 from_of (form.Live n s) = script_from.Input mode.Live
+from_of (form.Daemon n) = script_from.Input mode.Daemon
 
 -- the numbers that have a script are 1 to 1,000
 abbrev pub is_there : ScriptFrom → Bool
 is_there (script_from.Input m) = true
 is_there (script_from.Number n) = is_in 1 1000 n
+
+-- a daemon has 1 to 100 instances
+abbrev pub is_counted : Form → Bool
+is_counted (form.Daemon n) = is_in 1 100 n
+is_counted f = true

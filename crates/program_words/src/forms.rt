@@ -1,6 +1,6 @@
 //! The forms of the command line.
 ghost use Rattle.std.specs.Prelude.{◌≡◌, true, IfSome, IsTrue};
-ghost use Rattle.program_words.specs.Forms.{form_in, alone_in, is_alone, from_of, is_there, form_of_word, form_of_words, form_of_three, bulk_form, live_form, live_seed};
+ghost use Rattle.program_words.specs.Forms.{form_in, alone_in, is_alone, from_of, is_there, form_of_word, form_of_words, form_of_three, bulk_form, daemon_form, is_counted, live_form, live_seed};
 
 use script_text::{Mode, number_of};
 
@@ -22,6 +22,8 @@ pub enum Form {
         /// What losses, repeats and delays are drawn from.
         seed: u32,
     },
+    /// `daemon` and how many instances, 1 to 100.
+    Daemon(u8),
 }
 
 /// Where the script of a form is from.
@@ -43,6 +45,7 @@ impl Form {
             Form::Replay | Form::ReplayJson => ScriptFrom::Input(Mode::Replay),
             Form::Bulk(number) => ScriptFrom::Number(number),
             Form::Live { .. } => ScriptFrom::Input(Mode::Live),
+            Form::Daemon(_) => ScriptFrom::Input(Mode::Daemon),
         }
     }
 }
@@ -51,6 +54,7 @@ impl Form {
 pub fn form_of(words: &[String]) -> Option<Form>
     ensures form { result ≡ form_in words.now }
     ensures number { IfSome result (λ f. IsTrue (is_there (from_of f))) }
+    ensures count { IfSome result (λ f. IsTrue (is_counted f)) }
 {
     match words {
         [word] => form_of_word(word.as_str()),
@@ -64,6 +68,7 @@ pub fn form_of(words: &[String]) -> Option<Form>
 pub fn alone_form_of(words: &[String]) -> Option<Form>
     ensures form { result ≡ alone_in words.now }
     ensures number { IfSome result (λ f. IsTrue (is_there (from_of f))) }
+    ensures count { IfSome result (λ f. IsTrue (is_counted f)) }
     ensures alone { IfSome result (λ f. is_alone f ≡ true) }
 {
     match words {
@@ -76,6 +81,7 @@ pub fn alone_form_of(words: &[String]) -> Option<Form>
 fn form_of_word(word: &str) -> Option<Form>
     ensures form { result ≡ form_of_word word.now }
     ensures number { IfSome result (λ f. IsTrue (is_there (from_of f))) }
+    ensures count { IfSome result (λ f. IsTrue (is_counted f)) }
     ensures alone { IfSome result (λ f. is_alone f ≡ true) }
 {
     if word == "solo" {
@@ -90,12 +96,15 @@ fn form_of_word(word: &str) -> Option<Form>
 fn form_of_words(first: &str, second: &str) -> Option<Form>
     ensures form { result ≡ form_of_words first.now second.now }
     ensures number { IfSome result (λ f. IsTrue (is_there (from_of f))) }
+    ensures count { IfSome result (λ f. IsTrue (is_counted f)) }
     ensures alone { IfSome result (λ f. is_alone f ≡ true) }
 {
     if first == "replay" && second == "json" {
         Some(Form::ReplayJson)
     } else if first == "bulk" {
         bulk_form(second.as_bytes())
+    } else if first == "daemon" {
+        daemon_form(second.as_bytes())
     } else {
         None
     }
@@ -106,6 +115,7 @@ fn form_of_words(first: &str, second: &str) -> Option<Form>
 fn bulk_form(word: &[u8]) -> Option<Form>
     ensures form { result ≡ bulk_form word.now }
     ensures number { IfSome result (λ f. IsTrue (is_there (from_of f))) }
+    ensures count { IfSome result (λ f. IsTrue (is_counted f)) }
     ensures alone { IfSome result (λ f. is_alone f ≡ true) }
 {
     match number_of(word, 1, 1_000) {
@@ -114,9 +124,24 @@ fn bulk_form(word: &[u8]) -> Option<Form>
     }
 }
 
+/// The form of `daemon` and this word.
+#[tactic(auto, unfolding(script_text::specs::Orders::number))]
+fn daemon_form(word: &[u8]) -> Option<Form>
+    ensures form { result ≡ daemon_form word.now }
+    ensures number { IfSome result (λ f. IsTrue (is_there (from_of f))) }
+    ensures count { IfSome result (λ f. IsTrue (is_counted f)) }
+    ensures alone { IfSome result (λ f. is_alone f ≡ true) }
+{
+    match number_of(word, 1, 100) {
+        Ok(count) => Some(Form::Daemon(count as u8)),
+        Err(_) => None,
+    }
+}
+
 fn form_of_three(first: &str, second: &str, third: &str) -> Option<Form>
     ensures form { result ≡ form_of_three first.now second.now third.now }
     ensures number { IfSome result (λ f. IsTrue (is_there (from_of f))) }
+    ensures count { IfSome result (λ f. IsTrue (is_counted f)) }
 {
     if first == "live" {
         live_form(second.as_bytes(), third.as_bytes())
@@ -130,6 +155,7 @@ fn form_of_three(first: &str, second: &str, third: &str) -> Option<Form>
 fn live_form(turns: &[u8], seed: &[u8]) -> Option<Form>
     ensures form { result ≡ live_form turns.now seed.now }
     ensures number { IfSome result (λ f. IsTrue (is_there (from_of f))) }
+    ensures count { IfSome result (λ f. IsTrue (is_counted f)) }
 {
     match number_of(turns, 1, 100_000) {
         Ok(turns) => live_seed(turns, seed),
@@ -142,6 +168,7 @@ fn live_form(turns: &[u8], seed: &[u8]) -> Option<Form>
 fn live_seed(turns: u32, seed: &[u8]) -> Option<Form>
     ensures form { result ≡ live_seed turns seed.now }
     ensures number { IfSome result (λ f. IsTrue (is_there (from_of f))) }
+    ensures count { IfSome result (λ f. IsTrue (is_counted f)) }
 {
     match number_of(seed, 0, u32::MAX) {
         Ok(seed) => Some(Form::Live { turns, seed }),

@@ -1,4 +1,5 @@
 mod CameLaws
+mod DaemonLaws
 mod FactsLaws
 mod FoldableLaws
 mod FreedLaws

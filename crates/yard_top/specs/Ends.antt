@@ -1,5 +1,5 @@
 -- How a run of the program may end, and what each end says.
-use Rattle.std.specs.Prelude.{◌≡◌, ◌⊎◌, ℕ, List, length, take, Option, Some, None, IfSome, IsTrue}
+use Rattle.std.specs.Prelude.{◌≡◌, ◌≤◌, ◌⊎◌, ℕ, List, length, take, Option, Some, None, IfSome, IsTrue}
 use Rattle.yard_io.specs.Told.{followed_by, without_first, count_of, TakesFront}
 use Rattle.script_text.specs.Reading.{Reading, Spelled, Refused, reading}
 use Rattle.script_text.specs.declared.fault.Mode.{Mode}
@@ -13,6 +13,10 @@ use Rattle.yard_model.specs.World.{trace_of}
 use Rattle.play_laws.specs.SafeText.{SafeText}
 use Rattle.bulk_gen.specs.Bulk.{bulk_script}
 use Rattle.bulk_gen.specs.SummaryText.{summary}
+use Rattle.daemon_process.specs.Daemon.{expanded}
+use Rattle.daemon_process.specs.DaemonText.{daemon_text}
+use Rattle.script_text.specs.Fit.{IsFit}
+use Rattle.yard_top.specs.Daemons.{DaemonHolds}
 use Rattle.yard_top.specs.LiveText.{LiveText}
 use Rattle.yard_top.specs.Replays.{replay_json}
 use Rattle.yard_top.specs.Settling.{EachSettles}
@@ -35,14 +39,16 @@ IsText form.Replay c text = text ≡ replay_text c
 IsText form.ReplayJson c text = text ≡ replay_json c
 IsText (form.Bulk n) c text = text ≡ summary n (trace_of c)
 IsText (form.Live n s) c text = LiveText c n text
+IsText (form.Daemon n) c text = text ≡ daemon_text n c
 
--- what is so of what it writes: each journal is sound; the trace is safe, what is printed is the text of a safe trace, and each settle comes to its end; of `live` its text says all
+-- what is so of what it writes: each journal is sound; the trace is safe, what is printed is the text of a safe trace, and each settle comes to its end; each instance is live at one node at most; of `live` its text says all
 abbrev pub Holds : Form → Script → Type 0
 Holds form.Solo c = (e : List ℕ) → IsSound c e (solo_journal c e)
 Holds form.Replay c = SafeText c (replay_text c) × IsTrue (safe c (trace_of c)) × EachSettles c
 Holds form.ReplayJson c = IsTrue (safe c (trace_of c))
 Holds (form.Bulk n) c = IsTrue (safe c (trace_of c))
 Holds (form.Live n s) c = Unit {0}
+Holds (form.Daemon n) c = DaemonHolds n c
 
 -- the line with which it stops, where a packet too many would be posted
 abbrev pub stops_at : Form → Script → Option ℕ
@@ -51,6 +57,7 @@ stops_at form.Replay c = stop_in (trace_of c)
 stops_at form.ReplayJson c = stop_in (trace_of c)
 stops_at (form.Bulk n) c = stop_in (trace_of c)
 stops_at (form.Live n s) c = None
+stops_at (form.Daemon n) c = stop_in (trace_of (expanded n c))
 
 -- the words are a form, and this holds of it
 abbrev pub Asked : Option Form → (Form → Type 0) → Type 0
@@ -115,9 +122,9 @@ pub record CameRefused (m : Mode) (had has : Option (List ℕ)) (line : ℕ) (wh
   pub came : Came had has input
   pub refused : reading m input ≡ Refused line why
 
--- a script is that of the number that it is from, if it is from one
+-- a script is fit for the command, or that of the number that it is from
 abbrev pub IsOf : ScriptFrom → Script → Type 0
-IsOf (script_from.Input m) script = Unit {0}
+IsOf (script_from.Input m) script = IsFit m script × (length script.orders ≤ 20000)
 IsOf (script_from.Number n) script = script ≡ bulk_script n
 
 -- a fact for a script from a number alone

@@ -1,3 +1,4 @@
+pub mod Daemons
 pub mod Ends
 pub mod Facts
 pub mod Knowledge

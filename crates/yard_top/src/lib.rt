@@ -4,6 +4,7 @@
 
 mod bulk;
 mod course;
+mod daemon;
 mod engine;
 mod entities;
 mod entity;

@@ -1,12 +1,13 @@
 //! What a form writes of a script.
-ghost use Rattle.std.specs.Prelude.{◌≡◌, true, IfOk};
+ghost use Rattle.std.specs.Prelude.{◌≡◌, true, IfOk, IsTrue};
 ghost use Rattle.yard_model.specs.Solo.{solo_text};
 ghost use Rattle.yard_top.specs.Ends.{Holds, IsOf, stops_at};
-ghost use Rattle.program_words.specs.Forms.{from_of, is_alone};
+ghost use Rattle.program_words.specs.Forms.{from_of, is_alone, is_counted};
 ghost use Rattle.yard_top.specs.Texts.{Gives};
 ghost use Rattle.yard_top.specs.Writing.{Writes};
 
 use crate::bulk::write_bulk;
+use crate::daemon::write_daemon;
 use crate::json::write_json;
 use crate::replay::write_replay;
 use crate::solo::solo_report;
@@ -26,6 +27,7 @@ pub fn write_form<K: Sink>(
 ) -> Result<Option<u32>, WriteError>
     requires of { IsOf (from_of form) charter }
     requires alone { is_alone form ≡ true }
+    requires count { IsTrue (is_counted form) }
     ensures wrote { Gives form charter result
         (record { taken = K.taken sink.old; flushed = K.flushed sink.old; faults = K.faults sink.old })
         (record { taken = K.taken sink.new; flushed = K.flushed sink.new; faults = K.faults sink.new }) }
@@ -38,6 +40,7 @@ pub fn write_form<K: Sink>(
         Form::ReplayJson => write_json(alloc, charter, sink),
         Form::Bulk(number) => write_bulk(alloc, &charter, number, sink),
         Form::Live { .. } => unreachable!(),
+        Form::Daemon(count) => write_daemon(alloc, &charter, count, sink),
     }
 }
 

@@ -1,9 +1,10 @@
 //! The top call.
 ghost use Rattle.std.specs.Prelude.{◌≡◌, ◌<◌, ◌≤◌, ◌↔◌, true, length, Some, None, IfOk, IfErr, IfSome, IsTrue};
+ghost use Rattle.script_text.specs.Fit.{IsFit};
 ghost use Rattle.yard_model.specs.Behaviour.{is_in};
 ghost use Rattle.bulk_gen.specs.Bulk.{bulk_script};
 ghost use Rattle.yard_top.specs.Ends.{IfWhole, IfUsage, IfRefused, IfReadFault, IfWriteFault, IfNoMemory, IfWireFull, IfNumber, Asked, Taken, Wrote, Began, WroteFront, CameRefused, CameScript, HasNone, HasScript, IsOf, IsEarly, IsComplete, end_of};
-ghost use Rattle.program_words.specs.Forms.{form_in, alone_in, is_alone, from_of, is_there};
+ghost use Rattle.program_words.specs.Forms.{form_in, alone_in, is_alone, is_counted, from_of, is_there};
 ghost use Rattle.yard_top.specs.Safely.{IfWritten, IfReplay, WroteSafely};
 
 use crate::live::write_live;
@@ -31,7 +32,8 @@ const MOST_READ: usize = 4_194_305;
 /// of its trace. `live` reads a script of orders, runs each node as a thread of its own for so many
 /// turns, where parcels between them are lost, repeated and delayed as they are drawn from the seed,
 /// settles what they leave, and writes the lists of all slots and their report. It may wait, and no
-/// other form does.
+/// other form does. `daemon` reads a script of orders and pings, each of which sends to so many numbered
+/// instances, plays it as `replay` does, and writes after each line which instances are elsewhere now.
 ///
 /// A gate is passed by each node before each of its turns.
 #[tactic(auto, using(crate::proofs::SafelyLaws::safely))]
@@ -145,6 +147,7 @@ pub fn sharder_alone<S: Source, K: Sink>(
 fn run<S: Source, K: Sink>(alloc: Global, form: Form, source: &mut S, sink: &mut K) -> Status
     requires there { IsTrue (is_there (from_of form)) }
     requires alone { is_alone form ≡ true }
+    requires count { IsTrue (is_counted form) }
     ensures usage { IfUsage result ⊥ }
     ensures number_reads_nothing { IfNumber (from_of form) ((S.left source.new ≡ S.left source.old) × (S.faults source.new ≡ S.faults source.old)) }
     ensures whole { IfWhole result (Wrote form None (S.left source.old) (S.left source.new)
@@ -269,6 +272,7 @@ fn number_charter(alloc: Global, number: u32) -> Result<Charter, Status>
 fn read_charter<S: Source>(alloc: Global, mode: Mode, source: &mut S) -> Result<Charter, Status>
     ensures script { IfOk result (λ c. CameScript mode (S.left source.old) (S.left source.new) c) }
     ensures few { IfOk result (λ c. length c.orders ≤ 20000) }
+    ensures of { IfOk result (λ c. IsFit mode c × (length c.orders ≤ 20000)) }
     ensures refused { IfErr result (λ s. IfRefused s (λ line why. CameRefused mode (S.left source.old) (S.left source.new) line why)) }
     ensures read_fault { IfErr result (λ s. IfReadFault s (S.faults source.old < S.faults source.new)) }
     ensures others { IfErr result (λ s. IsEarly s) }

@@ -1,6 +1,6 @@
 #!/usr/bin/env bash
-# Draws the pictures of docs/pictures again from what PROGRAM prints, and compares them, byte for byte. Without
-# Python it says so and passes.
+# Draws the pictures of docs/pictures again from what PROGRAM prints, and compares them, byte for byte; looks
+# whether a line crosses a text in them, and whether what is no trace is refused. Without Python it says so and passes.
 #   draw/check.sh PROGRAM           for instance draw/check.sh ./run.sh
 #   draw/check.sh --draw PROGRAM    puts the new pictures there instead
 set -u
@@ -60,6 +60,10 @@ handoff 80 139
 coordinator_crash 113 171
 PICTURES
 
+if ! crossed=$(cd "$new" && python3 "$top/draw/overlaps.py" ./*.svg); then
+    echo "draw/check.sh: $crossed" >&2
+    failed=1
+fi
 refuses 'at 7\nup 1.1\nup one\n' "line 3: no fact: 'up one'; its form is 'up X'"
 refuses 'config nodes=2\nup 1\n' "line 1: a script, and no line 'trace' behind it with a trace"
 refuses '' 'line 1: no trace: the input is empty'

@@ -58,6 +58,7 @@ text{fill:#e6edf3}
 .pointer,.dead{fill:#ff7b72}
 .cross,.crash,.arrow .cross{stroke:#ff7b72}
 .in-bar{fill:#10161d}
+.entity.pale{fill:#a8945a}
 .command path,.command circle{stroke:#6cb6ff}.command .tip{fill:#6cb6ff}
 .answer path,.answer circle{stroke:#57ab5a}.answer .tip{fill:#57ab5a}
 .homes path,.homes circle{stroke:#c297ff}.homes .tip{fill:#c297ff}
@@ -379,18 +380,19 @@ class Painter:
     def _signs(self) -> List[Tuple[str, str]]:
         bars = {bar.span.kind for bar in self.layout.bars}
         families = {arrow.packet.family for arrow in self.layout.arrows}
-        signs = [('<path class="order" d="M2 0H28"/>', 'an order'),
-                 ('<rect class="life" x="2" y="-6" width="26" height="12" rx="3"/>', 'an incarnation')]
-        signs += [(f'<rect class="bar {kind}" x="9" y="-6" width="{BAR}" height="12"/>', words) for kind, words in BAR_KINDS.items()
+        signs = [('<rect class="life" x="2" y="-6" width="26" height="12" rx="3"/>', 'an incarnation')]
+        if any(row.fact.kind == 'at' for row in self.layout.rows):
+            signs.insert(0, ('<path class="order" d="M2 0H28"/>', 'an order'))
+        signs += [(f'<rect class="bar {kind}" x="15" y="-6" width="{BAR}" height="12"/>', words) for kind, words in BAR_KINDS.items()
                   if kind in bars]
         signs += [(f'<g class="arrow {family}"><path class="line" d="M2 0H22"/><path class="tip" d="M28 0l-7 -3.5v7z"/></g>', words)
                   for family, (words, _) in FAMILIES.items() if family in families]
         if any(arrow.again for arrow in self.layout.arrows):
             signs.append(('<g class="arrow members repeat"><path class="line" d="M2 0H28"/></g>', 'delivered once more'))
         if any(arrow.delivery is None or arrow.delivery.lost for arrow in self.layout.arrows):
-            signs.append((cross(15, 0, 4), 'a packet that is lost'))
+            signs.append((cross(22, 0, 4), 'lost, or never got in this trace'))
         if any(span.crashed for span in self.story.spans if span.end and self.window.first <= span.end <= self.window.last):
-            signs.append((cross(15, 0, 5, 'crash'), 'a crash'))
+            signs.append((cross(21, 0, 5, 'crash'), 'a crash'))
         return signs
 
 

@@ -26,7 +26,7 @@ TONES = {**dict.fromkeys(('wrote', 'queued', 'confirmed', 'granted', 'freed', 'u
 # packets by family: the class of an arrow, and its words in the legend
 FAMILIES = {
     'command': ('a command', ('sequenced', 'job')),
-    'answer': ('acknowledged, asked for', ('ack', 'request', 'resend', 'ask', 'done')),
+    'answer': ('acks and requests', ('ack', 'request', 'resend', 'ask', 'done')),
     'homes': ('homes of shards', ('getshardhome', 'shardhome', 'hostshard', 'shardstarted')),
     'handoff': ('a handoff', ('beginhandoff', 'beginhandoffack', 'handoff', 'shardstopped', 'gracefulshutdownreq')),
     'inner': ("an entity's own", ('stopentity', 'recovered', 'passivate')),
@@ -34,7 +34,7 @@ FAMILIES = {
 }
 FAMILY_OF = {kind: family for family, (_, kinds) in FAMILIES.items() for kind in kinds}
 BAR_KINDS = {'coordinator': "the coordinator's lease", 'shard': "a shard's lease", 'queue': "a queue's lease",
-             'entity': 'a live entity'}
+             'entity': 'a live entity (pale: it reads its journal)'}
 
 
 @dataclass

@@ -185,7 +185,7 @@ def what_is_missing(trace: Trace, rows: Sequence[Row], window: Window, bars: int
         said.append(f'{bars} bars of more than {MOST_BARS} at once at a node')
     shortened = sum(row.is_cut for row in rows[window.first:window.last + 1])
     if shortened:
-        said.append(f'the ends of {shortened} texts (their tooltips have them)')
+        said.append(f'the ends of texts in {shortened} rows (their tooltips have them)')
     if trace.report_lines:
         said.append(f'the report ({trace.report_lines} lines)')
     return said

@@ -148,6 +148,23 @@ def nodes_seen(rows: Sequence[Row], arrows: Sequence[Arrow], spans: Sequence[Spa
     return sorted(nodes)
 
 
+def place_lanes(nodes: Sequence[int], rows: Sequence[Row], columns: Dict[Tuple[bool, int], int],
+                tracks: Dict[Tuple[str, int], int]) -> Tuple[Dict[int, Lane], float]:
+    """The lanes from left to right, each as wide as its texts and bars, with its tracks behind it; and where they end."""
+    lanes: Dict[int, Lane] = {}
+    right = NUMBER_WIDTH + CHARACTER * max([8] + [row.length for row in rows if row.node is None])
+    for node in nodes:
+        lane = Lane(node, left=right + PAD)
+        lane.entities_left = lane.left + 3 + BAR_STEP * columns.get((False, node), 0)
+        lane.text_left = lane.entities_left + 5 + BAR_STEP * columns.get((True, node), 0)
+        lane.right = lane.text_left + CHARACTER * max([14] + [row.length for row in rows if row.node == node]) + PAD
+        lane.own_left = lane.right + PAD
+        lane.gap_left = lane.own_left + TRACK * tracks.get(('own', node), 0)
+        right = lane.gap_left + TRACK * tracks.get(('gap', node), 0)
+        lanes[node] = lane
+    return lanes, right
+
+
 def lay_out(story: Story, trace: Trace, lines: Optional[Sequence[int]]) -> Layout:
     window = choose_window(story.rows, lines)
     rows = story.rows[window.first:window.last + 1]
@@ -159,17 +176,7 @@ def lay_out(story: Story, trace: Trace, lines: Optional[Sequence[int]]) -> Layou
         channels['left of', node] = channels['right of', before] = ('gap', before)
     tracks = give_tracks(arrows, channels)
 
-    order_right = NUMBER_WIDTH + CHARACTER * max([8] + [row.length for row in rows if row.node is None])
-    lanes, right = {}, order_right
-    for node in nodes:
-        lane = Lane(node, left=right + PAD)
-        lane.entities_left = lane.left + 3 + BAR_STEP * columns.get((False, node), 0)
-        lane.text_left = lane.entities_left + 5 + BAR_STEP * columns.get((True, node), 0)
-        lane.right = lane.text_left + CHARACTER * max([14] + [row.length for row in rows if row.node == node]) + PAD
-        lane.own_left = lane.right + PAD
-        lane.gap_left = lane.own_left + TRACK * tracks.get(('own', node), 0)
-        right = lane.gap_left + TRACK * tracks.get(('gap', node), 0)
-        lanes[node] = lane
+    lanes, right = place_lanes(nodes, rows, columns, tracks)
     return Layout(window, rows, lanes, arrows, bars, max(right + 6, LEAST_WIDTH),
                   what_is_missing(trace, story.rows, window, missing))
 

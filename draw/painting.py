@@ -352,8 +352,7 @@ class Painter:
         for n, row in enumerate(self.layout.rows, self.window.first):
             y = self.y(n) + 3.5
             x = NUMBER_WIDTH if row.node is None else self.layout.lanes[row.node].text_left
-            title = row.fact.text if row.shown != row.fact.text else ''
-            pieces.append(text_at(x, y, row.shown, '' if row.tone == 'plain' else row.tone, title, row.note, row.note_tone))
+            pieces.append(text_at(x, y, row.shown, '' if row.tone == 'plain' else row.tone, row.tooltip, row.note, row.note_tone))
             if n in self.labels:
                 pieces += self._lane_labels(n)
         return pieces

@@ -80,6 +80,7 @@ class Row:
     tone: str
     note: str = ''              # shown behind it
     note_tone: str = 'quiet'
+    tooltip: str = ''           # the whole of it, where less is shown
 
     @property
     def length(self) -> int:
@@ -123,6 +124,7 @@ class Story:
         node = self._node(fact)
         room = MOST_TEXT if node is not None else MOST_ORDER
         row = Row(fact, node, cut_off(self._shown(fact), room), TONES.get(fact.kind, 'plain'))
+        row.tooltip = fact.text if row.shown != fact.text else ''
         if fact.kind == 'got':
             self._note_packet(row)
         if fact.kind == 'at':
@@ -156,6 +158,7 @@ class Story:
         order = self._trace.orders.get(int(row.fact.words[1]))
         if order:
             row.note, row.tone, row.note_tone = ' ' + cut_off(order, MOST_ORDER), 'quiet', 'strong'
+            row.tooltip = f'{row.fact.text} {order}' if row.is_cut else ''
 
     def _node(self, fact: Fact) -> Optional[int]:
         """The node that acts in a fact: named, or known from what came before."""

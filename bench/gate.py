@@ -17,7 +17,7 @@ import time
 
 TOP = os.path.dirname(os.path.dirname(os.path.abspath(__file__)))
 TICKS = os.sysconf("SC_CLK_TCK")
-KINDS = ("proof", "tests", "edits", "run")
+KINDS = ("proof", "tests", "edits")
 
 
 def read(path):
@@ -38,16 +38,21 @@ def processes():
             yield int(name), int(fields[1]), (int(fields[11]) + int(fields[12])) / TICKS
 
 
-def kind_of(words):
-    """The crate that a prover works on, and what for."""
-    crate = words[words.index("--crate-name") + 1] if "--crate-name" in words else None
-    if not crate:
-        return None
+def kind_of(words, folder):
+    """The crate that a prover works on in this folder, and what for: edits are tried in folders of their own."""
+    crate = words[words.index("--crate-name") + 1]
     if "--test" in words:
         return crate, "tests"
-    if words[1] == "check":
+    if os.path.basename(folder).startswith("rt-edit-"):
         return crate, "edits"
     return crate, "proof"
+
+
+def folder_of(pid):
+    try:
+        return os.readlink(f"/proc/{pid}/cwd")
+    except OSError:
+        return ""
 
 
 class Tally:
@@ -68,7 +73,7 @@ class Tally:
                 continue
             if pid not in self.names or self.names[pid] is None:
                 words = read(f"/proc/{pid}/cmdline").decode(errors="replace").split("\0")
-                self.names[pid] = kind_of(words) if "--crate-name" in words else None
+                self.names[pid] = kind_of(words, folder_of(pid)) if "--crate-name" in words else None
             self.seen[pid] = max(used, self.seen.get(pid, 0))
 
     def sums(self):
@@ -87,9 +92,9 @@ def table(tally, seconds):
     crates = sorted({crate for crate, _ in total}, key=lambda it: -sum(total.get((it, kind), 0) for kind in KINDS))
     print("\n| crate | proof | tests | edits | all |\n|---|---|---|---|---|")
     for crate in crates:
-        row = [total.get((crate, kind), 0) for kind in KINDS[:3]]
+        row = [total.get((crate, kind), 0) for kind in KINDS]
         print(f"| `{crate}` | {' | '.join(f'{it:.0f}' if it >= 0.5 else '' for it in row)} | {sum(row):.0f} |")
-    row = [sum(used for (_, of), used in total.items() if of == kind) for kind in KINDS[:3]]
+    row = [sum(used for (_, of), used in total.items() if of == kind) for kind in KINDS]
     print(f"| all | {' | '.join(f'{it:.0f}' for it in row)} | {sum(row):.0f} |")
     print(f"\nProcessor seconds. Runs of programs and tests, links and `rt` itself: {other:.0f}. In all {(sum(row) + other) / 60:.0f} processor minutes,"
           f" {seconds / 60:.0f} minutes by the clock.")

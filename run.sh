@@ -231,7 +231,7 @@ tell_no_answer() {
     why=$(sed -n 's/^checked: no-answer: //p' "$room/said" | tail -n 1)
     case $why in
     *"bytes to standard output"*) why="an unproved run tells at most 1 MiB of text, and this one has more" ;;
-    *"did not finish"*) why="an unproved run is slow, and this one had not ended after $TRY_SECONDS seconds" ;;
+    *"did not end within"*) why="an unproved run is slow, and this one had not ended after $TRY_SECONDS seconds" ;;
     *)
         # (the sources are refused, say)
         cat "$room/said" >&2

@@ -178,8 +178,10 @@ below() {
 
 # Ends every process that was started here: `rt` first, which ends its own, then whatever is left.
 end_all() {
-    local all
-    mapfile -t all < <(below)
+    local it all=()
+    for it in $(below); do
+        ! kill -0 "$it" 2>/dev/null || all+=("$it")
+    done
     [ -z "$job" ] || kill -TERM "$job" 2>/dev/null || true
     for _ in {1..30}; do
         kill -0 "${all[@]}" 2>/dev/null || return 0
@@ -223,20 +225,21 @@ in_turn() {
 
 # ---- An unproved run
 
-# Tells why `rt try` gave no answer, of what it said.
+# Tells why `rt try` gave no answer, of what it said, and what to do.
 tell_no_answer() {
     local why
-    why=$(sed -n 's/^checked: //p' "$room/said" | tail -n 1)
+    why=$(sed -n 's/^checked: no-answer: //p' "$room/said" | tail -n 1)
     case $why in
-    *"bytes to standard output"*) why="it tells more than the 1 MiB of text that an unproved run can" ;;
-    *"did not finish"*) why="it had not ended after $TRY_SECONDS seconds, and an unproved run is slow" ;;
-    "")
+    *"bytes to standard output"*) why="an unproved run tells at most 1 MiB of text, and this one has more" ;;
+    *"did not end within"*) why="an unproved run is slow, and this one had not ended after $TRY_SECONDS seconds" ;;
+    *)
         # (the sources are refused, say)
         cat "$room/said" >&2
-        why="\`rt try\` could not run it"
+        say "\`rt try\` gave no answer, for the reason above"
+        return
         ;;
     esac
-    say "no answer: $why; \`./run.sh --build\` makes the proved program, which has no such limits"
+    say "$why: \`./run.sh --build\` makes the proved program, which has no such limit"
 }
 
 run_unproved() {

@@ -5,7 +5,7 @@
 
 Without names it counts from the clause `safely` of the top call. A definition's lines are its own, with
 the comment before it; imports count for nothing, and so do the fields of plain Rust types that a definition
-cites. Prints a line for each module and the sum. `docs/BELIEVE.md` has the list in reading order.
+cites. Prints a line for each module and the sum. `docs/ASSURANCE.md` has the list in reading order.
 """
 import re
 import sys

@@ -18,7 +18,7 @@ awk 'BEGIN {
         print "pump 10000"
     }
 }' >"$work/script"
-"$top/run.sh" --version
+"$top/run.sh" --build
 program="$top/crates/sharder/out/sharder"
 for _ in 1 2 3 4 5; do
     ( time "$program" replay <"$work/script" >"$work/trace" ) 2>&1 | tr '\n' ' '

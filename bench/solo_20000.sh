@@ -12,7 +12,7 @@ awk 'BEGIN {
     for (i = 1; i <= 7999; i++) print "deliver", i
 }' >"$work/whole"
 sed '$s/.*/deliver/' "$work/whole" >"$work/refused"
-"$top/run.sh" --version
+"$top/run.sh" --build
 program="$top/crates/sharder/out/sharder"
 for script in refused whole; do
     echo "$script"

@@ -1,13 +1,16 @@
 //! Known scripts, each with the text that it must give: `index` names them, a line each with the
 //! exit status and the words of the program; `NAME.in` is the script and `NAME.out` the text. Where the
 //! text is too long to be stored, a line of `digests` has the name, whose script it is, the exit status, how
-//! many bytes the text has, their digest, and the words. Every script is run by the program's own top call
-//! (the part of it that needs no threads), and a line says what came of it.
+//! many bytes the text has, their digest, and the words. A line of `refusals` has a status's own line, the
+//! words, and a script of which nothing is written, with `%XX` for a byte that has no place in a line. Every
+//! script is run by the program's own top call (the part of it that needs no threads), and a line says what
+//! came of it; of the refusals one line says how many came as they must.
 #![tactic(auto)]
 
 mod digest;
 
 use digest::Digest;
+use percent_encoding::percent_decode;
 use std::alloc::{AllocError, Global};
 use std::rt::Files;
 use std::{fs, io};
@@ -137,6 +140,36 @@ fn play_long(rt: &(impl Files + AllocGlobal + Print), line: &str) -> io::Result<
     tell(rt, name.as_str(), verdict)
 }
 
+/// Whether a script is refused with a status of this line, and nothing is written.
+fn is_refused(alloc: Global, words: &str, script: &str, wanted: &str) -> io::Result<bool> {
+    let words = words_of(alloc, words)?;
+    let mut bytes = Vec::new(alloc);
+    percent_decode(script.as_bytes()).append_to(&mut bytes)?;
+    let mut source = WholeSource::new(alloc, bytes.as_slice())?;
+    let mut sink = MemSink::new(alloc, &[])?;
+    let status: Status = sharder_alone(alloc, words.as_slice(), &mut source, &mut sink);
+    let line = format!(in alloc; "{status}")?;
+    Ok(line.as_str() == wanted && sink.bytes().is_empty())
+}
+
+/// Plays the script of a line of the refusals: a status's line, the words, and the script, apart by bars.
+/// Answers whether it came so; where it didn't, it says which line it is.
+fn play_refused(rt: &(impl AllocGlobal + Print), line: &str) -> io::Result<bool> {
+    let mut parts = Vec::new(rt.alloc());
+    for part in line.split('|') {
+        parts.push(part)?;
+    }
+    let [wanted, words, script] = parts.as_slice() else {
+        println!(rt; "no refusal: {line}")?;
+        return Ok(false);
+    };
+    let same = is_refused(rt.alloc(), words, script, wanted)?;
+    if !same {
+        println!(rt; "not refused so: {line}")?;
+    }
+    Ok(same)
+}
+
 /// Plays the script of each line of the index.
 fn play_all(rt: &(impl Files + AllocGlobal + Print)) -> io::Result<()> {
     let index = fs::read_to_string(rt, "index")?;
@@ -155,7 +188,20 @@ fn play_all_long(rt: &(impl Files + AllocGlobal + Print)) -> io::Result<()> {
     Ok(())
 }
 
+/// Plays the script of each line of the refusals, and says how many came as they must.
+fn play_all_refused(rt: &(impl Files + AllocGlobal + Print)) -> io::Result<()> {
+    let refusals = fs::read_to_string(rt, "refusals")?;
+    let mut count: u32 = 0;
+    for line in refusals.as_str().lines() {
+        if play_refused(rt, line)? {
+            count = count.saturating_add(1);
+        }
+    }
+    println!(rt; "refusals: {count} same")
+}
+
 fn main(rt: HostRuntime) -> io::Result<()> {
     play_all(&rt)?;
-    play_all_long(&rt)
+    play_all_long(&rt)?;
+    play_all_refused(&rt)
 }

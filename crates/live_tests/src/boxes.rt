@@ -1,5 +1,5 @@
 //! What no clause says: that memory is there where there is plenty, that a parcel which was posted is
-//! there to be taken, and that threads share the boxes.
+//! there to be taken, and that none is lost between threads.
 ghost use Rattle.std.specs.Prelude.{◌≡◌, ◌+◌, ◌<◌, ◌≤◌, length, IfOk};
 ghost use Rattle.post_box.specs.Holding.{new_holder};
 ghost use Rattle.post_box.specs.Left.{left_of};
@@ -42,51 +42,42 @@ fn a_full_box_hands_back(rt: HostRuntime) -> Result<(), Fail> {
     Ok(())
 }
 
-#[test]
-fn each_sender_keeps_its_order(rt: HostRuntime) -> Result<(), Fail> {
-    let first = NodeNo::FIRST;
-    let (boxes, mut one, mut two) = two_boxes(rt.alloc(), 4)?;
-    assert_eq!(rt; boxes.post(&rt, &mut two, first, 21), Ok(()));
-    assert_eq!(rt; boxes.post(&rt, &mut one, first, 11), Ok(()));
-    assert_eq!(rt; boxes.post(&rt, &mut two, first, 22), Ok(()));
-    assert_eq!(rt; boxes.take(&rt, &mut one, first), Some(21));
-    assert_eq!(rt; boxes.post(&rt, &mut one, first, 12), Ok(()));
-    assert_eq!(rt; boxes.take(&rt, &mut one, first), Some(11));
-    assert_eq!(rt; boxes.take(&rt, &mut one, first), Some(22));
-    assert_eq!(rt; boxes.take(&rt, &mut one, first), Some(12));
-    Ok(())
-}
-
-#[test]
-fn one_pass_for_each_box(rt: HostRuntime) -> Result<(), Fail> {
-    let (boxes, mut passes) = PostBox::<u32>::make(rt.alloc(), 3, 7)?;
-    assert_eq!(rt; boxes.capacity(), 7);
-    let mut nodes = [0u8; 3];
-    for place in 0..3 {
-        let pass = passes.next().ok_or("a pass")?;
-        nodes[place] = pass.node().get();
-    }
-    assert_eq!(rt; nodes, [1, 2, 3]);
-    assert!(rt; passes.next().is_none());
-    Ok(())
-}
+// A node's pass, how many parcels it posted that a box took, and how many it took from its own box.
+type Talked = (BoxPass<u32>, u32, u32);
 
 // A node posts to another, and takes from its own box, in a bounded number of steps.
-fn talk<R: Wait>(rt: &R, boxes: &PostBox<u32>, mut pass: BoxPass<u32>, to: NodeNo) -> BoxPass<u32>
+fn talk<R: Wait>(rt: &R, boxes: &PostBox<u32>, mut pass: BoxPass<u32>, to: NodeNo) -> Talked
     requires belongs { pass.tables ≡ boxes.now.tables }
     requires to { to ≤ length boxes.now.tables }
-    ensures belongs { result.tables ≡ boxes.now.tables }
+    ensures belongs { result.0.tables ≡ boxes.now.tables }
 {
     let own = pass.node();
+    let mut posted: u32 = 0;
+    let mut taken: u32 = 0;
     for number in 0..50 {
-        let _ = boxes.post(rt, &mut pass, to, number);
-        let _ = boxes.take(rt, &mut pass, own);
+        let answer = boxes.post(rt, &mut pass, to, number);
+        posted = posted.saturating_add(u32::from(answer.is_ok()));
+        let parcel = boxes.take(rt, &mut pass, own);
+        taken = taken.saturating_add(u32::from(parcel.is_some()));
     }
-    pass
+    (pass, posted, taken)
 }
 
-// Two nodes talk in threads of their own; what each took of the other is in order.
-fn talk_both<R: Threads + Wait + Sync>(rt: &R, alloc: Global) -> Result<(), AllocError> {
+// How many parcels are left in a node's own box, of at most as many as were posted; they are taken.
+fn left_in<R: Wait>(rt: &R, boxes: &PostBox<u32>, mut pass: BoxPass<u32>) -> u32
+    requires belongs { pass.tables ≡ boxes.now.tables }
+{
+    let own = pass.node();
+    for count in 0..50 {
+        if boxes.take(rt, &mut pass, own).is_none() {
+            return count;
+        }
+    }
+    50
+}
+
+// Two nodes talk in threads of their own: how many parcels were posted, and how many were taken then or are left.
+fn talk_both<R: Threads + Wait + Sync>(rt: &R, alloc: Global) -> Result<(u32, u32), AllocError> {
     let Some(second) = NodeNo::new(2) else {
         unreachable!()
     };
@@ -97,20 +88,25 @@ fn talk_both<R: Threads + Wait + Sync>(rt: &R, alloc: Global) -> Result<(), Allo
         move ||
             requires belongs { one.tables ≡ shared.now.tables }
             requires second { second ≤ length shared.now.tables }
-            ensures { result.tables ≡ shared.entry.now.tables }
+            ensures { result.0.tables ≡ shared.entry.now.tables }
         { talk(rt, shared, one, second) },
         move ||
             requires belongs { two.tables ≡ shared.now.tables }
             requires first { 1 ≤ length shared.now.tables }
-            ensures { result.tables ≡ shared.entry.now.tables }
+            ensures { result.0.tables ≡ shared.entry.now.tables }
         { talk(rt, shared, two, NodeNo::FIRST) },
     );
-    boxes.in_order(one, two);
-    Ok(())
+    let posted = one.1.saturating_add(two.1);
+    let taken = one.2.saturating_add(two.2);
+    let left = left_in(rt, &boxes, one.0).saturating_add(left_in(rt, &boxes, two.0));
+    Ok((posted, taken.saturating_add(left)))
 }
 
 #[test]
 fn two_threads_share_the_boxes(rt: HostRuntime) -> Result<(), Fail> {
-    talk_both(&rt, rt.alloc())?;
+    let (posted, came) = talk_both(&rt, rt.alloc())?;
+    // Each box takes three at least, before anything is taken from it.
+    assert!(rt; posted >= 6);
+    assert_eq!(rt; came, posted);
     Ok(())
 }

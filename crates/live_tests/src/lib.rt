@@ -1,5 +1,5 @@
-//! Tests of what live nodes share: the boxes, parcels, the roster, what a worker's draws make of a
-//! packet, a run, and what the workers of a busy one let go.
+//! Tests of what live nodes share: the boxes, what a worker's draws make of a packet, and what the workers of
+//! a busy run let go.
 #![tactic(auto)]
 
 #[cfg(test)]
@@ -8,7 +8,3 @@ mod boxes;
 mod counts;
 #[cfg(test)]
 mod mails;
-#[cfg(test)]
-mod parcels;
-#[cfg(test)]
-mod runs;

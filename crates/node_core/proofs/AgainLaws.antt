@@ -62,8 +62,8 @@ use Rattle.node_core.proofs.GaveLaws.{Keeps, gave_both, gave_nothing, gave_same,
 use Rattle.node_core.proofs.GiveLaws.{region_gave, entities_gave, office_gave}
 use Rattle.node_core.proofs.PacketLaws.{frees_nothing}
 use Rattle.node_core.proofs.ReleaseLaws.{IsCalmer, is_delivering, phase_delivers, all_ending, active_before, rooms_beside, ending_in, ending_none, room_stays}
-use Rattle.node_core.proofs.EntitiesRoomLaws.{names_left, names_next}
-use Rattle.node_core.proofs.LimitLaws.{few_names_in, few_shards_in}
+use Rattle.room_laws.proofs.EntitiesRoom.{names_left, names_next}
+use Rattle.room_laws.proofs.Limits.{few_names_in, few_shards_in}
 use Rattle.node_core.proofs.StartLaws.{start_delivers}
 use Rattle.node_core.proofs.StepLaws.{entities_went}
 use Rattle.node_core.proofs.StillEntities.{tick_still}

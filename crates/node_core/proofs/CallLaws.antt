@@ -40,7 +40,7 @@ use Rattle.node_core.specs.Releasing.{HasReleaseRoom, LeavesRoom, TookRoom}
 use Rattle.node_core.specs.Standing.{Standing, IsReady, standing_of, node_of}
 use Rattle.node_core.specs.Went.{Went, rooms_after, queues_after}
 use Rattle.node_core.proofs.ReleaseLaws.{went_both, room_stays, routed_room, routed_rooms, leaves_nothing, leaves_next}
-use Rattle.node_core.proofs.LimitLaws.{small_window}
+use Rattle.room_laws.proofs.Limits.{small_window}
 use Rattle.node_core.proofs.StartLaws.{active_hosted, fewer_room}
 use Rattle.node_core.proofs.StepLaws.{went_nothing}
 

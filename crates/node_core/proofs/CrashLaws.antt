@@ -45,8 +45,8 @@ use Rattle.node_core.specs.Standing.{Standing, IsEnding, IsOf, IsReady, node_of,
 use Rattle.node_core.proofs.AskLaws.{asks_is, asks_itself}
 use Rattle.node_core.proofs.GaveLaws.{stays_same}
 use Rattle.node_core.proofs.LetGoLaws.{Frees, freed_goes, let_both, let_nothing}
-use Rattle.node_core.proofs.GivesLaws.{length_numbers}
-use Rattle.node_core.proofs.LimitLaws.{few_shards}
+use Rattle.room_laws.proofs.Gives.{length_numbers}
+use Rattle.room_laws.proofs.Limits.{few_shards}
 use Rattle.node_core.proofs.PartLaws.{IsOfHosted, store_hosted, held_is, none_there, without_frees, serves_at, holds_it, hand_of, leased_of}
 
 -- Slots of one kind, among those of some numbers.

@@ -33,8 +33,8 @@ use Rattle.node_core.specs.Calling.{AreDemanded, AreQueued}
 use Rattle.node_core.specs.Found.{asks}
 use Rattle.node_core.specs.Still.{is_still_move}
 use Rattle.node_core.proofs.CallLaws.{IsFit, AreFit, AreFew}
-use Rattle.node_core.proofs.ProducerRoomLaws.{push_few, resend_few, repeat_few, demanded_confirm, demanded_more, demanded_queue, confirmed_reaches, confirm_room, repeat_marks_room}
-use Rattle.node_core.proofs.LimitLaws.{some_window}
+use Rattle.room_laws.proofs.ProducerRoom.{push_few, resend_few, repeat_few, demanded_confirm, demanded_more, demanded_queue, confirmed_reaches, confirm_room, repeat_marks_room}
+use Rattle.room_laws.proofs.Limits.{some_window}
 use Rattle.node_core.proofs.StillQueue.{queue_within, confirm_within, pushed_still}
 
 -- No producer demands more than the window above what is confirmed.

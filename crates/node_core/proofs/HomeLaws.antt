@@ -42,9 +42,9 @@ use Rattle.node_core.proofs.GaveLaws.{gave_asked, gave_first, gave_nothing, gave
 use Rattle.node_core.proofs.GiveLaws.{region_gave}
 use Rattle.node_core.proofs.PacketLaws.{frees_nothing}
 use Rattle.node_core.proofs.ReleaseLaws.{region_rooms_stay}
-use Rattle.node_core.proofs.LimitLaws.{few_names_in}
-use Rattle.node_core.proofs.GivesLaws.{filter_few}
-use Rattle.node_core.proofs.RegionRoomLaws.{kept_within}
+use Rattle.room_laws.proofs.Limits.{few_names_in}
+use Rattle.room_laws.proofs.Gives.{filter_few}
+use Rattle.room_laws.proofs.RegionRoom.{kept_within}
 use Rattle.node_core.proofs.StartLaws.{away_room, fewer_room, ready_room}
 
 -- Choices.

@@ -6,13 +6,6 @@ pub mod StillLaws
 pub mod StillOffice
 pub mod StillEntities
 pub mod StillQueue
-pub mod GivesLaws
-pub mod LimitLaws
-pub mod CoordinatorRoomLaws
-pub mod RegionRoomLaws
-pub mod EntitiesRoomLaws
-pub mod ProducerRoomLaws
-pub mod PairRoomLaws
 pub mod LetGoLaws
 pub mod LeadLaws
 pub mod StepLaws

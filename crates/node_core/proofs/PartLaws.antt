@@ -29,7 +29,7 @@ use Rattle.producer_ctl.specs.Producing.{Producing, Routing, held, moved_by, pro
 use Rattle.node_core.specs.Leased.{Rests, IsHandOf, MayGiveBack}
 use Rattle.node_core.specs.Standing.{AreParts, IsReady, IsSameOffice, node_of, standing_of, spare_in, places_in}
 use Rattle.node_core.proofs.LetGoLaws.{Frees}
-use Rattle.node_core.proofs.LimitLaws.{few_pairs}
+use Rattle.room_laws.proofs.Limits.{few_pairs}
 use Rattle.node_core.proofs.StepLaws.{moved_of, moved_who, moved_set, moved_version}
 
 -- the leases serve the node at each slot but a queue, and at a queue that it is admitted to

@@ -40,8 +40,8 @@ use Rattle.node_core.specs.Standing.{Standing}
 use Rattle.node_core.specs.Went.{Went, rooms_after, queues_after}
 use Rattle.node_core.proofs.GaveLaws.{items_append}
 use Rattle.node_core.proofs.StepLaws.{region_rooms, went_nothing}
-use Rattle.node_core.proofs.EntitiesRoomLaws.{deliver_room}
-use Rattle.node_core.proofs.RegionRoomLaws.{away_room, released_room}
+use Rattle.room_laws.proofs.EntitiesRoom.{deliver_room}
+use Rattle.room_laws.proofs.RegionRoom.{away_room, released_room}
 
 -- One step after another.
 

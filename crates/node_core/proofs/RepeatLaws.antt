@@ -59,8 +59,8 @@ use Rattle.node_core.specs.Went.{Went, rooms_after}
 use Rattle.node_core.proofs.AgainLaws.{each_more, numbers_more, laws_of, vouches_all, same_room, stepped_both}
 use Rattle.node_core.proofs.GaveLaws.{gave_same, gave_then}
 use Rattle.node_core.proofs.ReleaseLaws.{went_both, routed_room}
-use Rattle.node_core.proofs.PairRoomLaws.{pairs_left, queued_pair, fewer_pass}
-use Rattle.node_core.proofs.LimitLaws.{few_pairs, few_producers}
+use Rattle.room_laws.proofs.PairRoom.{pairs_left, queued_pair, fewer_pass}
+use Rattle.room_laws.proofs.Limits.{few_pairs, few_producers}
 use Rattle.node_core.proofs.StartLaws.{fewer_room, away_room, active_hosted}
 use Rattle.node_core.proofs.StepLaws.{went_nothing, went_gave}
 use Rattle.node_core.proofs.StillRoutes.{IsCalm, each_still, still_both, numbers_still}

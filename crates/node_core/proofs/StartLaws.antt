@@ -51,7 +51,7 @@ use Rattle.node_core.proofs.AskLaws.{granted_gave, refused_gave}
 use Rattle.node_core.proofs.GaveLaws.{gave_asked, gave_nothing, gave_same, gave_then}
 use Rattle.node_core.proofs.GiveLaws.{entities_gave}
 use Rattle.node_core.proofs.ReleaseLaws.{is_delivering, ending_in, all_ending, active_before, rooms_beside, room_stays}
-use Rattle.node_core.proofs.EntitiesRoomLaws.{start_remembered_room}
+use Rattle.room_laws.proofs.EntitiesRoom.{start_remembered_room}
 use Rattle.node_core.proofs.StillEntities.{remembered_still}
 
 -- A shard that is granted.

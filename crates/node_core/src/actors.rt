@@ -1,8 +1,9 @@
 //! The actors of a node.
 ghost use Rattle.std.specs.Prelude.{◌≡◌, ℕ, ◌+◌, ◌-◌, ◌<◌, ◌≤◌, true, is_some, OnOk, Some, IfSome, MatchOption, length, slice_get};
+ghost use Rattle.yard_model.specs.declared.incarnation.Slot.TheVariants as slot;
 ghost use Rattle.yard_model.specs.declared.input.Phase.TheVariants as phase;
 ghost use Rattle.yard_model.specs.Entities.{is_in_phase};
-ghost use Rattle.yard_model.specs.Genuine.{is_brought};
+ghost use Rattle.yard_model.specs.Genuine.{is_brought, is_shard, is_producer, is_slot_of};
 ghost use Rattle.yard_model.specs.Script.{IsScript, setting};
 ghost use Rattle.yard_model.specs.Words.{at};
 ghost use Rattle.actor_laws.specs.Hands.{held_list};
@@ -107,6 +108,54 @@ impl<B: Behaviour + Drop> Actors<B> {
         ensures { result ≡ is_some (at self.now.state.producers (p - 1)) }
     {
         p.get() <= self.queues && self.producers.holds(p)
+    }
+
+    /// The store of a slot of the script; None exactly where it isn't held.
+    pub(crate) fn held_store(&self, slot: Slot) -> Option<StoreRef<'_>>
+        requires { is_slot_of self.now.script slot ≡ true }
+        ensures store { MatchOption result (held_list slot self.now.state ≡ None) (λ x. held_list slot self.now.state ≡ Some (entries_of_ref x)) }
+        ensures kind { IfSome result (λ x. (slot_of_ref x ≡ slot) × (script_of_ref x ≡ self.now.script)) }
+    {
+        match slot {
+            Slot::Shard(s) => self.shard_store(s),
+            Slot::Coordinator => self.office_store(),
+            Slot::Queue(p) => self.queue_store(p),
+        }
+    }
+
+    /// The store of a shard; None exactly where it isn't held.
+    fn shard_store(&self, s: ShardNo) -> Option<StoreRef<'_>>
+        requires { is_shard self.now.script s ≡ true }
+        ensures store { MatchOption result (held_list (slot.Shard s) self.now.state ≡ None) (λ x. held_list (slot.Shard s) self.now.state ≡ Some (entries_of_ref x)) }
+        ensures kind { IfSome result (λ x. (slot_of_ref x ≡ slot.Shard s) × (script_of_ref x ≡ self.now.script)) }
+    {
+        match self.entities.store(s) {
+            Some(store) => Some(StoreRef::Shard(store)),
+            None => None,
+        }
+    }
+
+    /// The coordinator's store; None exactly where it isn't held.
+    fn office_store(&self) -> Option<StoreRef<'_>>
+        ensures store { MatchOption result (held_list slot.Coordinator self.now.state ≡ None) (λ x. held_list slot.Coordinator self.now.state ≡ Some (entries_of_ref x)) }
+        ensures kind { IfSome result (λ x. (slot_of_ref x ≡ slot.Coordinator) × (script_of_ref x ≡ self.now.script)) }
+    {
+        match &self.coordinator {
+            Some(coordinator) => Some(StoreRef::Coordinator(coordinator.store())),
+            None => None,
+        }
+    }
+
+    /// The store of a producer's queue; None exactly where it isn't held.
+    fn queue_store(&self, p: ProducerNo) -> Option<StoreRef<'_>>
+        requires { is_producer self.now.script p ≡ true }
+        ensures store { MatchOption result (held_list (slot.Queue p) self.now.state ≡ None) (λ x. held_list (slot.Queue p) self.now.state ≡ Some (entries_of_ref x)) }
+        ensures kind { IfSome result (λ x. (slot_of_ref x ≡ slot.Queue p) × (script_of_ref x ≡ self.now.script)) }
+    {
+        match self.producers.store(p) {
+            Some(store) => Some(StoreRef::Queue(store)),
+            None => None,
+        }
     }
 
     /// The held slot at this place, with its store: shards rising, the coordinator, queues rising.

@@ -4,7 +4,7 @@ ghost use Rattle.yard_model.specs.declared.incarnation.Slot.TheVariants as slot;
 ghost use Rattle.yard_model.specs.declared.input.Input.TheVariants as input;
 ghost use Rattle.yard_model.specs.declared.input.Phase.TheVariants as phase;
 ghost use Rattle.yard_model.specs.Entities.{is_in_phase};
-ghost use Rattle.yard_model.specs.Genuine.{is_node, is_brought};
+ghost use Rattle.yard_model.specs.Genuine.{is_node, is_brought, is_slot_of};
 ghost use Rattle.yard_model.specs.Node.{new_node, turn};
 ghost use Rattle.yard_model.specs.Script.{setting, is_version};
 ghost use Rattle.yard_model.specs.Words.{at};
@@ -228,6 +228,15 @@ impl<B: Behaviour + Drop> Node<B> {
         ensures kind { IfSome result (λ x. (slot_of_ref x.1 ≡ x.0) × (script_of_ref x.1 ≡ self.now.script)) }
     {
         self.actors.held(at)
+    }
+
+    /// The store of a slot of the script; None exactly where the node doesn't hold it.
+    pub fn held_store(&self, slot: Slot) -> Option<StoreRef<'_>>
+        requires { is_slot_of self.now.script slot ≡ true }
+        ensures store { MatchOption result (held_list slot self.now.state ≡ None) (λ x. held_list slot self.now.state ≡ Some (entries_of_ref x)) }
+        ensures kind { IfSome result (λ x. (slot_of_ref x ≡ slot) × (script_of_ref x ≡ self.now.script)) }
+    {
+        self.actors.held_store(slot)
     }
 
     /// Whether it holds the queue of a producer.

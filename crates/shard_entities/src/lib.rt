@@ -25,6 +25,3 @@ mod writing;
 pub use entities::Entities;
 pub use handoff::Stopped;
 pub use places::Places;
-
-#[cfg(test)]
-mod tests;

@@ -1,8 +1,12 @@
-//! Tests of what is read and printed: streams, scripts, facts and the report.
+//! Tests of what is read and printed, and of outside vectors: streams, scripts, facts and the report, hash codes.
 #![tactic(auto)]
 
 #[cfg(test)]
 mod facts;
+#[cfg(test)]
+mod faults;
+#[cfg(test)]
+mod hashes;
 #[cfg(test)]
 mod report;
 #[cfg(test)]

@@ -11,6 +11,8 @@ mod fixtures;
 #[cfg(test)]
 mod live;
 #[cfg(test)]
+mod meeting;
+#[cfg(test)]
 mod stored;
 #[cfg(test)]
 mod texts;

@@ -1,12 +1,13 @@
 //! Nodes as threads: what every run of a script comes to, and runs whose reads and writes fail.
 use crate::fixtures::{Counted, Drip, run_alone, words_of};
+use crate::meeting::{LOOKS, Meeting};
 use script_text::Why;
 use std::alloc::{AllocError, Global};
 use std::process::Abort;
 use std::sync::Wait;
 use std::test::Fail;
 use std::thread::Threads;
-use yard_io::{FreeGate, MemSink, MemSource, Sink, Source, WholeSource};
+use yard_io::{FreeGate, Gate, MemSink, MemSource, Sink, Source, WholeSource};
 use yard_top::{Status, sharder};
 
 /// Two nodes; a producer on each sends ten commands.
@@ -92,6 +93,53 @@ fn each_run_comes_to_this(rt: HostRuntime) -> Result<(), Fail> {
     // Producer 2 is on node 2 alone.
     let first = line_after(text, "slot queue:2 ").ok_or("a list")?;
     assert_eq!(rt; first, "granted queue:2 1 2.1");
+    Ok(())
+}
+
+/// Runs the program for so many turns with this seed, at this gate; what it writes.
+fn written_at<R: Threads + Wait + Sync + Abort, G: Gate + Sync>(
+    rt: &R,
+    alloc: Global,
+    turns: &str,
+    seed: &str,
+    gate: &G,
+) -> Result<MemSink, Fail> {
+    let mut source = WholeSource::new(alloc, TWO_PRODUCERS)?;
+    let mut sink = MemSink::new(alloc, &[])?;
+    let words = words_of(alloc, &["live", turns, seed])?;
+    let end = sharder(rt, alloc, words.as_slice(), &mut source, &mut sink, gate);
+    assert_eq!(rt; end, Status::Ok, "seed {seed}");
+    Ok(sink)
+}
+
+/// The turns of the nodes overlap: at its fifth turn each waits until the other has come to its own.
+#[test]
+fn two_nodes_run_at_once(rt: HostRuntime) -> Result<(), Fail> {
+    let gate = Meeting::at(5, 5);
+    let sink = written_at(&rt, rt.alloc(), "2000", "7", &gate)?;
+    let text = str::from_utf8(sink.bytes())?;
+    for side in [&gate.first, &gate.second] {
+        assert!(rt; side.turn() >= 5);
+        assert!(rt; side.longest() < LOOKS);
+    }
+    let first = line_after(text, "slot queue:2 ").ok_or("a list")?;
+    assert_eq!(rt; first, "granted queue:2 1 2.1");
+    Ok(())
+}
+
+/// Nodes that go side by side take one another's packets: in some run both regions are registered by turns alone.
+#[test]
+fn each_node_registers_with_the_other(rt: HostRuntime) -> Result<(), Fail> {
+    let mut count: u32 = 0;
+    for seed in ["1", "2", "3", "4", "5", "6", "7", "8"] {
+        let gate = Meeting::at(1, 200);
+        let sink = written_at(&rt, rt.alloc(), "200", seed, &gate)?;
+        let text = str::from_utf8(sink.bytes())?;
+        if has_line(text, "registered 1.1") && has_line(text, "registered 2.1") {
+            count = count.saturating_add(1);
+        }
+    }
+    assert!(rt; count > 0);
     Ok(())
 }
 

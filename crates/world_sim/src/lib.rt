@@ -31,6 +31,3 @@ pub use fault::StepFault;
 pub use mail::Mail;
 pub use stores::settle_stores;
 pub use world::World;
-
-#[cfg(test)]
-mod tests;

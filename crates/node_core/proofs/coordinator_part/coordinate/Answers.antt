@@ -6,8 +6,8 @@ use Rattle.node_core.specs.Went.{CoordinatorWent}
 use Rattle.std.proofs.Common.{◌≤◌, arith}
 use Rattle.std.specs.List.{flat_map}
 use Rattle.yard_model.specs.Move.{item_of}
-use Rattle.node_core.proofs.CoordinatorRoomLaws.{coordinate_room}
-use Rattle.node_core.proofs.LimitLaws.{few_shards_in}
+use Rattle.room_laws.proofs.CoordinatorRoom.{coordinate_room}
+use Rattle.room_laws.proofs.Limits.{few_shards_in}
 use Rattle.node_core.proofs.StepLaws.{coordinator_did, coordinator_absent}
 use Rattle.node_core.proofs.coordinator_part.coordinate.Goals as goal
 

@@ -5,8 +5,8 @@ use Rattle.yard_model.specs.Coordinator.{Coordinator, tick_coordinator}
 use Rattle.yard_model.specs.Move.{item_of}
 use Rattle.coordinator_actor.specs.Held.{Held}
 use Rattle.node_core.specs.Went.{CoordinatorWent}
-use Rattle.node_core.proofs.CoordinatorRoomLaws.{tick_coordinator_room}
-use Rattle.node_core.proofs.LimitLaws.{few_shards_in}
+use Rattle.room_laws.proofs.CoordinatorRoom.{tick_coordinator_room}
+use Rattle.room_laws.proofs.Limits.{few_shards_in}
 use Rattle.node_core.proofs.StepLaws.{coordinator_did, coordinator_absent}
 use Rattle.node_core.proofs.coordinator_part.tick_coordinator.Goals as goal
 

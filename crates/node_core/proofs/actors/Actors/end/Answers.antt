@@ -1,7 +1,7 @@
 use Rattle.std.proofs.Common.{◌≤◌, ◌∙◌, sym, subst, refl, arith}
 use Rattle.yard_model.specs.Script.{Script}
 use Rattle.node_core.proofs.CrashLaws.{ended, ready_ends, room_of_shards}
-use Rattle.node_core.proofs.LimitLaws.{few_producers}
+use Rattle.room_laws.proofs.Limits.{few_producers}
 use Rattle.node_core.proofs.actors.Actors.end.Goals as goal
 
 pub let_shards_go-requires-clause-ending : goal.let_shards_go-requires-clause-ending

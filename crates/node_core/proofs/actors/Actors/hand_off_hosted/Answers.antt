@@ -13,8 +13,8 @@ use Rattle.node_core.specs.Found.{none}
 use Rattle.node_core.specs.Gave.{Gave, moment}
 use Rattle.node_core.specs.Leased.{Rests, MayGiveBack, GaveBack}
 use Rattle.node_core.specs.Standing.{Standing, IsReady, standing_of, node_of}
-use Rattle.node_core.proofs.LimitLaws.{few_names_in}
-use Rattle.node_core.proofs.GivesLaws.{filter_few}
+use Rattle.room_laws.proofs.Limits.{few_names_in}
+use Rattle.room_laws.proofs.Gives.{filter_few}
 use Rattle.node_core.proofs.PartLaws.{parts_moved}
 use Rattle.node_core.proofs.FreeingLaws.{back_of_hand_off, handed_gave}
 use Rattle.node_core.proofs.actors.Actors.hand_off_hosted.Goals as goal

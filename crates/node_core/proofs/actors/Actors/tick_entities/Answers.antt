@@ -15,8 +15,8 @@ use Rattle.producer_ctl.specs.Producing.{Producing}
 use Rattle.node_core.specs.Standing.{Standing, standing_of}
 use Rattle.node_core.specs.Went.{Went}
 use Rattle.node_core.proofs.AgainLaws.{reminds_went, reminded_room}
-use Rattle.node_core.proofs.LimitLaws.{few_names_in}
-use Rattle.node_core.proofs.EntitiesRoomLaws.{tick_entities_moves, tick_entities_room}
+use Rattle.room_laws.proofs.Limits.{few_names_in}
+use Rattle.room_laws.proofs.EntitiesRoom.{tick_entities_moves, tick_entities_room}
 use Rattle.node_core.proofs.StepLaws.{given_spare}
 use Rattle.node_core.proofs.actors.Actors.tick_entities.Goals as goal
 

@@ -45,6 +45,7 @@ is_form() {
     1:solo | 1:replay) ;;
     2:replay) [ "$2" = json ] ;;
     2:bulk) reads=no && is_number "$2" 1 1000 ;;
+    2:daemon) is_number "$2" 1 100 ;;
     3:live) is_number "$2" 1 100000 && is_number "$3" 0 4294967295 ;;
     *) return 1 ;;
     esac

@@ -1,8 +1,8 @@
-//! Tests of what is read and printed: streams, scripts, facts and the report.
+//! Tests of what is read and printed: streams, scripts, the report, and scripts that are drawn.
 #![tactic(auto)]
 
 #[cfg(test)]
-mod facts;
+mod bulk;
 #[cfg(test)]
 mod report;
 #[cfg(test)]

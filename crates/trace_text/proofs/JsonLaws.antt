@@ -1,8 +1,8 @@
 -- The compact text of the report's values is what is written byte by byte.
 use Rattle.std.proofs.Common.{◌≡◌, ℕ, List, [], ◌∷◌, ◌++◌, ap, sym, ◌∙◌, refl, drop, length, append_assoc, append-nil, ◌+◌, arith}
-use Rattle.std.specs.Prelude.{Bool, true, false, ◌==◌, ◌<◌, nat_lt, ◌&&◌, ◌||◌, cond, IsTrue, codes, decimal, map, if◌then◌else◌, slice_index_or}
+use Rattle.std.specs.Prelude.{Bool, true, false, ◌==◌, ◌<◌, nat_lt, IsTrue, codes, decimal, map, if◌then◌else◌, slice_index_or}
 use Rattle.std.specs.Borrow.{Bor}
-use Rattle.std.specs.List.{flat_map, list_all}
+use Rattle.std.specs.List.{flat_map}
 use Rattle.std.proofs.lemmas.Bool.Decides.{nat_tests}
 use Rattle.std.proofs.lemmas.List.{drop_more}
 use Rattle.std.proofs.lemmas.Grind.{flat_map-append}
@@ -23,7 +23,7 @@ use Rattle.yard_model.specs.Text.{Bytes, command_text, event_text, reply_text, s
 use Rattle.trace_text.specs.declared.queues.Tally.{Tally}
 use Rattle.trace_text.specs.Behind.{behind}
 use Rattle.trace_text.specs.Json.{record_json, events_json, entity_value, entity_json, pair_value, pair_json, entities_json, queues_json, whole_text}
-use Rattle.trace_text.specs.JsonText.{values_text, entity_values, pair_values, events_bytes, record_bytes, by_bytes, told_bytes, answer_bytes, name_bytes, state_bytes, entity_bytes}
+use Rattle.trace_text.specs.JsonText.{values_text, entity_values, pair_values, events_bytes, record_bytes, name_bytes, state_bytes, entity_bytes}
 use Rattle.trace_text.specs.Places.{lent}
 use Rattle.trace_text.specs.Rows.{shard_rows, queue_rows}
 use Rattle.trace_text.proofs.AsciiLaws.{is_plain, ArePlain, command_plain, event_plain, reply_plain, state_plain, name_bytes as name_plain}
@@ -131,10 +131,6 @@ entity_told set s e records r rs name of_shard same =
     ∙ (entity_is set.config.kind (shard_of set e) e r rs (name_plain e name.each)
     ∙ (ap (λ t. entity_bytes set.config.kind t e r rs) of_shard
     ∙ ap (λ l. name_bytes e ++ (record_bytes r ++ (behind (44 ∷ []) record_bytes rs ++ state_bytes s (folded set.config.kind l)))) (sym same))))
-
--- an entity with no record isn't written
-pub entity_untold : (set : Setting) (e : List ℕ) (records : List Record) → records ≡ [] → entity_values set e records ≡ []
-entity_untold set e records none = ap (λ l. entity_values set e l) none
 
 -- Pairs.
 

@@ -30,7 +30,8 @@ pub(crate) fn put_entity_value(
     requires at { at ≤ length cells.old.items }
     requires shard { shard_of (setting charter.now) name.now ≡ s }
     requires foldable { IsTrue (are_foldable (empty_state charter.now.config.kind) (lent records.now)) }
-    ensures items { IfOk result (λ end. take end cells.new.items ≡ take at cells.old.items ++ entity_values (setting charter.now) name.now (lent records.now)) }
+    ensures items { IfOk result (λ end. take end cells.new.items
+        ≡ take at cells.old.items ++ entity_values (setting charter.now) name.now (lent records.now)) }
     ensures end { IfOk result (λ end. end ≤ length cells.new.items) }
     ensures length { length cells.old.items ≤ length cells.new.items }
 {
@@ -63,7 +64,8 @@ fn put_entity(
     state: &State,
 ) -> Result<usize, AllocError>
     requires at { at ≤ length cells.old.items }
-    ensures items { IfOk result (λ end. take end cells.new.items ≡ take at cells.old.items ++ (name_bytes name.now ++ (record_bytes first.now ++ (behind (44 ∷ []) record_bytes (lent others.now) ++ state_bytes s state.now)))) }
+    ensures items { IfOk result (λ end. take end cells.new.items ≡ take at cells.old.items
+        ++ (name_bytes name.now ++ (record_bytes first.now ++ (behind (44 ∷ []) record_bytes (lent others.now) ++ state_bytes s state.now)))) }
     ensures end { IfOk result (λ end. end ≤ length cells.new.items) }
     ensures length { length cells.old.items ≤ length cells.new.items }
 {
@@ -204,7 +206,8 @@ fn put_event_values(cells: &mut [u8], at: usize, events: &[Event]) -> usize
 
 fn put_quoted_events(cells: &mut [u8], at: usize, first: &Event, others: &[Event]) -> usize
     requires { at + (40 + 39 * length others.now) ≤ length cells.old }
-    ensures items { take result cells.new ≡ take at cells.old ++ (codes "[\"" ++ (event_text first.now ++ (behind (codes "\",\"") event_text others.now ++ codes "\"]"))) }
+    ensures items { take result cells.new ≡ take at cells.old
+        ++ (codes "[\"" ++ (event_text first.now ++ (behind (codes "\",\"") event_text others.now ++ codes "\"]"))) }
     ensures end { result ≤ at + (40 + 39 * length others.now) }
 {
     let at = put_word(cells, at, b"[\"");

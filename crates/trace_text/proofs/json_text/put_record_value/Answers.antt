@@ -1,4 +1,4 @@
-use Rattle.std.proofs.Common.{◌≡◌, ◌++◌, ap, ◌∙◌, List, take}
+use Rattle.std.proofs.Common.{◌++◌, ap, ◌∙◌, List, take}
 use Rattle.std.specs.Prelude.{codes}
 use Rattle.yard_model.specs.declared.event.Event.{Event}
 use Rattle.trace_text.specs.JsonText.{answer_bytes, by_bytes, events_bytes, told_bytes}

@@ -1,4 +1,4 @@
-use Rattle.std.proofs.Common.{◌≡◌, ◌++◌, ap, ◌∙◌}
+use Rattle.std.proofs.Common.{◌++◌, ap, ◌∙◌}
 use Rattle.yard_model.specs.Script.{setting}
 use Rattle.yard_model.specs.Text.{Bytes}
 use Rattle.trace_text.proofs.JsonLaws.{entities_told}

@@ -1,4 +1,4 @@
-use Rattle.std.proofs.Common.{◌≡◌, List, ℕ, [], ◌∷◌, ◌++◌, ap, ◌∙◌, drop, subst, OnOk}
+use Rattle.std.proofs.Common.{◌≡◌, ◌++◌, ap, ◌∙◌, drop, subst, OnOk}
 use Rattle.std.specs.Prelude.{codes}
 use Rattle.yard_model.specs.Script.{setting}
 use Rattle.yard_model.specs.Text.{Bytes}

@@ -9,8 +9,6 @@ mod rounds;
 mod row;
 mod script;
 mod summary;
-#[cfg(test)]
-mod tests;
 mod text;
 
 pub use script::script_of;

@@ -1,8 +1,9 @@
-//! Tests of what is read and printed, and of outside vectors: streams, scripts, facts and the report, hash codes.
+//! Tests of what is read and printed, and of outside vectors: streams, scripts, the report, scripts that are
+//! drawn, hash codes.
 #![tactic(auto)]
 
 #[cfg(test)]
-mod facts;
+mod bulk;
 #[cfg(test)]
 mod faults;
 #[cfg(test)]

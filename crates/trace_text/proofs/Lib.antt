@@ -7,7 +7,7 @@ pub mod JournalLaws
 pub mod RowLaws
 pub mod TallyLaws
 pub mod AsciiLaws
-pub mod PlainLaws
+pub mod JsonLaws
 pub mod SlotLaws
 pub mod ShardLaws
 pub mod PartLaws

@@ -127,7 +127,7 @@ fn entity_value(
 }
 
 /// A pair with its counts.
-fn pair_value(
+pub(crate) fn pair_value(
     alloc: Global,
     p: ProducerNo,
     name: &EntityName,

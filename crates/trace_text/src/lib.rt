@@ -12,6 +12,8 @@ mod entries;
 mod facts;
 mod journals;
 mod json_rows;
+mod json_sheet;
+mod json_text;
 mod number;
 mod parts;
 mod queues;

@@ -1,12 +1,11 @@
 //! The report: what the lists of all slots come to, as a text and as JSON.
 ghost use Rattle.trace_text.specs.Places.{lent_all};
-ghost use Rattle.std.specs.Prelude.{◌≡◌, ℕ, ◌++◌, ◌<◌, [], IfOk, OnOk, IsTrue, length, map, slice_index_or, string_bytes};
+ghost use Rattle.std.specs.Prelude.{◌≡◌, ℕ, ◌++◌, ◌<◌, [], IfOk, OnOk, IsTrue, drop, length, map, slice_index_or};
 ghost use Rattle.std.specs.List.{flat_map, list_all};
 ghost use Rattle.std.specs.List.Sorted.{IsStrictlySortedBy};
 ghost use Rattle.std.specs.Ordering.{nat_cmp};
 ghost use Rattle.std.specs.Cmp.Lexicographic.{slice_cmp};
 ghost use Rattle.serde_json.specs.View.{view};
-ghost use Rattle.serde_json.specs.Written.{compact_text};
 ghost use Rattle.yard_model.specs.Behaviour.{empty_state};
 ghost use Rattle.yard_model.specs.Entry.{shard_fact};
 ghost use Rattle.yard_model.specs.Script.{setting};
@@ -14,13 +13,15 @@ ghost use Rattle.yard_model.specs.Setting.{shards, shard_of, names_of};
 ghost use Rattle.yard_model.specs.SlotLists.{shard_list};
 ghost use Rattle.yard_model.specs.Text.{report};
 ghost use Rattle.trace_text.specs.Foldable.{are_foldable, is_foldable, is_foldable_shard, is_foldable_in_all};
-ghost use Rattle.trace_text.specs.Json.{json_report, json_text};
+ghost use Rattle.trace_text.specs.Json.{entities_json, json_report, json_text, queues_json};
+ghost use Rattle.trace_text.specs.JsonText.{values_text};
 ghost use Rattle.trace_text.specs.Parts.{AreNames, report_part, report_parts};
 ghost use Rattle.trace_text.specs.Rows.{rows, shard_rows};
 
 use crate::basics::push;
 use crate::journals::journals_of_list;
 use crate::json_rows::whole_value;
+use crate::json_sheet::JsonRows;
 use crate::parts::{ReportNames, count_of_parts, parts_law};
 use crate::queues::push_queues;
 use crate::report_rows::ReportRows;
@@ -99,18 +100,51 @@ pub fn push_json<T: Lists>(
     ensures { OnOk result (text.new.items ≡ text.old.items ++ json_text (setting charter.now) (T.lists stores.now)) }
 {
     let alloc = *text.allocator();
-    let json = json_of(alloc, charter, stores)?;
-    push(text, json.as_bytes())?;
-    push(text, b"\n")
+    let entities = entities_sheet(alloc, charter, stores)?;
+    let queues = queues_sheet(alloc, charter, stores)?;
+    push_values(text, b"{\"entities\":[", entities.as_slice())?;
+    push_values(text, b"],\"queues\":[", queues.as_slice())?;
+    push(text, b"]}\n")
 }
 
-/// The report as JSON, as its compact text. The only error is want of memory.
-fn json_of<T: Lists>(alloc: Global, charter: &Charter, stores: &T) -> Result<String, AllocError>
+/// The entities of all shards as JSON, each with a comma before it.
+fn entities_sheet<T: Lists>(
+    alloc: Global,
+    charter: &Charter,
+    stores: &T,
+) -> Result<Sheet, AllocError>
     requires { IsTrue (is_foldable_in_all (setting charter.now) (T.lists stores.now)) }
-    ensures { IfOk result (λ s. string_bytes s ≡ compact_text (json_report (setting charter.now) (T.lists stores.now))) }
+    ensures { IfOk result (λ sheet. sheet ≡ values_text (entities_json (setting charter.now) (T.lists stores.now))) }
 {
-    let value = report_value(alloc, charter, stores)?;
-    value.to_string(alloc)
+    let mut rows = JsonRows {
+        sheet: Sheet::new(alloc),
+    };
+    push_entities(&mut rows, alloc, charter, stores)?;
+    let JsonRows { sheet } = rows;
+    Ok(sheet)
+}
+
+/// The pairs of all queues as JSON, each with a comma before it.
+fn queues_sheet<T: Lists>(alloc: Global, charter: &Charter, stores: &T) -> Result<Sheet, AllocError>
+    ensures { IfOk result (λ sheet. sheet ≡ values_text (queues_json (setting charter.now) (T.lists stores.now))) }
+{
+    let mut rows = JsonRows {
+        sheet: Sheet::new(alloc),
+    };
+    push_queues(&mut rows, alloc, charter, stores)?;
+    let JsonRows { sheet } = rows;
+    Ok(sheet)
+}
+
+/// Appends this word and these values, without the comma before the first.
+fn push_values(text: &mut Vec<u8>, word: &[u8], values: &[u8]) -> Result<(), AllocError>
+    ensures { OnOk result (text.new.items ≡ text.old.items ++ (word.now ++ drop 1 values.now)) }
+{
+    push(text, word)?;
+    match values.split_first() {
+        Some((_, rest)) => push(text, rest),
+        None => Ok(()),
+    }
 }
 
 /// The entities of all shards.

@@ -163,7 +163,7 @@ pub(crate) fn put_command(cells: &mut [u8], at: usize, command: &Command) -> usi
     }
 }
 
-fn put_event(cells: &mut [u8], at: usize, event: &Event) -> usize
+pub(crate) fn put_event(cells: &mut [u8], at: usize, event: &Event) -> usize
     requires { at + 36 ≤ length cells.old }
     ensures items { take result cells.new ≡ take at cells.old ++ event_text event.now }
     ensures end { result ≤ at + 36 }

@@ -1,5 +1,5 @@
-//! Orders of two numbers, and a small summary, by value.
-use crate::{Summary, push_summary, script_of};
+//! Orders that a number draws, and the summary of a small run.
+use bulk_gen::{Summary, push_summary, script_of};
 use std::test::Fail;
 use yard_model::{
     Body, Charter, Command, EntityName, Events, Fact, Incarnation, Line, NodeNo, Order, Packet,
@@ -15,7 +15,6 @@ const WHO: Incarnation = Incarnation {
 fn drawn_orders(rt: HostRuntime) -> Result<(), Fail> {
     let charter = script_of(rt.alloc(), 3)?;
     let p = ProducerNo::new(2).ok_or("a producer")?;
-    let last = ProducerNo::new(4).ok_or("a producer")?;
     let four = NodeNo::new(4).ok_or("a node")?;
     let e54 = EntityName::new(b"e54").ok_or("a name")?;
     let e55 = EntityName::new(b"e55").ok_or("a name")?;
@@ -34,11 +33,6 @@ fn drawn_orders(rt: HostRuntime) -> Result<(), Fail> {
         let line = Line { number, order };
         assert!(rt; charter.orders().contains(&line), "line {number}");
     }
-    let line = Line {
-        number: 12,
-        order: Order::Produce(last, NodeNo::FIRST),
-    };
-    assert!(rt; script_of(rt.alloc(), 4)?.orders().contains(&line));
     Ok(())
 }
 

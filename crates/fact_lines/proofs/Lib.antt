@@ -1,0 +1,6 @@
+pub mod BehindLaws
+pub mod EntryLaws
+pub mod FactLaws
+pub mod NumberLaws
+pub mod PartLaws
+pub mod TextLaws

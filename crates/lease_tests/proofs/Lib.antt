@@ -1,3 +1,2 @@
-pub mod CloseLaws
 pub mod HoldLaws
 pub mod RoundLaws

@@ -1,10 +1,7 @@
-//! Tests of the table of leases: one way through it, on one thread and on two, and many rounds of two
-//! threads for one slot.
+//! A test of the table of leases: many rounds of two threads for one slot.
 #![tactic(auto)]
 
 #[cfg(test)]
 mod passes;
 #[cfg(test)]
 mod rounds;
-#[cfg(test)]
-mod ways;

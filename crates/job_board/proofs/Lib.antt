@@ -1,0 +1,2 @@
+pub mod BoardLaws
+pub mod FreshLaws

@@ -1,5 +1,4 @@
-use Rattle.std.proofs.Common.{◌≡◌, List, length, ap, sym, subst, ◌∙◌}
-use Rattle.yard_model.specs.declared.fact.Fact.{Fact}
+use Rattle.std.proofs.Common.{◌≡◌, [], length, ap, sym, subst, ◌∙◌}
 use Rattle.yard_model.specs.Script.{Script}
 use Rattle.yard_model.specs.World.{trace_of}
 use Rattle.daemon_process.specs.Daemon.{expanded}
@@ -13,6 +12,9 @@ use Rattle.yard_top.proofs.daemon.text_of_daemon.Goals as goal
 
 pub expand-requires-clause-pinged : goal.expand-requires-clause-pinged
 expand-requires-clause-pinged c = is_pinged c.args.charter.now c.requires.fit c.requires.few
+
+pub new-facts-requires : goal.new-facts-requires
+new-facts-requires c = (c.start.ensures, subst (λ n. IsDrawnOf n c.in_ok-new.field-0 []) (sym c.in_ok-new.ensures.count) c.in_ok-new.ensures.of_nothing)
 
 pub returns-clause-text : goal.returns-clause-text
 returns-clause-text c =

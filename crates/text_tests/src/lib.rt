@@ -1,9 +1,6 @@
-//! Tests of what is read and printed, and of outside vectors: streams, scripts, the report, scripts that are
-//! drawn, hash codes.
+//! Tests of what is read and printed, and of outside vectors: streams, scripts, the report as JSON, hash codes.
 #![tactic(auto)]
 
-#[cfg(test)]
-mod bulk;
 #[cfg(test)]
 mod faults;
 #[cfg(test)]

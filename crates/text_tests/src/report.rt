@@ -1,13 +1,13 @@
-//! What is printed of a counter that was told to add 5: a fact, the report, both ways, and the lists.
+//! The report as JSON, of a counter that was told to add 5: as a value, and spelled at once.
 ghost use Rattle.std.specs.Prelude.{◌≡◌, IfOk, codes};
 ghost use Rattle.text_tests.specs.Sample.{sample_list, sample_script};
 
 use std::alloc::Global;
 use std::test::Fail;
-use trace_text::{push_fact, push_json, push_lists, push_report, report_value};
+use trace_text::{push_json, report_value};
 use yard_model::{
-    Charter, Command, Config, CoordEntry, EntityName, Event, Events, Fact, Kind, Line, Lists,
-    Order, ProducerNo, QueueEntry, Record, Reply, ShardEntry, ShardNo,
+    Charter, Command, Config, CoordEntry, EntityName, Event, Events, Kind, Line, Lists, Order,
+    ProducerNo, QueueEntry, Record, Reply, ShardEntry, ShardNo,
 };
 
 const SETTINGS: Config = Config {
@@ -107,33 +107,6 @@ fn sample_lists(alloc: Global) -> Result<TwoLists, Fail>
     queue.push(QueueEntry::Queued(entity, 1, Command::Add(5)))?;
     queue.push(QueueEntry::Confirmed(entity, 1))?;
     Ok(TwoLists { shard, queue })
-}
-
-const PRINTED: &str = "at 2
-report
-entity c1 shard 0 records 1 state 5
-record 1 epoch 1 by 1:1 add 5 / added 5 / ok 5
-queue 1 c1 queued 1 confirmed 1
-end
-slot shard:0 1
-wrote c1 1 epoch 1 by 1:1 add 5 / added 5 / ok 5
-slot queue:1 2
-queued 1 c1 1 add 5
-confirmed 1 c1 1
-";
-
-#[test]
-#[tactic(auto, using(crate::proofs::SampleLaws::sample_foldable))]
-fn a_counter_is_printed(rt: HostRuntime) -> Result<(), Fail> {
-    let alloc = rt.alloc();
-    let charter = sample_charter(alloc)?;
-    let lists = sample_lists(alloc)?;
-    let mut text = Vec::new(alloc);
-    push_fact(&mut text, &Fact::At(2))?;
-    push_report(&mut text, &charter, &lists)?;
-    push_lists(&mut text, &charter, &lists)?;
-    assert_eq!(rt; text.as_slice(), PRINTED.as_bytes());
-    Ok(())
 }
 
 #[test]

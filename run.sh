@@ -16,7 +16,7 @@ set -euo pipefail
 unset CDPATH
 
 # Measured, with no other work on the machine: an unproved run, and a build from nothing.
-readonly TRY_TAKES="100 seconds on four processors"
+readonly TRY_TAKES="some 90 seconds, on two processors and on four"
 readonly BUILD_TAKES="75 minutes on four processors"
 # How long an unproved run may take once it is compiled, in seconds.
 readonly TRY_SECONDS=600

@@ -15,9 +15,9 @@
 set -euo pipefail
 unset CDPATH
 
-# Measured, with no other work on the machine: an unproved run, and a build from nothing.
+# An unproved run, as measured with no other work on the machine; a build from nothing, by what its parts took.
 readonly TRY_TAKES="some 90 seconds, on two processors and on four"
-readonly BUILD_TAKES="75 minutes on four processors"
+readonly BUILD_TAKES="up to 75 minutes on four processors"
 # How long an unproved run may take once it is compiled, in seconds.
 readonly TRY_SECONDS=600
 
@@ -294,7 +294,7 @@ took() {
     if [ -n "$last" ]; then
         echo "the last time it took $last minutes from nothing, on $1 processors"
     else
-        echo "from nothing it took $BUILD_TAKES"
+        echo "from nothing it takes $BUILD_TAKES"
     fi
 }
 

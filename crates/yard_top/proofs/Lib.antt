@@ -1,16 +1,4 @@
 mod CameLaws
-mod DaemonLaws
-mod FactsLaws
-mod FoldableLaws
-mod FreedLaws
-mod KnownLaws
 mod LiveLaws
-mod PartLaws
-mod PlaceLaws
-mod PlayLaws
-mod ResultLaws
 mod SafelyLaws
-mod SoloLaws
 mod TextLaws
-mod TraceLaws
-mod WritingLaws

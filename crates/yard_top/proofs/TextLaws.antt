@@ -5,12 +5,12 @@ use Rattle.yard_model.specs.Script.{Script}
 use Rattle.yard_model.specs.Text.{Bytes}
 use Rattle.program_words.specs.declared.forms.Form.{Form}
 use Rattle.program_words.specs.declared.forms.Form.TheVariants as form
-use Rattle.yard_top.specs.declared.writing.WriteError.{WriteError}
-use Rattle.yard_top.specs.declared.writing.WriteError.TheVariants as error
+use Rattle.run_parts.specs.declared.writing.WriteError.{WriteError}
+use Rattle.run_parts.specs.declared.writing.WriteError.TheVariants as error
 use Rattle.yard_top.specs.Ends.{IsText, HasScript, WroteFront}
 use Rattle.program_words.specs.Forms.{from_of, is_alone}
 use Rattle.yard_top.specs.Texts.{Gives, RanOut, TookSome}
-use Rattle.yard_top.specs.Writing.{Sunk, Writes}
+use Rattle.run_parts.specs.Writing.{Sunk, Writes}
 
 ran_out : (f : Form) (c : Script) (old new : Sunk) → is_alone f ≡ true → TookSome f c error.OutOfMemory old new → RanOut f c old new
 ran_out form.Solo c old new alone some = some

@@ -16,12 +16,12 @@ use Rattle.bulk_gen.specs.SummaryText.{summary}
 use Rattle.daemon_process.specs.Daemon.{expanded}
 use Rattle.daemon_process.specs.DaemonText.{daemon_text}
 use Rattle.script_text.specs.Fit.{IsFit}
-use Rattle.yard_top.specs.Daemons.{DaemonHolds}
-use Rattle.yard_top.specs.LiveText.{LiveText}
-use Rattle.yard_top.specs.Replays.{replay_json}
-use Rattle.yard_top.specs.Settling.{EachSettles}
-use Rattle.yard_top.specs.Sound.{IsSound, solo_journal}
-use Rattle.yard_top.specs.Stops.{stop_in}
+use Rattle.daemon_run.specs.Daemons.{DaemonHolds}
+use Rattle.live_run.specs.LiveText.{LiveText}
+use Rattle.replay_run.specs.Replays.{replay_json}
+use Rattle.replay_run.specs.Settling.{EachSettles}
+use Rattle.solo_run.specs.Sound.{IsSound, solo_journal}
+use Rattle.run_parts.specs.Stops.{stop_in}
 use Rattle.program_words.specs.Forms.{from_of}
 use Rattle.program_words.specs.declared.forms.Form.{Form}
 use Rattle.program_words.specs.declared.forms.Form.TheVariants as form

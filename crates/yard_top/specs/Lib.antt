@@ -1,13 +1,3 @@
-pub mod Daemons
 pub mod Ends
-pub mod Facts
-pub mod Knowledge
-pub mod Known
-pub mod LiveText
-pub mod Replays
 pub mod Safely
-pub mod Settling
-pub mod Sound
-pub mod Stops
 pub mod Texts
-pub mod Writing

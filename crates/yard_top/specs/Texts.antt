@@ -3,11 +3,11 @@ use Rattle.std.specs.Prelude.{◌≡◌, ◌≤◌, Result, Ok, Err}
 use Rattle.yard_model.specs.Script.{Script}
 use Rattle.yard_model.specs.Text.{Bytes}
 use Rattle.yard_top.specs.Ends.{IsText}
-use Rattle.yard_top.specs.Writing.{Sunk, Took, TookFront}
+use Rattle.run_parts.specs.Writing.{Sunk, Took, TookFront}
 use Rattle.program_words.specs.declared.forms.Form.{Form}
 use Rattle.program_words.specs.declared.forms.Form.TheVariants as form
-use Rattle.yard_top.specs.declared.writing.WriteError.{WriteError}
-use Rattle.yard_top.specs.declared.writing.WriteError.TheVariants as error
+use Rattle.run_parts.specs.declared.writing.WriteError.{WriteError}
+use Rattle.run_parts.specs.declared.writing.WriteError.TheVariants as error
 
 -- it was taken whole
 pub record TookText (f : Form) (c : Script) (old new : Sunk) : Type 0 where

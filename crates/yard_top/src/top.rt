@@ -9,9 +9,9 @@ ghost use Rattle.yard_top.specs.Safely.{IfWritten, IfReplay, WroteSafely};
 
 use crate::live::write_live;
 use crate::text::write_form;
-use crate::writing::WriteError;
 use bulk_gen::script_of;
 use program_words::{Form, ScriptFrom, Status, alone_form_of, form_of};
+use run_parts::WriteError;
 use script_text::{Mode, ScriptFault, read_script};
 use std::alloc::Global;
 use std::sync::Wait;

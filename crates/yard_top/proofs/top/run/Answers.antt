@@ -4,7 +4,7 @@ use Rattle.program_words.specs.declared.forms.ScriptFrom.{ScriptFrom}
 use Rattle.yard_top.specs.Ends.{HasScript}
 use Rattle.std.specs.Prelude.{ℕ, Option, Err}
 use Rattle.yard_top.specs.Texts.{Gives}
-use Rattle.yard_top.specs.Writing.{Sunk}
+use Rattle.run_parts.specs.Writing.{Sunk}
 use Rattle.yard_top.proofs.TextLaws.{wrote_front}
 use Rattle.yard_top.proofs.top.run.Goals as goal
 

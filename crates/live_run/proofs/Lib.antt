@@ -1,0 +1,2 @@
+mod LiveLaws
+mod ResultLaws

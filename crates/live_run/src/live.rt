@@ -1,0 +1,95 @@
+//! `live`: from a script to the lists that nodes on threads of their own leave once they are settled, and
+//! the report of these lists.
+ghost use Rattle.std.specs.Prelude.{◌≡◌, ◌≤◌, true, length, IfOk};
+ghost use Rattle.yard_model.specs.Script.{is_version};
+ghost use Rattle.shard_store.specs.Stores.{lists_at};
+ghost use Rattle.live_run.specs.LiveText.{AreLive, LiveText};
+
+use behaviour_core::Behaviour;
+use behaviour_core::laws::decided_law;
+use behaviour_kinds::{Account, Cart, Counter};
+use live_laws::worked_goes_on;
+use node_runner::run_live;
+use shard_store::Stores;
+use std::alloc::{AllocError, Global};
+use std::sync::Wait;
+use std::thread::Threads;
+use trace_text::{push_lists, push_report};
+use world_sim::settle_stores;
+use yard_io::Gate;
+use yard_model::laws::{command_law, decision_law};
+use yard_model::{Charter, Kind};
+
+/// Runs the nodes of a script, which has at most 20,000 orders, as threads, each for so many turns at most,
+/// and settles what they leave: the text of the lists of all slots and of their report. It may wait. The
+/// only error is want of memory.
+pub fn live_text<R: Threads + Wait + Sync, G: Gate + Sync>(
+    rt: &R,
+    alloc: Global,
+    charter: &Charter,
+    turns: u32,
+    seed: u32,
+    gate: &G,
+) -> Result<Vec<u8>, AllocError>
+    requires { length charter.now.orders ≤ 20000 }
+    ensures { IfOk result (λ text. LiveText charter.now turns text.items) }
+{
+    match charter.config().kind {
+        Kind::Counter => text_of_run(rt, alloc, charter, Counter::new(), turns, seed, gate),
+        Kind::Account => text_of_run(rt, alloc, charter, Account::new(), turns, seed, gate),
+        Kind::Cart => text_of_run(rt, alloc, charter, Cart::new(), turns, seed, gate),
+    }
+}
+
+/// The text of a run of nodes whose entities behave so. It may wait. The only error is want of memory.
+fn text_of_run<R: Threads + Wait + Sync, B: Behaviour + Copy + Drop + Send + Sync, G: Gate + Sync>(
+    rt: &R,
+    alloc: Global,
+    charter: &Charter,
+    behaviour: B,
+    turns: u32,
+    seed: u32,
+    gate: &G,
+) -> Result<Vec<u8>, AllocError>
+    requires kind { B.kind_of behaviour ≡ charter.now.config.kind }
+    requires version { is_version charter.now (B.version_of behaviour) ≡ true }
+    requires few { length charter.now.orders ≤ 20000 }
+    ensures { IfOk result (λ text. LiveText charter.now turns text.items) }
+{
+    command_law();
+    decision_law();
+    decided_law();
+    let stores = stores_of_run(rt, alloc, charter, behaviour, turns, seed, gate)?;
+    charter.config();
+    let mut text = Vec::new(alloc);
+    push_lists(&mut text, charter, &stores)?;
+    push_report(&mut text, charter, &stores)?;
+    Ok(text)
+}
+
+/// The stores that a run of nodes leaves, whose entities behave so, settled. It may wait. The only error
+/// is want of memory.
+fn stores_of_run<
+    R: Threads + Wait + Sync,
+    B: Behaviour + Copy + Drop + Send + Sync,
+    G: Gate + Sync,
+>(
+    rt: &R,
+    alloc: Global,
+    charter: &Charter,
+    behaviour: B,
+    turns: u32,
+    seed: u32,
+    gate: &G,
+) -> Result<Stores, AllocError>
+    requires kind { B.kind_of behaviour ≡ charter.now.config.kind }
+    requires version { is_version charter.now (B.version_of behaviour) ≡ true }
+    requires few { length charter.now.orders ≤ 20000 }
+    ensures script { IfOk result (λ s. s.script ≡ charter.now) }
+    ensures live { IfOk result (λ s. AreLive charter.now turns (lists_at charter.now.config s.places)) }
+{
+    let stores = run_live(rt, alloc, charter, behaviour, turns, seed, gate)?;
+    charter.config();
+    worked_goes_on();
+    settle_stores(alloc, charter, behaviour, stores)
+}

@@ -1,0 +1,3 @@
+mod FreedLaws
+mod PartLaws
+mod TraceLaws

@@ -1,0 +1,63 @@
+//! `replay json`: from a script to the report of its trace's lists, as JSON.
+ghost use Rattle.std.specs.Prelude.{◌≡◌, IfOk, IsTrue};
+ghost use Rattle.yard_model.specs.Safe.{safe};
+ghost use Rattle.yard_model.specs.World.{trace_of};
+ghost use Rattle.replay_run.specs.Replays.{replay_json};
+ghost use Rattle.run_parts.specs.Stops.{stop_in};
+ghost use Rattle.run_parts.specs.Writing.{Writes};
+
+use crate::following::follow;
+use crate::replay::{is_safe, stores_of};
+use behaviour_core::Behaviour;
+use behaviour_kinds::{Account, Cart, Counter};
+use run_parts::{Course, WriteError, write_part};
+use std::alloc::{AllocError, Global};
+use trace_notes::Told;
+use trace_text::push_json;
+use world_sim::World;
+use yard_io::Sink;
+use yard_model::{Charter, Kind};
+
+/// Plays a script, and writes its report as JSON, once the trace is through. The line with which the
+/// trace stops, where it does. Nothing is flushed.
+pub fn write_json<K: Sink>(
+    alloc: Global,
+    charter: Charter,
+    sink: &mut K,
+) -> Result<Option<u32>, WriteError>
+    ensures wrote { Writes (replay_json charter) result
+        (record { taken = K.taken sink.old; flushed = K.flushed sink.old; faults = K.faults sink.old })
+        (record { taken = K.taken sink.new; flushed = K.flushed sink.new; faults = K.faults sink.new }) }
+    ensures stop { IfOk result (λ stop. stop ≡ stop_in (trace_of charter)) }
+    ensures safe { IsTrue (safe charter (trace_of charter)) }
+{
+    is_safe(&charter);
+    let kind = charter.config().kind;
+    let (text, stop) = match kind {
+        Kind::Counter => json_of(alloc, charter, Counter::new())?,
+        Kind::Account => json_of(alloc, charter, Account::new())?,
+        Kind::Cart => json_of(alloc, charter, Cart::new())?,
+    };
+    write_part(sink, text.as_slice())?;
+    Ok(stop)
+}
+
+/// The report as JSON of a script, played in a world whose entities behave so, and the line with which
+/// its trace stops, where it does. The only error is want of memory.
+fn json_of<B: Behaviour + Copy + Drop>(
+    alloc: Global,
+    charter: Charter,
+    behaviour: B,
+) -> Result<(Vec<u8>, Option<u32>), AllocError>
+    requires { B.kind_of behaviour ≡ charter.config.kind }
+    ensures text { IfOk result (λ r. r.0.items ≡ replay_json charter) }
+    ensures stop { IfOk result (λ r. r.1 ≡ stop_in (trace_of charter)) }
+{
+    let mut world = World::of(alloc, charter, behaviour)?;
+    let mut facts = Told::new(Course::start());
+    follow(&mut world, &mut facts)?;
+    let (last, stores) = stores_of(world)?;
+    let mut text = Vec::new(alloc);
+    push_json(&mut text, &last, &stores)?;
+    Ok((text, facts.notes().stop))
+}

@@ -1,0 +1,5 @@
+mod FactsLaws
+mod KnownLaws
+mod PlaceLaws
+mod PlayLaws
+mod SoloLaws

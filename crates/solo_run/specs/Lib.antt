@@ -1,0 +1,4 @@
+pub mod Facts
+pub mod Knowledge
+pub mod Known
+pub mod Sound

@@ -42,7 +42,7 @@ is_number() {
 is_form() {
     reads=yes
     case $#:${1-} in
-    1:solo | 1:replay) ;;
+    1:solo | 1:replay | 1:pull) ;;
     2:replay) [ "$2" = json ] ;;
     2:bulk) reads=no && is_number "$2" 1 1000 ;;
     2:daemon) is_number "$2" 1 100 ;;

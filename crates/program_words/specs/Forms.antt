@@ -14,6 +14,7 @@ abbrev pub form_of_word : List ℕ → Option Form
 form_of_word w =
     if pointwise nat_eq w (codes "solo") then Some form.Solo
     else if pointwise nat_eq w (codes "replay") then Some form.Replay
+    else if pointwise nat_eq w (codes "pull") then Some form.Pull
     else None
 
 -- `bulk` and a number from 1 to 1,000
@@ -42,7 +43,7 @@ live_form v u = if is_number v && is_in 1 100000 (value_of v) then live_seed (va
 abbrev pub form_of_three : List ℕ → List ℕ → List ℕ → Option Form
 form_of_three w v u = if pointwise nat_eq w (codes "live") then live_form v u else None
 
--- the form of these words: `solo` or `replay` alone, `replay json`, `bulk` and a number, `daemon` and a number, or `live`, turns and a seed
+-- the form of these words: `solo`, `replay` or `pull` alone, `replay json`, `bulk` and a number, `daemon` and a number, or `live`, turns and a seed
 abbrev pub form_in : List (String Global) → Option Form
 form_in [] = None
 form_in (w ∷ []) = form_of_word (string_bytes w)
@@ -69,6 +70,7 @@ from_of form.Replay = script_from.Input mode.Replay
 from_of form.ReplayJson = script_from.Input mode.Replay
 from_of (form.Bulk n) = script_from.Number n
 from_of (form.Live n s) = script_from.Input mode.Live
+from_of form.Pull = script_from.Input mode.Pull
 from_of (form.Daemon n) = script_from.Input mode.Daemon
 
 -- the numbers that have a script are 1 to 1,000

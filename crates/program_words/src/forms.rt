@@ -22,6 +22,8 @@ pub enum Form {
         /// What losses, repeats and delays are drawn from.
         seed: u32,
     },
+    /// `pull`
+    Pull,
     /// `daemon` and how many instances, 1 to 100.
     Daemon(u8),
 }
@@ -45,6 +47,7 @@ impl Form {
             Form::Replay | Form::ReplayJson => ScriptFrom::Input(Mode::Replay),
             Form::Bulk(number) => ScriptFrom::Number(number),
             Form::Live { .. } => ScriptFrom::Input(Mode::Live),
+            Form::Pull => ScriptFrom::Input(Mode::Pull),
             Form::Daemon(_) => ScriptFrom::Input(Mode::Daemon),
         }
     }
@@ -88,6 +91,8 @@ fn form_of_word(word: &str) -> Option<Form>
         Some(Form::Solo)
     } else if word == "replay" {
         Some(Form::Replay)
+    } else if word == "pull" {
+        Some(Form::Pull)
     } else {
         None
     }

@@ -17,6 +17,8 @@ const HELP: &str = "sharder: a cluster of sharded, event-sourced entities with r
                        then settles, and writes each slot's list and the report
   sharder bulk NUMBER  plays the script of a number, 1 to 1000, in the same way as
                        replay, and writes counts of what happened; it reads nothing
+  sharder pull         reads a script of jobs and workers, plays it one step after the
+                       other, and writes the trace and what became of each job
   sharder daemon COUNT plays a script of orders and pings in the same way, of COUNT
                        numbered instances (1 to 100) that pings keep running, and
                        writes after each line which of them are elsewhere now
@@ -31,7 +33,8 @@ posted.
 Reasons of status 3: 1 a byte that is no text, 2 a line of more than 256 bytes,
 3 no config, 4 a second config, 5 an unknown word, 6 a missing word, 7 a word too
 many, 8 no number, 9 out of range, 10 no name, 11 more than 20000 lines, 12 more
-than 4 MiB, 13 no order of this command, 16 no counters (daemon), 17 more than
+than 4 MiB, 13 no order of this command, 15 a second
+job of a name (pull), 16 no counters (daemon), 17 more than
 1000 pings.
 ";
 

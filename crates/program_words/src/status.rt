@@ -7,7 +7,7 @@ use std::fmt;
 
 /// The forms of the command line.
 const USAGE: &str =
-    "usage: sharder solo or replay [json] or live TURNS SEED or bulk NUMBER or daemon COUNT";
+    "usage: sharder solo or replay [json] or live TURNS SEED or bulk NUMBER or pull or daemon COUNT";
 
 /// How a run of the program ends.
 #[derive(Clone, Copy, Debug, PartialEq, Eq)]

@@ -18,6 +18,7 @@ ran_out form.Replay c old new alone some = some
 ran_out form.ReplayJson c old new alone some = some
 ran_out (form.Bulk n) c old new alone some = some
 ran_out (form.Live n s) c old new alone some = cc
+ran_out form.Pull c old new alone some = some
 ran_out (form.Daemon n) c old new alone some = some
 
 pub gives : {A : Type 0} (f : Form) (c : Script) (text : Bytes) (r : Result A WriteError) (old new : Sunk) → is_alone f ≡ true → IsText f c text → Writes text r old new → Gives f c r old new
@@ -33,4 +34,5 @@ wrote_front form.Replay c had has old new came some = inr (record { script = c; 
 wrote_front form.ReplayJson c had has old new came some = inr (record { script = c; came = came; text = some.text; is_text = some.is_text; begun = some.front.front })
 wrote_front (form.Bulk n) c had has old new came some = inr (record { script = c; came = came; text = some.text; is_text = some.is_text; begun = some.front.front })
 wrote_front (form.Live n s) c had has old new came none = none.taken_is
+wrote_front form.Pull c had has old new came some = inr (record { script = c; came = came; text = some.text; is_text = some.is_text; begun = some.front.front })
 wrote_front (form.Daemon n) c had has old new came some = inr (record { script = c; came = came; text = some.text; is_text = some.is_text; begun = some.front.front })

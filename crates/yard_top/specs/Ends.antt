@@ -13,6 +13,9 @@ use Rattle.yard_model.specs.World.{trace_of}
 use Rattle.play_laws.specs.SafeText.{SafeText}
 use Rattle.bulk_gen.specs.Bulk.{bulk_script}
 use Rattle.bulk_gen.specs.SummaryText.{summary}
+use Rattle.pull_laws.specs.Pulling.{pull_trace}
+use Rattle.pull_laws.specs.PullSafe.{pull_safe}
+use Rattle.pull_laws.specs.PullText.{pull_text}
 use Rattle.daemon_process.specs.Daemon.{expanded}
 use Rattle.daemon_process.specs.DaemonText.{daemon_text}
 use Rattle.script_text.specs.Fit.{IsFit}
@@ -39,15 +42,17 @@ IsText form.Replay c text = text ≡ replay_text c
 IsText form.ReplayJson c text = text ≡ replay_json c
 IsText (form.Bulk n) c text = text ≡ summary n (trace_of c)
 IsText (form.Live n s) c text = LiveText c n text
+IsText form.Pull c text = text ≡ pull_text c
 IsText (form.Daemon n) c text = text ≡ daemon_text n c
 
--- what is so of what it writes: each journal is sound; the trace is safe, what is printed is the text of a safe trace, and each settle comes to its end; each instance is live at one node at most; of `live` its text says all
+-- what is so of what it writes: each journal is sound; the trace is safe, what is printed is the text of a safe trace, and each settle comes to its end; each job is at one worker at most, and is done before it is confirmed; each instance is live at one node at most; of `live` its text says all
 abbrev pub Holds : Form → Script → Type 0
 Holds form.Solo c = (e : List ℕ) → IsSound c e (solo_journal c e)
 Holds form.Replay c = SafeText c (replay_text c) × IsTrue (safe c (trace_of c)) × EachSettles c
 Holds form.ReplayJson c = IsTrue (safe c (trace_of c))
 Holds (form.Bulk n) c = IsTrue (safe c (trace_of c))
 Holds (form.Live n s) c = Unit {0}
+Holds form.Pull c = IsTrue (pull_safe c (pull_trace c))
 Holds (form.Daemon n) c = DaemonHolds n c
 
 -- the line with which it stops, where a packet too many would be posted
@@ -57,6 +62,7 @@ stops_at form.Replay c = stop_in (trace_of c)
 stops_at form.ReplayJson c = stop_in (trace_of c)
 stops_at (form.Bulk n) c = stop_in (trace_of c)
 stops_at (form.Live n s) c = None
+stops_at form.Pull c = stop_in (pull_trace c)
 stops_at (form.Daemon n) c = stop_in (trace_of (expanded n c))
 
 -- the words are a form, and this holds of it

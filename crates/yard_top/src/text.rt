@@ -8,6 +8,7 @@ ghost use Rattle.run_parts.specs.Writing.{Writes};
 
 use daemon_run::write_daemon;
 use program_words::Form;
+use pull_run::write_pull;
 use replay_run::{write_bulk, write_json, write_replay};
 use run_parts::{WriteError, write_part};
 use solo_run::solo_report;
@@ -38,6 +39,7 @@ pub fn write_form<K: Sink>(
         Form::ReplayJson => write_json(alloc, charter, sink),
         Form::Bulk(number) => write_bulk(alloc, &charter, number, sink),
         Form::Live { .. } => unreachable!(),
+        Form::Pull => write_pull(alloc, &charter, sink),
         Form::Daemon(count) => write_daemon(alloc, &charter, count, sink),
     }
 }

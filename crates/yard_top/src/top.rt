@@ -32,7 +32,8 @@ const MOST_READ: usize = 4_194_305;
 /// of its trace. `live` reads a script of orders, runs each node as a thread of its own for so many
 /// turns, where parcels between them are lost, repeated and delayed as they are drawn from the seed,
 /// settles what they leave, and writes the lists of all slots and their report. It may wait, and no
-/// other form does. `daemon` reads a script of orders and pings, each of which sends to so many numbered
+/// other form does. `pull` reads a script of jobs, and of workers that ask for work, plays it, and writes
+/// the trace as it arises, and what became of each job. `daemon` reads a script of orders and pings, each of which sends to so many numbered
 /// instances, plays it as `replay` does, and writes after each line which instances are elsewhere now.
 ///
 /// A gate is passed by each node before each of its turns.

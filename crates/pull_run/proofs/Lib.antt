@@ -1,0 +1,2 @@
+mod GrowLaws
+mod PullLaws

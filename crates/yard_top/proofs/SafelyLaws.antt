@@ -31,6 +31,7 @@ of_form form.Solo stop had has before after w = tt
 of_form form.ReplayJson stop had has before after w = tt
 of_form (form.Bulk n) stop had has before after w = tt
 of_form (form.Live n s) stop had has before after w = tt
+of_form form.Pull stop had has before after w = tt
 of_form (form.Daemon n) stop had has before after w = tt
 
 pub safely : (f : Form) (s : Status) (had has : Option (List ℕ)) (before after : Taken) → IfWhole s (Wrote f None had has before after) → IfWireFull s (λ line. Wrote f (Some line) had has before after) → IfWritten s (IfReplay f (WroteSafely had before.bytes after.bytes))

@@ -1,0 +1,5 @@
+use Rattle.daemon_process.proofs.DrawnLaws.{drawn_none}
+use Rattle.daemon_process.proofs.lines.DaemonLines.new.Goals as goal
+
+pub returns : goal.returns
+returns c = drawn_none c.in_ok-watch.field-0 c.in_ok-watch.ensures.of_nothing

@@ -60,7 +60,11 @@ seen_there f e d (c ∷ cs) a (suc n) (suc i) w names few inside at =
 
 -- the cell at this number is written, where there is one
 pub seen_at_number : (f : Fact) (e : List ℕ) (d : Cell) (cells : List Cell) (i : ℕ) → AreNamed cells → whose f ≡ Some e → i ≡ number_in e → i < length cells → slice_set cells i (seen_cell f (slice_index_or cells i d)) ≡ map (seen_cell f) cells
-seen_at_number f e d cells i h w is inside = seen_there f e d cells 0 (length cells) i w h.names h.few inside (sym is ∙ omega arith)
+seen_at_number f e d cells i h w is inside =
+    let few : length cells ≤ 100 = h.few in
+    seen_there f e d cells 0 (length cells) i w h.names (omega (arith, few)) inside (sym is ∙ omega arith)
 
 pub seen_nowhere : (f : Fact) (e : List ℕ) (cells : List Cell) (i : ℕ) → AreNamed cells → whose f ≡ Some e → i ≡ number_in e → length cells ≤ i → cells ≡ map (seen_cell f) cells
-seen_nowhere f e cells i h w is past = sym (seen_none f e cells 0 (length cells) w h.names h.few (λ j low high at. omega (arith, past, high, is, at)))
+seen_nowhere f e cells i h w is past =
+    let few : length cells ≤ 100 = h.few in
+    sym (seen_none f e cells 0 (length cells) w h.names (omega (arith, few)) (λ j low high at. omega (arith, past, high, is, at)))

@@ -1,5 +1,5 @@
 //! The rows of the text of a daemon, and how they are spelled.
-ghost use Rattle.std.specs.Prelude.{◌≡◌, ◌++◌, OnOk, decimal};
+ghost use Rattle.std.specs.Prelude.{◌≡◌, ◌++◌, [], OnOk, decimal, nat_lt, if◌then◌else◌};
 ghost use Rattle.daemon_process.specs.DaemonText.{instance_line, place_text};
 ghost use Rattle.daemon_process.specs.Lines.{at_line, row_text, rows_text};
 
@@ -64,19 +64,28 @@ fn push_at(text: &mut Vec<u8>, line: u32) -> Result<(), AllocError>
     Ok(())
 }
 
+/// Appends `instance I X`, if there are so many instances.
+fn push_if_there(
+    text: &mut Vec<u8>,
+    instance: u8,
+    place: &Option<Incarnation>,
+    count: u8,
+) -> Result<(), AllocError>
+    ensures { OnOk result (text.new.items ≡ text.old.items ++ (if nat_lt instance count then instance_line instance place.now else [])) }
+{
+    if instance < count {
+        return push_instance(text, instance, place);
+    }
+    Ok(())
+}
+
 /// Appends a row, if it is of one of so many instances.
 fn push_row(text: &mut Vec<u8>, row: &Row, count: u8) -> Result<(), AllocError>
     ensures { OnOk result (text.new.items ≡ text.old.items ++ row_text count row.now) }
 {
     match row {
         Row::At(line) => push_at(text, *line),
-        Row::Moved(instance, place) => {
-            let instance = *instance;
-            if instance >= count {
-                return Ok(());
-            }
-            push_instance(text, instance, place)
-        }
+        Row::Moved(instance, place) => push_if_there(text, *instance, place, count),
     }
 }
 

@@ -17,19 +17,19 @@ use Rattle.yard_model.specs.SlotReads.{epoch, holder_step}
 use Rattle.yard_model.specs.Words.{at}
 use Rattle.plain_laws.proofs.Booleans.{both}
 use Rattle.shard_store.specs.declared.store.Store.{Store}
-use Rattle.shard_store.specs.Stores.{script_of, slot_of, entries_of, spare_of, slot_at}
+use Rattle.shard_store.specs.Stores.{script_of, slot_of, entries_of, entries_in, spare_of, slot_at}
 use Rattle.shard_lease.specs.declared.leases.Acquire.{Acquire}
 use Rattle.shard_lease.specs.declared.leases.Acquire.TheVariants as answer
 use Rattle.shard_lease.specs.Meaning.{Begins, confirms}
 use Rattle.lease_table.specs.declared.View.{View}
 use Rattle.lease_table.specs.Fits.{slot_count, admits, is_fit}
-use Rattle.lease_table.specs.Leasing.{Pass, Idle, Spans, MayAct, Answers, MayPublish, MayRelease}
+use Rattle.lease_table.specs.Leasing.{Pass, Idle, Spans, MayAct, Answers, MayPublish, MayRelease, Closed, ClosedAt}
 use Rattle.lease_table.specs.Lists.{Has}
 use Rattle.lease_table.specs.Tells.{published, freed}
 use Rattle.lease_table.proofs.Places.{same_or_not, begins_here}
 use Rattle.lease_table.proofs.Records.{confirms_before}
 use Rattle.embedding.specs.Cluster.{cluster}
-use Rattle.embedding.specs.Holding.{place, MayAsk, Holding, Asked}
+use Rattle.embedding.specs.Holding.{place, MayAsk, Holding, Asked, AreFree}
 
 -- the table's slot at that place is the coordinator's
 slot_there : (v : View) → v.charter ≡ cluster → slot_at v.charter.config place ≡ slot.Coordinator
@@ -151,4 +151,11 @@ given_back z n x p q l h same now = record {
       (λ (e : j ≡ place). ap (λ (i : ℕ). at (slice_set (slice_set p.view.held place (Some l)) place None) i) e ∙ put_none (slice_set p.view.held place (Some l)) place)
       (λ (ne : j ≢ place). get_or-set_other (slice_set p.view.held place (Some l)) place j None None ne ∙ get_or-set_other p.view.held place j (Some l) None ne ∙ h.others j ne)
       (same_or_not j place);
+}
+
+-- what a closed table leaves
+pub all_free : (v : View) (places : List (Option Store)) → Closed cluster v places → AreFree places
+all_free v places c = record {
+  lawful = λ k inside. let a : ClosedAt cluster v k (at places k) = c.each k inside in ap (λ (o : Option Store). own cluster (slot_at cluster.config k) (entries_in o)) a.there ∙ a.own.lawful;
+  free = λ k inside. let a : ClosedAt cluster v k (at places k) = c.each k inside in ap (λ (o : Option Store). is_held (entries_in o)) a.there ∙ a.rests.closed;
 }

@@ -1,19 +1,19 @@
 -- What a pass of the lease table has, between the steps of a turn.
-use Rattle.std.specs.Prelude.{◌≡◌, ◌≢◌, ℕ, true, List, [], ◌∷◌, None, Some}
+use Rattle.std.specs.Prelude.{◌≡◌, ◌≢◌, ℕ, ◌<◌, true, false, List, [], ◌∷◌, Option, None, Some}
 use Rattle.std.specs.List.{list_all}
 use Rattle.atomic_table.specs.Seated.{TableId}
 use Rattle.yard_model.specs.declared.fact.Fact.{Fact}
 use Rattle.yard_model.specs.declared.incarnation.Incarnation.{Incarnation}
 use Rattle.yard_model.specs.declared.incarnation.Slot.TheVariants as slot
 use Rattle.yard_model.specs.Behaviour.{is_in}
-use Rattle.yard_model.specs.Lawful.{is_held}
+use Rattle.yard_model.specs.Lawful.{is_held, own}
 use Rattle.yard_model.specs.Words.{at}
 use Rattle.shard_store.specs.declared.store.Store.{Store}
-use Rattle.shard_store.specs.Stores.{script_of, slot_of, entries_of}
+use Rattle.shard_store.specs.Stores.{script_of, slot_of, entries_of, entries_at, slot_at}
 use Rattle.shard_lease.specs.declared.leases.Acquire.{Acquire}
 use Rattle.shard_lease.specs.declared.leases.Acquire.TheVariants as answer
 use Rattle.shard_lease.specs.Meaning.{Begins, confirms}
-use Rattle.lease_table.specs.Fits.{is_within, is_fit}
+use Rattle.lease_table.specs.Fits.{is_within, is_fit, slot_count}
 use Rattle.lease_table.specs.Leasing.{Pass, Idle}
 use Rattle.embedding.specs.Cluster.{cluster}
 
@@ -45,3 +45,8 @@ pub record Holding (z : TableId) (n : ℕ) (x : Store) (p : Pass) : Type 0 where
 abbrev pub Asked : TableId → Incarnation → Acquire → Pass → Type 0
 Asked z who (answer.Granted x) p = Holding z who.node x p
 Asked z who (answer.Held h) p = Idle z cluster who.node p
+
+-- the list of each slot is lawful by itself, and nobody holds the slot
+pub record AreFree (places : List (Option Store)) : Type 0 where
+  pub lawful : (k : ℕ) → k < slot_count cluster → own cluster (slot_at cluster.config k) (entries_at places k) ≡ true
+  pub free : (k : ℕ) → k < slot_count cluster → is_held (entries_at places k) ≡ false

@@ -5,7 +5,7 @@ ghost use Rattle.yard_model.specs.Behaviour.{is_in};
 ghost use Rattle.lease_table.specs.Belongs.{id_of, charter_of};
 ghost use Rattle.lease_table.specs.Leasing.{Idle, Closes};
 ghost use Rattle.embedding.specs.Cluster.{cluster};
-ghost use Rattle.embedding.specs.Holding.{MayAsk, Holding, Asked};
+ghost use Rattle.embedding.specs.Holding.{MayAsk, Holding, Asked, AreFree};
 
 use crate::cluster::charter;
 use lease_table::{LeasePass, LeaseTable, empty_stores_are_ready};
@@ -150,6 +150,16 @@ fn opened(
     Ok((table, first, second))
 }
 
+/// The stores of a table that is closed with a pass for all nodes.
+fn closed(table: LeaseTable, pass: LeasePass) -> Stores
+    requires script { charter_of table ≡ cluster }
+    requires table { pass.table ≡ id_of table }
+    requires closes { Closes cluster pass.view }
+    ensures { AreFree result.places }
+{
+    table.close(pass)
+}
+
 /// Lets two threads take turns at a table, closes it, and answers its stores, with whether either had the
 /// coordinator's slot. The only error is want of memory.
 pub(crate) fn shared<R: Threads + Sync>(
@@ -158,12 +168,13 @@ pub(crate) fn shared<R: Threads + Sync>(
     charter: &Charter,
 ) -> Result<(Stores, bool), AllocError>
     requires { charter.now ≡ cluster }
+    ensures { IfOk result (λ r. AreFree r.0.places) }
 {
     let (table, one, two) = opened(alloc, charter)?;
     let Some((pass, had)) = both_turns(rt, &table, one, two) else {
         return Err(AllocError);
     };
-    Ok((table.close(pass), had))
+    Ok((closed(table, pass), had))
 }
 
 /// Shares a table between two threads, and tells what is left of the coordinator's slot.

@@ -68,3 +68,6 @@ pub seen_nowhere : (f : Fact) (e : List ℕ) (cells : List Cell) (i : ℕ) → A
 seen_nowhere f e cells i h w is past =
     let few : length cells ≤ 100 = h.few in
     sym (seen_none f e cells 0 (length cells) w h.names (omega (arith, few)) (λ j low high at. omega (arith, past, high, is, at)))
+
+pub seen_at_item : (f : Fact) (e : List ℕ) (cells : List Cell) (i : ℕ) (x y : Cell) → AreNamed cells → whose f ≡ Some e → i ≡ number_in e → i < length cells → x ≡ slice_index_or cells i x → y ≡ seen_cell f x → slice_set cells i y ≡ map (seen_cell f) cells
+seen_at_item f e cells i x y h w is inside item step = ap (slice_set cells i) (step ∙ ap (seen_cell f) item) ∙ seen_at_number f e x cells i h w is inside

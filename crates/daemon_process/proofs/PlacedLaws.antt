@@ -1,6 +1,6 @@
 -- One fact more of one entity's life: it changes the cell of that entity's name, which stands at the number of the name.
 use Rattle.std.proofs.Common.{◌≡◌, ◌<◌, ◌≤◌, ℕ, zero, suc, ◌+◌, sym, ap, ap₂, ◌∙◌, refl, arith, length}
-use Rattle.std.specs.Prelude.{Bool, true, false, List, [], ◌∷◌, map, drop, Option, Some, None, slice_index_or, slice_set, if◌then◌else◌}
+use Rattle.std.specs.Prelude.{Bool, true, false, List, [], ◌∷◌, map, drop, Option, Some, slice_index_or, slice_set, if◌then◌else◌}
 use Rattle.yard_model.specs.declared.fact.Fact.{Fact}
 use Rattle.yard_model.specs.declared.fact.Fact.TheVariants as fact
 use Rattle.yard_model.specs.declared.incarnation.Incarnation.{Incarnation}
@@ -69,5 +69,5 @@ seen_nowhere f e cells i h w is past =
     let few : length cells ≤ 100 = h.few in
     sym (seen_none f e cells 0 (length cells) w h.names (omega (arith, few)) (λ j low high at. omega (arith, past, high, is, at)))
 
-pub seen_at_item : (f : Fact) (e : List ℕ) (cells : List Cell) (i : ℕ) (x y : Cell) → AreNamed cells → whose f ≡ Some e → i ≡ number_in e → i < length cells → x ≡ slice_index_or cells i x → y ≡ seen_cell f x → slice_set cells i y ≡ map (seen_cell f) cells
-seen_at_item f e cells i x y h w is inside item step = ap (slice_set cells i) (step ∙ ap (seen_cell f) item) ∙ seen_at_number f e x cells i h w is inside
+pub seen_at_item : (f : Fact) (e : List ℕ) (d : Cell) (cells : List Cell) (i : ℕ) (y : Cell) → AreNamed cells → whose f ≡ Some e → i ≡ number_in e → i < length cells → y ≡ seen_cell f (slice_index_or cells i d) → slice_set cells i y ≡ map (seen_cell f) cells
+seen_at_item f e d cells i y h w is inside step = ap (slice_set cells i) step ∙ seen_at_number f e d cells i h w is inside

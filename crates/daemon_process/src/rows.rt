@@ -1,7 +1,7 @@
 //! The rows of the text of a daemon, and how they are spelled.
 ghost use Rattle.std.specs.Prelude.{◌≡◌, ◌++◌, [], OnOk, decimal, nat_lt, if◌then◌else◌};
 ghost use Rattle.daemon_process.specs.DaemonText.{instance_line, place_text};
-ghost use Rattle.daemon_process.specs.Lines.{at_line, row_text, rows_text};
+ghost use Rattle.daemon_process.specs.Lines.{at_line, row_at, row_text, rows_text};
 
 use itoa::Buffer;
 use std::alloc::AllocError;
@@ -12,8 +12,20 @@ use yard_model::Incarnation;
 pub enum Row {
     /// `at LINE`: this line begins.
     At(u32),
-    /// `instance I X`: this instance isn't where it was, and where it is.
-    Moved(u8, Option<Incarnation>),
+    /// `instance I X`: this instance has come here.
+    Here(u8, Incarnation),
+    /// `instance I none`: this instance is nowhere any more.
+    Nowhere(u8),
+}
+
+/// The row of an instance that has come to this place.
+pub(crate) fn row_at(instance: u8, place: &Option<Incarnation>) -> Row
+    ensures { result ≡ row_at instance place.now }
+{
+    match place {
+        Some(who) => Row::Here(instance, *who),
+        None => Row::Nowhere(instance),
+    }
 }
 
 /// Appends a number.
@@ -85,7 +97,8 @@ fn push_row(text: &mut Vec<u8>, row: &Row, count: u8) -> Result<(), AllocError>
 {
     match row {
         Row::At(line) => push_at(text, *line),
-        Row::Moved(instance, place) => push_if_there(text, *instance, place, count),
+        Row::Here(instance, who) => push_if_there(text, *instance, &Some(*who), count),
+        Row::Nowhere(instance) => push_if_there(text, *instance, &None, count),
     }
 }
 

@@ -1,4 +1,4 @@
-use Rattle.std.proofs.Common.{◌≡◌, ◌<◌, ◌++◌, length, sym, subst}
+use Rattle.std.proofs.Common.{◌<◌, length, subst}
 use Rattle.daemon_process.specs.Lines as lines
 use Rattle.daemon_process.proofs.MovedLaws.{next_one}
 use Rattle.daemon_process.proofs.lines.moved_rows.Goals as goal

@@ -111,7 +111,7 @@ def main(words):
     tally = Tally(root)
 
     def watch():
-        while not done.is_set() and os.path.isdir(f"/proc/{root}"):
+        while not done.is_set() and (child.poll() is None if child else os.path.isdir(f"/proc/{root}")):
             tally.look()
             time.sleep(0.2)
 

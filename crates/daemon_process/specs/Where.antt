@@ -7,7 +7,7 @@ use Rattle.yard_model.specs.declared.incarnation.Incarnation.{Incarnation}
 use Rattle.yard_model.specs.Script.{is_name}
 use Rattle.yard_model.specs.Words.{is_at}
 use Rattle.yard_model.specs.Safe.{live_at}
-use Rattle.daemon_process.specs.Daemon.{daemon, daemons}
+use Rattle.daemon_process.specs.Daemon.{daemons}
 
 -- the one of these, if there is one and no other
 abbrev pub only : List Incarnation → Option Incarnation

@@ -1,21 +1,26 @@
 -- What is so of a daemon: its script in the words of those who play it, and the law of each of its traces.
-use Rattle.std.proofs.Common.{◌≡◌, ℕ, ◌≤◌, true, List, [], ◌∷◌, length, refl, ap₂, subst, arith}
+use Rattle.std.proofs.Common.{◌≡◌, ℕ, ◌<◌, ◌≤◌, true, List, [], ◌∷◌, ◌++◌, length, refl, ap, ap₂, ◌∙◌, subst, arith}
 use Rattle.std.specs.Prelude.{IsTrue, nat_le, not, filter, if◌then◌else◌}
 use Rattle.std.proofs.lemmas.Bool.Decides.{nat_tests}
+use Rattle.std.proofs.lemmas.List.{append_assoc}
 use Rattle.yard_model.specs.declared.charter.Line.{Line}
 use Rattle.yard_model.specs.declared.charter.Order.{Order}
 use Rattle.yard_model.specs.declared.charter.Order.TheVariants as order
+use Rattle.yard_model.specs.declared.fact.Fact.{Fact}
+use Rattle.yard_model.specs.declared.fact.Fact.TheVariants as fact
 use Rattle.yard_model.specs.Behaviour.{is_in}
+use Rattle.yard_model.specs.Safe.{safe}
 use Rattle.yard_model.specs.Script.{Script, IsScript}
 use Rattle.yard_model.specs.World.{trace_of, wire_limit}
 use Rattle.plain_laws.proofs.Booleans.{all_map, and_both}
 use Rattle.daemon_process.specs.Daemon as daemon
 use Rattle.daemon_process.specs.Single.{SafeIsSingle, WrittenIsLive}
 use Rattle.play_laws.specs.Played.{TraceIsSafe}
+use Rattle.queued_laws.specs.Confirmed.{ConfirmedWasWritten, WasWritten}
 use Rattle.queued_laws.specs.Queued.{RecordedIsQueued}
 use Rattle.script_text.specs.Fit as fit
 use Rattle.settle_laws.specs.Settles.{SettleLineSettles}
-use Rattle.daemon_run.specs.Daemons.{DaemonHolds}
+use Rattle.daemon_run.specs.Daemons.{ConfirmedAreAnswered, DaemonHolds, PingsAreAnswered}
 
 silent_order : (o : Order) → not (fit.is_send o) ≡ true → not (daemon.is_send o) ≡ true
 silent_order (order.Send p e c) h = h
@@ -41,17 +46,30 @@ is_pinged c h few = record {
 pub count_fits : (n : ℕ) → IsTrue (is_in 1 100 n) → n ≤ 100
 count_fits n h = let most : nat_le n 100 ≡ true = (and_both (nat_le 1 n) (nat_le n 100) h).1 in grind (arith, nat_tests)
 
--- of every script
-pub holds : (c : Script) (n : ℕ) → IsScript c → fit.IsPinged c → length c.orders ≤ 20000 → n ≤ 100 → daemon.ExpandedIsScript → TraceIsSafe → SafeIsSingle → WrittenIsLive → RecordedIsQueued → SettleLineSettles
-    → DaemonHolds n c
-holds c n script pinged few fits expands safe single written recorded settles =
-    let full : IsScript (daemon.expanded n c) = expands c n script pinged.counters fits (is_pinged c pinged few) in
+-- where a ping is confirmed, its record stands before, which was an answer
+confirmed_answered : (n : ℕ) (c : Script) (trace : List Fact) → safe c trace ≡ true → ConfirmedWasWritten → PingsAreAnswered n c trace → ConfirmedAreAnswered n c trace
+confirmed_answered n c trace whole confirmed pings i p m front back inside is =
+    let f : Fact = fact.Confirmed p (daemon.daemon i) m in
+    let w : WasWritten front (daemon.daemon i) p m = confirmed c front back (daemon.daemon i) p m (subst (λ t. safe c t ≡ true) is whole) in
     record {
-      safe_is = safe (daemon.expanded n c) full;
-      instances_hold = λ k i inside. single (daemon.expanded n c) (trace_of (daemon.expanded n c)) k (daemon.daemon i) (safe (daemon.expanded n c) full);
-      pings_are = λ i front back r inside is. record {
-        live_is = written (daemon.expanded n c) (trace_of (daemon.expanded n c)) front back (daemon.daemon i) r (safe (daemon.expanded n c) full) is;
-        queued_is = recorded (daemon.expanded n c) wire_limit front back (daemon.daemon i) r full is;
-      };
-      settles_are = λ m number. settles (daemon.expanded n c) wire_limit m number full;
+      written = w;
+      answered = pings i w.front (w.back ++ f ∷ back) w.entry inside (is ∙ (ap (λ l. l ++ f ∷ back) w.facts_are ∙ append_assoc w.front (fact.Wrote (daemon.daemon i) w.entry ∷ w.back) (f ∷ back)));
+    }
+
+-- of every script
+pub holds : (c : Script) (n : ℕ) → IsScript c → fit.IsPinged c → length c.orders ≤ 20000 → n ≤ 100 → daemon.ExpandedIsScript → TraceIsSafe → SafeIsSingle → WrittenIsLive → RecordedIsQueued → ConfirmedWasWritten → SettleLineSettles
+    → DaemonHolds n c
+holds c n script pinged few fits expands safe single written recorded confirmed settles =
+    let full : Script = daemon.expanded n c in
+    let is_script : IsScript full = expands c n script pinged.counters fits (is_pinged c pinged few) in
+    let pings : PingsAreAnswered n full (trace_of full) = λ i front back r inside is. record {
+      live_is = written full (trace_of full) front back (daemon.daemon i) r (safe full is_script) is;
+      queued_is = recorded full wire_limit front back (daemon.daemon i) r is_script is;
+    } in
+    record {
+      safe_is = safe full is_script;
+      instances_hold = λ k i inside. single full (trace_of full) k (daemon.daemon i) (safe full is_script);
+      pings_are = pings;
+      confirmed_are = confirmed_answered n full (trace_of full) (safe full is_script) confirmed pings;
+      settles_are = λ m number. settles full wire_limit m number is_script;
     }

@@ -14,7 +14,7 @@ use behaviour_kinds::Counter;
 use daemon_process::laws::{drawn_is_text, expanded_is_script, safe_is_single, written_is_live};
 use daemon_process::{DaemonLines, expand};
 use play_laws::play::trace_is_safe;
-use queued_laws::laws::recorded_is_queued;
+use queued_laws::laws::{confirmed_was_written, recorded_is_queued};
 use replay_run::follow;
 use run_parts::{Course, WriteError, write_part};
 use settle_laws::worlds::settle_line_settles;
@@ -60,6 +60,7 @@ fn daemon_holds(charter: &Charter, count: u8)
     safe_is_single();
     written_is_live();
     recorded_is_queued();
+    confirmed_was_written();
     settle_line_settles();
 }
 
@@ -109,15 +110,11 @@ fn text_of_daemon(
     let mut world = World::new(alloc, &full, Counter::new())?;
     let mut facts = Told::new(Daemon {
         course: Course::start(),
-        lines: DaemonLines::new(alloc, count)?,
+        lines: DaemonLines::new(alloc)?,
     });
     follow(&mut world, &mut facts)?;
     let daemon = facts.notes();
-    // it never has another number of instances, which notes can't say of themselves
-    if daemon.lines.count() != count as usize {
-        return Err(AllocError);
-    }
     let mut text = Vec::new(alloc);
-    daemon.lines.push_whole(&mut text)?;
+    daemon.lines.push_whole(&mut text, count)?;
     Ok((text, daemon.course.stop))
 }

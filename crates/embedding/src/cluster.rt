@@ -37,7 +37,7 @@ fn producer() -> ProducerNo
 
 /// Two nodes, one shard, and one producer, which sends the counter a command. The only error is want of
 /// memory.
-fn charter(alloc: Global) -> Result<Charter, AllocError>
+pub(crate) fn charter(alloc: Global) -> Result<Charter, AllocError>
     ensures { IfOk result (λ c. c ≡ cluster) }
 {
     charter_of(alloc, producer(), NodeNo::FIRST, counter())

@@ -1,4 +1,5 @@
 mod Along
+mod Confirmed
 mod Quiet
 mod Orders
 mod Scripts

@@ -1,4 +1,5 @@
-//! What is recorded was queued before.
+//! What is recorded was queued before, and what is confirmed was recorded before.
+ghost use Rattle.queued_laws.specs.Confirmed.{ConfirmedWasWritten};
 ghost use Rattle.queued_laws.specs.Queued.{RecordedIsQueued};
 
 use actor_laws::region::shards_are_there;
@@ -34,3 +35,8 @@ pub fn recorded_is_queued()
     reshaped_keeps_journals();
     shards_are_there();
 }
+
+/// Wherever a number is confirmed in a safe trace, its record stands before.
+pub fn confirmed_was_written()
+    ensures { ConfirmedWasWritten }
+{}

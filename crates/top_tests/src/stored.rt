@@ -1,4 +1,4 @@
-//! Scripts of one command, and their whole texts.
+//! Scripts of one command or one ping, and their whole texts.
 
 /// A command that is delivered once.
 pub(crate) const ONE_COMMAND: &[u8] = b"config shards=1\nsend 1 c1 add 5\ndeliver 1\n";
@@ -64,5 +64,25 @@ report
 entity c1 shard 0 records 1 state 5
 record 1 epoch 1 by 1:1 add 5 / added 5 / ok 5
 queue 1 c1 queued 1 confirmed 1
+end
+";
+
+/// A ping of a daemon's instances.
+pub(crate) const ONE_PING: &[u8] = b"config shards=1
+up 1
+pump 9
+produce 1 1
+ping 1
+pump 9
+";
+
+/// What `daemon 1` writes of it.
+pub(crate) const ONE_INSTANCE: &[u8] = b"at 2
+at 3
+at 4
+at 5
+at 6
+instance 0 1.1
+instance 0 1.1
 end
 ";

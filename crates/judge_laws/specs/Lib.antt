@@ -1,0 +1,4 @@
+pub mod Breached
+pub mod Broken
+pub mod Judged
+pub mod Recorded

@@ -2,5 +2,4 @@ pub mod BackLaws
 pub mod BreachLaws
 pub mod BrokenLaws
 pub mod QuietLaws
-pub mod RecordedLaws
 pub mod WithinLaws

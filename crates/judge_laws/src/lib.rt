@@ -5,7 +5,6 @@
 ghost use Rattle.judge_laws.specs.Breached.{BreachIsJudged};
 ghost use Rattle.judge_laws.specs.Broken.{BreachBreaks, BrokenIsFirst, LoudIsUnbroken, QuietSaysNothing, SafeIsUnbroken, UnbrokenBegins, UnbrokenGoesOn, UnbrokenIsExact, UnbrokenIsSafe};
 ghost use Rattle.judge_laws.specs.Judged.{StepIsExact, SafeIsJudged};
-ghost use Rattle.judge_laws.specs.Recorded.{ConfirmedWasWritten};
 
 mod breach;
 
@@ -69,9 +68,4 @@ pub fn quiet_says_nothing()
 /// So a safe trace in one number of shards has no breach among the others.
 pub fn loud_is_unbroken()
     ensures { LoudIsUnbroken }
-{}
-
-/// What is confirmed in a safe trace was written before, where its entity was live, under its shard's lease.
-pub fn confirmed_was_written()
-    ensures { ConfirmedWasWritten }
 {}

@@ -1,25 +1,30 @@
 -- What is so of a daemon: its script in the words of those who play it, and the law of each of its traces.
-use Rattle.std.proofs.Common.{◌≡◌, ℕ, ◌<◌, ◌≤◌, true, List, [], ◌∷◌, ◌++◌, length, refl, ap, ap₂, ◌∙◌, subst, arith}
-use Rattle.std.specs.Prelude.{IsTrue, nat_le, not, filter, if◌then◌else◌}
+use Rattle.std.proofs.Common.{◌≡◌, ℕ, ◌<◌, ◌≤◌, true, List, [], ◌∷◌, ◌++◌, length, refl, sym, ap, ap₂, ◌∙◌, subst, arith}
+use Rattle.std.specs.Prelude.{IsTrue, nat_le, not, filter, Result, Ok, Err, OnOk, if◌then◌else◌}
 use Rattle.std.proofs.lemmas.Bool.Decides.{nat_tests}
 use Rattle.std.proofs.lemmas.List.{append_assoc}
+use Rattle.std.proofs.lemmas.List.Sums.{fold_push}
 use Rattle.yard_model.specs.declared.charter.Line.{Line}
 use Rattle.yard_model.specs.declared.charter.Order.{Order}
 use Rattle.yard_model.specs.declared.charter.Order.TheVariants as order
 use Rattle.yard_model.specs.declared.fact.Fact.{Fact}
 use Rattle.yard_model.specs.declared.fact.Fact.TheVariants as fact
+use Rattle.yard_model.specs.declared.packet.Packet.{Packet}
 use Rattle.yard_model.specs.Behaviour.{is_in}
 use Rattle.yard_model.specs.Safe.{safe}
 use Rattle.yard_model.specs.Script.{Script, IsScript}
 use Rattle.yard_model.specs.World.{trace_of, wire_limit}
 use Rattle.plain_laws.proofs.Booleans.{all_map, and_both}
 use Rattle.daemon_process.specs.Daemon as daemon
+use Rattle.daemon_process.specs.Lines.{Drawn, IsDrawnOf}
 use Rattle.daemon_process.specs.Single.{SafeIsSingle, WrittenIsLive}
 use Rattle.play_laws.specs.Played.{TraceIsSafe}
 use Rattle.queued_laws.specs.Confirmed.{ConfirmedWasWritten, WasWritten}
 use Rattle.queued_laws.specs.Queued.{RecordedIsQueued}
 use Rattle.script_text.specs.Fit as fit
 use Rattle.settle_laws.specs.Settles.{SettleLineSettles}
+use Rattle.run_parts.specs.declared.course.Course.{Course}
+use Rattle.run_parts.specs.Stops.{course, course_step, start}
 use Rattle.daemon_run.specs.Daemons.{ConfirmedAreAnswered, DaemonHolds, PingsAreAnswered}
 
 silent_order : (o : Order) → not (fit.is_send o) ≡ true → not (daemon.is_send o) ≡ true
@@ -73,3 +78,11 @@ holds c n script pinged few fits expands safe single written recorded confirmed 
       confirmed_are = confirmed_answered n full (trace_of full) (safe full is_script) confirmed pings;
       settles_are = λ m number. settles full wire_limit m number is_script;
     }
+
+-- a packet that is posted leaves where a trace stops
+pub with_course : {E : Type 0} (r : Result (Unit {0}) E) (k : Course) (old new : Drawn) (n : ℕ) (p : Packet)
+    → OnOk r ((before : List Fact) → IsDrawnOf (length old.watch.here) old before → IsDrawnOf (length new.watch.here) new (before ++ fact.Sent n p ∷ []))
+    → OnOk r ((before : List Fact) → (k ≡ course before) × IsDrawnOf (length old.watch.here) old before
+    → (k ≡ course (before ++ fact.Sent n p ∷ [])) × IsDrawnOf (length new.watch.here) new (before ++ fact.Sent n p ∷ []))
+with_course (Ok x) k old new n p h = λ before both. (both.0 ∙ sym (fold_push course_step start before (fact.Sent n p)), h before both.1)
+with_course (Err e) k old new n p h = tt

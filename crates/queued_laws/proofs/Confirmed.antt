@@ -1,5 +1,5 @@
 -- What is confirmed in a safe trace was written before, in whatever era.
-use Rattle.std.proofs.Common.{◌≡◌, ◌≤◌, ℕ, ◌-◌, ◌<◌, sym, ap, ◌∙◌, refl, subst, arith}
+use Rattle.std.proofs.Common.{◌≡◌, ◌≤◌, ℕ, ◌-◌, ◌<◌, sym, ap, ◌∙◌, refl, arith}
 use Rattle.std.specs.Prelude.{Bool, true, false, ◌==◌, not, ◌&&◌, ◌||◌, List, [], ◌∷◌, ◌++◌, map, length, fold, Option, Some, None, if◌then◌else◌}
 use Rattle.std.specs.List.{list_all, flat_map}
 use Rattle.std.proofs.lemmas.List.{get_or-set_same}
@@ -18,7 +18,7 @@ use Rattle.yard_model.specs.Setting.{set_shards, shard_of, shards, names_of}
 use Rattle.yard_model.specs.SlotLists.{SlotLists, shard_list, queue_list}
 use Rattle.yard_model.specs.SlotReads.{journal, journal_step}
 use Rattle.yard_model.specs.Trace.{slot_of, with_entry, lists_step, no_lists, lists_of}
-use Rattle.plain_laws.proofs.Booleans.{true_is_not_false, and_both, both, of_not, same_name, same_number, all_filter, all_get, all_set, all_replicate}
+use Rattle.plain_laws.proofs.Booleans.{true_is_not_false, and_both, both, same_name, same_number, all_filter, all_get, all_set, all_replicate}
 use Rattle.plain_laws.proofs.Lists.{all_each, all_each_of, all_join}
 use Rattle.yard_laws.specs.Guarded.{Owns}
 use Rattle.yard_laws.proofs.Owns.{lists_more, producer_above, producer_within}
@@ -138,7 +138,7 @@ none_placed e p n records (f ∷ fs) h k =
 -- where some fact is that record, it stands there
 found : (e : List ℕ) (p n : ℕ) (fs : List Fact) → list_all (is_other e p n) fs ≡ false → WasWritten fs e p n
 found e p n [] h = absurd (true_is_not_false h)
-found e p n (f ∷ fs) h = by (is_other e p n f) refl h
+found e p n (f ∷ fs) h = by (is_other e p n f) refl h (found e p n fs)
   where
     not_false : (b : Bool) → not b ≡ false → b ≡ true
     not_false true i = refl
@@ -168,9 +168,9 @@ found e p n (f ∷ fs) h = by (is_other e p n f) refl h
       place_is = w.place_is;
     }
 
-    by : (b : Bool) → is_other e p n f ≡ b → (b && list_all (is_other e p n) fs) ≡ false → WasWritten (f ∷ fs) e p n
-    by true i j = later (found e p n fs j)
-    by false i j = here f i
+    by : (b : Bool) → is_other e p n f ≡ b → (b && list_all (is_other e p n) fs) ≡ false → (list_all (is_other e p n) fs ≡ false → WasWritten fs e p n) → WasWritten (f ∷ fs) e p n
+    by true i j rest = later (rest j)
+    by false i j rest = here f i
 
 -- What a confirmation says.
 

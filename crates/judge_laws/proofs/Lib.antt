@@ -1,0 +1,5 @@
+pub mod BackLaws
+pub mod BreachLaws
+pub mod BrokenLaws
+pub mod QuietLaws
+pub mod WithinLaws

@@ -1,0 +1,5 @@
+use Rattle.judge_laws.proofs.BrokenLaws as laws
+use Rattle.judge_laws.proofs.unbroken_is_exact.Goals as goal
+
+pub returns : goal.returns
+returns c = laws.unbroken_is_exact

@@ -1,0 +1,3 @@
+pub mod Breached
+pub mod Broken
+pub mod Judged

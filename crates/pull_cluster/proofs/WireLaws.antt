@@ -71,7 +71,7 @@ posted_there c t p k f above e h = by (slice_get p.posted (k - 1)) refl
     by None g = absurd (none_is_not_some f (sym (ap (option_map (parcel_fact c k)) g) ∙ (sym (packet_got c t p k above h) ∙ e)))
     by (Some q) g = up_to k (length p.posted) above (got_below p.posted (k - 1) q g)
 
-asker_of : Fact → Option Incarnation
+abbrev asker_of : Fact → Option Incarnation
 asker_of (fact.SentAsk k x) = Some x
 asker_of f = None
 

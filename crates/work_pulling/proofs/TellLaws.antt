@@ -4,6 +4,9 @@ use Rattle.std.specs.Prelude.{Bool, true, false, List, [], ◌∷◌, ◌++◌, 
 use Rattle.std.specs.Option.{option_map}
 use Rattle.std.specs.declared.alloc.AllocError.{AllocError}
 use Rattle.plain_laws.proofs.Booleans.{true_is_not_false}
+use Rattle.plain_laws.proofs.Members.{last_among}
+use Rattle.yard_model.specs.declared.incarnation.Incarnation.{Incarnation}
+use Rattle.yard_model.specs.Words.{is_among}
 use Rattle.yard_model.specs.declared.charter.Order.{Order}
 use Rattle.yard_model.specs.declared.charter.Order.TheVariants as order
 use Rattle.yard_model.specs.declared.fact.Fact.{Fact}
@@ -12,9 +15,9 @@ use Rattle.yard_model.specs.Script.{Script, sends}
 use Rattle.pull_laws.specs.Next.{IsNextSend}
 use Rattle.std.proofs.lemmas.List.Sums.{fold_push}
 use Rattle.yard_model.specs.SlotReads.{epoch}
-use Rattle.pull_laws.specs.Pulled.{jobs, packet, is_running, waiting, number_step}
+use Rattle.pull_laws.specs.Pulled.{jobs, members, packet, is_running, waiting, number_step}
 use Rattle.pull_laws.specs.Pulling.{Pulling, Step, tell, in_turn, take_packet, deliver, nothing, where_some, play, play_input, input}
-use Rattle.pull_laws.proofs.Sound.{jobs_more, waiting_more, running_more, queue_more}
+use Rattle.pull_laws.proofs.Sound.{jobs_more, members_more, waiting_more, running_more, queue_more}
 use Rattle.pull_laws.proofs.Steps.{is_quiet}
 use Rattle.job_board.specs.declared.parcel.Parcel.{Parcel}
 use Rattle.job_board.specs.declared.parcel.Parcel.TheVariants as parcel
@@ -39,7 +42,7 @@ told_parcel f a b x y (parcel.Ask w) q l h = tt
 told_parcel f a b x y (parcel.Job w i) q l h = told_jobs f a b x y i q l h
 told_parcel f a b x y (parcel.Done w i) q l h = told_jobs f a b x y i q l h
 
-on_ok : {T E : Type 0} (r : Result T E) (P Q : Type 0) → (P → Q) → OnOk r P → OnOk r Q
+pub on_ok : {T E : Type 0} (r : Result T E) (P Q : Type 0) → (P → Q) → OnOk r P → OnOk r Q
 on_ok (Ok x) P Q h p = h p
 on_ok (Err e) P Q h p = tt
 
@@ -70,3 +73,7 @@ next_still n a b x y o l h = subst (λ k. IsNext k o) (sym l.new_is) (by o h)
 pub one_input : (o : Order) → ((k : ℕ) → o ≡ order.Pump k → ⊥) → (s : Pulling) → play o s ≡ input (play_input o) s
 one_input (order.Pump k) h s = absurd (h k refl)
 one_input o h s = refl
+
+-- a worker that came up is up
+pub came_up : (x : Incarnation) (a b : Cluster) (y z : List Fact) → Leads (tell (fact.Up x)) a b y z → is_among x (members b.pulling.told) ≡ true
+came_up x a b y z l = ap (λ k. is_among x (members k.pulling.told)) l.new_is ∙ (ap (is_among x) (members_more a.pulling.told (fact.Up x)) ∙ last_among x (members a.pulling.told))

@@ -17,7 +17,7 @@ use Rattle.yard_model.specs.SlotReads.{epoch, epoch_step}
 use Rattle.yard_model.specs.Words.{is_among, is_empty}
 use Rattle.plain_laws.proofs.Lists.{none_is_not_some}
 use Rattle.pull_laws.specs.Pulled.{members, worker_at, last_number, number_step, wire, packet, fresh, queue, queue_step, is_running, job_names, waiting, is_confirmed, is_free, given_to, has_done, first_ready}
-use Rattle.pull_laws.specs.Pulling.{Pulling, Step, tell, post, in_turn, for_each, none, where_some, nothing, post_ask, post_job, post_done, give, assign_job, assign, ask, do_once, job, done, take_packet, deliver, come_up, up, crash, tick, queue_job, take_queue, produce, rest, send, play_input, input, deliver_next, drain, pump, play, play_line, play_lines, nothing_told, pulled}
+use Rattle.pull_laws.specs.Pulling.{Pulling, tell, in_turn, for_each, none, where_some, nothing, post_ask, post_job, post_done, give, assign_job, assign, do_once, take_packet, deliver, come_up, up, crash, tick, queue_job, take_queue, produce, rest, send, play_input, deliver_next, drain, pump, play, play_line, play_lines, nothing_told, pulled}
 use Rattle.pull_laws.proofs.Small.{some_keeps, if_keeps, each_keeps}
 use Rattle.pull_laws.proofs.Sound.{queue_more}
 use Rattle.pull_laws.proofs.Steps.{post_leads}
@@ -212,7 +212,7 @@ short (l ∷ ls) (suc n) = by (length (take n ls)) n (short ls n)
     by a b h = omega (arith, h)
 
 pub pulled_few : (c : Script) (limit n : ℕ) → Few n (pulled c limit n).told
-pulled_few c limit n = lines_few (take n c.orders) 0 n (nothing_told c limit) (short c.orders n) (record { numbers = λ m. least n; epochs = least n })
+pulled_few c limit n = lines_few (take n c.orders) 0 n (nothing_told c limit) (short c.orders n) (record { numbers = λ m. least 0; epochs = least 0 })
   where
     least : (n : ℕ) → 0 ≤ n
     least n = omega arith

@@ -1,5 +1,5 @@
 -- What is kept, as one fact more is told.
-use Rattle.std.proofs.Common.{◌≡◌, ◌≢◌, ℕ, zero, suc, ◌+◌, ◌-◌, ◌<◌, ◌≤◌, sym, ap, ◌∙◌, refl, subst, arith, length, get_or, set}
+use Rattle.std.proofs.Common.{◌≡◌, ℕ, zero, suc, ◌+◌, ◌-◌, ◌<◌, ◌≤◌, sym, ap, ◌∙◌, refl, subst, arith, length, get_or, set}
 use Rattle.std.specs.Prelude.{Bool, true, false, ◌==◌, ◌&&◌, not, List, [], ◌∷◌, ◌++◌, map, filter, find, nat_le, nat_lt, replicate, Option, Some, None, IfSome, if◌then◌else◌}
 use Rattle.std.specs.List.{slice_get}
 use Rattle.std.specs.Option.{option_map}
@@ -28,14 +28,14 @@ use Rattle.pull_laws.specs.Pulled.{members, last_number, number_step, is_sent, w
 use Rattle.pull_laws.specs.Pulled.{asking as asks_of}
 use Rattle.pull_laws.specs.Pulling.{Pulling, Step, tell, post}
 use Rattle.pull_laws.specs.PullSafe.{IsPulled}
-use Rattle.job_board.specs.Boards.{Board, Seat, freed, freed_from, is_free_state, is_given_to, load_of, not_asking, state_at, whos}
+use Rattle.job_board.specs.Boards.{Board, Seat, freed, freed_from, is_free_state, is_given_to, load_of, not_asking, state_at}
 use Rattle.job_board.specs.Parcels.{Parcels}
 use Rattle.job_board.specs.declared.parcel.Parcel.{Parcel}
 use Rattle.job_board.specs.declared.parcel.Parcel.TheVariants as parcel
 use Rattle.job_board.specs.declared.state.JobState.{JobState}
 use Rattle.job_board.specs.declared.state.JobState.TheVariants as state
 use Rattle.pull_cluster.specs.Cluster.{Cluster, Leads, IsOfJobs, MayPost, is_plain, names_of, name_at, parcel_fact}
-use Rattle.pull_cluster.specs.Kept.{told_of, IsKept, IsQueued, AreStates, AreSeats, AreNumbers, ArePosted, IsKnown, asked_by, doer_of, doers_of}
+use Rattle.pull_cluster.specs.Kept.{told_of, IsKept, IsQueued, AreStates, AreSeats, ArePosted, IsKnown, asked_by, doer_of}
 use Rattle.pull_cluster.proofs.DoerLaws.{doers_same, doers_did}
 use Rattle.pull_cluster.proofs.NameLaws.{got_below, got_is, name_is, number_one, names_long, sends_few}
 use Rattle.pull_cluster.proofs.QueueLaws.{job_is, queued_same, queued_entry, queued_reserved, queued_sent, queued_waited, queued_waits, first_of, jobs_few, next_waits, sent_long, queued_below, unqueued_above}
@@ -389,7 +389,7 @@ same_each v xs n e = ap (λ m. replicate m v) e ∙ each v xs
     each v [] = refl
     each v (x ∷ xs) = ap (λ l. v ∷ l) (each v xs)
 
-numbers_at : (n i : ℕ) → get_or (replicate n 0) i 0 ≡ 0
+numbers_at : (n i : ℕ) → get_or {A = ℕ} (replicate n 0) i 0 ≡ 0
 numbers_at zero i = refl
 numbers_at (suc n) zero = refl
 numbers_at (suc n) (suc i) = numbers_at n i
@@ -524,9 +524,9 @@ load_fits c t states x is k = fits (load_of x states) (length states) (length (s
 
 -- a job that is queued and not confirmed may be confirmed
 pub confirm_words : (c : Script) (t : List Fact) (q : Queue) (sent n : ℕ) → IsQueued c t q sent → n < length (jobs t) → is_confirmed (name_at c n) t ≡ false → (1 ≤ queued (name_at c n) q.entries) × (confirmed (name_at c n) q.entries < 1)
-confirm_words c t q sent n k lt no = (
+confirm_words c t q sent n k lt lacks = (
   subst (λ l. 1 ≤ queued (name_at c n) l) (sym k.entries_are) (at_least (queued (name_at c n) (queue t)) (queued_below c t q sent k n lt)),
-  subst (λ l. confirmed (name_at c n) l < 1) (sym k.entries_are) (none_yet (confirmed (name_at c n) (queue t)) no),
+  subst (λ l. confirmed (name_at c n) l < 1) (sym k.entries_are) (none_yet (confirmed (name_at c n) (queue t)) lacks),
 )
   where
     at_least : (m : ℕ) → nat_lt 0 m ≡ true → 1 ≤ m
@@ -659,3 +659,9 @@ name_read c t q sent i l j k lt all e = sym (name_is c i j (got_is (sends c 1) i
 pub entity_is : (c : Script) (t : List Fact) (q : Queue) (sent : ℕ) (i : ℕ) (l : List Sending) (j : Sending) → IsQueued c t q sent → i < length (jobs t) → l ≡ sends c 1 → j ≡ get_or l i j → option_map (λ (x : Sending). x.entity) (slice_get (jobs t) i) ≡ Some j.entity
 entity_is c t q sent i l j k lt all e =
     ap (option_map (λ (x : Sending). x.entity)) (job_is c t q sent k i lt ∙ (got_is (sends c 1) i j (job_here c t q sent i k lt) ∙ ap Some (sym (e ∙ ap (λ (m : List Sending). get_or m i j) all))))
+
+pub job_few : (c : Script) (t : List Fact) (q : Queue) (sent n : ℕ) → IsPulled c → IsQueued c t q sent → n < length (jobs t) → n < 200001
+job_few c t q sent n is k lt = few n (length (sends c 1)) (length c.orders) (job_here c t q sent n k lt) (sends_few 1 c.orders) is.script.fits
+  where
+    few : (a s m : ℕ) → a < s → s ≤ m → m ≤ 200000 → a < 200001
+    few a s m f g h = omega (arith, f, g, h)

@@ -1,16 +1,15 @@
 -- The names of the jobs are different.
 use Rattle.std.proofs.Common.{◌≡◌, ◌≢◌, ℕ, zero, suc, ◌+◌, ◌<◌, ◌≤◌, sym, ap, ◌∙◌, refl, subst, arith, length, get_or}
-use Rattle.std.specs.Prelude.{Bool, true, false, ◌==◌, ◌&&◌, nat_lt, List, [], ◌∷◌, ◌++◌, filter, fold, map, Some, if◌then◌else◌}
+use Rattle.std.specs.Prelude.{Bool, true, false, ◌==◌, nat_lt, List, [], ◌∷◌, ◌++◌, filter, fold, map, Some, if◌then◌else◌}
 use Rattle.std.specs.List.{list_all, slice_get}
-use Rattle.std.proofs.lemmas.List.{append-nil, length-map}
+use Rattle.std.proofs.lemmas.List.{length-map}
 use Rattle.yard_model.specs.declared.charter.Line.{Line}
 use Rattle.yard_model.specs.declared.charter.Order.{Order}
 use Rattle.yard_model.specs.declared.charter.Order.TheVariants as order
 use Rattle.yard_model.specs.declared.charter.Sending.{Sending}
-use Rattle.yard_model.specs.declared.event.Command.{Command}
 use Rattle.yard_model.specs.Script.{Script, is_name, with_order, with_send_of, count_to, sends, sends_in}
 use Rattle.plain_laws.proofs.Booleans.{true_is_not_false, and_both, both, same_number, same_name, below, not_below}
-use Rattle.plain_laws.proofs.Lists.{none_is_not_some, some_is, all_got, by_place}
+use Rattle.plain_laws.proofs.Lists.{none_is_not_some, some_is, all_got}
 use Rattle.plain_laws.proofs.Names.{name_itself}
 use Rattle.pull_laws.specs.PullSafe.{IsPulled}
 use Rattle.pull_laws.proofs.Small.{positive}

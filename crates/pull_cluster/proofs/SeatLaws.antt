@@ -11,12 +11,12 @@ use Rattle.yard_model.specs.declared.fact.Fact.TheVariants as fact
 use Rattle.yard_model.specs.declared.incarnation.Incarnation.{Incarnation}
 use Rattle.yard_model.specs.declared.incarnation.Slot.{Slot}
 use Rattle.yard_model.specs.Script.{Script, sends}
-use Rattle.yard_model.specs.Words.{is_same, is_at, is_among, without}
+use Rattle.yard_model.specs.Words.{is_same, is_at, is_among}
 use Rattle.yard_model.specs.World.{members_step}
-use Rattle.plain_laws.proofs.Booleans.{true_is_not_false, number_itself, same_number, other_number, or_both}
-use Rattle.plain_laws.proofs.Lists.{none_is_not_some, by_place}
+use Rattle.plain_laws.proofs.Booleans.{true_is_not_false, number_itself, same_number, other_number}
+use Rattle.plain_laws.proofs.Lists.{none_is_not_some}
 use Rattle.plain_laws.proofs.Members.{among_last, among_kept, by_last, same_is, itself_is, turned}
-use Rattle.pull_laws.specs.Pulled.{members, last_number, number_step, asking_step, Asking, asker, packet, packet_in, wire, is_sent, has_asked, first_ready, given, given_to, jobs, job_names, is_queued, is_confirmed}
+use Rattle.pull_laws.specs.Pulled.{members, last_number, number_step, asking_step, Asking, asker, packet, packet_in, wire, is_sent, has_asked, first_ready, given, given_to, jobs, is_confirmed}
 use Rattle.pull_laws.specs.Pulled.{asking as asks_of, is_ready as is_ready_in}
 use Rattle.pull_laws.specs.PullSafe.{IsPulled}
 use Rattle.pull_laws.proofs.Sound.{members_more}
@@ -249,7 +249,7 @@ whos_are t seats k = ap whos k.seats_are ∙ whos_in t (members t)
 -- where no worker is at the node, this one isn't up
 nobody_at : (x : Incarnation) (xs : List Incarnation) → find (λ (y : Incarnation). y.node == x.node) xs ≡ None → is_among x xs ≡ false
 nobody_at x [] e = refl
-nobody_at x (y ∷ ys) e = by (y.node == x.node) refl
+nobody_at x (y ∷ ys) e = by (λ h. nobody_at x ys h) (y.node == x.node) refl
   where
     other : (y.node == x.node) ≡ false → is_same x y ≡ false
     other f = pick (is_same x y) refl
@@ -258,9 +258,9 @@ nobody_at x (y ∷ ys) e = by (y.node == x.node) refl
         pick true s = absurd (true_is_not_false (sym (number_itself y.node x.node (ap (λ (z : Incarnation). z.node) (sym (same_is x y s)))) ∙ f))
         pick false s = s
 
-    by : (b : Bool) → (y.node == x.node) ≡ b → (is_same x y || is_among x ys) ≡ false
-    by true f = absurd (none_is_not_some y (sym (sym (ap (λ b. if b then Some y else find (λ (z : Incarnation). z.node == x.node) ys) f) ∙ e)))
-    by false f = ap (λ b. b || is_among x ys) (other f) ∙ nobody_at x ys (sym (ap (λ b. if b then Some y else find (λ (z : Incarnation). z.node == x.node) ys) f) ∙ e)
+    by : (find (λ (z : Incarnation). z.node == x.node) ys ≡ None → is_among x ys ≡ false) → (b : Bool) → (y.node == x.node) ≡ b → (is_same x y || is_among x ys) ≡ false
+    by rest true f = absurd (none_is_not_some y (sym (sym (ap (λ b. if b then Some y else find (λ (z : Incarnation). z.node == x.node) ys) f) ∙ e)))
+    by rest false f = ap (λ b. b || is_among x ys) (other f) ∙ rest (sym (ap (λ b. if b then Some y else find (λ (z : Incarnation). z.node == x.node) ys) f) ∙ e)
 
 pub not_up : (t : List Fact) (seats : List Seat) (x : Incarnation) → AreSeats t seats → find (λ (y : Incarnation). y.node == x.node) (members t) ≡ None → is_among x (whos seats) ≡ false
 not_up t seats x k none = ap (is_among x) (whos_are t seats k) ∙ nobody_at x (members t) none

@@ -1,9 +1,8 @@
 -- What is known of each job, by its place.
-use Rattle.std.proofs.Common.{◌≡◌, ◌≢◌, ℕ, zero, suc, ◌+◌, ◌<◌, ◌≤◌, sym, ap, ◌∙◌, refl, subst, arith, length, get_or, set}
+use Rattle.std.proofs.Common.{◌≡◌, ◌≢◌, ℕ, zero, suc, ◌<◌, sym, ap, ◌∙◌, refl, subst, arith, length, get_or, set}
 use Rattle.std.specs.Prelude.{Bool, true, false, ◌&&◌, nat_lt, not, List, [], ◌∷◌, ◌++◌, map, Option, Some, None, is_none, if◌then◌else◌}
 use Rattle.std.proofs.lemmas.List.{get_or-map, length-map}
 use Rattle.std.proofs.lemmas.List.Sums.{fold_push}
-use Rattle.durable_queue.specs.Queue.{Queue}
 use Rattle.yard_model.specs.declared.event.Command.{Command}
 use Rattle.yard_model.specs.declared.fact.Fact.{Fact}
 use Rattle.yard_model.specs.declared.fact.Fact.TheVariants as fact
@@ -13,17 +12,16 @@ use Rattle.yard_model.specs.SlotReads.{queued, commands, commands_step, confirme
 use Rattle.yard_model.specs.Words.{is_same, is_at}
 use Rattle.plain_laws.proofs.Booleans.{true_is_not_false, and_both, same_name, of_not}
 use Rattle.plain_laws.proofs.Names.{name_itself}
-use Rattle.pull_laws.specs.Pulled.{queue, queue_step, jobs, is_queued, is_confirmed, given, given_step, is_free}
+use Rattle.pull_laws.specs.Pulled.{queue, queue_step, is_queued, is_confirmed, given, given_step, is_free}
 use Rattle.pull_laws.specs.PullSafe.{IsPulled}
 use Rattle.pull_laws.proofs.Small.{positive}
 use Rattle.pull_laws.proofs.Sound.{queue_more, given_more, queued_stays}
-use Rattle.job_board.specs.Boards.{state_at, freed, freed_from, given_of, is_free_state, is_given_to}
+use Rattle.job_board.specs.Boards.{state_at, freed, freed_from, given_of, is_free_state}
 use Rattle.job_board.specs.declared.state.JobState.{JobState}
 use Rattle.job_board.specs.declared.state.JobState.TheVariants as state
 use Rattle.pull_cluster.specs.Cluster.{names_of, name_at}
-use Rattle.pull_cluster.specs.Kept.{IsQueued, AreStates, state_by, state_of, given_state, is_closed_state}
+use Rattle.pull_cluster.specs.Kept.{AreStates, state_by, state_of, given_state, is_closed_state}
 use Rattle.pull_cluster.proofs.NameLaws.{names_long, names_differ}
-use Rattle.pull_cluster.proofs.QueueLaws.{unqueued_above}
 
 -- Lists that are read off another.
 
@@ -170,9 +168,9 @@ states_queued c t states n k is lt new h = record {
   states_are = ap (λ l. set l n state.Free) h.states_are ∙ map_set (state_of t) (state_of (t ++ f ∷ [])) (names_of c) n state.Free (subst (λ m. n < m) (sym (names_long c)) lt)
       (state_as (t ++ f ∷ []) y true false None (queued_is y ∙ (ap (λ b. nat_lt 0 (length (if b then commands y (queue t) ++ k ∷ [] else commands y (queue t)))) (name_itself y) ∙ last (commands y (queue t)))) (confirmed_is y ∙ h.idle y new) (given_same y ∙ h.ungiven y (ap (λ b. b && not (is_confirmed y t)) new)))
       (λ i l far. stays (get_or (names_of c) i []) (others c is n lt i (within c i l) far));
-  idle = λ e no. confirmed_is e ∙ h.idle e (before e no);
-  ungiven = λ e no. given_same e ∙ by_name (given e t ≡ None) y e (λ same b. subst (λ z. given z t ≡ None) same (h.ungiven y (ap (λ b. b && not (is_confirmed y t)) new)))
-      (λ b. h.ungiven e (sym (ap (λ q. q && not (is_confirmed e (t ++ f ∷ []))) (other_queued e b) ∙ ap (λ q. is_queued e t && not q) (confirmed_is e)) ∙ no));
+  idle = λ e lacks. confirmed_is e ∙ h.idle e (before e lacks);
+  ungiven = λ e lacks. given_same e ∙ by_name (given e t ≡ None) y e (λ same b. subst (λ z. given z t ≡ None) same (h.ungiven y (ap (λ b. b && not (is_confirmed y t)) new)))
+      (λ b. h.ungiven e (sym (ap (λ q. q && not (is_confirmed e (t ++ f ∷ []))) (other_queued e b) ∙ ap (λ q. is_queued e t && not q) (confirmed_is e)) ∙ lacks));
 }
   where
     y : List ℕ
@@ -201,10 +199,10 @@ states_queued c t states n k is lt new h = record {
     stays e b = state_as (t ++ f ∷ []) e (is_queued e t) (is_confirmed e t) (given e t) (other_queued e b) (confirmed_is e) (given_same e)
 
     before : (e : List ℕ) → is_queued e (t ++ f ∷ []) ≡ false → is_queued e t ≡ false
-    before e no = by (is_queued e t) refl
+    before e lacks = by (is_queued e t) refl
       where
         by : (b : Bool) → is_queued e t ≡ b → is_queued e t ≡ false
-        by true g = absurd (true_is_not_false (sym (queued_stays e t f g) ∙ no))
+        by true g = absurd (true_is_not_false (sym (queued_stays e t f g) ∙ lacks))
         by false g = g
 
 -- of a free job
@@ -219,10 +217,10 @@ states_given c t states n x is lt free h = record {
   states_are = ap (λ l. set l n (state.Given x)) h.states_are ∙ map_set (state_of t) (state_of (t ++ f ∷ [])) (names_of c) n (state.Given x) (subst (λ m. n < m) (sym (names_long c)) lt)
       (state_as (t ++ f ∷ []) y true false (Some x) ((words y).0 ∙ parts.0) ((words y).1 ∙ parts.1) (given_more y t f ∙ ap (λ b. if b then Some x else given y t) (name_itself y)))
       (λ i l far. stays (get_or (names_of c) i []) (others c is n lt i (within c i l) far));
-  idle = λ e no. (words e).1 ∙ h.idle e (sym (words e).0 ∙ no);
-  ungiven = λ e no. given_more e t f ∙ by_name ((if is_name y e then Some x else given e t) ≡ None) y e
-      (λ same b. absurd (true_is_not_false (sym (ap (λ q. q && not (is_confirmed y t)) parts.0 ∙ ap not parts.1) ∙ subst (λ z. (is_queued z t && not (is_confirmed z t)) ≡ false) (sym same) (was e no))))
-      (λ b. ap (λ q. if q then Some x else given e t) b ∙ h.ungiven e (was e no));
+  idle = λ e lacks. (words e).1 ∙ h.idle e (sym (words e).0 ∙ lacks);
+  ungiven = λ e lacks. given_more e t f ∙ by_name ((if is_name y e then Some x else given e t) ≡ None) y e
+      (λ same b. absurd (true_is_not_false (sym (ap (λ q. q && not (is_confirmed y t)) parts.0 ∙ ap not parts.1) ∙ subst (λ z. (is_queued z t && not (is_confirmed z t)) ≡ false) (sym same) (was e lacks))))
+      (λ b. ap (λ q. if q then Some x else given e t) b ∙ h.ungiven e (was e lacks));
 }
   where
     y : List ℕ
@@ -238,7 +236,7 @@ states_given c t states n x is lt free h = record {
     words e = queue_words t f e refl
 
     was : (e : List ℕ) → (is_queued e (t ++ f ∷ []) && not (is_confirmed e (t ++ f ∷ []))) ≡ false → (is_queued e t && not (is_confirmed e t)) ≡ false
-    was e no = sym (ap (λ b. b && not (is_confirmed e (t ++ f ∷ []))) (words e).0 ∙ ap (λ b. is_queued e t && not b) (words e).1) ∙ no
+    was e lacks = sym (ap (λ b. b && not (is_confirmed e (t ++ f ∷ []))) (words e).0 ∙ ap (λ b. is_queued e t && not b) (words e).1) ∙ lacks
 
     stays : (e : List ℕ) → is_name y e ≡ false → state_of (t ++ f ∷ []) e ≡ state_of t e
     stays e b = state_as (t ++ f ∷ []) e (is_queued e t) (is_confirmed e t) (given e t) (words e).0 (words e).1 (given_more e t f ∙ ap (λ q. if q then Some x else given e t) b)
@@ -248,12 +246,12 @@ states_confirmed c t states n is lt here h = record {
   states_are = ap (λ l. set l n state.Confirmed) h.states_are ∙ map_set (state_of t) (state_of (t ++ f ∷ [])) (names_of c) n state.Confirmed (subst (λ m. n < m) (sym (names_long c)) lt)
       (state_as (t ++ f ∷ []) y true true None (queued_is y ∙ here) (confirmed_is y ∙ ap (λ b. nat_lt 0 (if b then 1 else confirmed y (queue t))) (name_itself y)) (given_more y t f ∙ ap (λ b. if b then None else given y t) (name_itself y)))
       (λ i l far. stays (get_or (names_of c) i []) (others c is n lt i (within c i l) far));
-  idle = λ e no. confirmed_is e ∙ by_name (nat_lt 0 (if is_name y e then 1 else confirmed e (queue t)) ≡ false) y e
-      (λ same b. absurd (true_is_not_false (sym here ∙ subst (λ z. is_queued z t ≡ false) (sym same) (sym (queued_is e) ∙ no))))
-      (λ b. ap (λ q. nat_lt 0 (if q then 1 else confirmed e (queue t))) b ∙ h.idle e (sym (queued_is e) ∙ no));
-  ungiven = λ e no. given_more e t f ∙ by_name ((if is_name y e then None else given e t) ≡ None) y e
+  idle = λ e lacks. confirmed_is e ∙ by_name (nat_lt 0 (if is_name y e then 1 else confirmed e (queue t)) ≡ false) y e
+      (λ same b. absurd (true_is_not_false (sym here ∙ subst (λ z. is_queued z t ≡ false) (sym same) (sym (queued_is e) ∙ lacks))))
+      (λ b. ap (λ q. nat_lt 0 (if q then 1 else confirmed e (queue t))) b ∙ h.idle e (sym (queued_is e) ∙ lacks));
+  ungiven = λ e lacks. given_more e t f ∙ by_name ((if is_name y e then None else given e t) ≡ None) y e
       (λ same b. ap (λ q. if q then None else given e t) b)
-      (λ b. ap (λ q. if q then None else given e t) b ∙ h.ungiven e (sym (ap (λ q. q && not (is_confirmed e (t ++ f ∷ []))) (queued_is e) ∙ ap (λ q. is_queued e t && not q) (other_confirmed e b)) ∙ no));
+      (λ b. ap (λ q. if q then None else given e t) b ∙ h.ungiven e (sym (ap (λ q. q && not (is_confirmed e (t ++ f ∷ []))) (queued_is e) ∙ ap (λ q. is_queued e t && not q) (other_confirmed e b)) ∙ lacks));
 }
   where
     y : List ℕ
@@ -319,7 +317,7 @@ pub free_at : (c : Script) (t : List Fact) (states : List JobState) (i : ℕ) �
 free_at c t states i k lt free = free_state (state_at states i) (ap is_free_state (state_is c t states i k lt) ∙ (free_is t (name_at c i) ∙ free))
 
 pub unqueued_at : (c : Script) (t : List Fact) (states : List JobState) (i : ℕ) → AreStates c t states → i < length (sends c 1) → is_queued (name_at c i) t ≡ false → state_at states i ≡ state.Unqueued
-unqueued_at c t states i k lt no = state_is c t states i k lt ∙ ap (λ b. state_by b (is_confirmed (name_at c i) t) (given (name_at c i) t)) no
+unqueued_at c t states i k lt lacks = state_is c t states i k lt ∙ ap (λ b. state_by b (is_confirmed (name_at c i) t) (given (name_at c i) t)) lacks
 
 -- before the first fact
 pub states_none : (c : Script) (states : List JobState) → states ≡ map (λ (e : List ℕ). state.Unqueued) (names_of c) → AreStates c [] states

@@ -1,6 +1,6 @@
 -- The packets.
-use Rattle.std.proofs.Common.{◌≡◌, ◌≢◌, ℕ, zero, suc, ◌+◌, ◌-◌, ◌<◌, ◌≤◌, sym, ap, ◌∙◌, refl, subst, arith, length}
-use Rattle.std.specs.Prelude.{Bool, true, false, ◌==◌, ◌&&◌, nat_lt, not, List, [], ◌∷◌, ◌++◌, filter, Option, Some, None, IfSome, if◌then◌else◌}
+use Rattle.std.proofs.Common.{◌≡◌, ℕ, zero, suc, ◌+◌, ◌-◌, ◌<◌, ◌≤◌, sym, ap, ◌∙◌, refl, subst, arith, length}
+use Rattle.std.specs.Prelude.{Bool, true, false, ◌==◌, nat_lt, not, List, [], ◌∷◌, ◌++◌, filter, Option, Some, None, IfSome, if◌then◌else◌}
 use Rattle.std.specs.List.{list_all, slice_get}
 use Rattle.std.specs.Option.{option_map}
 use Rattle.std.proofs.lemmas.List.{append-nil}
@@ -9,7 +9,7 @@ use Rattle.yard_model.specs.declared.fact.Fact.{Fact}
 use Rattle.yard_model.specs.declared.fact.Fact.TheVariants as fact
 use Rattle.yard_model.specs.declared.incarnation.Incarnation.{Incarnation}
 use Rattle.yard_model.specs.Script.{Script}
-use Rattle.plain_laws.proofs.Booleans.{true_is_not_false, all_filter, is_below, below, and_both}
+use Rattle.plain_laws.proofs.Booleans.{all_filter, is_below, below, and_both}
 use Rattle.plain_laws.proofs.Lists.{none_is_not_some, some_is}
 use Rattle.pull_laws.specs.Pulled.{last_number, number_step, wire, is_sent, packet, packet_in, fresh, fresh_step, jobs, jobs_step}
 use Rattle.pull_laws.proofs.Small.{all_more}
@@ -137,8 +137,8 @@ pushed (y ∷ ys) x = more (length ys) (length (ys ++ x ∷ [])) (pushed ys x)
 
 -- a fact that no packet is about
 pub posted_same : (c : Script) (t : List Fact) (p : Parcels) (f : Fact) → is_sent f ≡ false → fresh_step (fresh t) f ≡ fresh t → ((n : ℕ) → last_number n t ≤ number_step n (last_number n t) f) → length (jobs t) ≤ length (jobs_step (jobs t) f) → ArePosted c t p → ArePosted c (t ++ f ∷ []) p
-posted_same c t p f no fe ns js k = record {
-  wire_is = wire_join t f ∙ (ap (λ b. wire t ++ (if b then f ∷ [] else [])) no ∙ (append-nil (wire t) ∙ k.wire_is));
+posted_same c t p f lacks fe ns js k = record {
+  wire_is = wire_join t f ∙ (ap (λ b. wire t ++ (if b then f ∷ [] else [])) lacks ∙ (append-nil (wire t) ∙ k.wire_is));
   fresh_is = fresh_more t f ∙ (fe ∙ k.fresh_is);
   above = k.above;
   known = λ i q g. known_step t f q ns js (k.known i q g);
@@ -175,8 +175,8 @@ posted_more c t p new q pe fe known k = by q refl
         got_more (IsKnown (t ++ f ∷ []) r) p.posted q i r (sym (ap (λ l. slice_get l i) pe) ∙ g) (λ old. stays r (k.known i r old)) (λ at is. stays r (subst (IsKnown t) is known))
 
     whole : (f : Fact) → is_sent f ≡ true → fresh_step (fresh t) f ≡ fresh t ++ n ∷ [] → parcel_fact c (length p.posted + 1) q ≡ f → ((m : ℕ) → number_step m (last_number m t) f ≡ last_number m t) → jobs_step (jobs t) f ≡ jobs t → ArePosted c (t ++ f ∷ []) new
-    whole f yes fresh_same fact_same ne je = record {
-      wire_is = wire_join t f ∙ (ap (λ b. wire t ++ (if b then f ∷ [] else [])) yes ∙ (ap (λ l. l ++ f ∷ []) k.wire_is ∙ (ap (λ g. facts_from c 1 p.posted ++ g ∷ []) (sym fact_same ∙ ap (λ m. parcel_fact c m q) (sym last_is)) ∙ (sym (facts_push c 1 p.posted q) ∙ ap (facts_from c 1) (sym pe)))));
+    whole f holds fresh_same fact_same ne je = record {
+      wire_is = wire_join t f ∙ (ap (λ b. wire t ++ (if b then f ∷ [] else [])) holds ∙ (ap (λ l. l ++ f ∷ []) k.wire_is ∙ (ap (λ g. facts_from c 1 p.posted ++ g ∷ []) (sym fact_same ∙ ap (λ m. parcel_fact c m q) (sym last_is)) ∙ (sym (facts_push c 1 p.posted q) ∙ ap (facts_from c 1) (sym pe)))));
       fresh_is = fresh_more t f ∙ (fresh_same ∙ (ap (λ l. l ++ n ∷ []) k.fresh_is ∙ sym fe));
       above = ap (list_all (nat_lt 0)) fe ∙ all_more (nat_lt 0) p.fresh n k.above (positive_next (length p.posted));
       known = all_known f ne je;

@@ -1,7 +1,4 @@
-use Rattle.std.proofs.Common.{◌≡◌, ◌∙◌, ◌<◌, ◌≤◌, ℕ, ◌+◌, ◌-◌, sym, ap, refl, subst, arith, length, set, [], ◌∷◌, ◌++◌, List}
-use Rattle.std.specs.Prelude.{true, false, Some, None}
-use Rattle.yard_model.specs.declared.fact.Fact.{Fact}
-use Rattle.yard_model.specs.declared.fact.Fact.TheVariants as fact
+use Rattle.std.proofs.Common.{◌∙◌, ◌<◌, sym, ap, subst, length}
 use Rattle.pull_laws.specs.Pulled.{jobs, is_confirmed}
 use Rattle.pull_cluster.specs.Cluster.{Cluster, name_at}
 use Rattle.pull_cluster.specs.Kept.{is_closed_state}

@@ -1,7 +1,4 @@
-use Rattle.std.proofs.Common.{◌≡◌, ◌∙◌, ◌<◌, ◌≤◌, ℕ, ◌+◌, ◌-◌, sym, ap, refl, subst, arith, length, set, [], ◌∷◌, ◌++◌, List}
-use Rattle.std.specs.Prelude.{true, false, Some, None}
-use Rattle.yard_model.specs.declared.fact.Fact.{Fact}
-use Rattle.yard_model.specs.declared.fact.Fact.TheVariants as fact
+use Rattle.std.proofs.Common.{◌∙◌, ap}
 use Rattle.yard_model.specs.Lawful.{is_held}
 use Rattle.pull_laws.specs.Pulled.{is_running}
 use Rattle.pull_cluster.specs.Cluster.{Cluster}

@@ -1,7 +1,5 @@
-use Rattle.std.proofs.Common.{◌≡◌, ◌∙◌, ◌<◌, ◌≤◌, ℕ, ◌+◌, ◌-◌, sym, ap, refl, subst, arith, length, set, [], ◌∷◌, ◌++◌, List}
-use Rattle.std.specs.Prelude.{true, false, Some, None}
-use Rattle.yard_model.specs.declared.fact.Fact.{Fact}
-use Rattle.yard_model.specs.declared.fact.Fact.TheVariants as fact
+use Rattle.std.proofs.Common.{◌≡◌, ◌∙◌, ◌<◌, ◌≤◌, ℕ, sym, subst, arith, length}
+use Rattle.std.specs.Prelude.{true, false}
 use Rattle.pull_laws.specs.Pulled.{jobs, is_free}
 use Rattle.job_board.specs.Boards.{is_free_state, state_at}
 use Rattle.pull_cluster.specs.Cluster.{Cluster, name_at}

@@ -1,7 +1,5 @@
-use Rattle.std.proofs.Common.{◌≡◌, ◌∙◌, ◌<◌, ◌≤◌, ℕ, ◌+◌, ◌-◌, sym, ap, refl, subst, arith, length, set, [], ◌∷◌, ◌++◌, List}
-use Rattle.std.specs.Prelude.{true, false, Some, None}
-use Rattle.yard_model.specs.declared.fact.Fact.{Fact}
-use Rattle.yard_model.specs.declared.fact.Fact.TheVariants as fact
+use Rattle.std.proofs.Common.{◌≡◌, ◌∙◌, ◌<◌, sym, ap, subst, length}
+use Rattle.std.specs.Prelude.{true}
 use Rattle.pull_laws.specs.Pulled.{jobs, is_queued}
 use Rattle.pull_cluster.specs.Cluster.{Cluster, name_at}
 use Rattle.pull_cluster.specs.Kept.{state_of}

@@ -1,15 +1,14 @@
-use Rattle.std.proofs.Common.{◌≡◌, ◌∙◌, ◌<◌, ◌≤◌, ℕ, ◌+◌, ◌-◌, sym, ap, refl, subst, arith, length, set, [], ◌∷◌, ◌++◌, List}
-use Rattle.std.specs.Prelude.{true, false, Some, None}
+use Rattle.std.proofs.Common.{◌≡◌, ◌∙◌, ℕ, sym, ap, subst, [], ◌∷◌, ◌++◌, List}
+use Rattle.std.specs.Prelude.{true}
 use Rattle.yard_model.specs.declared.fact.Fact.{Fact}
 use Rattle.yard_model.specs.declared.fact.Fact.TheVariants as fact
 use Rattle.pull_cluster.specs.Cluster.{Cluster}
 use Rattle.pull_cluster.specs.Kept.{IsKept}
 use Rattle.yard_model.specs.declared.incarnation.Slot.TheVariants as slot
 use Rattle.yard_model.specs.declared.incarnation.Cause.TheVariants as cause
-use Rattle.yard_model.specs.SlotReads.{epoch, queued_in_all}
+use Rattle.yard_model.specs.SlotReads.{epoch}
 use Rattle.yard_model.specs.Lawful.{is_held}
-use Rattle.durable_queue.specs.Queue.{Queue}
-use Rattle.pull_laws.specs.Pulled.{queue, is_running, jobs, waiting}
+use Rattle.pull_laws.specs.Pulled.{queue, is_running}
 use Rattle.pull_cluster.proofs.KeptLaws.{kept_reserved, kept_freed, told_leads}
 use Rattle.pull_cluster.proofs.cluster.Cluster.tell_freed.Goals as goal
 

@@ -1,5 +1,5 @@
-use Rattle.std.proofs.Common.{◌≡◌, ◌∙◌, ◌<◌, ◌≤◌, ℕ, ◌+◌, ◌-◌, sym, ap, refl, subst, arith, length, set, [], ◌∷◌, ◌++◌, List}
-use Rattle.std.specs.Prelude.{true, false, Some, None}
+use Rattle.std.proofs.Common.{◌≡◌, ◌∙◌, ◌<◌, sym, ap, subst, length, [], ◌∷◌, ◌++◌, List}
+use Rattle.std.specs.Prelude.{true}
 use Rattle.yard_model.specs.declared.fact.Fact.{Fact}
 use Rattle.yard_model.specs.declared.fact.Fact.TheVariants as fact
 use Rattle.pull_cluster.specs.Cluster.{Cluster}
@@ -24,8 +24,8 @@ give-requires-clause-up c = ap (is_among c.args.who.now) (whos_are c.self.inside
 pub give-requires-clause-few : goal.give-requires-clause-few
 give-requires-clause-few c = load_fits c.self.inside.charter c.self.inside.story.told c.self.inside.board.states c.args.who.now c.self.invariant.pulled_is c.self.invariant.states_are
 
-pub invariant_of-self-2 : goal.invariant_of-self-2
-invariant_of-self-2 c = subst (λ (t : List Fact). IsKept c.self.inside.charter c.self.inside.producer t c.self.inside.queue c.self.inside.sent c.give.new.self c.self.inside.doers c.self.inside.numbers c.self.inside.parcels) (sym (c.tell.ensures ∙ ap (λ n. c.self.inside.story.told ++ fact.Given n c.args.who.now ∷ []) (c.name.ensures.value ∙ ap (λ (k : Cluster). name_at k.script c.args.job) (sym c.self.view_is))))
+pub invariant_of-self : goal.invariant_of-self
+invariant_of-self c = subst (λ (t : List Fact). IsKept c.self.inside.charter c.self.inside.producer t c.self.inside.queue c.self.inside.sent c.give.new.self c.self.inside.doers c.self.inside.numbers c.self.inside.parcels) (sym (c.tell.ensures ∙ ap (λ n. c.self.inside.story.told ++ fact.Given n c.args.who.now ∷ []) (c.name.ensures.value ∙ ap (λ (k : Cluster). name_at k.script c.args.job) (sym c.self.view_is))))
     (kept_given c.self.inside.charter c.self.inside.producer c.self.inside.story.told c.self.inside.queue c.self.inside.sent c.self.inside.board c.give.new.self c.self.inside.doers c.self.inside.numbers c.self.inside.parcels c.args.job c.args.who.now (subst (λ (k : Cluster). c.args.job < length (jobs k.pulling.told)) (sym c.self.view_is) c.requires.queued) (subst (λ (k : Cluster). is_free (name_at k.script c.args.job) k.pulling.told ≡ true) (sym c.self.view_is) c.requires.free) c.give.ensures c.self.invariant)
 
 pub returns : goal.returns

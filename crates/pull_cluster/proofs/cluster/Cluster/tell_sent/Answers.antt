@@ -1,15 +1,11 @@
-use Rattle.std.proofs.Common.{◌≡◌, ◌∙◌, ◌<◌, ◌≤◌, ℕ, ◌+◌, ◌-◌, sym, ap, refl, subst, arith, length, set, [], ◌∷◌, ◌++◌, List}
-use Rattle.std.specs.Prelude.{true, false, Some, None}
+use Rattle.std.proofs.Common.{rules, ◌≡◌, ◌∙◌, ◌<◌, ℕ, ◌+◌, sym, ap, subst, [], ◌∷◌, ◌++◌, List}
+use Rattle.std.specs.Prelude.{true}
 use Rattle.yard_model.specs.declared.fact.Fact.{Fact}
 use Rattle.yard_model.specs.declared.fact.Fact.TheVariants as fact
 use Rattle.pull_cluster.specs.Cluster.{Cluster}
 use Rattle.pull_cluster.specs.Kept.{IsKept}
-use Rattle.yard_model.specs.declared.incarnation.Slot.TheVariants as slot
-use Rattle.yard_model.specs.declared.incarnation.Cause.TheVariants as cause
-use Rattle.yard_model.specs.SlotReads.{epoch, queued_in_all}
 use Rattle.yard_model.specs.Lawful.{is_held}
-use Rattle.durable_queue.specs.Queue.{Queue}
-use Rattle.pull_laws.specs.Pulled.{queue, is_running, jobs, waiting}
+use Rattle.pull_laws.specs.Pulled.{is_running, waiting}
 use Rattle.pull_laws.specs.Next.{IsNextSend}
 use Rattle.pull_cluster.proofs.QueueLaws.{queued_reserved}
 use Rattle.pull_cluster.proofs.StateLaws.{states_long}
@@ -25,14 +21,14 @@ queue-requires-clause-charter c = sym (c.push_entry.ensures.script ∙ c.self.in
 pub queue-requires-clause-left : goal.queue-requires-clause-left
 queue-requires-clause-left c = queue_left c.self.inside.charter c.self.inside.story.told c.push_entry.new.queue c.self.inside.sent (queued_reserved c.self.inside.charter c.self.inside.story.told c.self.inside.queue c.push_entry.new.queue c.self.inside.sent c.push_entry.ensures.script c.push_entry.ensures.producer c.push_entry.ensures.entries c.self.invariant.queue_is) (sent_here c.self.inside.charter c.self.inside.story.told c.self.inside.queue c.self.inside.sent c.args.entity c.args.command c.self.invariant.queue_is (subst (λ (k : Cluster). waiting k.pulling.told ≡ []) (sym c.self.view_is) c.requires.none) (subst (λ (k : Cluster). IsNextSend k.script k.pulling.told c.args.entity c.args.command) (sym c.self.view_is) c.requires.next)).0
 
-pub queue-2-requires-clause-within : goal.queue-2-requires-clause-within
-queue-2-requires-clause-within c = subst (λ n. c.self.inside.sent < n) (sym (states_long c.self.inside.charter c.self.inside.story.told c.self.inside.board.states c.self.invariant.states_are)) (sent_here c.self.inside.charter c.self.inside.story.told c.self.inside.queue c.self.inside.sent c.args.entity c.args.command c.self.invariant.queue_is (subst (λ (k : Cluster). waiting k.pulling.told ≡ []) (sym c.self.view_is) c.requires.none) (subst (λ (k : Cluster). IsNextSend k.script k.pulling.told c.args.entity c.args.command) (sym c.self.view_is) c.requires.next)).1
+pub queue-requires-2-clause-within : goal.queue-requires-2-clause-within
+queue-requires-2-clause-within c = subst (λ n. c.self.inside.sent < n) (sym (states_long c.self.inside.charter c.self.inside.story.told c.self.inside.board.states c.self.invariant.states_are)) (sent_here c.self.inside.charter c.self.inside.story.told c.self.inside.queue c.self.inside.sent c.args.entity c.args.command c.self.invariant.queue_is (subst (λ (k : Cluster). waiting k.pulling.told ≡ []) (sym c.self.view_is) c.requires.none) (subst (λ (k : Cluster). IsNextSend k.script k.pulling.told c.args.entity c.args.command) (sym c.self.view_is) c.requires.next)).1
 
-pub queue-2-requires-clause-first : goal.queue-2-requires-clause-first
-queue-2-requires-clause-first c = next_unqueued c.self.inside.charter c.self.inside.story.told c.self.inside.queue c.self.inside.sent c.self.inside.board.states c.self.inside.sent c.self.invariant.pulled_is c.self.invariant.queue_is c.self.invariant.states_are (sym (all_sent c.self.inside.charter c.self.inside.story.told c.self.inside.queue c.self.inside.sent (subst (λ (k : Cluster). waiting k.pulling.told ≡ []) (sym c.self.view_is) c.requires.none) c.self.invariant.queue_is)) (sent_here c.self.inside.charter c.self.inside.story.told c.self.inside.queue c.self.inside.sent c.args.entity c.args.command c.self.invariant.queue_is (subst (λ (k : Cluster). waiting k.pulling.told ≡ []) (sym c.self.view_is) c.requires.none) (subst (λ (k : Cluster). IsNextSend k.script k.pulling.told c.args.entity c.args.command) (sym c.self.view_is) c.requires.next)).1
+pub queue-requires-2-clause-first : goal.queue-requires-2-clause-first
+queue-requires-2-clause-first c = next_unqueued c.self.inside.charter c.self.inside.story.told c.self.inside.queue c.self.inside.sent c.self.inside.board.states c.self.inside.sent c.self.invariant.pulled_is c.self.invariant.queue_is c.self.invariant.states_are (sym (all_sent c.self.inside.charter c.self.inside.story.told c.self.inside.queue c.self.inside.sent (subst (λ (k : Cluster). waiting k.pulling.told ≡ []) (sym c.self.view_is) c.requires.none) c.self.invariant.queue_is)) (sent_here c.self.inside.charter c.self.inside.story.told c.self.inside.queue c.self.inside.sent c.args.entity c.args.command c.self.invariant.queue_is (subst (λ (k : Cluster). waiting k.pulling.told ≡ []) (sym c.self.view_is) c.requires.none) (subst (λ (k : Cluster). IsNextSend k.script k.pulling.told c.args.entity c.args.command) (sym c.self.view_is) c.requires.next)).1
 
 pub overflow_add-self : goal.overflow_add-self
-overflow_add-self c = sent_fits c.self.inside.charter c.self.inside.story.told c.self.inside.queue c.self.inside.sent c.args.entity c.args.command c.self.invariant.pulled_is c.self.invariant.queue_is (subst (λ (k : Cluster). IsNextSend k.script k.pulling.told c.args.entity c.args.command) (sym c.self.view_is) c.requires.next)
+overflow_add-self c = let few : c.self.inside.sent + 1 < 18446744073709551616 = sent_fits c.self.inside.charter c.self.inside.story.told c.self.inside.queue c.self.inside.sent c.args.entity c.args.command c.self.invariant.pulled_is c.self.invariant.queue_is (subst (λ (k : Cluster). IsNextSend k.script k.pulling.told c.args.entity c.args.command) (sym c.self.view_is) c.requires.next) in search (rules, few)
 
 pub invariant_of-self : goal.invariant_of-self
 invariant_of-self c = kept_reserved c.self.inside.charter c.self.inside.producer c.self.inside.story.told c.self.inside.queue c.push_entry.new.queue c.self.inside.sent c.self.inside.board c.self.inside.doers c.self.inside.numbers c.self.inside.parcels c.push_entry.ensures.script c.push_entry.ensures.producer c.push_entry.ensures.entries c.self.invariant

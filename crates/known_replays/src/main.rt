@@ -14,7 +14,7 @@ use percent_encoding::percent_decode;
 use std::alloc::{AllocError, Global};
 use std::rt::Files;
 use std::{fs, io};
-use yard_io::{MemSink, WholeSource};
+use yard_io::{MemSink, Sink, WholeSource};
 use yard_top::{Status, sharder_alone};
 
 /// What came of a script.
@@ -53,6 +53,17 @@ fn first_difference(one: &[u8], other: &[u8]) -> Option<usize> {
     }
 }
 
+/// Runs a form of one thread on a script. (All runs go through here, since each call of the program costs its proof much.)
+fn ran<K: Sink>(
+    alloc: Global,
+    words: &[String],
+    script: &[u8],
+    sink: &mut K,
+) -> Result<Status, AllocError> {
+    let mut source = WholeSource::new(alloc, script)?;
+    Ok(sharder_alone(alloc, words, &mut source, sink))
+}
+
 /// Runs a script, and compares what came of it.
 fn judged(
     alloc: Global,
@@ -61,9 +72,8 @@ fn judged(
     code: u8,
     text: &[u8],
 ) -> Result<Verdict, AllocError> {
-    let mut source = WholeSource::new(alloc, script)?;
     let mut sink = MemSink::new(alloc, &[])?;
-    let status: Status = sharder_alone(alloc, words, &mut source, &mut sink);
+    let status = ran(alloc, words, script, &mut sink)?;
     if status.code() != code {
         return Ok(Verdict::OtherStatus(status.code()));
     }
@@ -81,9 +91,8 @@ fn judged_by_digest(
     code: u8,
     text: Digest,
 ) -> Result<Verdict, AllocError> {
-    let mut source = WholeSource::new(alloc, script)?;
     let mut sink = Digest::new();
-    let status: Status = sharder_alone(alloc, words, &mut source, &mut sink);
+    let status = ran(alloc, words, script, &mut sink)?;
     if status.code() != code {
         Ok(Verdict::OtherStatus(status.code()))
     } else if sink != text {
@@ -145,9 +154,8 @@ fn is_refused(alloc: Global, words: &str, script: &str, wanted: &str) -> io::Res
     let words = words_of(alloc, words)?;
     let mut bytes = Vec::new(alloc);
     percent_decode(script.as_bytes()).append_to(&mut bytes)?;
-    let mut source = WholeSource::new(alloc, bytes.as_slice())?;
     let mut sink = MemSink::new(alloc, &[])?;
-    let status: Status = sharder_alone(alloc, words.as_slice(), &mut source, &mut sink);
+    let status = ran(alloc, words.as_slice(), bytes.as_slice(), &mut sink)?;
     let line = format!(in alloc; "{status}")?;
     Ok(line.as_str() == wanted && sink.bytes().is_empty())
 }

@@ -49,6 +49,19 @@ const REPORTED: [&str; 4] = [
 /// How many runs have a call that fails.
 const RUNS: u32 = 200;
 
+/// Runs the program on these words, at this gate.
+fn run_at<R: Threads + Wait + Sync, S: Source, K: Sink, G: Gate + Sync>(
+    rt: &R,
+    alloc: Global,
+    form: &[&str],
+    source: &mut S,
+    sink: &mut K,
+    gate: &G,
+) -> Result<Status, AllocError> {
+    let words = words_of(alloc, form)?;
+    Ok(sharder(rt, alloc, words.as_slice(), source, sink, gate))
+}
+
 /// Runs the program on these words, and holds no thread.
 fn run<R: Threads + Wait + Sync, S: Source, K: Sink>(
     rt: &R,
@@ -57,8 +70,7 @@ fn run<R: Threads + Wait + Sync, S: Source, K: Sink>(
     source: &mut S,
     sink: &mut K,
 ) -> Result<Status, AllocError> {
-    let words = words_of(alloc, form)?;
-    Ok(sharder(rt, alloc, words.as_slice(), source, sink, &FreeGate))
+    run_at(rt, alloc, form, source, sink, &FreeGate)
 }
 
 /// Whether this is a line of the text.
@@ -106,8 +118,7 @@ fn written_at<R: Threads + Wait + Sync + Abort, G: Gate + Sync>(
 ) -> Result<MemSink, Fail> {
     let mut source = WholeSource::new(alloc, TWO_PRODUCERS)?;
     let mut sink = MemSink::new(alloc, &[])?;
-    let words = words_of(alloc, &["live", turns, seed])?;
-    let end = sharder(rt, alloc, words.as_slice(), &mut source, &mut sink, gate);
+    let end = run_at(rt, alloc, &["live", turns, seed], &mut source, &mut sink, gate)?;
     assert_eq!(rt; end, Status::Ok, "seed {seed}");
     Ok(sink)
 }

@@ -214,7 +214,7 @@ fn script_fact(line: &[u8]) -> Option<Fact>
 }
 
 /// The fact at the front, whatever stands behind it.
-pub(crate) fn fact(line: &[u8]) -> Option<Fact>
+pub fn fact(line: &[u8]) -> Option<Fact>
     ensures { result ≡ fact_at line.now }
 {
     if let Some(fact) = entity_fact(line) {

@@ -15,6 +15,7 @@ mod slots;
 mod values;
 
 pub use entries::is_entry;
+pub use facts::fact;
 pub use laws::{entries_are_readable, printed_is_read, read_is_printed, texts_tell};
-pub use lines::read_entries;
+pub use lines::{read_entries, take_entry};
 pub use print::push_entry;

@@ -9,9 +9,9 @@ use crate::print::push_entry;
 use std::alloc::{AllocError, Global};
 use yard_model::Facts;
 
-/// One more fact, the entry whose line stands at the front of these bytes; the bytes behind that line. `line` is room
-/// for a line.
-fn take_entry<'a>(
+/// One more fact, the entry whose line stands at the front of these bytes; the bytes behind that line. None where no
+/// line of an entry stands there. `line` is room for a line. The only error is want of memory.
+pub fn take_entry<'a>(
     bytes: &'a [u8],
     line: &mut Vec<u8>,
     facts: &mut Facts,

@@ -1,0 +1,11 @@
+mod ListLaws
+pub mod FrameLaws
+mod TornLaws
+pub mod Moments
+pub mod CommitLaws
+mod MediaLaws
+mod ReplayLaws
+pub mod SpellLaws
+pub mod LineLaws
+pub mod ReadLaws
+pub mod GoingLaws

@@ -1,0 +1,10 @@
+pub mod Images
+pub mod Frames
+pub mod Rest
+pub mod Batch
+pub mod Memory
+pub mod Deeds
+pub mod Replay
+pub mod Spelled
+pub mod Untold
+pub mod Window

@@ -1,0 +1,22 @@
+//! A durable log: batches of entries on a disk that may stop at any moment.
+#![tactic(auto)]
+
+mod batch;
+mod batches;
+mod disk;
+mod laws;
+mod log;
+mod mem_disk;
+mod reading;
+mod replay;
+mod std_disk;
+mod window;
+
+pub use batch::Batch;
+pub use batches::Batches;
+pub use disk::Disk;
+pub use laws::{one_reading, prefix_spells};
+pub use log::{Log, MakeFault};
+pub use mem_disk::MemDisk;
+pub use reading::{ReadLogFault, read_log};
+pub use std_disk::StdDisk;

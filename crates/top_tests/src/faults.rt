@@ -1,6 +1,8 @@
 //! Runs whose reads, writes and flush fail, each in its turn.
 use crate::fixtures::{Drip, Nowhere, Trickle, run_alone};
-use crate::stored::{FIRST_COMMAND, FIRST_TEXT, ONE_COMMAND, ONE_INSTANCE, ONE_PING, ONE_RECORD};
+use crate::stored::{
+    FIRST_COMMAND, FIRST_TEXT, ONE_COMMAND, ONE_DONE, ONE_INSTANCE, ONE_JOB, ONE_PING, ONE_RECORD,
+};
 use std::process::Abort;
 use std::test::Fail;
 use yard_io::{MemSink, MemSource, StdSink, WholeSource};
@@ -12,10 +14,11 @@ const MOST_CALLS: u32 = 1_000;
 /// A form, a script, and the text that the form writes of it.
 type Case<'a> = (&'a [&'a str], &'a [u8], &'a [u8]);
 
-const CASES: [Case<'static>; 3] = [
+const CASES: [Case<'static>; 4] = [
     (&["solo"], ONE_COMMAND, ONE_RECORD),
     (&["replay"], FIRST_COMMAND, FIRST_TEXT),
     (&["daemon", "1"], ONE_PING, ONE_INSTANCE),
+    (&["pull"], ONE_JOB, ONE_DONE),
 ];
 
 /// Runs a form again and again, and each time the next read fails, until none does. One byte comes of a read, so

@@ -118,7 +118,14 @@ fn written_at<R: Threads + Wait + Sync + Abort, G: Gate + Sync>(
 ) -> Result<MemSink, Fail> {
     let mut source = WholeSource::new(alloc, TWO_PRODUCERS)?;
     let mut sink = MemSink::new(alloc, &[])?;
-    let end = run_at(rt, alloc, &["live", turns, seed], &mut source, &mut sink, gate)?;
+    let end = run_at(
+        rt,
+        alloc,
+        &["live", turns, seed],
+        &mut source,
+        &mut sink,
+        gate,
+    )?;
     assert_eq!(rt; end, Status::Ok, "seed {seed}");
     Ok(sink)
 }

@@ -1,4 +1,4 @@
-//! Scripts of one command or one ping, and their whole texts.
+//! Scripts of one command, one ping or one job, and their whole texts.
 
 /// A command that is delivered once.
 pub(crate) const ONE_COMMAND: &[u8] = b"config shards=1\nsend 1 c1 add 5\ndeliver 1\n";
@@ -84,5 +84,37 @@ at 5
 at 6
 instance 0 1.1
 instance 0 1.1
+end
+";
+
+/// A job that one worker does.
+pub(crate) const ONE_JOB: &[u8] = b"config window=1
+up 1
+produce 1 1
+pump 9
+send 1 a add 1
+pump 9
+";
+
+/// What `pull` writes of it.
+pub(crate) const ONE_DONE: &[u8] = b"at 2
+up 1.1
+sent 1 ask 1.1
+at 3
+granted queue:1 1 1.1
+at 4
+got 1
+at 5
+queued 1 a 1 add 1
+given a 1.1
+sent 2 job 1.1 a
+at 6
+got 2
+did 1.1 a
+sent 3 done 1.1 a
+got 3
+confirmed 1 a 1
+report
+job a add 1 confirmed dids 1
 end
 ";

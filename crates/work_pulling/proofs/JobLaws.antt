@@ -1,24 +1,22 @@
 -- Loops over the places of jobs.
-use Rattle.std.proofs.Common.{◌≡◌, ◌≢◌, ℕ, zero, suc, ◌+◌, ◌-◌, ◌<◌, ◌≤◌, sym, ap, ◌∙◌, refl, subst, length, arith}
-use Rattle.std.specs.Prelude.{Bool, true, false, ◌&&◌, nat_le, not, List, [], ◌∷◌, ◌++◌, drop, filter, fold, map, slice_get, Option, Some, None, if◌then◌else◌}
+use Rattle.std.proofs.Common.{◌≡◌, ℕ, zero, suc, ◌+◌, ◌-◌, ◌<◌, ◌≤◌, sym, ap, ◌∙◌, refl, subst, length, arith}
+use Rattle.std.specs.Prelude.{Bool, true, false, List, [], ◌∷◌, ◌++◌, drop, map, slice_get, Some, None, if◌then◌else◌}
 use Rattle.std.specs.Option.{option_map}
-use Rattle.std.proofs.lemmas.List.{append-nil, append_assoc, length-map}
-use Rattle.plain_laws.proofs.Booleans.{true_is_not_false}
-use Rattle.plain_laws.proofs.Members.{each_among, same_is}
-use Rattle.plain_laws.proofs.Lists.{none_is_not_some, some_is}
+use Rattle.plain_laws.proofs.Members.{each_among}
+use Rattle.plain_laws.proofs.Lists.{some_is}
 use Rattle.yard_model.specs.declared.charter.Sending.{Sending}
 use Rattle.yard_model.specs.declared.fact.Fact.{Fact}
 use Rattle.yard_model.specs.declared.fact.Fact.TheVariants as fact
 use Rattle.yard_model.specs.declared.incarnation.Incarnation.{Incarnation}
-use Rattle.yard_model.specs.Words.{is_at, is_among}
+use Rattle.yard_model.specs.Words.{is_among}
 use Rattle.yard_model.specs.Script.{Script}
-use Rattle.pull_laws.specs.Pulled.{members, jobs, job_names, given, given_to, is_free, is_ready, first_ready, is_running, wire}
-use Rattle.pull_laws.specs.Pulling.{Pulling, Step, tell, post, in_turn, for_each, where_some, none, give, assign_job, assign, post_job}
-use Rattle.pull_laws.proofs.Small.{if_keeps, found}
-use Rattle.pull_laws.proofs.Sound.{jobs_more, given_more}
+use Rattle.pull_laws.specs.Pulled.{members, jobs, job_names, is_free, is_ready, first_ready, is_running, wire}
+use Rattle.pull_laws.specs.Pulling.{Pulling, tell, post, for_each, where_some, none, give, assign_job, assign}
+use Rattle.pull_laws.proofs.Small.{found}
+use Rattle.pull_laws.proofs.Sound.{jobs_more}
 use Rattle.pull_laws.proofs.Steps.{post_leads}
 use Rattle.pull_cluster.specs.Cluster.{Cluster, Leads, name_at}
-use Rattle.work_pulling.specs.Loops.{On, Assigning, Posting}
+use Rattle.work_pulling.specs.Loops.{On, Assigning}
 use Rattle.work_pulling.proofs.LeadsLaws.{leads_still, on_then, on_none, on_is, same_script}
 
 -- The names of the jobs are those at their places.

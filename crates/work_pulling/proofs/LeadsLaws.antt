@@ -1,10 +1,10 @@
 -- Steps that lead on, one after another.
-use Rattle.std.proofs.Common.{◌≡◌, ℕ, zero, suc, ◌+◌, sym, ap, ◌∙◌, refl, subst, length}
-use Rattle.std.specs.Prelude.{Bool, true, false, List, [], ◌∷◌, ◌++◌, drop, fold, map, Option, Some, None, if◌then◌else◌}
+use Rattle.std.proofs.Common.{◌≡◌, sym, ap, ◌∙◌, refl}
+use Rattle.std.specs.Prelude.{List, [], ◌++◌}
 use Rattle.std.proofs.lemmas.List.{append-nil, append_assoc}
 use Rattle.yard_model.specs.declared.fact.Fact.{Fact}
 use Rattle.yard_model.specs.Script.{Script}
-use Rattle.pull_laws.specs.Pulling.{Pulling, Step, in_turn, for_each}
+use Rattle.pull_laws.specs.Pulling.{Pulling, Step, in_turn}
 use Rattle.pull_cluster.specs.Cluster.{Cluster, Leads}
 use Rattle.work_pulling.specs.Loops.{On}
 

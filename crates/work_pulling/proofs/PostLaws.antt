@@ -1,14 +1,14 @@
 -- What is given to a worker is posted again.
 use Rattle.std.proofs.Common.{◌≡◌, ℕ, zero, suc, ◌+◌, ◌-◌, ◌<◌, ◌≤◌, sym, ap, ◌∙◌, refl, subst, length, arith}
-use Rattle.std.specs.Prelude.{Bool, true, false, List, [], ◌∷◌, ◌++◌, drop, filter, map, Option, Some, None, if◌then◌else◌}
+use Rattle.std.specs.Prelude.{Bool, true, false, List, ◌∷◌, drop, filter, map, if◌then◌else◌}
 use Rattle.yard_model.specs.declared.charter.Sending.{Sending}
 use Rattle.yard_model.specs.declared.fact.Fact.{Fact}
 use Rattle.yard_model.specs.declared.fact.Fact.TheVariants as fact
 use Rattle.yard_model.specs.declared.incarnation.Incarnation.{Incarnation}
 use Rattle.yard_model.specs.Script.{Script}
 use Rattle.yard_model.specs.Words.{is_at}
-use Rattle.pull_laws.specs.Pulled.{jobs, job_names, given, given_to, wire}
-use Rattle.pull_laws.specs.Pulling.{Pulling, post, for_each, post_job}
+use Rattle.pull_laws.specs.Pulled.{jobs, given, given_to, wire}
+use Rattle.pull_laws.specs.Pulling.{Pulling, for_each, post_job}
 use Rattle.pull_laws.proofs.Sound.{jobs_more, given_more}
 use Rattle.pull_laws.proofs.Steps.{post_leads}
 use Rattle.pull_cluster.specs.Cluster.{Cluster, Leads, name_at}

@@ -1,17 +1,17 @@
 -- The jobs that wait are queued when the producer begins to run.
-use Rattle.std.proofs.Common.{◌≡◌, ℕ, zero, suc, ◌+◌, ◌-◌, ◌<◌, ◌≤◌, sym, ap, ◌∙◌, refl, subst, length, arith}
-use Rattle.std.specs.Prelude.{Bool, true, false, List, [], ◌∷◌, ◌++◌, drop, Option, Some, None, if◌then◌else◌}
+use Rattle.std.proofs.Common.{◌≡◌, ℕ, suc, ◌+◌, ◌<◌, ◌≤◌, sym, ap, ◌∙◌, refl, length, arith}
+use Rattle.std.specs.Prelude.{false, List, [], ◌∷◌, drop, if◌then◌else◌}
 use Rattle.yard_model.specs.declared.charter.Sending.{Sending}
 use Rattle.yard_model.specs.declared.fact.Fact.{Fact}
 use Rattle.yard_model.specs.declared.fact.Fact.TheVariants as fact
 use Rattle.yard_model.specs.declared.incarnation.Slot.TheVariants as slot
 use Rattle.yard_model.specs.SlotReads.{epoch}
 use Rattle.pull_laws.specs.Pulled.{queue, is_running, waiting}
-use Rattle.pull_laws.specs.Pulling.{Pulling, for_each, nothing, in_turn, queue_job, take_queue, produce}
+use Rattle.pull_laws.specs.Pulling.{for_each, nothing, in_turn, queue_job, take_queue, produce}
 use Rattle.pull_laws.proofs.Sound.{waiting_more, running_more}
 use Rattle.pull_cluster.specs.Cluster.{Cluster, Leads}
-use Rattle.work_pulling.specs.Loops.{On, Queueing}
-use Rattle.work_pulling.proofs.LeadsLaws.{leads_as, on_then, on_none, on_is}
+use Rattle.work_pulling.specs.Loops.{Queueing}
+use Rattle.work_pulling.proofs.LeadsLaws.{on_then, on_none, on_is}
 
 pub queueing_begins : (start first : Cluster) (x y : List Fact) (n end : ℕ) → Leads (take_queue n) start first x y → length (waiting first.pulling.told) ≡ end → Queueing start first first x y 0 end
 queueing_begins start first x y n end l many = record {

@@ -1,15 +1,15 @@
 -- Packets are delivered one after another, the lowest first.
-use Rattle.std.proofs.Common.{◌≡◌, ℕ, zero, suc, ◌+◌, ◌-◌, ◌<◌, ◌≤◌, sym, ap, ◌∙◌, refl, subst, arith}
-use Rattle.std.specs.Prelude.{Bool, true, false, List, [], ◌∷◌, Option, Some, None, if◌then◌else◌}
+use Rattle.std.proofs.Common.{◌≡◌, ℕ, zero, suc, ◌+◌, ◌-◌, ◌<◌, ◌≤◌, sym, ap, ◌∙◌, refl, arith}
+use Rattle.std.specs.Prelude.{Bool, true, false, List, [], ◌∷◌, Some, None, if◌then◌else◌}
 use Rattle.plain_laws.proofs.Lists.{none_is_not_some, some_is}
 use Rattle.yard_model.specs.declared.fact.Fact.{Fact}
 use Rattle.yard_model.specs.Words.{is_empty}
 use Rattle.pull_laws.specs.Pulled.{fresh}
-use Rattle.pull_laws.specs.Pulling.{Pulling, Step, none, nothing, input, go_on, deliver, deliver_next, drain, pump}
+use Rattle.pull_laws.specs.Pulling.{Pulling, none, nothing, input, go_on, deliver, deliver_next, drain, pump}
 use Rattle.pull_cluster.specs.Cluster.{Cluster, Leads}
 use Rattle.job_board.specs.Parcels.{lowest}
 use Rattle.work_pulling.specs.Loops.{On, Draining}
-use Rattle.work_pulling.proofs.LeadsLaws.{leads_still, on_then, on_none, on_is}
+use Rattle.work_pulling.proofs.LeadsLaws.{on_then, on_none, on_is}
 
 pub none_lowest : (ks : List ℕ) → lowest ks ≡ None → ks ≡ []
 none_lowest [] e = refl

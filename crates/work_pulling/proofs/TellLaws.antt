@@ -1,7 +1,6 @@
 -- What a fact leaves as it is.
 use Rattle.std.proofs.Common.{◌≡◌, ℕ, ◌+◌, ◌<◌, sym, ap, ◌∙◌, refl, subst, length}
-use Rattle.std.specs.Prelude.{Bool, true, false, List, [], ◌∷◌, ◌++◌, Option, Some, None, Result, Ok, Err, OnOk, slice_get}
-use Rattle.std.specs.Option.{option_map}
+use Rattle.std.specs.Prelude.{Bool, true, List, [], ◌∷◌, ◌++◌, Some, Result, Ok, Err, OnOk, slice_get, if◌then◌else◌}
 use Rattle.std.specs.declared.alloc.AllocError.{AllocError}
 use Rattle.plain_laws.proofs.Booleans.{true_is_not_false}
 use Rattle.plain_laws.proofs.Members.{last_among}
@@ -11,17 +10,17 @@ use Rattle.yard_model.specs.declared.charter.Order.{Order}
 use Rattle.yard_model.specs.declared.charter.Order.TheVariants as order
 use Rattle.yard_model.specs.declared.fact.Fact.{Fact}
 use Rattle.yard_model.specs.declared.fact.Fact.TheVariants as fact
-use Rattle.yard_model.specs.Script.{Script, sends}
-use Rattle.pull_laws.specs.Next.{IsNextSend}
+use Rattle.yard_model.specs.Script.{sends}
 use Rattle.std.proofs.lemmas.List.Sums.{fold_push}
 use Rattle.yard_model.specs.SlotReads.{epoch}
-use Rattle.pull_laws.specs.Pulled.{jobs, members, packet, is_running, waiting, number_step}
-use Rattle.pull_laws.specs.Pulling.{Pulling, Step, tell, in_turn, take_packet, deliver, nothing, where_some, play, play_input, input}
+use Rattle.pull_laws.specs.Pulled.{has_done, jobs, members, packet, waiting, number_step}
+use Rattle.pull_laws.specs.Pulling.{Pulling, tell, in_turn, post, post_done, do_once, job, take_packet, deliver, nothing, where_some, play, play_input, input}
 use Rattle.pull_laws.proofs.Sound.{jobs_more, members_more, waiting_more, running_more, queue_more}
+use Rattle.pull_laws.proofs.Small.{if_keeps}
 use Rattle.pull_laws.proofs.Steps.{is_quiet}
 use Rattle.job_board.specs.declared.parcel.Parcel.{Parcel}
 use Rattle.job_board.specs.declared.parcel.Parcel.TheVariants as parcel
-use Rattle.pull_cluster.specs.Cluster.{Cluster, Leads, IsOfJobs, parcel_fact}
+use Rattle.pull_cluster.specs.Cluster.{Cluster, Leads, IsOfJobs, name_at, parcel_fact}
 use Rattle.work_pulling.specs.Orders.{IsNext}
 use Rattle.work_pulling.proofs.LeadsLaws.{leads_as, leads_then}
 
@@ -77,3 +76,19 @@ one_input o h s = refl
 -- a worker that came up is up
 pub came_up : (x : Incarnation) (a b : Cluster) (y z : List Fact) → Leads (tell (fact.Up x)) a b y z → is_among x (members b.pulling.told) ≡ true
 came_up x a b y z l = ap (λ k. is_among x (members k.pulling.told)) l.new_is ∙ (ap (is_among x) (members_more a.pulling.told (fact.Up x)) ∙ last_among x (members a.pulling.told))
+
+-- a worker does a job once, and posts that it is done
+pub did_jobs : (x : Incarnation) (e : List ℕ) (i : ℕ) (a b : Cluster) (y z : List Fact) → Leads (do_once x e) a b y z → i < length (jobs a.pulling.told) → i < length (jobs b.pulling.told)
+did_jobs x e i a b y z l lt = subst (λ js. i < length js) (sym (ap (λ k. jobs k.pulling.told) l.new_is ∙ same)) lt
+  where
+    same : jobs (do_once x e a.pulling).told ≡ jobs a.pulling.told
+    same = if_keeps (λ u. jobs u.told ≡ jobs a.pulling.told) (has_done x e a.pulling.told) a.pulling (tell (fact.Did x e) a.pulling) (λ h. refl) (λ h. jobs_more a.pulling.told (fact.Did x e))
+
+pub did_posted : (r : Result (Unit {0}) AllocError) (x : Incarnation) (i : ℕ) (a b d : Cluster) (v y z : List Fact) → is_among x (members a.pulling.told) ≡ true → Leads (do_once x (name_at a.script i)) a b v y
+    → OnOk r (Leads (post (λ k. parcel_fact b.script k (parcel.Done x i))) b d y z) → OnOk r (Leads (job x (name_at a.script i)) a d v z)
+did_posted r x i a b d v y z up l q =
+    let e : List ℕ = name_at a.script i in
+    let script_is : b.script ≡ a.script = ap (λ k. k.script) l.new_is in
+    on_ok r (Leads (post (λ k. parcel_fact b.script k (parcel.Done x i))) b d y z) (Leads (job x e) a d v z)
+    (λ m. leads_as (in_turn (do_once x e) (post_done x e)) (job x e) a d v z (sym (ap (λ t. if t then in_turn (do_once x e) (post_done x e) a.pulling else a.pulling) up))
+    (leads_then (do_once x e) (post_done x e) a b d v y z l (subst (λ c. Leads (post (λ k. parcel_fact c k (parcel.Done x i))) b d y z) script_is m))) q

@@ -12,9 +12,8 @@ use Rattle.pull_laws.specs.Pulling.{Pulling, play_line, play_lines, nothing_told
 use Rattle.pull_laws.specs.PullSafe.{IsPulled}
 use Rattle.pull_cluster.specs.Cluster.{Cluster, Leads}
 use Rattle.work_pulling.specs.Orders.{IsNext}
-use Rattle.work_pulling.specs.Played.{Played, Went, NotCut, IsPlayed, told_by, is_wire_full}
+use Rattle.work_pulling.specs.Played.{Went, IsPlayed, is_wire_full}
 use Rattle.work_pulling.specs.declared.fault.PullFault.{PullFault}
-use Rattle.work_pulling.specs.declared.fault.PullFault.TheVariants as fault
 
 -- a line behind others
 lines_more : (ls : List Line) (l : Line) (s : Pulling) → s.full ≡ false → (play_lines ls s).full ≡ false → play_lines (ls ++ l ∷ []) s ≡ play_line l (play_lines ls s)

@@ -191,6 +191,23 @@ fn post_given(cluster: &mut Cluster, who: &Incarnation, out: &mut Facts) -> Resu
     Ok(())
 }
 
+/// A worker does a job, unless it has.
+fn do_once(
+    cluster: &mut Cluster,
+    who: &Incarnation,
+    job: usize,
+    out: &mut Facts,
+) -> Result<(), AllocError>
+    requires { job < length (jobs cluster.old.pulling.told) }
+    ensures { OnOk result (Leads (pulling.do_once who.now (name_at cluster.old.script job)) cluster.old cluster.new out.old out.new) }
+{
+    if cluster.has_done(who, job) {
+        Ok(())
+    } else {
+        cluster.tell_did(who, job, out)
+    }
+}
+
 /// A job comes to a worker: it does the job once, and posts that it is done.
 fn take_job(
     cluster: &mut Cluster,
@@ -204,9 +221,7 @@ fn take_job(
     if !cluster.is_up(who) {
         return Ok(());
     }
-    if !cluster.has_done(who, job) {
-        cluster.tell_did(who, job, out)?;
-    }
+    do_once(cluster, who, job, out)?;
     cluster.post(&Parcel::Done(*who, job), out)
 }
 

@@ -1,6 +1,5 @@
-use Rattle.std.proofs.Common.{sym, ◌∙◌, subst, ◌≤◌, ◌<◌, length, arith}
-use Rattle.pull_laws.specs.Pulled.{jobs}
-use Rattle.work_pulling.proofs.JobLaws.{AreNamed, assigning_begins, assigning_next, assigning_ends, assigning_stops, ready_is_up, rests_assigns}
+use Rattle.std.proofs.Common.{sym, ◌∙◌, subst, ◌≤◌, ◌<◌, arith}
+use Rattle.work_pulling.proofs.JobLaws.{assigning_begins, assigning_next, assigning_ends, assigning_stops, ready_is_up, rests_assigns}
 use Rattle.work_pulling.proofs.steps.assign.Goals as goal
 
 pub loop-job-init : goal.loop-job-init

@@ -1,4 +1,4 @@
-use Rattle.std.proofs.Common.{ℕ, ◌-◌}
+use Rattle.std.proofs.Common.{◌-◌}
 use Rattle.work_pulling.specs.Loops.{Assigning}
 use Rattle.work_pulling.proofs.steps.assign.Given as goal
 

@@ -1,4 +1,4 @@
-use Rattle.std.proofs.Common.{sym, ap, ◌∙◌}
+use Rattle.std.proofs.Common.{ap, ◌∙◌}
 use Rattle.std.specs.Option.{option_map}
 use Rattle.pull_cluster.specs.Cluster.{parcel_fact}
 use Rattle.work_pulling.proofs.TellLaws.{delivered}

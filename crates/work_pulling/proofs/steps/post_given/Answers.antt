@@ -1,5 +1,4 @@
-use Rattle.std.proofs.Common.{sym, ◌∙◌, subst, ◌≤◌, ◌<◌, length, arith}
-use Rattle.pull_laws.specs.Pulled.{jobs}
+use Rattle.std.proofs.Common.{sym, subst, ◌≤◌, ◌<◌, arith}
 use Rattle.work_pulling.proofs.PostLaws.{posting_begins, posting_next, posting_ends}
 use Rattle.work_pulling.proofs.steps.post_given.Goals as goal
 

@@ -1,4 +1,4 @@
-use Rattle.std.proofs.Common.{ℕ, ◌-◌}
+use Rattle.std.proofs.Common.{◌-◌}
 use Rattle.work_pulling.specs.Loops.{Posting}
 use Rattle.work_pulling.proofs.steps.post_given.Given as goal
 

@@ -1,7 +1,7 @@
 use Rattle.std.proofs.Common.{rules, ◌≡◌, ℕ, ◌+◌, ◌<◌, sym, ap, ◌∙◌, refl, subst, Some, None}
 use Rattle.std.specs.Prelude.{slice_get, true, false, Option}
 use Rattle.yard_model.specs.Script.{Script}
-use Rattle.work_pulling.specs.Played.{Played, Went, CutShort, IsPlayed}
+use Rattle.work_pulling.specs.Played.{Played, Went, IsPlayed}
 use Rattle.work_pulling.specs.declared.fault.PullFault.{PullFault}
 use Rattle.work_pulling.specs.declared.fault.PullFault.TheVariants as fault
 use Rattle.work_pulling.proofs.WorldLaws.{next_is, went, played_next, one_counts}

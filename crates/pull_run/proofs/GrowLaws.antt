@@ -1,6 +1,6 @@
 -- What is told stays told: each step only adds facts.
 use Rattle.std.proofs.Common.{◌≡◌, ℕ, zero, suc, ◌+◌, sym, ap, ◌∙◌, refl, length}
-use Rattle.std.specs.Prelude.{Bool, true, false, nat_le, not, ◌&&◌, List, [], ◌∷◌, ◌++◌, take, drop, Option, Some, None, if◌then◌else◌}
+use Rattle.std.specs.Prelude.{Bool, true, false, nat_le, not, ◌&&◌, List, [], ◌∷◌, ◌++◌, take, Option, if◌then◌else◌}
 use Rattle.std.proofs.lemmas.List.{append-nil, append_assoc}
 use Rattle.yard_model.specs.declared.charter.Line.{Line}
 use Rattle.yard_model.specs.declared.charter.Order.{Order}

@@ -1,20 +1,16 @@
 -- The trace of jobs as it arises: the facts of the first lines, and how they are spelled.
-use Rattle.std.proofs.Common.{◌≡◌, ◌<◌, ◌≤◌, ℕ, suc, ◌+◌, refl, sym, ap, ◌∙◌, subst, arith, length}
-use Rattle.std.specs.Prelude.{Bool, true, false, ◌==◌, List, [], ◌++◌, fold, take, drop, slice_get, Option, Some, None, IsTrue}
+use Rattle.std.proofs.Common.{◌≡◌, ◌≤◌, ℕ, suc, ◌+◌, refl, sym, ap, ◌∙◌, subst, arith, length}
+use Rattle.std.specs.Prelude.{Bool, true, false, List, ◌++◌, fold, drop, slice_get, Option, Some, None}
 use Rattle.std.specs.List.{flat_map, list_all}
 use Rattle.std.proofs.Math.Seq.{drop-append_seam}
 use Rattle.std.proofs.lemmas.List.{take_all}
 use Rattle.std.proofs.lemmas.List.Concat.{flat_map-append}
 use Rattle.std.proofs.lemmas.List.Sums.{fold-append}
 use Rattle.yard_model.specs.declared.charter.Line.{Line}
-use Rattle.yard_model.specs.declared.charter.Order.{Order}
-use Rattle.yard_model.specs.declared.charter.Order.TheVariants as order
-use Rattle.yard_model.specs.declared.charter.Sending.{Sending}
 use Rattle.yard_model.specs.declared.fact.Fact.{Fact}
-use Rattle.yard_model.specs.Script.{Script, IsScript, sends}
-use Rattle.yard_model.specs.Text.{Bytes, fact_line}
+use Rattle.yard_model.specs.Script.{Script, IsScript}
+use Rattle.yard_model.specs.Text.{fact_line}
 use Rattle.yard_model.specs.World.{wire_limit}
-use Rattle.plain_laws.proofs.Booleans.{and_both, both}
 use Rattle.pull_laws.specs.Pulling.{Pulling, play_lines, nothing_told, pulled, pull_trace}
 use Rattle.pull_laws.specs.PullSafe as safe
 use Rattle.script_text.specs.Fit as fit
@@ -44,7 +40,8 @@ begins_drop xs ys b = b.1 ∙ ap (λ l. xs ++ l) (sym (drop-append_seam xs b.0) 
 
 pub told_next : (c : Script) (n : ℕ) → told_to c (n + 1) ≡ told_to c n ++ line_facts c n
 told_next c n =
-    let next : told_to c (suc n) ≡ told_to c (n + 1) = ap (told_to c) (omega arith : suc n ≡ n + 1) in
+    let one : suc n ≡ n + 1 = omega arith in
+    let next : told_to c (suc n) ≡ told_to c (n + 1) = ap (told_to c) one in
     begins_drop (told_to c n) (told_to c (n + 1)) (subst (Begins (told_to c n)) next (one_begins c.orders n (nothing_told c wire_limit)))
 
 -- what a step told is what the line tells
@@ -52,7 +49,11 @@ told_is_line : (c : Script) (n : ℕ) (fs : List Fact) → told_to c (n + 1) ≡
 told_is_line c n fs is = sym (drop-append_seam (told_to c n) fs) ∙ ap (drop (length (told_to c n))) (sym is)
 
 played_is : (w : Played) (c : Script) (n : ℕ) (f : Option PullFault) → w.script ≡ c → w.count ≡ n → w.fault ≡ f → w ≡ record { script = c; count = n; fault = f }
-played_is w c n f a b d = cc
+played_is w c n f a b d =
+    let with_script : Script → Played = λ x. record { script = x; count = w.count; fault = w.fault } in
+    let with_count : ℕ → Played = λ x. record { script = c; count = x; fault = w.fault } in
+    let with_fault : Option PullFault → Played = λ x. record { script = c; count = n; fault = x } in
+    ap with_script a ∙ (ap with_count b ∙ ap with_fault d)
 
 at_count : (old new : Played) (before after : List Fact) (b : Bool) → Went old new before after b → told_by new ≡ pulled old.script wire_limit (old.count + 1)
 at_count old new before after b w = ap (λ c. pulled c wire_limit new.count) w.script_is ∙ ap (pulled old.script wire_limit) w.count_is
@@ -84,7 +85,7 @@ pub whole_stopped : (c : Script) (n : ℕ) → (pulled c wire_limit n).full ≡ 
 whole_stopped c n full = ap (λ (p : Pulling). p.told) (stops c.orders n (nothing_told c wire_limit) refl full)
 
 pub whole_all : (c : Script) (n : ℕ) → length c.orders ≤ n → told_to c n ≡ pull_trace c
-whole_all c n h = ap (λ ls. (play_lines ls (nothing_told c wire_limit)).told) (take_all c.orders n h)
+whole_all c n h = ap (λ ls. (play_lines ls (nothing_told c wire_limit)).told) (take_all n c.orders h)
 
 pub all_begin : (c : Script) (n : ℕ) → Begins (told_to c n) (pull_trace c)
 all_begin c n = front_begins c.orders n (nothing_told c wire_limit)

@@ -1,12 +1,11 @@
 -- A world of jobs that plays a script to its end.
-use Rattle.std.specs.Prelude.{◌≡◌, ℕ, ◌+◌, Bool, true, false, List, Option, Some, None, drop, length}
+use Rattle.std.specs.Prelude.{◌≡◌, ℕ, ◌+◌, Bool, true, false, List, Some, None, drop, length}
 use Rattle.std.specs.List.{flat_map}
 use Rattle.yard_model.specs.declared.fact.Fact.{Fact}
 use Rattle.yard_model.specs.Script.{Script}
 use Rattle.yard_model.specs.Text.{Bytes, fact_line}
 use Rattle.yard_model.specs.World.{wire_limit}
 use Rattle.pull_laws.specs.Pulling.{pulled, pull_trace}
-use Rattle.work_pulling.specs.declared.fault.PullFault.{PullFault}
 use Rattle.work_pulling.specs.declared.fault.PullFault.TheVariants as fault
 use Rattle.work_pulling.specs.Played.{Played, NotCut, told_by}
 

@@ -1,5 +1,5 @@
 //! The lease table between two threads: each takes the coordinator's slot, if it is free, and gives it back.
-ghost use Rattle.std.specs.Prelude.{◌≡◌, ◌≤◌, IfOk, IfSome};
+ghost use Rattle.std.specs.Prelude.{◌≡◌, ◌≤◌, IfOk, IfSome, true};
 ghost use Rattle.shard_store.specs.Stores.{script_of, slot_of, entries_of, spare_of};
 ghost use Rattle.yard_model.specs.Behaviour.{is_in};
 ghost use Rattle.lease_table.specs.Belongs.{id_of, charter_of};

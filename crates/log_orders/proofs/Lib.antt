@@ -1,0 +1,2 @@
+pub mod GatherLaws
+pub mod OrderLaws

@@ -1,0 +1,8 @@
+//! What an order of a run logs: those of its facts that belong to a slot's list, as one batch, before a line of it is
+//! written.
+#![tactic(auto)]
+
+mod gather;
+mod orders;
+
+pub use orders::{CommitFault, commit_order};

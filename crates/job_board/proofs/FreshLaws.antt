@@ -55,6 +55,14 @@ twice p q (x ∷ xs) = by (twice p q xs) (p x)
     by rest true = ap (λ l. if q x then x ∷ l else l) rest
     by rest false = rest
 
+-- one packet more, whose place was in the set before it came
+pub fresh_grown : (old new : Places) (n : ℕ) → is_in old n ≡ true → ((i : ℕ) → i ≢ n + 1 → is_in new i ≡ is_in old i) → fresh_of new (n + 1) ≡ fresh_of old n ++ (n + 1) ∷ []
+fresh_grown old new n it others =
+    filter_same (λ k. is_in new (k - 1)) (λ k. is_in old (k - 1)) 1 (n + 1) (λ k f g. others (k - 1) (apart k f g)) ∙ fresh_posted old old n it (λ i e. refl)
+  where
+    apart : (k : ℕ) → 1 ≤ k → k < 1 + (n + 1) → k - 1 ≢ n + 1
+    apart k f g e = omega (arith, f, g, e)
+
 -- packet m is delivered
 pub fresh_got : (old new : Places) (n m : ℕ) → 0 < m → is_in new (m - 1) ≡ false → ((i : ℕ) → i ≢ m - 1 → is_in new i ≡ is_in old i) → fresh_of new n ≡ filter (λ j. not (j == m)) (fresh_of old n)
 fresh_got old new n m above it others = filter_same (λ k. is_in new (k - 1)) (λ k. is_in old (k - 1) && not (k == m)) 1 n (λ k f g. by k f (k == m) refl) ∙ sym (twice (λ k. is_in old (k - 1)) (λ j. not (j == m)) (numbers 1 n))
@@ -118,5 +126,5 @@ all_below set base place below between i lt = by (nat_lt i base) refl
     by true e = below i (less i base e)
     by false e = between i (from e) lt
 
-pub within_limit : (set : Places) (n place : ℕ) → set.bound ≡ wire_limit → n ≤ wire_limit → place < n → place < set.bound
+pub within_limit : (set : Places) (n place : ℕ) → set.bound ≡ wire_limit + 1 → n ≤ wire_limit → place < n → place < set.bound
 within_limit set n place is few lt = subst (λ k. place < k) (sym is) (omega (arith, few, lt))

@@ -1,5 +1,5 @@
 -- What a contract sees of the packets, and how it is kept.
-use Rattle.std.specs.Prelude.{◌≡◌, ℕ, ◌-◌, ◌<◌, ◌≤◌, false, List, [], ◌∷◌, length, filter, Option, Some, None}
+use Rattle.std.specs.Prelude.{◌≡◌, ℕ, ◌+◌, ◌-◌, ◌<◌, ◌≤◌, true, false, List, [], ◌∷◌, length, filter, Option, Some, None}
 use Rattle.place_set.specs.Places.{Places, is_in}
 use Rattle.yard_model.specs.Words.{numbers}
 use Rattle.yard_model.specs.World.{wire_limit}
@@ -17,10 +17,10 @@ abbrev pub lowest : List ℕ → Option ℕ
 lowest [] = None
 lowest (k ∷ ks) = Some k
 
--- the set has only places of packets, none below the base
+-- the set has the place behind the last packet, and none below the base
 pub record IsParcels (posted : List Parcel) (fresh : Places) (base : ℕ) : Type 0 where
-  pub bound_is : fresh.bound ≡ wire_limit
+  pub bound_is : fresh.bound ≡ wire_limit + 1
   pub few : length posted ≤ wire_limit
   pub base_is : base ≤ length posted
   pub below : (i : ℕ) → i < base → is_in fresh i ≡ false
-  pub above : (i : ℕ) → length posted ≤ i → is_in fresh i ≡ false
+  pub end : is_in fresh (length posted) ≡ true

@@ -13,7 +13,8 @@ use yard_model::Incarnation;
 /// How many packets can be posted.
 pub const LIMIT: usize = 1_000_000;
 
-/// The packets that were posted, and which of them were never delivered.
+/// The packets that were posted, and which of them were never delivered. The place behind the last stands
+/// in the set too, so that no search goes past it.
 #[derive(Drop)]
 pub struct Parcels {
     posted: Vec<Parcel>,
@@ -38,7 +39,8 @@ impl Parcels {
     pub fn new(alloc: Global) -> Result<Parcels, AllocError>
         ensures { IfOk result (λ p. p ≡ record { posted = []; fresh = [] }) }
     {
-        let fresh = PlaceSet::new(alloc, LIMIT)?;
+        let mut fresh = PlaceSet::new(alloc, LIMIT + 1)?;
+        fresh.insert(0);
         Ok(Parcels {
             posted: Vec::new(alloc),
             fresh,
@@ -72,7 +74,7 @@ impl Parcels {
     {
         let place = self.posted.len();
         self.posted.push(*parcel)?;
-        self.fresh.insert(place);
+        self.fresh.insert(place + 1);
         Ok(())
     }
 

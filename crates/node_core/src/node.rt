@@ -130,10 +130,11 @@ impl<B: Behaviour + Drop> Node<B> {
         self.actors.reserve(out)
     }
 
-    /// Handles an input. It tells exactly the items of the definition's turn: for the lists that the
-    /// leases tell where they tell any, and with any leases for some lists, as it found them. Each
-    /// fact is guarded by what the node has in hand, and each post is its own. It has no refusal. An
-    /// input is handled whole before the next, a rule of this project's own.
+    /// Handles an input, and tells exactly the items of the definition's turn. Where the leases tell
+    /// of lists, the turn is the one for these lists. With any other leases it is the turn for some
+    /// lists, those that it found. Each fact is guarded by what the node has in hand, and each post is
+    /// its own. No input is refused. An input is handled whole before the next, a rule of this
+    /// project's own.
     pub fn handle<L: Leases>(
         &mut self,
         charter: &Charter,

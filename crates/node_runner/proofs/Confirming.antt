@@ -18,7 +18,7 @@ use Rattle.lease_table.specs.Lists.{seen_at}
 use Rattle.lease_table.specs.Tells.{noted}
 use Rattle.node_runner.specs.declared.offer.Confirmed.{Confirmed}
 use Rattle.node_runner.specs.Parcels.{is_shown, is_confirming}
-use Rattle.node_runner.specs.Rested.{ArePublished}
+use Rattle.node_runner.specs.Rested.{ArePublished, means}
 use Rattle.node_runner.specs.Shown.{confirmed_of, IsRecordedIn}
 use Rattle.plain_laws.proofs.Booleans.{and_both, both, number_itself}
 use Rattle.plain_laws.proofs.Lists.{some_is, none_is_not_some}
@@ -34,6 +34,13 @@ brought_of c (body.Ack p e n) r g h = ap (λ (x : Confirmed). is_brought c x.ent
 brought_of c (body.Request p e n u) r g h =
     ap (λ (x : Confirmed). is_brought c x.entity) (sym (some_is _ r h)) ∙ (and_both (is_producer c p) (is_brought c e) (and_both (is_producer c p && is_brought c e) (u == n + c.config.window) g).0).1
 brought_of c b r g h = absurd (none_is_not_some r h)
+
+-- and its producer is the script's
+pub producer_of : (c : Script) (b : Body) (r : Confirmed) → is_genuine_body c b ≡ true → confirmed_of b ≡ Some r → is_producer c r.producer ≡ true
+producer_of c (body.Ack p e n) r g h = ap (λ (x : Confirmed). is_producer c x.producer) (sym (some_is _ r h)) ∙ (and_both (is_producer c p) (is_brought c e) g).0
+producer_of c (body.Request p e n u) r g h =
+    ap (λ (x : Confirmed). is_producer c x.producer) (sym (some_is _ r h)) ∙ (and_both (is_producer c p) (is_brought c e) (and_both (is_producer c p && is_brought c e) (u == n + c.config.window) g).0).0
+producer_of c b r g h = absurd (none_is_not_some r h)
 
 -- a note that has seen the record shows it
 pub shown_of : (c : Script) (b : Body) (r : Confirmed) (w : Pass) → confirmed_of b ≡ Some r → recorded r.entity r.producer r.number (seen_at w.view.seen (home_of c r.entity)) ≡ true → is_shown c b (Some w) ≡ true
@@ -57,3 +64,9 @@ seen_of c p st r s published shard e known =
 
 pub recorded_in : (s : ℕ) (r : Confirmed) (st : Node) (list : List Fact) → held_list (slot.Shard s) st ≡ Some list → recorded r.entity r.producer r.number list ≡ true → IsRecordedIn s r st
 recorded_in s r st list h e = subst (λ o. IsSomeAnd o (λ (l : List Fact). recorded r.entity r.producer r.number l ≡ true)) (sym h) e
+
+-- so it vouches for it
+pub own_vouches : (c : Script) (me : ℕ) (p : Pass) (st : Node) (r : Confirmed) (s : ℕ) (list : List Fact) → ArePublished c p st → p.view.charter ≡ c → is_shard c s ≡ true → s ≡ home_of c r.entity → held_list (slot.Shard s) st ≡ Some list → recorded r.entity r.producer r.number list ≡ true
+    → (means me p).vouches r.entity r.producer r.number ≡ true
+own_vouches c me p st r s list published charter shard home held known =
+    ap (λ (y : Script). recorded r.entity r.producer r.number (seen_at p.view.seen (home_of y r.entity))) charter ∙ seen_of c p st r s published shard home (recorded_in s r st list held known)

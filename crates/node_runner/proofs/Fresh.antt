@@ -3,6 +3,7 @@ use Rattle.std.proofs.Common.{◌≡◌, ℕ, ◌-◌, sym, ap, ◌∙◌, refl,
 use Rattle.std.specs.Prelude.{Bool, true, false, ◌==◌, ◌&&◌, List, Option, Some, None, IfSome, is_some}
 use Rattle.std.specs.Option.{option_map}
 use Rattle.plain_laws.proofs.Booleans.{both, get_replicate, number_itself}
+use Rattle.plain_laws.proofs.Lists.{none_is_not_some}
 use Rattle.yard_model.specs.declared.fact.Fact.{Fact}
 use Rattle.yard_model.specs.declared.incarnation.Incarnation.{Incarnation}
 use Rattle.yard_model.specs.declared.incarnation.Slot.{Slot}
@@ -40,6 +41,7 @@ new_node_rests z c version who p v idle node within script state = record {
   numbers = idle.numbers;
   script = script;
   who = ap (λ (st : Node). st.who.node) state;
+  whole = λ k l h. absurd (none_is_not_some l (sym (idle.nothing k) ∙ h));
   rests = subst (Rests (means who.node p) c) (sym state) (record {
     script_is = idle.charter;
     serves_is = number_itself who.node who.node refl;

@@ -1,7 +1,8 @@
 pub mod Alone
 pub mod Fresh
-pub mod Slotted
+pub mod WholeLaws
 pub mod Published
+pub mod ToldLaws
 pub mod Noted
 pub mod Shown
 pub mod Dues

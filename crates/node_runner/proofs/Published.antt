@@ -37,7 +37,8 @@ use Rattle.lease_table.specs.Tells.{published}
 use Rattle.lease_table.proofs.Meant.{all_taken, held_there, told_here, told_by, holds_by, stays, apart, grows_at, may_publish}
 use Rattle.lease_table.proofs.Places.{begins_here, same_or_not}
 use Rattle.node_runner.specs.Rested.{Rested, ArePublished, SeesOn, means}
-use Rattle.node_runner.proofs.Slotted.{Among, held_among, held_few, held_is_slot, none_past}
+use Rattle.node_runner.specs.Told.{StayShown}
+use Rattle.node_runner.proofs.WholeLaws.{published_whole}
 
 -- What a publish asks.
 
@@ -61,7 +62,7 @@ some_hand : (old new : Meaning) (s : Slot) (o : Option (List Fact)) → Stays ol
 some_hand old new s None h told is = is
 some_hand old new s (Some list) h told is = hand_stays old new s list h told is
 
-sees_published : (me : ℕ) (p q : Pass) (k : ℕ) (list : List Fact) → q.table ≡ p.table → q.view ≡ published p.view k list → Begins (seen_at p.view.seen k) list → SeesOn me p q
+pub sees_published : (me : ℕ) (p q : Pass) (k : ℕ) (list : List Fact) → q.table ≡ p.table → q.view ≡ published p.view k list → Begins (seen_at p.view.seen k) list → SeesOn me p q
 sees_published me p q k list table now seen = stays p.table q.table p.view q.view me table (ap (λ (u : View). u.charter) now) (grows_at p.view q.view k list (ap (λ (u : View). u.seen) now) seen)
 
 rests_published : (me : ℕ) (p q : Pass) (st : Node) (s : Slot) (list : List Fact) → st.who.node ≡ me → Rests (means me p) p.view.charter st → is_slot_of p.view.charter s ≡ true → held_list s st ≡ Some list
@@ -97,9 +98,9 @@ rests_published me p q st s list who rests here e table now seen =
       leased_are = rests.leased_are;
     }
 
-after_publish : (z : TableId) (c : Script) (me : ℕ) (p q : Pass) (v : Standing) (s : Slot) (list : List Fact) → Rested z c me p v → is_slot_of c s ≡ true → held_list s v.state ≡ Some list
+pub after_publish : (z : TableId) (c : Script) (me : ℕ) (p q : Pass) (v : Standing) (s : Slot) (list : List Fact) → Rested z c me p v → Spans p.view → is_slot_of c s ≡ true → held_list s v.state ≡ Some list
     → q.table ≡ p.table → q.view ≡ published p.view (place_of c.config s) list → Begins (seen_at p.view.seen (place_of c.config s)) list → Rested z c me q v
-after_publish z c me p q v s list r here e table now seen = record {
+after_publish z c me p q v s list r wide here e table now seen = record {
   table = table ∙ r.table;
   charter = ap (λ (u : View). u.charter) now ∙ r.charter;
   numbers = ap (λ (u : View). u.numbers) now ∙ r.numbers;
@@ -108,57 +109,26 @@ after_publish z c me p q v s list r here e table now seen = record {
   rests = subst (λ (y : Script). Rests (means me q) y v.state) r.charter
       (rests_published me p q v.state s list r.who (subst (λ (y : Script). Rests (means me p) y v.state) (sym r.charter) r.rests) (ap (λ (y : Script). is_slot_of y s) r.charter ∙ here) e table
       (subst (λ (y : Script). q.view ≡ published p.view (place_of y.config s) list) (sym r.charter) now) (subst (λ (y : Script). Begins (seen_at p.view.seen (place_of y.config s)) list) (sym r.charter) seen));
+  whole = published_whole p.view q.view (place_of c.config s) list wide now r.whole;
 }
 
--- One after the other.
+-- what it has seen of the slots then
 
--- those at the first places are published
-pub record Publishing (z : TableId) (c : Script) (me : ℕ) (first now : Pass) (v : Standing) (n : ℕ) : Type 0 where
-  pub rested : Rested z c me now v
-  pub sees : SeesOn me first now
-  pub below : (i : ℕ) (s : Slot) (list : List Fact) → i < n → slice_get (held_slots c v.state) i ≡ Some s → held_list s v.state ≡ Some list → seen_at now.view.seen (place_of c.config s) ≡ list
-
-pub begun : (z : TableId) (c : Script) (me : ℕ) (p : Pass) (v : Standing) → Rested z c me p v → Publishing z c me p p v 0
-begun z c me p v r = record { rested = r; sees = stays_same (means me p); below = λ i s list less e h. absurd (never i less) }
-  where
-    never : (k : ℕ) → k < 0 → ⊥
-    never k h = omega (arith, h)
-
-pub one_more : (z : TableId) (c : Script) (me : ℕ) (first p q : Pass) (v : Standing) (n : ℕ) (s : Slot) (list : List Fact) → Publishing z c me first p v n → slice_get (held_slots c v.state) n ≡ Some s → held_list s v.state ≡ Some list → Spans p.view
-    → q.table ≡ p.table → q.view ≡ published p.view (place_of c.config s) list → Begins (seen_at p.view.seen (place_of c.config s)) list → Publishing z c me first q v (n + 1)
-one_more z c me first p q v n s list b at_n e wide table now seen =
-    let here : is_slot_of c s ≡ true = held_is_slot c v.state n s at_n in
+pub shown_here : (c : Script) (p q : Pass) (s : Slot) (list : List Fact) → Spans p.view → p.view.charter ≡ c → is_slot_of c s ≡ true → q.view ≡ published p.view (place_of c.config s) list → seen_at q.view.seen (place_of c.config s) ≡ list
+shown_here c p q s list wide charter here now =
     let k : ℕ = place_of c.config s in
-    let all : length p.view.seen ≡ slot_count c = wide.seens ∙ ap slot_count b.rested.charter in
+    let all : length p.view.seen ≡ slot_count c = wide.seens ∙ ap slot_count charter in
     let low : k < slot_count c = place_within c s here in
     let less : k < length p.view.seen = subst (λ m. k < m) (sym all) low in
-    let placed : seen_at q.view.seen k ≡ list = ap (λ (u : View). seen_at u.seen k) now ∙ get_or-set_same p.view.seen k list [] less in record {
-      rested = after_publish z c me p q v s list b.rested here e table now seen;
-      sees = stays_both (means me first) (means me p) (means me q) b.sees (sees_published me p q k list table now seen);
-      below = λ i t l less' at_i h. ⊎_elim
-          (λ (is : t ≡ s). subst (λ (u : Slot). seen_at q.view.seen (place_of c.config u) ≡ l) (sym is) (placed ∙ some_is list l (sym e ∙ ap (λ (u : Slot). held_list u v.state) (sym is) ∙ h)))
-          (λ (ne : place_of c.config t ≢ k).
-          ap (λ (u : View). seen_at u.seen (place_of c.config t)) now ∙ get_or-set_other p.view.seen k (place_of c.config t) list [] ne
-          ∙ b.below i t l (lower i less' (λ is. ne (ap (place_of c.config) (some_is t s (sym at_i ∙ ap (slice_get (held_slots c v.state)) is ∙ at_n))))) at_i h)
-          (slot_or_not c t s (held_is_slot c v.state i t at_i) here);
-    }
-  where
-    lower : (i : ℕ) → i < n + 1 → (i ≡ n → ⊥) → i < n
-    lower i less other = grind arith
+    ap (λ (u : View). seen_at u.seen k) now ∙ get_or-set_same p.view.seen k list [] less
 
-pub all_published : (z : TableId) (c : Script) (me : ℕ) (first now : Pass) (v : Standing) (n : ℕ) → Publishing z c me first now v n → length (held_slots c v.state) ≤ n → ArePublished c now v.state
-all_published z c me first now v n b many s here = by (held_list s v.state) refl
-  where
-    le_lt : (i k n : ℕ) → i < k → k ≤ n → i < n
-    le_lt i k n a b = omega (arith, a, b)
+pub stay_shown : (c : Script) (p q : Pass) (st : Node) (s : Slot) (list : List Fact) → Spans p.view → p.view.charter ≡ c → is_slot_of c s ≡ true → held_list s st ≡ Some list → q.view ≡ published p.view (place_of c.config s) list → StayShown c p q st
+stay_shown c p q st s list wide charter here e now t l there h seen = ⊎_elim
+    (λ (is : t ≡ s). subst (λ (u : Slot). seen_at q.view.seen (place_of c.config u) ≡ l) (sym is) (shown_here c p q s list wide charter here now ∙ some_is list l (sym e ∙ ap (λ (u : Slot). held_list u st) (sym is) ∙ h)))
+    (λ (ne : place_of c.config t ≢ place_of c.config s). ap (λ (u : View). seen_at u.seen (place_of c.config t)) now ∙ get_or-set_other p.view.seen (place_of c.config s) (place_of c.config t) list [] ne ∙ seen)
+    (slot_or_not c t s there here)
 
-    by : (o : Option (List Fact)) → held_list s v.state ≡ o → IfSome o (λ list. seen_at now.view.seen (place_of c.config s) ≡ list)
-    by None e = tt
-    by (Some list) e =
-        let a : Among s (held_slots c v.state) = held_among c v.state s list here e in
-        b.below a.place s list (le_lt a.place (length (held_slots c v.state)) n a.less many) a.is e
-
--- A turn, and then what it holds is published.
+-- A turn, and then what it told is published.
 
 no_other : (me n : ℕ) (b d : Bool) → n ≢ me → ((n == me) && b) ≡ ((n == me) && d)
 no_other me n b d ne = let none : (n == me) ≡ false = ne_eqb n me ne in ap (λ x. x && b) none ∙ sym (ap (λ x. x && d) none)

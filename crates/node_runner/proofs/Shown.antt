@@ -2,7 +2,6 @@
 use Rattle.std.proofs.Common.{◌≡◌, ℕ, ◌-◌, ◌≤◌, ◌&&◌, true, false, List, refl, sym, ap, ◌∙◌, subst}
 use Rattle.std.specs.Prelude.{Bool, Option, None, Some, IfSome, is_some}
 use Rattle.std.specs.Option.{option_map}
-use Rattle.atomic_table.specs.Seated.{TableId}
 use Rattle.plain_laws.proofs.Booleans.{true_is_not_false, and_both}
 use Rattle.plain_laws.proofs.Lists.{none_is_not_some, some_is}
 use Rattle.yard_model.specs.declared.fact.Fact.{Fact}
@@ -26,7 +25,6 @@ use Rattle.node_runner.specs.declared.offer.Confirmed.{Confirmed}
 use Rattle.node_runner.specs.Rested.{Rested, means}
 use Rattle.node_runner.specs.Parcels.{is_shown, has_seen}
 use Rattle.node_runner.specs.Shown.{confirmed_of, AreApart, IsHanded}
-use Rattle.node_runner.proofs.Noted.{met_vouches}
 
 -- the record that is confirmed may be, if there is one
 abbrev pub MayConfirmIt : (List ℕ → ℕ → ℕ → Bool) → Node → Option Confirmed → Type 0
@@ -54,17 +52,15 @@ pub plain_handed : (c : Script) (me : ℕ) (p : Pass) (v : Standing) (x : Packet
 plain_handed c me p v x genuine within to apart none = handed_of c me p v x genuine within to apart (subst (MayConfirmIt (means me p).vouches v.state) (sym none) tt)
 
 -- where it confirms a record, its note has seen that
-shown_of : (c : Script) (b : Body) (r : Confirmed) (seer : Option Pass) → confirmed_of b ≡ Some r → is_shown c b seer ≡ true → has_seen c r.entity r.producer r.number seer ≡ true
+pub shown_of : (c : Script) (b : Body) (r : Confirmed) (seer : Option Pass) → confirmed_of b ≡ Some r → is_shown c b seer ≡ true → has_seen c r.entity r.producer r.number seer ≡ true
 shown_of c (body.Ack p e n) r seer is h = ap (λ (x : Confirmed). has_seen c x.entity x.producer x.number seer) (sym (some_is (record { producer = p; entity = e; number = n }) r is)) ∙ h
 shown_of c (body.Request p e n u) r seer is h = ap (λ (x : Confirmed). has_seen c x.entity x.producer x.number seer) (sym (some_is (record { producer = p; entity = e; number = n }) r is)) ∙ h
 shown_of c b r seer is h = absurd (none_is_not_some r is)
 
--- it confirms a record that its note has seen
-pub shown_handed : (z : TableId) (c : Script) (me : ℕ) (p note q : Pass) (v : Standing) (x : Packet) (r : Confirmed) → Rested z c me p v → is_genuine_packet c x ≡ true → is_within x.from.number ≡ true → x.to ≡ v.state.who → AreApart x.body
-    → confirmed_of x.body ≡ Some r → is_shown c x.body (Some note) ≡ true → Met p.view note.view (home_of c r.entity) q.view
-    → ((k : Producer) → at v.state.producers (r.producer - 1) ≡ Some k → r.number ≤ queued r.entity k.entries) → IsHanded c me q v x
-shown_handed z c me p note q v x r rested genuine within to apart is shown met there =
-    handed_of c me q v x genuine within to apart (subst (MayConfirmIt (means me q).vouches v.state) (sym is) (λ k e. (there k e, met_vouches c me p note q r.entity r.producer r.number rested.charter met (shown_of c x.body r (Some note) is shown))))
+-- it confirms a record that the pass has seen
+pub shown_handed : (c : Script) (me : ℕ) (q : Pass) (v : Standing) (x : Packet) (r : Confirmed) → is_genuine_packet c x ≡ true → is_within x.from.number ≡ true → x.to ≡ v.state.who → AreApart x.body → confirmed_of x.body ≡ Some r
+    → (means me q).vouches r.entity r.producer r.number ≡ true → ((k : Producer) → at v.state.producers (r.producer - 1) ≡ Some k → r.number ≤ queued r.entity k.entries) → IsHanded c me q v x
+shown_handed c me q v x r genuine within to apart is vouched there = handed_of c me q v x genuine within to apart (subst (MayConfirmIt (means me q).vouches v.state) (sym is) (λ k e. (there k e, vouched)))
 
 -- What is queued at a node.
 
@@ -74,6 +70,3 @@ queue_is st p list k held there = some_is k.entries list (ap (option_map (λ (x 
 
 pub queued_there : (st : Node) (p n : ℕ) (e : List ℕ) (list : List Fact) → held_list (slot.Queue p) st ≡ Some list → n ≤ queued e list → (k : Producer) → at st.producers (p - 1) ≡ Some k → n ≤ queued e k.entries
 queued_there st p n e list held few k there = subst (λ l. n ≤ queued e l) (sym (queue_is st p list k held there)) few
-
-pub none_queued : (st : Node) (p n : ℕ) (e : List ℕ) → is_some (at st.producers (p - 1)) ≡ false → (k : Producer) → at st.producers (p - 1) ≡ Some k → n ≤ queued e k.entries
-none_queued st p n e none k there = absurd (true_is_not_false (sym (ap is_some there) ∙ none))

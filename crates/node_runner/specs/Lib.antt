@@ -1,4 +1,6 @@
 pub mod Alone
+pub mod Whole
+pub mod Told
 pub mod Rested
 pub mod Shown
 pub mod Ordered

@@ -16,6 +16,7 @@ use Rattle.lease_table.specs.Fits.{is_within}
 use Rattle.lease_table.specs.Leasing.{Pass, Idle}
 use Rattle.lease_table.specs.Lists.{seen_at}
 use Rattle.lease_table.specs.Means.{meaning_of}
+use Rattle.node_runner.specs.Whole.{SeesHeld}
 
 -- what a pass means that acts for one node
 abbrev pub means : ℕ → Pass → Meaning
@@ -29,6 +30,7 @@ pub record Rested (z : TableId) (c : Script) (me : ℕ) (p : Pass) (v : Standing
   pub script : v.script ≡ c
   pub who : v.state.who.node ≡ me
   pub rests : Rests (means me p) c v.state
+  pub whole : SeesHeld p.view
 
 -- the list of each slot that the node holds is the one that its pass has seen: others may see it
 abbrev pub ArePublished : Script → Pass → Node → Type 0

@@ -10,9 +10,9 @@ ghost use Rattle.node_runner.specs.Mailed.{IsSameHolder};
 use crate::draws::{Draws, Fate};
 use crate::parcel::{Parcel, Run};
 use crate::record::parcel_of;
+use crate::up_node::UpNode;
 use behaviour_core::Behaviour;
 use lease_table::{LeasePass, LeaseTable};
-use node_core::Node;
 use post_box::{BoxPass, PostBox};
 use std::alloc::{AllocError, Global};
 use std::sync::Wait;
@@ -93,9 +93,22 @@ impl<J: Run> Mail<J> {
         requires plain { is_confirming packet.now.body ≡ false }
         ensures kept { IsSameHolder self.old.pass self.new.pass }
     {
-        let fate = self.draws.fate();
-        let again = Parcel::plain(*packet);
-        self.dispatch(rt, boxes, fate, Parcel::plain(*packet), Some(again))
+        match self.draws.fate() {
+            Fate::Lost => Ok(()),
+            Fate::Later => {
+                self.held.push(Parcel::plain(*packet))?;
+                Ok(())
+            }
+            Fate::Once => {
+                post_one(rt, boxes, &mut self.pass, Parcel::plain(*packet));
+                Ok(())
+            }
+            Fate::Twice => {
+                post_one(rt, boxes, &mut self.pass, Parcel::plain(*packet));
+                post_one(rt, boxes, &mut self.pass, Parcel::plain(*packet));
+                Ok(())
+            }
+        }
     }
 
     /// Draws what becomes of a packet that the node posted in a turn, and posts it so, with a note where it
@@ -107,7 +120,7 @@ impl<J: Run> Mail<J> {
         boxes: &PostBox<Parcel<J>>,
         table: &LeaseTable,
         pass: LeasePass,
-        node: &Node<B>,
+        node: &UpNode<B>,
         charter: &Charter,
         packet: &Packet,
     ) -> Result<LeasePass, AllocError>
@@ -127,86 +140,21 @@ impl<J: Run> Mail<J> {
             return Ok(pass);
         }
         let (pass, parcel) = parcel_of::<J, B>(table, pass, me, node, charter, packet);
-        let (pass, again) = again_of::<J, B>(fate, table, pass, me, node, charter, packet);
-        self.dispatch_if(rt, boxes, fate, parcel, again)?;
+        let Some(parcel) = parcel else {
+            self.let_go(1);
+            return Ok(pass);
+        };
+        if matches!(fate, Fate::Later) {
+            self.held.push(parcel)?;
+            return Ok(pass);
+        }
+        post_one(rt, boxes, &mut self.pass, parcel);
+        if matches!(fate, Fate::Twice) {
+            let (pass, again) = parcel_of::<J, B>(table, pass, me, node, charter, packet);
+            post_if(rt, boxes, &mut self.pass, again);
+            return Ok(pass);
+        }
         Ok(pass)
-    }
-
-    /// Posts a parcel as was drawn, if there is one; else one packet more was let go.
-    fn dispatch_if<R: Wait>(
-        &mut self,
-        rt: &R,
-        boxes: &PostBox<Parcel<J>>,
-        fate: Fate,
-        parcel: Option<Parcel<J>>,
-        again: Option<Parcel<J>>,
-    ) -> Result<(), AllocError>
-        requires belongs { self.old.pass.tables ≡ boxes.now.tables }
-        requires nodes { length boxes.now.tables ≡ J.script.config.nodes }
-        ensures kept { IsSameHolder self.old.pass self.new.pass }
-    {
-        match parcel {
-            Some(parcel) => self.dispatch(rt, boxes, fate, parcel, again),
-            None => {
-                self.let_go(1);
-                Ok(())
-            }
-        }
-    }
-
-    /// Posts a parcel as was drawn; a second one is at hand.
-    fn dispatch<R: Wait>(
-        &mut self,
-        rt: &R,
-        boxes: &PostBox<Parcel<J>>,
-        fate: Fate,
-        parcel: Parcel<J>,
-        again: Option<Parcel<J>>,
-    ) -> Result<(), AllocError>
-        requires belongs { self.old.pass.tables ≡ boxes.now.tables }
-        requires nodes { length boxes.now.tables ≡ J.script.config.nodes }
-        ensures kept { IsSameHolder self.old.pass self.new.pass }
-    {
-        match fate {
-            Fate::Lost => Ok(()),
-            Fate::Later => {
-                self.held.push(parcel)?;
-                Ok(())
-            }
-            Fate::Once => {
-                post_one(rt, boxes, &mut self.pass, parcel);
-                Ok(())
-            }
-            Fate::Twice => {
-                post_one(rt, boxes, &mut self.pass, parcel);
-                post_if(rt, boxes, &mut self.pass, again);
-                Ok(())
-            }
-        }
-    }
-}
-
-/// A second parcel of the packet, where it is to be posted twice.
-fn again_of<J: Run, B: Behaviour + Drop>(
-    fate: Fate,
-    table: &LeaseTable,
-    pass: LeasePass,
-    me: NodeNo,
-    node: &Node<B>,
-    charter: &Charter,
-    packet: &Packet,
-) -> (LeasePass, Option<Parcel<J>>)
-    requires run { (J.script ≡ charter_of table.now) × (J.table ≡ id_of table.now) }
-    requires charter { charter.now ≡ charter_of table.now }
-    requires rested { Rested (id_of table.now) (charter_of table.now) me pass node.now }
-    requires published { ArePublished (charter_of table.now) pass node.now.state }
-    requires genuine { is_genuine_packet (charter_of table.now) packet.now ≡ true }
-    ensures pass { result.0 ≡ pass }
-{
-    if matches!(fate, Fate::Twice) {
-        parcel_of(table, pass, me, node, charter, packet)
-    } else {
-        (pass, None)
     }
 }
 

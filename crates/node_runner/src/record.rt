@@ -12,11 +12,11 @@ ghost use Rattle.node_runner.specs.Rested.{Rested, ArePublished};
 ghost use Rattle.node_runner.specs.Parcels.{is_within_packet};
 ghost use Rattle.node_runner.specs.Shown.{confirmed_of, IsRecordedIn};
 
-use crate::offer::{Confirmed, PAST_SLOTS, confirmed_of};
+use crate::offer::{Confirmed, confirmed_of};
 use crate::parcel::{Parcel, Run, is_within_limit};
+use crate::up_node::UpNode;
 use behaviour_core::Behaviour;
 use lease_table::{LeasePass, LeaseTable};
-use node_core::Node;
 use shard_extract::shard_of;
 use shard_store::{ShardStore, StoreRef};
 use yard_model::{Charter, EntityName, NodeNo, Packet, ShardNo, Slot};
@@ -28,7 +28,7 @@ pub fn parcel_of<J: Run, B: Behaviour + Drop>(
     table: &LeaseTable,
     pass: LeasePass,
     me: NodeNo,
-    node: &Node<B>,
+    node: &UpNode<B>,
     charter: &Charter,
     packet: &Packet,
 ) -> (LeasePass, Option<Parcel<J>>)
@@ -53,7 +53,7 @@ pub fn parcel_of<J: Run, B: Behaviour + Drop>(
 fn with_note<J: Run, B: Behaviour + Drop>(
     table: &LeaseTable,
     pass: LeasePass,
-    node: &Node<B>,
+    node: &UpNode<B>,
     charter: &Charter,
     packet: &Packet,
     confirmed: &Confirmed,
@@ -77,7 +77,7 @@ fn with_note<J: Run, B: Behaviour + Drop>(
 }
 
 /// The shard of a name.
-fn home(charter: &Charter, entity: &EntityName) -> ShardNo
+pub(crate) fn home(charter: &Charter, entity: &EntityName) -> ShardNo
     ensures home { result ≡ home_of charter.now entity.now }
     ensures shard { is_shard charter.now result ≡ true }
 {
@@ -85,20 +85,19 @@ fn home(charter: &Charter, entity: &EntityName) -> ShardNo
 }
 
 /// Whether the node hosts this shard, which is the entity's, and the record stands in its list.
-fn is_recorded<B: Behaviour + Drop>(node: &Node<B>, shard: ShardNo, confirmed: &Confirmed) -> bool
+fn is_recorded<B: Behaviour + Drop>(node: &UpNode<B>, shard: ShardNo, confirmed: &Confirmed) -> bool
+    requires shard { is_shard node.now.script shard ≡ true }
     requires name { IsTrue (is_of_shard node.now.script shard confirmed.now.entity) }
     ensures { result ≡ true → IsRecordedIn shard confirmed.now node.now.state }
 {
-    for at in 0..PAST_SLOTS {
-        if let Some(store) = shard_in(node, at, shard) {
-            return is_in_journal(store, confirmed);
-        }
+    match node.held_store(Slot::Shard(shard)) {
+        Some(store) => is_in_journal(shard_ref(store, shard), confirmed),
+        None => false,
     }
-    false
 }
 
 /// Whether the record stands in the journal of its entity, which is of this shard.
-fn is_in_journal(store: &ShardStore, confirmed: &Confirmed) -> bool
+pub(crate) fn is_in_journal(store: &ShardStore, confirmed: &Confirmed) -> bool
     requires name { IsTrue (is_of_shard store.now.script store.now.shard confirmed.now.entity) }
     ensures { result ≡ recorded confirmed.now.entity confirmed.now.producer confirmed.now.number store.now.entries }
 {
@@ -106,25 +105,8 @@ fn is_in_journal(store: &ShardStore, confirmed: &Confirmed) -> bool
     confirmed.number <= journal.position(confirmed.producer)
 }
 
-/// The shard's store, where the held slot at this place is it.
-fn shard_in<B: Behaviour + Drop>(node: &Node<B>, at: u16, shard: ShardNo) -> Option<&ShardStore>
-    ensures shard { IfSome result (λ q. (q.now.script ≡ node.now.script) × (q.now.shard ≡ shard)) }
-    ensures held { IfSome result (λ q. held_list (slot.Shard shard) node.now.state ≡ Some q.now.entries) }
-{
-    match node.for_each_held(at) {
-        Some((slot, store)) => {
-            if slot == Slot::Shard(shard) {
-                Some(shard_ref(store, shard))
-            } else {
-                None
-            }
-        }
-        None => None,
-    }
-}
-
 /// The store of this shard.
-fn shard_ref<'a>(store: StoreRef<'a>, shard: ShardNo) -> &'a ShardStore
+pub(crate) fn shard_ref<'a>(store: StoreRef<'a>, shard: ShardNo) -> &'a ShardStore
     requires { slot_of_ref store ≡ slot.Shard shard }
     ensures shard { (result.now.script ≡ script_of_ref store.entry) × (result.now.shard ≡ shard) }
     ensures entries { result.now.entries ≡ entries_of_ref store.entry }

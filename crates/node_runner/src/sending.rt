@@ -4,7 +4,7 @@ ghost use Rattle.yard_model.specs.Behaviour.{is_in};
 ghost use Rattle.lease_table.specs.Belongs.{id_of, charter_of};
 ghost use Rattle.node_runner.specs.Entered.{is_member};
 ghost use Rattle.node_runner.specs.Mailed.{IsSameHolder};
-ghost use Rattle.node_runner.specs.Posts.{is_genuine_item, AreGenuine};
+ghost use Rattle.node_runner.specs.Posts.{ArePackets, IsGenuineTray};
 ghost use Rattle.node_runner.specs.Progress.{StandsAt};
 ghost use Rattle.node_runner.specs.Rested.{Rested, ArePublished};
 
@@ -12,13 +12,14 @@ use crate::mail::Mail;
 use crate::parcel::{Parcel, Run};
 use crate::roster::{Roster, Views, enter, leave};
 use crate::steps::Place;
+use crate::tray::Tray;
+use crate::up_node::UpNode;
 use behaviour_core::Behaviour;
 use lease_table::{LeasePass, LeaseTable};
-use node_core::Node;
 use post_box::PostBox;
 use std::alloc::AllocError;
 use std::sync::{Mutex, Wait};
-use yard_model::{Charter, Incarnation, Item, NodeNo, Out};
+use yard_model::{Charter, Incarnation, NodeNo, Packet};
 
 /// The incarnation that is up, which may be a member of the run's roster.
 #[tactic(auto, using(crate::proofs::Mailing::up_member))]
@@ -108,8 +109,7 @@ fn post_views<J: Run, R: Wait>(
     Ok(())
 }
 
-/// Posts what the node posted in its turn, oldest first; the facts are let go. It may wait. The only
-/// error is want of memory.
+/// Posts what the node posted in its turn, oldest first. It may wait. The only error is want of memory.
 pub fn post_place<J: Run, R: Wait, B: Behaviour + Drop>(
     rt: &R,
     table: &LeaseTable,
@@ -117,54 +117,50 @@ pub fn post_place<J: Run, R: Wait, B: Behaviour + Drop>(
     charter: &Charter,
     mail: &mut Mail<J>,
     place: Place<B>,
-    out: &mut Out,
+    tray: &mut Tray,
 ) -> Result<Place<B>, AllocError>
     requires belongs { mail.old.pass.tables ≡ boxes.now.tables }
     requires nodes { length boxes.now.tables ≡ J.script.config.nodes }
     requires run { (J.script ≡ charter_of table.now) × (J.table ≡ id_of table.now) }
     requires charter { charter.now ≡ charter_of table.now }
     requires stands { StandsAt (id_of table.now) (charter_of table.now) mail.old.pass.node place.pass place.node }
-    requires genuine { AreGenuine (charter_of table.now) out.old.items }
+    requires genuine { IsGenuineTray (charter_of table.now) tray.old }
     ensures kept { IsSameHolder mail.old.pass mail.new.pass }
     ensures place { IfOk result (λ r. (r.pass ≡ place.pass) × (r.node ≡ place.node)) }
-    ensures emptied { OnOk result (out.new.items ≡ []) }
+    ensures genuine { OnOk result (IsGenuineTray (charter_of table.now) tray.new) }
 {
     let Place { pass, node } = place;
-    match node {
-        None => {
-            clear(out);
-            Ok(Place { pass, node: None })
-        }
-        Some(node) => {
-            let pass = post_items(rt, table, boxes, charter, mail, pass, &node, out)?;
-            Ok(Place {
-                pass,
-                node: Some(node),
-            })
-        }
-    }
+    let Some(node) = node else {
+        tray.posts.clear();
+        return Ok(Place { pass, node: None });
+    };
+    let pass = post_all(
+        rt,
+        table,
+        boxes,
+        charter,
+        mail,
+        pass,
+        &node,
+        tray.posts.as_slice(),
+    )?;
+    tray.posts.clear();
+    Ok(Place {
+        pass,
+        node: Some(node),
+    })
 }
 
-/// Lets the items go.
-fn clear(out: &mut Out)
-    ensures { out.new.items ≡ [] }
-{
-    while let Some(item) = out.take() {
-        let _ = item;
-    }
-}
-
-/// Posts what a node that is up posted in its turn, oldest first. It may wait. The only error is want of memory.
-#[tactic(auto, using(crate::proofs::Mailing::rest_genuine))]
-fn post_items<J: Run, R: Wait, B: Behaviour + Drop>(
+/// Posts these packets of a node that is up, one after the other. It may wait. The only error is want of memory.
+fn post_all<J: Run, R: Wait, B: Behaviour + Drop>(
     rt: &R,
     table: &LeaseTable,
     boxes: &PostBox<Parcel<J>>,
     charter: &Charter,
     mail: &mut Mail<J>,
     pass: LeasePass,
-    node: &Node<B>,
-    out: &mut Out,
+    node: &UpNode<B>,
+    packets: &[Packet],
 ) -> Result<LeasePass, AllocError>
     requires belongs { mail.old.pass.tables ≡ boxes.now.tables }
     requires nodes { length boxes.now.tables ≡ J.script.config.nodes }
@@ -172,41 +168,13 @@ fn post_items<J: Run, R: Wait, B: Behaviour + Drop>(
     requires charter { charter.now ≡ charter_of table.now }
     requires rested { Rested (id_of table.now) (charter_of table.now) mail.old.pass.node pass node.now }
     requires published { ArePublished (charter_of table.now) pass node.now.state }
-    requires genuine { AreGenuine (charter_of table.now) out.old.items }
+    requires genuine { ArePackets (charter_of table.now) packets.now }
     ensures kept { IsSameHolder mail.old.pass mail.new.pass }
     ensures pass { IfOk result (λ p. p ≡ pass) }
-    ensures emptied { OnOk result (out.new.items ≡ []) }
 {
     let mut pass = pass;
-    while let Some(item) = out.take() {
-        pass = post_item(rt, table, boxes, charter, mail, pass, node, &item)?;
+    for place in 0..packets.len() {
+        pass = mail.send(rt, boxes, table, pass, node, charter, &packets[place])?;
     }
     Ok(pass)
-}
-
-/// Posts a packet; a fact is let go. It may wait. The only error is want of memory.
-fn post_item<J: Run, R: Wait, B: Behaviour + Drop>(
-    rt: &R,
-    table: &LeaseTable,
-    boxes: &PostBox<Parcel<J>>,
-    charter: &Charter,
-    mail: &mut Mail<J>,
-    pass: LeasePass,
-    node: &Node<B>,
-    item: &Item,
-) -> Result<LeasePass, AllocError>
-    requires belongs { mail.old.pass.tables ≡ boxes.now.tables }
-    requires nodes { length boxes.now.tables ≡ J.script.config.nodes }
-    requires run { (J.script ≡ charter_of table.now) × (J.table ≡ id_of table.now) }
-    requires charter { charter.now ≡ charter_of table.now }
-    requires rested { Rested (id_of table.now) (charter_of table.now) mail.old.pass.node pass node.now }
-    requires published { ArePublished (charter_of table.now) pass node.now.state }
-    requires genuine { is_genuine_item (charter_of table.now) item.now ≡ true }
-    ensures kept { IsSameHolder mail.old.pass mail.new.pass }
-    ensures pass { IfOk result (λ p. p ≡ pass) }
-{
-    match item {
-        Item::Fact(_) => Ok(pass),
-        Item::Post(packet) => mail.send(rt, boxes, table, pass, node, charter, packet),
-    }
 }

@@ -10,20 +10,22 @@ ghost use Rattle.lease_table.specs.Fits.{is_within};
 ghost use Rattle.lease_table.specs.Leasing.{Idle};
 ghost use Rattle.worker_orders.specs.Waiting.{IsDue};
 ghost use Rattle.node_runner.specs.Ordered.{input_of, IsGiven, IfPassivate};
-ghost use Rattle.node_runner.specs.Progress.{StandsAt, AreQueuesShown, GoesOn, Takes, Progressed, SawAll, is_passivation, is_rest};
-ghost use Rattle.node_runner.specs.Posts.{StayGenuine};
+ghost use Rattle.node_runner.specs.Progress.{StandsAt, GoesOn, Takes, Progressed, SawAll, is_passivation, is_rest};
+ghost use Rattle.node_runner.specs.Posts.{KeepsTray};
 ghost use Rattle.node_runner.specs.Rested.{Rested, ArePublished, SeesOn, means};
 ghost use Rattle.node_runner.specs.Parcels.{is_shown};
 
 use crate::inputs::input_of;
-use crate::laws::{dues_are_given, queues_are_shown};
+use crate::laws::dues_are_given;
 use crate::offer::handed;
-use crate::turn::{node_ends, node_starts, publish_all, take_turn};
+use crate::telling::publish_told;
+use crate::tray::Tray;
+use crate::turn::{node_ends, node_starts, take_turn};
+use crate::up_node::UpNode;
 use behaviour_core::Behaviour;
 use lease_table::{LeasePass, LeaseTable, Note};
-use node_core::Node;
 use std::alloc::{AllocError, Global};
-use yard_model::{Charter, Incarnation, Input, NodeNo, Order, Out, Packet};
+use yard_model::{Charter, Incarnation, Input, NodeNo, Order, Packet};
 
 /// What the worker of a node has at the table: its pass, and its node where that is up.
 #[derive(Drop)]
@@ -31,7 +33,7 @@ pub struct Place<B: Behaviour> {
     /// The pass.
     pub pass: LeasePass,
     /// The node.
-    pub node: Option<Node<B>>,
+    pub node: Option<UpNode<B>>,
 }
 
 /// The node, which is up, is given an input. The only error is want of memory.
@@ -40,23 +42,32 @@ pub fn give<B: Behaviour + Drop>(
     charter: &Charter,
     me: NodeNo,
     pass: LeasePass,
-    node: Node<B>,
+    node: UpNode<B>,
     input: Input,
-    out: &mut Out,
+    tray: &mut Tray,
 ) -> Result<Place<B>, AllocError>
     requires charter { charter.now ≡ charter_of table.now }
     requires rested { Rested (id_of table.now) (charter_of table.now) me pass node }
-    requires queues { AreQueuesShown (charter_of table.now) pass node.state }
+    requires published { ArePublished (charter_of table.now) pass node.state }
     requires given { IsGiven (charter_of table.now) me (means me pass) node.state input }
     ensures stands { IfOk result (λ r. StandsAt (id_of table.now) (charter_of table.now) me r.pass r.node) }
     ensures goes_on { IfOk result (λ r. is_rest input ≡ false → GoesOn (charter_of table.now) me pass (Some node) r.pass r.node) }
     ensures takes { IfOk result (λ r. (o : Order) → input_of o ≡ Some input → Takes (charter_of table.now) me o pass (Some node) r.pass r.node) }
-    ensures posts { OnOk result (StayGenuine (charter_of table.now) out.old.items out.new.items) }
+    ensures posts { OnOk result (KeepsTray (charter_of table.now) tray.old tray.new) }
 {
     let mut node = node;
     node.stands();
-    node.reserve(out)?;
-    let pass = take_turn(table, pass, me, &mut node, charter, input, out);
+    node.reserve(&mut tray.out)?;
+    let mut pass = take_turn(table, pass, me, &mut node, charter, &input, &mut tray.out);
+    publish_told(
+        table,
+        &mut pass,
+        &node,
+        charter,
+        me,
+        &mut tray.out,
+        &mut tray.posts,
+    )?;
     Ok(Place {
         pass,
         node: Some(node),
@@ -70,11 +81,11 @@ pub fn take_packet<B: Behaviour + Drop>(
     charter: &Charter,
     me: NodeNo,
     pass: LeasePass,
-    node: Node<B>,
+    node: UpNode<B>,
     packet: &Packet,
     note: Option<Note>,
     unshown: &mut u64,
-    out: &mut Out,
+    tray: &mut Tray,
 ) -> Result<Place<B>, AllocError>
     requires charter { charter.now ≡ charter_of table.now }
     requires rested { Rested (id_of table.now) (charter_of table.now) me pass node }
@@ -85,23 +96,21 @@ pub fn take_packet<B: Behaviour + Drop>(
     requires shown { is_shown (charter_of table.now) packet.now.body note ≡ true }
     ensures stands { IfOk result (λ r. StandsAt (id_of table.now) (charter_of table.now) me r.pass r.node) }
     ensures goes_on { IfOk result (λ r. GoesOn (charter_of table.now) me pass (Some node) r.pass r.node) }
-    ensures posts { OnOk result (StayGenuine (charter_of table.now) out.old.items out.new.items) }
+    ensures posts { OnOk result (KeepsTray (charter_of table.now) tray.old tray.new) }
 {
-    queues_are_shown();
-    let (mut pass, may) = handed(table, pass, me, &node, charter, packet, note);
+    let (pass, may) = handed(table, pass, me, &node, charter, packet, note);
     if !may {
         count_unshown(&node, packet, unshown);
-        publish_all(table, &mut pass, &node, charter, me);
         return Ok(Place {
             pass,
             node: Some(node),
         });
     }
-    give(table, charter, me, pass, node, Input::Packet(*packet), out)
+    give(table, charter, me, pass, node, Input::Packet(*packet), tray)
 }
 
 /// A packet to the node was let go: one more, if it is for this incarnation.
-fn count_unshown<B: Behaviour + Drop>(node: &Node<B>, packet: &Packet, unshown: &mut u64) {
+fn count_unshown<B: Behaviour + Drop>(node: &UpNode<B>, packet: &Packet, unshown: &mut u64) {
     if packet.to == node.who() {
         *unshown = unshown.saturating_add(1);
     }
@@ -118,7 +127,7 @@ pub fn take_order<B: Behaviour + Copy + Drop>(
     order: &Order,
     number: u32,
     behaviour: B,
-    out: &mut Out,
+    tray: &mut Tray,
 ) -> Result<Place<B>, AllocError>
     requires charter { charter.now ≡ charter_of table.now }
     requires node { is_in 1 charter.now.config.nodes me ≡ true }
@@ -129,12 +138,12 @@ pub fn take_order<B: Behaviour + Copy + Drop>(
     requires version { is_version charter.now (B.version_of behaviour) ≡ true }
     ensures stands { IfOk result (λ r. StandsAt (id_of table.now) (charter_of table.now) me r.pass r.node) }
     ensures takes { IfOk result (λ r. Takes (charter_of table.now) me order.now place.pass place.node r.pass r.node) }
-    ensures posts { OnOk result (StayGenuine (charter_of table.now) out.old.items out.new.items) }
+    ensures posts { OnOk result (KeepsTray (charter_of table.now) tray.old tray.new) }
 {
     let Place { pass, node } = place;
     match node {
         None => down_order(alloc, table, charter, me, pass, order, number, behaviour),
-        Some(node) => up_order(table, charter, me, pass, node, order, out),
+        Some(node) => up_order(table, charter, me, pass, node, order, tray),
     }
 }
 
@@ -187,9 +196,9 @@ fn up_order<B: Behaviour + Drop>(
     charter: &Charter,
     me: NodeNo,
     pass: LeasePass,
-    node: Node<B>,
+    node: UpNode<B>,
     order: &Order,
-    out: &mut Out,
+    tray: &mut Tray,
 ) -> Result<Place<B>, AllocError>
     requires charter { charter.now ≡ charter_of table.now }
     requires node { is_in 1 charter.now.config.nodes me ≡ true }
@@ -198,13 +207,13 @@ fn up_order<B: Behaviour + Drop>(
     requires due { IsDue (charter_of table.now) me order.now }
     ensures stands { IfOk result (λ r. StandsAt (id_of table.now) (charter_of table.now) me r.pass r.node) }
     ensures takes { IfOk result (λ r. Takes (charter_of table.now) me order.now pass (Some node) r.pass r.node) }
-    ensures posts { OnOk result (StayGenuine (charter_of table.now) out.old.items out.new.items) }
+    ensures posts { OnOk result (KeepsTray (charter_of table.now) tray.old tray.new) }
 {
     if let Order::Crash(_) = *order {
-        let pass = crash(table, me, pass, node, out)?;
+        let pass = crash(table, me, pass, node, tray)?;
         return Ok(Place { pass, node: None });
     }
-    act(table, charter, me, pass, node, order, out)
+    act(table, charter, me, pass, node, order, tray)
 }
 
 /// An order that is no `crash` where the node is up.
@@ -214,9 +223,9 @@ fn act<B: Behaviour + Drop>(
     charter: &Charter,
     me: NodeNo,
     pass: LeasePass,
-    node: Node<B>,
+    node: UpNode<B>,
     order: &Order,
-    out: &mut Out,
+    tray: &mut Tray,
 ) -> Result<Place<B>, AllocError>
     requires charter { charter.now ≡ charter_of table.now }
     requires node { is_in 1 charter.now.config.nodes me ≡ true }
@@ -225,7 +234,7 @@ fn act<B: Behaviour + Drop>(
     requires due { IsDue (charter_of table.now) me order.now }
     ensures stands { IfOk result (λ r. StandsAt (id_of table.now) (charter_of table.now) me r.pass r.node) }
     ensures takes { IfOk result (λ r. Takes (charter_of table.now) me order.now pass (Some node) r.pass r.node) }
-    ensures posts { OnOk result (StayGenuine (charter_of table.now) out.old.items out.new.items) }
+    ensures posts { OnOk result (KeepsTray (charter_of table.now) tray.old tray.new) }
 {
     let Some(input) = input_of(order) else {
         return Ok(Place {
@@ -234,7 +243,6 @@ fn act<B: Behaviour + Drop>(
         });
     };
     charter.config();
-    queues_are_shown();
     dues_are_given();
     if !is_acting(&node, &input) {
         return Ok(Place {
@@ -242,11 +250,11 @@ fn act<B: Behaviour + Drop>(
             node: Some(node),
         });
     }
-    give(table, charter, me, pass, node, input, out)
+    give(table, charter, me, pass, node, input, tray)
 }
 
 /// Whether the input has something to do: a passivation only where its entity is active.
-fn is_acting<B: Behaviour + Drop>(node: &Node<B>, input: &Input) -> bool
+fn is_acting<B: Behaviour + Drop>(node: &UpNode<B>, input: &Input) -> bool
     requires { IfPassivate input.now (λ e. is_brought node.now.script e ≡ true) }
     ensures { result ≡ false → is_passivation input.now ≡ true }
 {
@@ -261,17 +269,18 @@ fn crash<B: Behaviour + Drop>(
     table: &LeaseTable,
     me: NodeNo,
     pass: LeasePass,
-    node: Node<B>,
-    out: &mut Out,
+    node: UpNode<B>,
+    tray: &mut Tray,
 ) -> Result<LeasePass, AllocError>
     requires rested { Rested (id_of table.now) (charter_of table.now) me pass node }
     ensures idle { IfOk result (Idle (id_of table.now) (charter_of table.now) me) }
     ensures sees { IfOk result (SeesOn me pass) }
-    ensures posts { OnOk result (StayGenuine (charter_of table.now) out.old.items out.new.items) }
+    ensures posts { OnOk result (KeepsTray (charter_of table.now) tray.old tray.new) }
 {
     let mut node = node;
-    node.reserve(out)?;
-    Ok(node_ends(table, pass, me, node, out))
+    node.reserve(&mut tray.out)?;
+    let pass = node_ends(table, pass, me, node, &mut tray.out);
+    Ok(pass)
 }
 
 /// The worker's end: a node that is up goes. Where no order is left, all sends of its steady producers
@@ -280,16 +289,16 @@ pub fn finish<B: Behaviour + Drop>(
     table: &LeaseTable,
     me: NodeNo,
     place: Place<B>,
-    out: &mut Out,
+    tray: &mut Tray,
 ) -> Result<LeasePass, AllocError>
     requires stands { StandsAt (id_of table.now) (charter_of table.now) me place.pass place.node }
     ensures idle { IfOk result (Idle (id_of table.now) (charter_of table.now) me) }
     ensures saw { IfOk result (λ r. (turns : ℕ) → Progressed (charter_of table.now) turns me [] place.pass place.node → SawAll (charter_of table.now) turns me r) }
-    ensures posts { OnOk result (StayGenuine (charter_of table.now) out.old.items out.new.items) }
+    ensures posts { OnOk result (KeepsTray (charter_of table.now) tray.old tray.new) }
 {
     let Place { pass, node } = place;
     match node {
         None => Ok(pass),
-        Some(node) => crash(table, me, pass, node, out),
+        Some(node) => crash(table, me, pass, node, tray),
     }
 }

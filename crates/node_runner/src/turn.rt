@@ -15,67 +15,40 @@ ghost use Rattle.lease_table.specs.Belongs.{id_of, charter_of};
 ghost use Rattle.lease_table.specs.Fits.{admits, is_within};
 ghost use Rattle.lease_table.specs.Leasing.{Idle};
 ghost use Rattle.node_runner.specs.Posts.{StayGenuine};
-ghost use Rattle.node_runner.specs.Rested.{Rested, ArePublished, SeesOn, means};
+ghost use Rattle.node_runner.specs.Rested.{Rested, ArePublished, means};
 
+use crate::leases::NodeLeases;
+use crate::up_node::UpNode;
 use behaviour_core::Behaviour;
-use lease_table::{LeasePass, LeaseTable, TablePass};
+use lease_table::{LeasePass, LeaseTable};
 use node_core::{Grounds, Node};
 use std::alloc::{AllocError, Global};
 use yard_model::{Charter, Incarnation, Input, NodeNo, Out};
 
-/// The list of each slot that the node holds is published.
-pub fn publish_all<B: Behaviour + Drop>(
-    table: &LeaseTable,
-    pass: &mut LeasePass,
-    node: &Node<B>,
-    charter: &Charter,
-    me: NodeNo,
-)
-    requires charter { charter.now ≡ charter_of table.now }
-    requires rested { Rested (id_of table.now) (charter_of table.now) me pass.old node.now }
-    ensures rested { Rested (id_of table.now) (charter_of table.now) me pass.new node.now }
-    ensures published { ArePublished (charter_of table.now) pass.new node.now.state }
-    ensures sees { SeesOn me pass.old pass.new }
-{
-    charter.config();
-    node.stands();
-    for at in 0..u16::MAX {
-        let Some((slot, store)) = node.for_each_held(at) else {
-            return;
-        };
-        pass.stands();
-        table.publish(pass, slot, store);
-    }
-}
-
-/// The node handles an input with the leases of its pass, and publishes what it holds. Each fact is
-/// guarded by what the node has in hand, and each post is its own.
+/// The node handles an input with the leases of its pass. Each fact is guarded by what the node has in
+/// hand, and each post is its own.
 pub fn take_turn<B: Behaviour + Drop>(
     table: &LeaseTable,
     pass: LeasePass,
     me: NodeNo,
-    node: &mut Node<B>,
+    node: &mut UpNode<B>,
     charter: &Charter,
-    input: Input,
+    input: &Input,
     out: &mut Out,
 ) -> LeasePass
     requires charter { charter.now ≡ charter_of table.now }
     requires rested { Rested (id_of table.now) (charter_of table.now) me pass node.old }
-    requires addressed { IfPacket input (IsFor (means me pass) node.old.state.who) }
-    requires may { MayTake (charter_of table.now) (means me pass).vouches node.old.state input }
-    requires produces { IfProduce input (λ p. admits (charter_of table.now) me (slot.Queue p) ≡ true) }
+    requires addressed { IfPacket input.now (IsFor (means me pass) node.old.state.who) }
+    requires may { MayTake (charter_of table.now) (means me pass).vouches node.old.state input.now }
+    requires produces { IfProduce input.now (λ p. admits (charter_of table.now) me (slot.Queue p) ≡ true) }
     requires ready { IsReady node.old out.old.spare }
     ensures rested { Rested (id_of table.now) (charter_of table.now) me result node.new }
-    ensures published { ArePublished (charter_of table.now) result node.new.state }
-    ensures who { node.new.state.who ≡ node.old.state.who }
-    ensures turned { Turned (charter_of table.now) (λ lists. turn (all_sends (charter_of table.now)) lists input node.old.state) (moment (means me pass) node.old.state out.old.items) (moment (means me result) node.new.state out.new.items) }
+    ensures turned { Turned (charter_of table.now) (λ lists. turn (all_sends (charter_of table.now)) lists input.now node.old.state) (moment (means me pass) node.old.state out.old.items) (moment (means me result) node.new.state out.new.items) }
     ensures posts { StayGenuine (charter_of table.now) out.old.items out.new.items }
 {
-    let mut leases = TablePass::new(table, pass, me);
+    let mut leases = NodeLeases::new(table, pass, me);
     node.turn(charter, input, &mut leases, out);
-    let mut pass = leases.into_pass();
-    publish_all(table, &mut pass, node, charter, me);
-    pass
+    leases.into_pass()
 }
 
 /// A node that comes up, with nothing in hand. The only error is want of memory.
@@ -87,7 +60,7 @@ pub fn node_starts<B: Behaviour + Drop>(
     who: Incarnation,
     charter: &Charter,
     behaviour: B,
-) -> Result<Node<B>, AllocError>
+) -> Result<UpNode<B>, AllocError>
     requires charter { charter.now ≡ charter_of table.now }
     requires idle { Idle (id_of table.now) (charter_of table.now) who.node pass.now }
     requires who { is_node charter.now who ≡ true }
@@ -101,7 +74,8 @@ pub fn node_starts<B: Behaviour + Drop>(
     let _ = table;
     let _ = pass;
     let grounds = Grounds::new(alloc, charter)?;
-    Node::new(alloc, who, charter, &grounds, behaviour)
+    let node = Node::new(alloc, who, charter, &grounds, behaviour)?;
+    UpNode::new(alloc, node)
 }
 
 /// The node is gone, and its pass holds nothing: every slot that it held is freed, as its list stood.
@@ -109,7 +83,7 @@ pub fn node_ends<B: Behaviour + Drop>(
     table: &LeaseTable,
     pass: LeasePass,
     me: NodeNo,
-    node: Node<B>,
+    node: UpNode<B>,
     out: &mut Out,
 ) -> LeasePass
     requires rested { Rested (id_of table.now) (charter_of table.now) me pass node }
@@ -128,7 +102,7 @@ fn give_back<B: Behaviour + Drop>(
     table: &LeaseTable,
     pass: LeasePass,
     me: NodeNo,
-    node: Node<B>,
+    node: UpNode<B>,
     out: &mut Out,
 ) -> LeasePass
     requires rested { Rested (id_of table.now) (charter_of table.now) me pass node }
@@ -139,7 +113,7 @@ fn give_back<B: Behaviour + Drop>(
     ensures free { (s : Slot) → is_slot_of (charter_of table.now) s ≡ true → (means me result).holds me s ≡ false }
     ensures ended { Ended (charter_of table.now) (moment (means me pass) node.state out.old.items) (means me result) out.new.items }
 {
-    let mut leases = TablePass::new(table, pass, me);
+    let mut leases = NodeLeases::new(table, pass, me);
     node.crash(&mut leases, out);
     leases.into_pass()
 }

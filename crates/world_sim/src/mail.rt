@@ -151,8 +151,8 @@ impl Mail {
         self.reached = reach(&self.wire, self.count, self.reached, number);
     }
 
-    /// From here on a search for a number above this one, or a later one, passes over the numbers above it
-    /// that were delivered, however many there are.
+    /// Sets where the next searches begin. A search for a number above `from`, or above a later number,
+    /// then skips at once the delivered numbers that follow `from` without a gap.
     pub fn begin_after(&mut self, from: u32)
         requires { from ≤ length self.old.packets }
         ensures { self.new ≡ self.old }

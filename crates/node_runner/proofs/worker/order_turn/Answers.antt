@@ -8,7 +8,7 @@ use Rattle.node_runner.proofs.worker.order_turn.Goals as goal
 
 pub returns-clause-on_way : goal.returns-clause-on_way
 returns-clause-on_way g c =
-    let way : OnWay (id_of c.args.table.now) (charter_of c.args.table.now) c.args.me c.args.turn c.args.course.place.pass c.args.course.place.node (Some c.args.order.now) c.args.course.orders c.args.course.idle =
-    subst (λ (o : Option Order). OnWay (id_of c.args.table.now) (charter_of c.args.table.now) c.args.me c.args.turn c.args.course.place.pass c.args.course.place.node o c.args.course.orders c.args.course.idle) c.requires.next c.requires.on_way in
-    order_way (id_of c.args.table.now) (charter_of c.args.table.now) c.args.me c.args.turn c.args.course.place.pass c.in_ok-place.place.pass c.args.course.place.node c.in_ok-place.place.node c.args.order.now c.args.course.orders c.next-next.new.self c.next-next.result c.args.course.idle
+    let way : OnWay (id_of c.args.table.now) (charter_of c.args.table.now) c.args.me c.args.turn c.args.place.pass c.args.place.node (Some c.args.order.now) c.args.course.now.orders c.args.course.now.idle =
+    subst (λ (o : Option Order). OnWay (id_of c.args.table.now) (charter_of c.args.table.now) c.args.me c.args.turn c.args.place.pass c.args.place.node o c.args.course.now.orders c.args.course.now.idle) c.requires.next c.requires.on_way in
+    order_way (id_of c.args.table.now) (charter_of c.args.table.now) c.args.me c.args.turn c.args.place.pass c.in_ok-place.place.pass c.args.place.node c.in_ok-place.place.node c.args.order.now c.args.course.now.orders c.next-next.new.self c.next-next.result c.args.course.now.idle
     way c.in_ok-place.ensures.stands c.in_ok-place.ensures.takes c.next-next.ensures.script.0 c.next-next.ensures.script.1 c.next-next.ensures.orders c.next-next.ensures.due

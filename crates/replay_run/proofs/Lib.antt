@@ -1,3 +1,4 @@
+mod DaemonLaws
 mod FreedLaws
 mod PartLaws
 mod TraceLaws

@@ -1,2 +1,3 @@
+pub mod Daemons
 pub mod Replays
 pub mod Settling

@@ -13,7 +13,7 @@ use yard_model::Line;
 
 /// Plays all orders of the script, or up to the one with which its trace stops, and tells their facts.
 /// The only error is want of memory.
-pub fn follow<B: Behaviour + Copy + Drop, N: Notes>(
+pub(crate) fn follow<B: Behaviour + Copy + Drop, N: Notes>(
     world: &mut World<B>,
     facts: &mut Told<N>,
 ) -> Result<(), AllocError>

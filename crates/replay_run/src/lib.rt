@@ -1,14 +1,15 @@
-//! `replay`, `replay json` and `bulk`: from a script to its trace, its report, or counts of its trace. A
-//! world plays the script one order after the other; after n orders the facts are those of the
-//! definition's first n (`specs/Replays.antt`).
+//! `replay`, `replay json`, `bulk` and `daemon`: from a script to its trace, its report, counts of its trace,
+//! or what each of its lines moves. A world plays the script one order after the other; after n orders the
+//! facts are those of the definition's first n (`specs/Replays.antt`; of `daemon`, `specs/Daemons.antt`).
 #![tactic(auto)]
 
 mod bulk;
+mod daemon;
 mod following;
 mod json;
 mod replay;
 
 pub use bulk::write_bulk;
-pub use following::follow;
+pub use daemon::write_daemon;
 pub use json::write_json;
 pub use replay::write_replay;

@@ -19,7 +19,7 @@ use Rattle.pull_laws.specs.PullText.{pull_text}
 use Rattle.daemon_process.specs.Daemon.{expanded}
 use Rattle.daemon_process.specs.DaemonText.{daemon_text}
 use Rattle.script_text.specs.Fit.{IsFit}
-use Rattle.daemon_run.specs.Daemons.{DaemonHolds}
+use Rattle.replay_run.specs.Daemons.{DaemonHolds}
 use Rattle.live_run.specs.LiveText.{LiveText}
 use Rattle.replay_run.specs.Replays.{replay_json}
 use Rattle.replay_run.specs.Settling.{EachSettles}

@@ -6,10 +6,9 @@ ghost use Rattle.program_words.specs.Forms.{from_of, is_alone, is_counted};
 ghost use Rattle.yard_top.specs.Texts.{Gives};
 ghost use Rattle.run_parts.specs.Writing.{Writes};
 
-use daemon_run::write_daemon;
 use program_words::Form;
 use pull_run::write_pull;
-use replay_run::{write_bulk, write_json, write_replay};
+use replay_run::{write_bulk, write_daemon, write_json, write_replay};
 use run_parts::{WriteError, write_part};
 use solo_run::solo_report;
 use std::alloc::Global;

@@ -25,7 +25,7 @@ use Rattle.script_text.specs.Fit as fit
 use Rattle.settle_laws.specs.Settles.{SettleLineSettles}
 use Rattle.run_parts.specs.declared.course.Course.{Course}
 use Rattle.run_parts.specs.Stops.{course, course_step, start}
-use Rattle.daemon_run.specs.Daemons.{ConfirmedAreAnswered, DaemonHolds, PingsAreAnswered}
+use Rattle.replay_run.specs.Daemons.{ConfirmedAreAnswered, DaemonHolds, PingsAreAnswered}
 
 silent_order : (o : Order) → not (fit.is_send o) ≡ true → not (daemon.is_send o) ≡ true
 silent_order (order.Send p e c) h = h

@@ -6,9 +6,9 @@ use Rattle.daemon_process.specs.Lines.{Drawn, IsDrawnOf}
 use Rattle.world_sim.specs.Played.{Played}
 use Rattle.run_parts.specs.declared.course.Course.{Course}
 use Rattle.run_parts.specs.Stops.{course}
-use Rattle.daemon_run.proofs.DaemonLaws.{is_pinged}
+use Rattle.replay_run.proofs.DaemonLaws.{is_pinged}
 use Rattle.run_parts.proofs.WritingLaws.{after_nothing}
-use Rattle.daemon_run.proofs.daemon.text_of_daemon.Goals as goal
+use Rattle.replay_run.proofs.daemon.text_of_daemon.Goals as goal
 
 pub expand-requires-clause-pinged : goal.expand-requires-clause-pinged
 expand-requires-clause-pinged c = is_pinged c.args.charter.now c.requires.fit c.requires.few

@@ -1,7 +1,7 @@
 use Rattle.std.proofs.lemmas.Result.{err_from_is_err_and}
-use Rattle.daemon_run.proofs.DaemonLaws.{count_fits}
+use Rattle.replay_run.proofs.DaemonLaws.{count_fits}
 use Rattle.run_parts.proofs.WritingLaws.{none_taken}
-use Rattle.daemon_run.proofs.daemon.write_daemon.Goals as goal
+use Rattle.replay_run.proofs.daemon.write_daemon.Goals as goal
 
 pub daemon_holds-requires-clause-count : goal.daemon_holds-requires-clause-count
 daemon_holds-requires-clause-count g c = count_fits c.args.count c.requires.count

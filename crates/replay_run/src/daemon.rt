@@ -6,16 +6,16 @@ ghost use Rattle.yard_model.specs.World.{trace_of};
 ghost use Rattle.daemon_process.specs.Daemon.{expanded};
 ghost use Rattle.daemon_process.specs.DaemonText.{daemon_text};
 ghost use Rattle.script_text.specs.Fit.{IsPinged};
-ghost use Rattle.daemon_run.specs.Daemons.{DaemonHolds};
+ghost use Rattle.replay_run.specs.Daemons.{DaemonHolds};
 ghost use Rattle.run_parts.specs.Stops.{stop_in};
 ghost use Rattle.run_parts.specs.Writing.{Writes};
 
+use crate::following::follow;
 use behaviour_kinds::Counter;
 use daemon_process::laws::{drawn_is_text, expanded_is_script, safe_is_single, written_is_live};
 use daemon_process::{DaemonLines, expand};
 use play_laws::play::trace_is_safe;
 use queued_laws::laws::{confirmed_was_written, recorded_is_queued};
-use replay_run::follow;
 use run_parts::{Course, WriteError, write_part};
 use settle_laws::worlds::settle_line_settles;
 use std::alloc::{AllocError, Global};

@@ -1,5 +1,5 @@
-use Rattle.daemon_run.proofs.DaemonLaws.{holds}
-use Rattle.daemon_run.proofs.daemon.daemon_holds.Goals as goal
+use Rattle.replay_run.proofs.DaemonLaws.{holds}
+use Rattle.replay_run.proofs.daemon.daemon_holds.Goals as goal
 
 pub returns : goal.returns
 returns c =

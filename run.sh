@@ -42,7 +42,7 @@ is_number() {
 is_form() {
     reads=yes
     case $#:${1-} in
-    1:solo | 1:replay | 1:pull) ;;
+    1:solo | 1:replay | 1:log | 1:resume | 1:pull) ;;
     2:replay) [ "$2" = json ] ;;
     2:bulk) reads=no && is_number "$2" 1 1000 ;;
     2:daemon) is_number "$2" 1 100 ;;
@@ -246,6 +246,10 @@ tell_no_answer() {
 run_unproved() {
     local ended
     need_rt
+    if [ "$1" = log ] || [ "$1" = resume ]; then
+        say "\`$1\` works on a file, and is run proved alone: \`./run.sh --build\` makes the proved program"
+        exit 1
+    fi
     say "this run is unproved, and is compiled first ($TRY_TAKES); \`./run.sh --build\` makes the proved program"
     room=$(mktemp -d)
     : >"$room/script"

@@ -4,8 +4,9 @@
 Runs each case RUNS times (5 by default) on each program and prints the least processor time, the
 least wall time, how much was written and the most memory. Programs take turns, run by run, so that
 noise hits all alike; the last column is the processor time over the first program's. Any program
-with the command line of sharder can be measured beside it: `solo` and `replay` with a script on
-standard input.
+with the command line of sharder can be measured beside it: `solo`, `replay`, `log` and `resume` with a
+script on standard input. `log` keeps its log in a folder of its own, in memory where there is /dev/shm;
+`resume` reads the one that the first program left.
 
 The scripts are made here, always the same. The output goes to a file, whose digest is compared
 between the programs.
@@ -75,30 +76,68 @@ def settle(sends=19_997):
     return lines + [f'send 1 e{i % 100} add 1' for i in range(sends)] + ['settle']
 
 
+def logged(count=5_000):
+    """So many orders on four nodes, most of which do something to the slots' lists: sends of four producers
+    to 200 names, ticks, handoffs and crashes."""
+    chance = random.Random(1)
+    lines = ['config nodes=4 shards=32 producers=4 window=16 snapshot=8 remember=on']
+    lines += [f'up {n}' for n in range(1, 5)] + ['pump 200']
+    lines += [f'produce {p} {p}' for p in range(1, 5)] + ['pump 200']
+    k = 0
+    while len(lines) < count:
+        k += 1
+        lines += [f'send {chance.randint(1, 4)} device-{chance.randrange(200)} add {chance.randint(1, 1000)}',
+                  f'pump {chance.choice([8, 12])}']
+        if k % 50 == 0:
+            lines += [f'tick {chance.randint(1, 4)}', 'pump 60']
+        if k % 200 == 0:
+            lines += [f'rebalance {chance.randint(1, 4)}', 'pump 200']
+        if k % 400 == 0:
+            n = chance.randint(1, 4)
+            lines += [f'crash {n}', 'pump 60', f'up {n}', 'pump 100']
+            lines += [f'produce {p} {chance.randint(1, 4)}' for p in range(1, 5)] + ['pump 400']
+    return lines[:count] + ['settle']
+
+
 CASES = [('solo', 'solo', solo), ('views', 'replay', views), ('full', 'replay', full),
          ('carts', 'replay', carts), ('carts/10', 'replay', lambda: carts(2_000)),
          ('flow', 'replay', flow),
-         ('settle', 'replay', settle), ('settle/10', 'replay', lambda: settle(2_000))]
+         ('settle', 'replay', settle), ('settle/10', 'replay', lambda: settle(2_000)),
+         ('log', 'log', logged), ('resume', 'resume', logged), ('resume*4', 'resume', lambda: logged(19_998))]
+
+# where the log of a run lies
+LOG = 'sharder.log'
 
 
-def run(program, word, source, sink):
+def make_room(program, word, source, room):
+    """Sees to it that there is no log where one is made, and one where one is read."""
+    log = os.path.join(room, LOG)
+    if word == 'log' and os.path.exists(log):
+        os.remove(log)
+    if word == 'resume' and not os.path.exists(log):
+        with open(source, 'rb') as inp, open(os.devnull, 'wb') as null:
+            subprocess.run([program, 'log'], stdin=inp, stdout=null, stderr=null, cwd=room)
+
+
+def run(program, word, source, sink, room):
     """-> (processor seconds, wall seconds, status)"""
     with open(source, 'rb') as inp, open(sink, 'wb') as out, open(os.devnull, 'wb') as err:
         begin = time.perf_counter()
-        child = subprocess.Popen([program, word], stdin=inp, stdout=out, stderr=err)
+        child = subprocess.Popen([program, word], stdin=inp, stdout=out, stderr=err, cwd=room)
         _, status, usage = os.wait4(child.pid, 0)
         wall = time.perf_counter() - begin
         child.returncode = os.waitstatus_to_exitcode(status)
     return usage.ru_utime + usage.ru_stime, wall, child.returncode
 
 
-def peak(program, word, source):
+def peak(program, word, source, room):
     """The most memory, in MB, as /usr/bin/time tells it: a child's own figure here would begin with
     the memory of this process. 0 where there is no such program."""
     if not os.path.exists('/usr/bin/time'):
         return 0
     with open(source, 'rb') as inp, open(os.devnull, 'wb') as null, tempfile.NamedTemporaryFile('r') as told:
-        subprocess.run(['/usr/bin/time', '-f', '%M', '-o', told.name, program, word], stdin=inp, stdout=null, stderr=null)
+        subprocess.run(['/usr/bin/time', '-f', '%M', '-o', told.name, program, word], stdin=inp, stdout=null, stderr=null,
+                       cwd=room)
         return int(told.read().split()[-1]) / 1024
 
 
@@ -109,30 +148,36 @@ def main():
     if words[:1] == ['--only']:
         only, words = words[1].split(','), words[2:]
     programs = [w.split('=', 1) if '=' in w else [os.path.basename(w), w] for w in words]
+    programs = [[name, os.path.abspath(path)] for name, path in programs]
     if not programs:
         sys.exit(__doc__)
     print(f'{"case":9} {"program":10} {"cpu s":>8} {"wall s":>8} {"MB out":>8} {"MB mem":>8} {"status":>6} {"cpu/first":>9}')
-    with tempfile.TemporaryDirectory() as folder:
+    memory = '/dev/shm' if os.path.isdir('/dev/shm') else None
+    with tempfile.TemporaryDirectory() as folder, tempfile.TemporaryDirectory(dir=memory) as room:
         source = os.path.join(folder, 'script')
         for name, word, lines in CASES:
             if only and name not in only:
                 continue
             with open(source, 'w', encoding='ascii') as file:
                 file.write('\n'.join(lines()) + '\n')
+            if os.path.exists(os.path.join(room, LOG)):
+                os.remove(os.path.join(room, LOG))
             told = {p: [] for p, _ in programs}
             digests = {}
             for _ in range(runs):
                 for p, path in programs:
                     sink = os.path.join(folder, p)
-                    told[p].append(run(path, word, source, sink))
+                    make_room(programs[0][1], word, source, room)
+                    told[p].append(run(path, word, source, sink, room))
                     with open(sink, 'rb') as file:
                         digests[p] = hashlib.sha256(file.read()).digest()
             first = min(t[0] for t in told[programs[0][0]])
             for p, path in programs:
+                make_room(programs[0][1], word, source, room)
                 cpu, wall = min(t[0] for t in told[p]), min(t[1] for t in told[p])
                 size = os.path.getsize(os.path.join(folder, p)) / 1e6
                 other = '' if digests[p] == digests[programs[0][0]] else '  writes something else'
-                print(f'{name:9} {p:10} {cpu:8.4f} {wall:8.4f} {size:8.2f} {peak(path, word, source):8.1f} {told[p][-1][2]:6} '
+                print(f'{name:9} {p:10} {cpu:8.4f} {wall:8.4f} {size:8.2f} {peak(path, word, source, room):8.1f} {told[p][-1][2]:6} '
                       f'{cpu / first if first else 0:9.2f}{other}')
 
 

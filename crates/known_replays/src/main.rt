@@ -10,6 +10,7 @@
 mod digest;
 
 use digest::Digest;
+use disk_log::MemDisk;
 use percent_encoding::percent_decode;
 use std::alloc::{AllocError, Global};
 use std::rt::Files;
@@ -53,7 +54,7 @@ fn first_difference(one: &[u8], other: &[u8]) -> Option<usize> {
     }
 }
 
-/// Runs a form of one thread on a script. (All runs go through here, since each call of the program costs its proof much.)
+/// Runs a form of one thread on a script, over an empty disk. (All runs go through here, since each call of the program costs its proof much.)
 fn ran<K: Sink>(
     alloc: Global,
     words: &[String],
@@ -61,7 +62,8 @@ fn ran<K: Sink>(
     sink: &mut K,
 ) -> Result<Status, AllocError> {
     let mut source = WholeSource::new(alloc, script)?;
-    Ok(sharder_alone(alloc, words, &mut source, sink))
+    let mut disk = MemDisk::new(alloc, &[], &[])?;
+    Ok(sharder_alone(alloc, words, &mut source, sink, &mut disk))
 }
 
 /// Runs a script, and compares what came of it.

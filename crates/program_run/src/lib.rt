@@ -1,4 +1,4 @@
-//! The program as one call: arguments and streams in, a text and a status out.
+//! The program as one call: arguments, streams and a disk in, a text and a status out.
 #![tactic(auto)]
 
 mod program;

@@ -1,79 +1,83 @@
-//! Arguments and streams in, a text and a status out.
+//! Arguments, streams and a disk in, a text and a status out.
 ghost use Rattle.std.specs.Prelude.{◌≡◌, ◌<◌, drop, IfOk, IfErr, IfSome, IfNone, OnOk, OnErr};
 ghost use Rattle.std.specs.IoError.{error_kind};
 ghost use Rattle.std.specs.declared.io.ErrorKind.TheVariants as kind;
-ghost use Rattle.program_words.specs.Forms.{form_in};
+ghost use Rattle.program_words.specs.Forms.{form_on};
 ghost use Rattle.program_words.specs.Notices.{notice_in};
 ghost use Rattle.yard_io.specs.Told.{followed_by, count_of};
+ghost use Rattle.yard_top.specs.Disks.{platter};
+ghost use Rattle.yard_top.specs.Ends.{streams};
 ghost use Rattle.program_run.specs.Ended.{Ended, Noticed, HasNoWords, IsTold};
 
+use disk_log::Disk;
 use program_words::{Notice, Status, notice_of, words_of};
 use std::alloc::Global;
 use std::io;
 use std::sync::Wait;
 use std::thread::Threads;
 use yard_io::{Failed, Gate, Sink, Source, write_all};
-use yard_top::sharder;
+use yard_top::sharder_on;
 
 /// Runs the program on what came of asking for its arguments, of which the first is its name: what
-/// `sharder` does with the words after it, or a notice that they ask for.
-pub fn run<R: Threads + Wait + Sync, S: Source, K: Sink, G: Gate + Sync>(
+/// `sharder_on` does with the words after it, or a notice that they ask for.
+pub fn run<R: Threads + Wait + Sync, S: Source, K: Sink, G: Gate + Sync, D: Disk>(
     rt: &R,
     alloc: Global,
     arguments: io::Result<Vec<String>>,
     source: &mut S,
     sink: &mut K,
     gate: &G,
+    disk: &mut D,
 ) -> Status
     // The arguments couldn't be had: there was no memory for them, or one isn't text.
     ensures no_words { IfErr arguments (λ e. HasNoWords
-        (record { left = S.left source.old; read_faults = S.faults source.old; taken = record { bytes = K.taken sink.old; flushed = K.flushed sink.old }; write_faults = K.faults sink.old })
-        (record { left = S.left source.new; read_faults = S.faults source.new; taken = record { bytes = K.taken sink.new; flushed = K.flushed sink.new }; write_faults = K.faults sink.new })
+        (streams (S.left source.old) (S.faults source.old) (K.taken sink.old) (K.flushed sink.old) (K.faults sink.old))
+        (streams (S.left source.new) (S.faults source.new) (K.taken sink.new) (K.flushed sink.new) (K.faults sink.new))
         (error_kind e ≡ kind.OutOfMemory) result) }
     // They ask for a notice.
     ensures notice { IfOk arguments (λ all. IfSome (notice_in (drop 1 all.items)) (λ n. Noticed
-        (record { left = S.left source.old; read_faults = S.faults source.old; taken = record { bytes = K.taken sink.old; flushed = K.flushed sink.old }; write_faults = K.faults sink.old })
-        (record { left = S.left source.new; read_faults = S.faults source.new; taken = record { bytes = K.taken sink.new; flushed = K.flushed sink.new }; write_faults = K.faults sink.new })
-        result)) }
-    // They don't: what is done is what `sharder` says of the words.
-    ensures ended { IfOk arguments (λ all. IfNone (notice_in (drop 1 all.items)) (Ended (form_in (drop 1 all.items))
-        (record { left = S.left source.old; read_faults = S.faults source.old; taken = record { bytes = K.taken sink.old; flushed = K.flushed sink.old }; write_faults = K.faults sink.old })
-        (record { left = S.left source.new; read_faults = S.faults source.new; taken = record { bytes = K.taken sink.new; flushed = K.flushed sink.new }; write_faults = K.faults sink.new })
-        result)) }
+        (streams (S.left source.old) (S.faults source.old) (K.taken sink.old) (K.flushed sink.old) (K.faults sink.old))
+        (streams (S.left source.new) (S.faults source.new) (K.taken sink.new) (K.flushed sink.new) (K.faults sink.new)) result)) }
+    // They don't: what is done is what `sharder_on` says of the words.
+    ensures ended { IfOk arguments (λ all. IfNone (notice_in (drop 1 all.items)) (Ended (form_on (drop 1 all.items)) D.tells
+        (streams (S.left source.old) (S.faults source.old) (K.taken sink.old) (K.flushed sink.old) (K.faults sink.old))
+        (streams (S.left source.new) (S.faults source.new) (K.taken sink.new) (K.flushed sink.new) (K.faults sink.new))
+        (platter (D.content disk.old) (D.images disk.old) (D.faults disk.old)) (platter (D.content disk.new) (D.images disk.new) (D.faults disk.new)) result)) }
 {
     match words_of(arguments) {
-        Ok(words) => run_words(rt, alloc, words.as_slice(), source, sink, gate),
+        Ok(words) => run_words(rt, alloc, words.as_slice(), source, sink, gate, disk),
         Err(status) => status,
     }
 }
 
 /// Does what these words ask for.
-fn run_words<R: Threads + Wait + Sync, S: Source, K: Sink, G: Gate + Sync>(
+fn run_words<R: Threads + Wait + Sync, S: Source, K: Sink, G: Gate + Sync, D: Disk>(
     rt: &R,
     alloc: Global,
     words: &[String],
     source: &mut S,
     sink: &mut K,
     gate: &G,
+    disk: &mut D,
 ) -> Status
     ensures notice { IfSome (notice_in words.now) (λ n. Noticed
-        (record { left = S.left source.old; read_faults = S.faults source.old; taken = record { bytes = K.taken sink.old; flushed = K.flushed sink.old }; write_faults = K.faults sink.old })
-        (record { left = S.left source.new; read_faults = S.faults source.new; taken = record { bytes = K.taken sink.new; flushed = K.flushed sink.new }; write_faults = K.faults sink.new })
-        result) }
-    ensures ended { IfNone (notice_in words.now) (Ended (form_in words.now)
-        (record { left = S.left source.old; read_faults = S.faults source.old; taken = record { bytes = K.taken sink.old; flushed = K.flushed sink.old }; write_faults = K.faults sink.old })
-        (record { left = S.left source.new; read_faults = S.faults source.new; taken = record { bytes = K.taken sink.new; flushed = K.flushed sink.new }; write_faults = K.faults sink.new })
-        result) }
+        (streams (S.left source.old) (S.faults source.old) (K.taken sink.old) (K.flushed sink.old) (K.faults sink.old))
+        (streams (S.left source.new) (S.faults source.new) (K.taken sink.new) (K.flushed sink.new) (K.faults sink.new)) result) }
+    ensures ended { IfNone (notice_in words.now) (Ended (form_on words.now) D.tells
+        (streams (S.left source.old) (S.faults source.old) (K.taken sink.old) (K.flushed sink.old) (K.faults sink.old))
+        (streams (S.left source.new) (S.faults source.new) (K.taken sink.new) (K.flushed sink.new) (K.faults sink.new))
+        (platter (D.content disk.old) (D.images disk.old) (D.faults disk.old)) (platter (D.content disk.new) (D.images disk.new) (D.faults disk.new)) result) }
 {
     match notice_of(words) {
         Some(notice) => tell(notice, sink),
-        None => sharder(rt, alloc, words, source, sink, gate),
+        None => sharder_on(rt, alloc, words, source, sink, gate, disk),
     }
 }
 
 /// Writes a notice.
 fn tell<K: Sink>(notice: Notice, sink: &mut K) -> Status
-    ensures { IsTold (record { bytes = K.taken sink.old; flushed = K.flushed sink.old }) (record { bytes = K.taken sink.new; flushed = K.flushed sink.new }) (K.faults sink.old) (K.faults sink.new) result }
+    ensures { IsTold (record { bytes = K.taken sink.old; flushed = K.flushed sink.old })
+        (record { bytes = K.taken sink.new; flushed = K.flushed sink.new }) (K.faults sink.old) (K.faults sink.new) result }
 {
     match write_whole(notice.text().as_bytes(), sink) {
         Ok(()) => Status::Ok,

@@ -17,6 +17,13 @@ form_of_word w =
     else if pointwise nat_eq w (codes "pull") then Some form.Pull
     else None
 
+-- with a disk at hand there are `log` and `resume` too
+abbrev pub disk_form_of_word : List ℕ → Option Form
+disk_form_of_word w =
+    if pointwise nat_eq w (codes "log") then Some form.Log
+    else if pointwise nat_eq w (codes "resume") then Some form.Resume
+    else form_of_word w
+
 -- `bulk` and a number from 1 to 1,000
 abbrev pub bulk_form : List ℕ → Option Form
 bulk_form w = if is_number w && is_in 1 1000 (value_of w) then Some (form.Bulk (value_of w)) else None
@@ -51,17 +58,32 @@ form_in (w ∷ v ∷ []) = form_of_words (string_bytes w) (string_bytes v)
 form_in (w ∷ v ∷ u ∷ []) = form_of_three (string_bytes w) (string_bytes v) (string_bytes u)
 form_in (w ∷ v ∷ u ∷ t ∷ ws) = None
 
--- those of one thread
-abbrev pub alone_in : List (String Global) → Option Form
-alone_in [] = None
-alone_in (w ∷ []) = form_of_word (string_bytes w)
-alone_in (w ∷ v ∷ []) = form_of_words (string_bytes w) (string_bytes v)
-alone_in (w ∷ v ∷ u ∷ ws) = None
+-- those with a disk at hand: `log` and `resume` too
+abbrev pub form_on : List (String Global) → Option Form
+form_on [] = None
+form_on (w ∷ []) = disk_form_of_word (string_bytes w)
+form_on (w ∷ v ∷ []) = form_of_words (string_bytes w) (string_bytes v)
+form_on (w ∷ v ∷ u ∷ []) = form_of_three (string_bytes w) (string_bytes v) (string_bytes u)
+form_on (w ∷ v ∷ u ∷ t ∷ ws) = None
+
+-- those of one thread, with a disk at hand
+abbrev pub alone_on : List (String Global) → Option Form
+alone_on [] = None
+alone_on (w ∷ []) = disk_form_of_word (string_bytes w)
+alone_on (w ∷ v ∷ []) = form_of_words (string_bytes w) (string_bytes v)
+alone_on (w ∷ v ∷ u ∷ ws) = None
 
 -- whether a form is one of one thread
 abbrev pub is_alone : Form → Bool
 is_alone (form.Live n s) = false
 is_alone f = true
+
+-- whether a form needs a script alone: neither threads nor a disk
+abbrev pub is_bare : Form → Bool
+is_bare (form.Live n s) = false
+is_bare form.Log = false
+is_bare form.Resume = false
+is_bare f = true
 
 -- where a form's script is from: the input, read as a script of a command, or a number
 abbrev pub from_of : Form → ScriptFrom
@@ -72,6 +94,8 @@ from_of (form.Bulk n) = script_from.Number n
 from_of (form.Live n s) = script_from.Input mode.Live
 from_of form.Pull = script_from.Input mode.Pull
 from_of (form.Daemon n) = script_from.Input mode.Daemon
+from_of form.Log = script_from.Input mode.Log
+from_of form.Resume = script_from.Input mode.Log
 
 -- the numbers that have a script are 1 to 1,000
 abbrev pub is_there : ScriptFrom → Bool

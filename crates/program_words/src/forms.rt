@@ -1,6 +1,6 @@
 //! The forms of the command line.
 ghost use Rattle.std.specs.Prelude.{◌≡◌, true, IfSome, IsTrue};
-ghost use Rattle.program_words.specs.Forms.{form_in, alone_in, is_alone, from_of, is_there, form_of_word, form_of_words, form_of_three, bulk_form, daemon_form, is_counted, live_form, live_seed};
+ghost use Rattle.program_words.specs.Forms.{form_in, form_on, alone_on, is_alone, is_bare, from_of, is_there, form_of_word, disk_form_of_word, form_of_words, form_of_three, bulk_form, daemon_form, is_counted, live_form, live_seed};
 
 use script_text::{Mode, number_of};
 
@@ -26,6 +26,10 @@ pub enum Form {
     Pull,
     /// `daemon` and how many instances, 1 to 100.
     Daemon(u8),
+    /// `log`
+    Log,
+    /// `resume`
+    Resume,
 }
 
 /// Where the script of a form is from.
@@ -49,15 +53,17 @@ impl Form {
             Form::Live { .. } => ScriptFrom::Input(Mode::Live),
             Form::Pull => ScriptFrom::Input(Mode::Pull),
             Form::Daemon(_) => ScriptFrom::Input(Mode::Daemon),
+            Form::Log | Form::Resume => ScriptFrom::Input(Mode::Log),
         }
     }
 }
 
-/// The form of the words after the program's name, if they are one.
+/// The form of the words after the program's name, if they are one, where no disk is at hand.
 pub fn form_of(words: &[String]) -> Option<Form>
     ensures form { result ≡ form_in words.now }
     ensures number { IfSome result (λ f. IsTrue (is_there (from_of f))) }
     ensures count { IfSome result (λ f. IsTrue (is_counted f)) }
+    ensures diskless { IfSome result (λ f. is_alone f ≡ is_bare f) }
 {
     match words {
         [word] => form_of_word(word.as_str()),
@@ -67,17 +73,46 @@ pub fn form_of(words: &[String]) -> Option<Form>
     }
 }
 
-/// The form of one thread of the words after the program's name, if they are one.
+/// The form of the words after the program's name, if they are one, where a disk is at hand.
+pub fn disk_form_of(words: &[String]) -> Option<Form>
+    ensures form { result ≡ form_on words.now }
+    ensures number { IfSome result (λ f. IsTrue (is_there (from_of f))) }
+    ensures count { IfSome result (λ f. IsTrue (is_counted f)) }
+{
+    match words {
+        [word] => disk_form_of_word(word.as_str()),
+        [first, second] => form_of_words(first.as_str(), second.as_str()),
+        [first, second, third] => form_of_three(first.as_str(), second.as_str(), third.as_str()),
+        _ => None,
+    }
+}
+
+/// The form of one thread of the words after the program's name, if they are one, where a disk is at hand.
 pub fn alone_form_of(words: &[String]) -> Option<Form>
-    ensures form { result ≡ alone_in words.now }
+    ensures form { result ≡ alone_on words.now }
     ensures number { IfSome result (λ f. IsTrue (is_there (from_of f))) }
     ensures count { IfSome result (λ f. IsTrue (is_counted f)) }
     ensures alone { IfSome result (λ f. is_alone f ≡ true) }
 {
     match words {
-        [word] => form_of_word(word.as_str()),
+        [word] => disk_form_of_word(word.as_str()),
         [first, second] => form_of_words(first.as_str(), second.as_str()),
         _ => None,
+    }
+}
+
+fn disk_form_of_word(word: &str) -> Option<Form>
+    ensures form { result ≡ disk_form_of_word word.now }
+    ensures number { IfSome result (λ f. IsTrue (is_there (from_of f))) }
+    ensures count { IfSome result (λ f. IsTrue (is_counted f)) }
+    ensures alone { IfSome result (λ f. is_alone f ≡ true) }
+{
+    if word == "log" {
+        Some(Form::Log)
+    } else if word == "resume" {
+        Some(Form::Resume)
+    } else {
+        form_of_word(word)
     }
 }
 
@@ -86,6 +121,7 @@ fn form_of_word(word: &str) -> Option<Form>
     ensures number { IfSome result (λ f. IsTrue (is_there (from_of f))) }
     ensures count { IfSome result (λ f. IsTrue (is_counted f)) }
     ensures alone { IfSome result (λ f. is_alone f ≡ true) }
+    ensures diskless { IfSome result (λ f. is_bare f ≡ true) }
 {
     if word == "solo" {
         Some(Form::Solo)
@@ -103,6 +139,7 @@ fn form_of_words(first: &str, second: &str) -> Option<Form>
     ensures number { IfSome result (λ f. IsTrue (is_there (from_of f))) }
     ensures count { IfSome result (λ f. IsTrue (is_counted f)) }
     ensures alone { IfSome result (λ f. is_alone f ≡ true) }
+    ensures diskless { IfSome result (λ f. is_bare f ≡ true) }
 {
     if first == "replay" && second == "json" {
         Some(Form::ReplayJson)
@@ -122,6 +159,7 @@ fn bulk_form(word: &[u8]) -> Option<Form>
     ensures number { IfSome result (λ f. IsTrue (is_there (from_of f))) }
     ensures count { IfSome result (λ f. IsTrue (is_counted f)) }
     ensures alone { IfSome result (λ f. is_alone f ≡ true) }
+    ensures diskless { IfSome result (λ f. is_bare f ≡ true) }
 {
     match number_of(word, 1, 1_000) {
         Ok(number) => Some(Form::Bulk(number)),
@@ -136,6 +174,7 @@ fn daemon_form(word: &[u8]) -> Option<Form>
     ensures number { IfSome result (λ f. IsTrue (is_there (from_of f))) }
     ensures count { IfSome result (λ f. IsTrue (is_counted f)) }
     ensures alone { IfSome result (λ f. is_alone f ≡ true) }
+    ensures diskless { IfSome result (λ f. is_bare f ≡ true) }
 {
     match number_of(word, 1, 100) {
         Ok(count) => Some(Form::Daemon(count as u8)),
@@ -147,6 +186,7 @@ fn form_of_three(first: &str, second: &str, third: &str) -> Option<Form>
     ensures form { result ≡ form_of_three first.now second.now third.now }
     ensures number { IfSome result (λ f. IsTrue (is_there (from_of f))) }
     ensures count { IfSome result (λ f. IsTrue (is_counted f)) }
+    ensures diskless { IfSome result (λ f. is_alone f ≡ is_bare f) }
 {
     if first == "live" {
         live_form(second.as_bytes(), third.as_bytes())
@@ -161,6 +201,7 @@ fn live_form(turns: &[u8], seed: &[u8]) -> Option<Form>
     ensures form { result ≡ live_form turns.now seed.now }
     ensures number { IfSome result (λ f. IsTrue (is_there (from_of f))) }
     ensures count { IfSome result (λ f. IsTrue (is_counted f)) }
+    ensures diskless { IfSome result (λ f. is_alone f ≡ is_bare f) }
 {
     match number_of(turns, 1, 100_000) {
         Ok(turns) => live_seed(turns, seed),
@@ -174,6 +215,7 @@ fn live_seed(turns: u32, seed: &[u8]) -> Option<Form>
     ensures form { result ≡ live_seed turns seed.now }
     ensures number { IfSome result (λ f. IsTrue (is_there (from_of f))) }
     ensures count { IfSome result (λ f. IsTrue (is_counted f)) }
+    ensures diskless { IfSome result (λ f. is_alone f ≡ is_bare f) }
 {
     match number_of(seed, 0, u32::MAX) {
         Ok(seed) => Some(Form::Live { turns, seed }),

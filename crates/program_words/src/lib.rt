@@ -7,7 +7,7 @@ mod notice;
 mod status;
 mod words;
 
-pub use forms::{Form, ScriptFrom, alone_form_of, form_of};
+pub use forms::{Form, ScriptFrom, alone_form_of, disk_form_of, form_of};
 pub use notice::{Notice, notice_of};
 pub use status::Status;
 pub use words::{status_without_words, without_name, words_of};

@@ -1,6 +1,6 @@
 //! What the program prints of itself.
 ghost use Rattle.std.specs.Prelude.{◌≡◌, None, IfSome};
-ghost use Rattle.program_words.specs.Forms.{form_in};
+ghost use Rattle.program_words.specs.Forms.{form_on};
 ghost use Rattle.program_words.specs.Notices.{notice_in, notice_of_word};
 
 const HELP: &str = "sharder: a cluster of sharded, event-sourced entities with reliable delivery
@@ -17,6 +17,11 @@ const HELP: &str = "sharder: a cluster of sharded, event-sourced entities with r
                        then settles, and writes each slot's list and the report
   sharder bulk NUMBER  plays the script of a number, 1 to 1000, in the same way as
                        replay, and writes counts of what happened; it reads nothing
+  sharder log          does as replay does, with what each order does to the slots
+                       on disk, in sharder.log, before a line of it is written
+  sharder resume       reads a script and sharder.log, and writes the report of what
+                       the log has; then goes on from there until every send is
+                       recorded and confirmed, and writes each slot's list and the report
   sharder pull         reads a script of jobs and workers, plays it one step after the
                        other, and writes the trace and what became of each job
   sharder daemon COUNT plays a script of orders and pings in the same way, of COUNT
@@ -28,7 +33,8 @@ const HELP: &str = "sharder: a cluster of sharded, event-sourced entities with r
 Status: 0 the whole text was written, 2 usage, 3 the input is no script (standard
 error has the line and the reason's number), 4 a read failed, 5 a write failed,
 6 there was no memory, 7 the trace stopped at the 1,000,000 packets that can be
-posted.
+posted, 8 the disk failed, 9 there is a log already, 10 the log is damaged and 11
+it is of another script (standard error has the place, the batch).
 
 Reasons of status 3: 1 a byte that is no text, 2 a line of more than 256 bytes,
 3 no config, 4 a second config, 5 an unknown word, 6 a missing word, 7 a word too
@@ -62,7 +68,7 @@ impl Notice {
 /// The notice that the words after the program's name ask for, if they do. They are no form then.
 pub fn notice_of(words: &[String]) -> Option<Notice>
     ensures notice { result ≡ notice_in words.now }
-    ensures no_form { IfSome result (λ n. form_in words.now ≡ None) }
+    ensures no_form { IfSome result (λ n. form_on words.now ≡ None) }
 {
     match words {
         [word] => notice_of_word(word.as_str()),

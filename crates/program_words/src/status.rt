@@ -7,7 +7,7 @@ use std::fmt;
 
 /// The forms of the command line.
 const USAGE: &str =
-    "usage: sharder solo or replay [json] or live TURNS SEED or bulk NUMBER or pull or daemon COUNT";
+    "usage: sharder solo or replay [json] or live TURNS SEED or bulk NUMBER or log or resume or pull or daemon COUNT";
 
 /// How a run of the program ends.
 #[derive(Clone, Copy, Debug, PartialEq, Eq)]
@@ -36,6 +36,22 @@ pub enum Status {
         /// The line.
         line: u32,
     },
+    /// A call of the disk failed; what was written is a front of the text.
+    DiskFault,
+    /// Under `log`: there is a log already. Nothing was written.
+    LogThere,
+    /// Under `resume`: the open gate at this place of the log isn't followed by a whole batch and a gate.
+    /// Nothing was written.
+    LogDamaged {
+        /// How many bytes stand before the gate.
+        at: u64,
+    },
+    /// Under `resume`: this batch of the log has an entry that no run of the script leaves there. Nothing was
+    /// written.
+    LogForeign {
+        /// The batch, from 1.
+        batch: u32,
+    },
 }
 
 impl Status {
@@ -51,6 +67,10 @@ impl Status {
             Status::WriteFault => 5,
             Status::OutOfMemory => 6,
             Status::WireFull { .. } => 7,
+            Status::DiskFault => 8,
+            Status::LogThere => 9,
+            Status::LogDamaged { .. } => 10,
+            Status::LogForeign { .. } => 11,
         }
     }
 }
@@ -75,6 +95,12 @@ impl fmt::Display for Status {
             Status::WriteFault => f.write_str("sharder: write fault"),
             Status::OutOfMemory => f.write_str("sharder: out of memory"),
             Status::WireFull { line } => write!(f, "sharder: line {line}: wire full"),
+            Status::DiskFault => f.write_str("sharder: disk fault"),
+            Status::LogThere => f.write_str("sharder: log is there"),
+            Status::LogDamaged { at } => write!(f, "sharder: log damaged at {at}"),
+            Status::LogForeign { batch } => {
+                write!(f, "sharder: log of another script, batch {batch}")
+            }
         }
     }
 }

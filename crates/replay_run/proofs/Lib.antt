@@ -1,4 +1,5 @@
 mod DaemonLaws
 mod FreedLaws
+mod LogLaws
 mod PartLaws
 mod TraceLaws

@@ -61,7 +61,7 @@ order_there c n world items all l on is are inside it = line_there items c.order
 -- One order more.
 
 -- its facts follow those before
-facts_next : MadeNext → (c : Script) (n : ℕ) (world : Played) (l : Line) → IsOn c n world → slice_get c.orders n ≡ Some l → (made_of c (n + 1)).facts ≡ (made_of c n).facts ++ (next_of world.script world.count l).facts
+pub facts_next : MadeNext → (c : Script) (n : ℕ) (world : Played) (l : Line) → IsOn c n world → slice_get c.orders n ≡ Some l → (made_of c (n + 1)).facts ≡ (made_of c n).facts ++ (next_of world.script world.count l).facts
 facts_next law c n world l on it =
     ap (λ (m : Made). m.facts) (law c n l it on.going_is) ∙ ap (λ (w : Played). (made_of c n).facts ++ (next_of w.script w.count l).facts) (sym on.world_is)
 

@@ -163,7 +163,7 @@ fn write_facts<K: Sink>(desk: &mut Desk, sink: &mut K) -> Result<(), WriteError>
 }
 
 /// Writes the report of these stores, one part after the other.
-fn write_report<T: Lists, K: Sink>(
+pub(crate) fn write_report<T: Lists, K: Sink>(
     alloc: Global,
     lines: &mut Sheet,
     charter: &Charter,

@@ -154,6 +154,7 @@ nothing_fits m n c h = record { few_names = omega arith; few_pairs = omega arith
     fit mode.Solo e = tt
     fit mode.Replay e = tt
     fit mode.Live e = tt
+    fit mode.Log e = tt
     fit mode.Pull e = record { orders = refl; once = refl }
     fit mode.Daemon e = record { counters = counter c.kind e; silent = refl; few_names = omega arith; few_pings = omega arith }
 
@@ -161,6 +162,7 @@ few : (m : Mode) (k : ℕ) → nat_lt (most_names m) k ≡ false → k ≤ 1000
 few mode.Solo k h = at_most 1000 k h
 few mode.Replay k h = at_most 1000 k h
 few mode.Live k h = at_most 1000 k h
+few mode.Log k h = at_most 1000 k h
 few mode.Pull k h = at_most 1000 k h
 few mode.Daemon k h = let less : k ≤ 900 = at_most 900 k h in omega arith
 
@@ -185,6 +187,7 @@ line_fits m n s number o old known over taken job pinged = record {
     fit mode.Solo f k v t j = tt
     fit mode.Replay f k v t j = tt
     fit mode.Live f k v t j = tt
+    fit mode.Log f k v t j = tt
     fit mode.Pull f k v t j = record {
       orders = all_more (λ (l : Line). is_pulled l.order) s.orders line f.orders (pulled_order o t k);
       once = subst (λ xs. list_all (λ (x : Sending). x.number == 1) xs ≡ true) (sym (fold_push (with_send_of 1) [] s.orders line)) (once_more o s.orders k j f.once);

@@ -55,6 +55,10 @@ takes mode.Daemon (order.FailWrite e k) = false
 takes mode.Daemon (order.Reshard n) = false
 takes mode.Daemon order.Upgrade = false
 takes mode.Daemon o = true
+takes mode.Log (order.Reshard n) = false
+takes mode.Log order.Upgrade = false
+takes mode.Log (order.Ping p) = false
+takes mode.Log o = true
 
 -- a script with one order more, on this line
 abbrev pub with_line : Script → ℕ → Order → Script

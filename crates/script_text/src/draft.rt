@@ -129,7 +129,7 @@ fn most_names(mode: Mode) -> usize
 {
     match mode {
         Mode::Daemon => 900,
-        Mode::Solo | Mode::Replay | Mode::Live | Mode::Pull => 1000,
+        Mode::Solo | Mode::Replay | Mode::Live | Mode::Pull | Mode::Log => 1000,
     }
 }
 

@@ -18,6 +18,8 @@ pub enum Mode {
     Pull,
     /// Numbered instances, which pings keep running.
     Daemon,
+    /// As `Replay`, over one number of shards and one version, with a log on disk.
+    Log,
 }
 
 /// Why a line is refused. On one line the reasons are tried in this order.

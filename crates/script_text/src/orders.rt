@@ -114,7 +114,7 @@ fn under(mode: Mode, config: &Config) -> Config
             producers: 1,
             ..*config
         },
-        Mode::Solo | Mode::Replay | Mode::Live | Mode::Daemon => *config,
+        Mode::Solo | Mode::Replay | Mode::Live | Mode::Daemon | Mode::Log => *config,
     }
 }
 

@@ -203,7 +203,7 @@ fn is_second_job(mode: Mode, is_sent: bool) -> bool
 {
     match mode {
         Mode::Pull => is_sent,
-        Mode::Solo | Mode::Replay | Mode::Live | Mode::Daemon => false,
+        Mode::Solo | Mode::Replay | Mode::Live | Mode::Daemon | Mode::Log => false,
     }
 }
 
@@ -213,7 +213,7 @@ fn is_wrong_kind(mode: Mode, kind: Kind) -> bool
 {
     match mode {
         Mode::Daemon => !matches!(kind, Kind::Counter),
-        Mode::Solo | Mode::Replay | Mode::Live | Mode::Pull => false,
+        Mode::Solo | Mode::Replay | Mode::Live | Mode::Pull | Mode::Log => false,
     }
 }
 
@@ -278,6 +278,7 @@ fn takes(mode: Mode, order: &Order) -> bool
         Mode::Live => is_taken_live(order),
         Mode::Pull => is_taken_pulled(order),
         Mode::Daemon => is_taken_pinged(order),
+        Mode::Log => !matches!(order, Order::Reshard(_) | Order::Upgrade | Order::Ping(_)),
     }
 }
 

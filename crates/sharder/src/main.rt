@@ -1,7 +1,8 @@
-//! The program: words from the command line, a script from standard input, a text to standard
-//! output, and a line on standard error where it could not be had.
+//! The program: words from the command line, a script from standard input, a log in the current folder, a
+//! text to standard output, and a line on standard error where it could not be had.
 #![tactic(auto)]
 
+use disk_log::StdDisk;
 use program_run::run;
 use program_words::Status;
 use std::env::{self, Env};
@@ -27,6 +28,7 @@ fn main(rt: HostRuntime) -> ExitCode {
     let status = match StdSink::new(rt.alloc(), rt.stdout()) {
         Ok(mut sink) => {
             let arguments = arguments(&rt);
+            let mut disk = StdDisk::new(&rt);
             run(
                 &rt,
                 rt.alloc(),
@@ -34,6 +36,7 @@ fn main(rt: HostRuntime) -> ExitCode {
                 &mut source,
                 &mut sink,
                 &FreeGate,
+                &mut disk,
             )
         }
         Err(_) => Status::OutOfMemory,

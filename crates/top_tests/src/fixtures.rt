@@ -1,4 +1,5 @@
 //! Sources and sinks that give and take little, and runs over them.
+use disk_log::{Disk, MemDisk};
 use std::alloc::{AllocError, Global};
 use std::io;
 use std::io::Write;
@@ -14,15 +15,28 @@ pub(crate) fn words_of(alloc: Global, form: &[&str]) -> Result<Vec<String>, Allo
     Ok(words)
 }
 
-/// Runs a form of one thread.
+/// Runs a form of one thread over this disk. (All runs of one thread go through here, since each call of the program
+/// costs its proof much.)
+pub(crate) fn run_on<S: Source, K: Sink, D: Disk>(
+    alloc: Global,
+    form: &[&str],
+    source: &mut S,
+    sink: &mut K,
+    disk: &mut D,
+) -> Result<Status, AllocError> {
+    let words = words_of(alloc, form)?;
+    Ok(sharder_alone(alloc, words.as_slice(), source, sink, disk))
+}
+
+/// Runs a form of one thread over an empty disk.
 pub(crate) fn run_alone<S: Source, K: Sink>(
     alloc: Global,
     form: &[&str],
     source: &mut S,
     sink: &mut K,
 ) -> Result<Status, AllocError> {
-    let words = words_of(alloc, form)?;
-    Ok(sharder_alone(alloc, words.as_slice(), source, sink))
+    let mut disk = MemDisk::new(alloc, &[], &[])?;
+    run_on(alloc, form, source, sink, &mut disk)
 }
 
 /// A source that gives one byte a call.

@@ -1,5 +1,6 @@
 //! Tests of the top call, of what no clause says: the texts of known scripts, runs whose reads or writes fail in
-//! turn, scripts that are cut off, and nodes as threads.
+//! turn, scripts that are cut off, logs and what a crash leaves of them, and nodes
+//! as threads.
 #![tactic(auto)]
 
 #[cfg(test)]
@@ -10,6 +11,8 @@ mod faults;
 mod fixtures;
 #[cfg(test)]
 mod live;
+#[cfg(test)]
+mod logs;
 #[cfg(test)]
 mod meeting;
 #[cfg(test)]

@@ -118,3 +118,128 @@ report
 job a add 1 confirmed dids 1
 end
 ";
+
+/// What `log` leaves of it on the disk.
+pub(crate) const FIRST_LOG: &[u8] = b"\x01\x00\x00\x00)granted coordinator 1 1.1
+registered 1.1
+\x01\x00\x00\x00\x16granted queue:1 1 1.1
+\x01\x00\x00\x00\x14queued 1 c1 1 add 5
+\x01\x00\x00\x00hallocated 0 1.1
+granted shard:0 1 1.1
+wrote c1 1 epoch 1 by 1:1 add 5 / added 5 / ok 5
+confirmed 1 c1 1
+\x00";
+
+/// Another command of the same node.
+pub(crate) const OTHER_COMMAND: &[u8] = b"config shards=1 window=2
+up 1
+pump 9
+produce 1 1
+send 1 c1 add 6
+pump 9
+";
+
+/// Two commands, the second of which is on its way when the node of their entity crashes.
+pub(crate) const MOVED_COMMAND: &[u8] = b"config nodes=2 shards=1 window=4
+up 1
+up 2
+pump 20
+produce 1 2
+send 1 c1 add 5
+pump 20
+send 1 c1 add 1
+crash 1
+pump 9
+tick 2
+pump 20
+";
+
+/// What `resume` writes of the first command where the log has it as queued.
+pub(crate) const RESUMED_QUEUED: &[u8] = b"report
+queue 1 c1 queued 1 confirmed 0
+end
+slot shard:0 3
+granted shard:0 1 1.2
+wrote c1 1 epoch 1 by 1:1 add 5 / added 5 / ok 5
+freed shard:0 1 stopped
+slot coordinator 8
+granted coordinator 1 1.1
+registered 1.1
+freed coordinator 1 stopped
+granted coordinator 2 1.2
+terminated 1.1
+registered 1.2
+allocated 0 1.2
+freed coordinator 2 stopped
+slot queue:1 6
+granted queue:1 1 1.1
+queued 1 c1 1 add 5
+freed queue:1 1 stopped
+granted queue:1 2 1.2
+confirmed 1 c1 1
+freed queue:1 2 stopped
+slot queue:2 2
+granted queue:2 1 1.2
+freed queue:2 1 stopped
+report
+entity c1 shard 0 records 1 state 5
+record 1 epoch 1 by 1:1 add 5 / added 5 / ok 5
+queue 1 c1 queued 1 confirmed 1
+end
+";
+
+/// The same of a log of a grant to another node's producer.
+pub(crate) const RESUMED_GRANT: &[u8] = b"report
+end
+slot shard:0 3
+granted shard:0 1 1.1
+wrote c1 1 epoch 1 by 1:1 add 5 / added 5 / ok 5
+freed shard:0 1 stopped
+slot coordinator 4
+granted coordinator 1 1.1
+registered 1.1
+allocated 0 1.1
+freed coordinator 1 stopped
+slot queue:1 4
+granted queue:1 1 1.1
+queued 1 c1 1 add 5
+confirmed 1 c1 1
+freed queue:1 1 stopped
+slot queue:2 4
+granted queue:2 1 3.4
+freed queue:2 1 stopped
+granted queue:2 2 1.1
+freed queue:2 2 stopped
+report
+entity c1 shard 0 records 1 state 5
+record 1 epoch 1 by 1:1 add 5 / added 5 / ok 5
+queue 1 c1 queued 1 confirmed 1
+end
+";
+
+/// The same of an empty log.
+pub(crate) const RESUMED_EMPTY: &[u8] = b"report
+end
+slot shard:0 3
+granted shard:0 1 1.1
+wrote c1 1 epoch 1 by 1:1 add 5 / added 5 / ok 5
+freed shard:0 1 stopped
+slot coordinator 4
+granted coordinator 1 1.1
+registered 1.1
+allocated 0 1.1
+freed coordinator 1 stopped
+slot queue:1 4
+granted queue:1 1 1.1
+queued 1 c1 1 add 5
+confirmed 1 c1 1
+freed queue:1 1 stopped
+slot queue:2 2
+granted queue:2 1 1.1
+freed queue:2 1 stopped
+report
+entity c1 shard 0 records 1 state 5
+record 1 epoch 1 by 1:1 add 5 / added 5 / ok 5
+queue 1 c1 queued 1 confirmed 1
+end
+";

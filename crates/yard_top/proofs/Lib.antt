@@ -1,4 +1,5 @@
 mod CameLaws
-mod LiveLaws
+mod DiskLaws
 mod SafelyLaws
 mod TextLaws
+mod WrittenLaws

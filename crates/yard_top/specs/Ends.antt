@@ -1,9 +1,10 @@
 -- How a run of the program may end, and what each end says.
-use Rattle.std.specs.Prelude.{◌≡◌, ◌≤◌, ◌⊎◌, ℕ, List, length, take, Option, Some, None, IfSome, IsTrue}
+use Rattle.std.specs.Prelude.{◌≡◌, ◌<◌, ◌≤◌, ◌⊎◌, ℕ, List, length, take, Option, Some, None, IfSome, IsTrue}
 use Rattle.yard_io.specs.Told.{followed_by, without_first, count_of, TakesFront}
 use Rattle.script_text.specs.Reading.{Reading, Spelled, Refused, reading}
 use Rattle.script_text.specs.declared.fault.Mode.{Mode}
 use Rattle.script_text.specs.declared.fault.Why.{Why}
+use Rattle.yard_model.specs.declared.fact.Fact.{Fact}
 use Rattle.yard_model.specs.Script.{Script}
 use Rattle.yard_model.specs.Replay.{replay_text}
 use Rattle.yard_model.specs.Safe.{safe}
@@ -23,6 +24,7 @@ use Rattle.replay_run.specs.Daemons.{DaemonHolds}
 use Rattle.live_run.specs.LiveText.{LiveText}
 use Rattle.replay_run.specs.Replays.{replay_json}
 use Rattle.replay_run.specs.Settling.{EachSettles}
+use Rattle.resume_run.specs.ResumeText.{ResumeText}
 use Rattle.solo_run.specs.Sound.{IsSound, solo_journal}
 use Rattle.run_parts.specs.Stops.{stop_in}
 use Rattle.program_words.specs.Forms.{from_of}
@@ -35,7 +37,7 @@ use Rattle.program_words.specs.declared.status.Status.TheVariants as status
 
 -- What a form is to do.
 
--- this is the text that it writes of a script; of `live`, one of the texts
+-- this is the text that it writes of a script; of `live`, one of the texts; of `resume`, that of some log
 abbrev pub IsText : Form → Script → Bytes → Type 0
 IsText form.Solo c text = text ≡ solo_text c
 IsText form.Replay c text = text ≡ replay_text c
@@ -44,8 +46,10 @@ IsText (form.Bulk n) c text = text ≡ summary n (trace_of c)
 IsText (form.Live n s) c text = LiveText c n text
 IsText form.Pull c text = text ≡ pull_text c
 IsText (form.Daemon n) c text = text ≡ daemon_text n c
+IsText form.Log c text = text ≡ replay_text c
+IsText form.Resume c text = (log : List (List Fact)) × ResumeText c log text
 
--- what is so of what it writes: each journal is sound; the trace is safe, what is printed is the text of a safe trace, and each settle comes to its end; each job is at one worker at most, and is done before it is confirmed; each instance is live at one node at most; of `live` its text says all
+-- what is so of what it writes: each journal is sound; the trace is safe, what is printed is the text of a safe trace, and each settle comes to its end; each job is at one worker at most, and is done before it is confirmed; each instance is live at one node at most; of `live` and `resume` the text says all
 abbrev pub Holds : Form → Script → Type 0
 Holds form.Solo c = (e : List ℕ) → IsSound c e (solo_journal c e)
 Holds form.Replay c = SafeText c (replay_text c) × IsTrue (safe c (trace_of c)) × EachSettles c
@@ -54,6 +58,8 @@ Holds (form.Bulk n) c = IsTrue (safe c (trace_of c))
 Holds (form.Live n s) c = Unit {0}
 Holds form.Pull c = IsTrue (pull_safe c (pull_trace c))
 Holds (form.Daemon n) c = DaemonHolds n c
+Holds form.Log c = SafeText c (replay_text c) × IsTrue (safe c (trace_of c)) × EachSettles c
+Holds form.Resume c = Unit {0}
 
 -- the line with which it stops, where a packet too many would be posted
 abbrev pub stops_at : Form → Script → Option ℕ
@@ -64,41 +70,8 @@ stops_at (form.Bulk n) c = stop_in (trace_of c)
 stops_at (form.Live n s) c = None
 stops_at form.Pull c = stop_in (pull_trace c)
 stops_at (form.Daemon n) c = stop_in (trace_of (expanded n c))
-
--- the words are a form, and this holds of it
-abbrev pub Asked : Option Form → (Form → Type 0) → Type 0
-Asked None P = ⊥
-Asked (Some f) P = P f
-
--- a fact for one end alone
-
-abbrev pub IfWhole : Status → Type 0 → Type 0
-IfWhole status.Ok P = P
-IfWhole s P = Unit {0}
-
-abbrev pub IfUsage : Status → Type 0 → Type 0
-IfUsage status.Usage P = P
-IfUsage s P = Unit {0}
-
-abbrev pub IfRefused : Status → (ℕ → Why → Type 0) → Type 0
-IfRefused (status.Refused line why) P = P line why
-IfRefused s P = Unit {0}
-
-abbrev pub IfReadFault : Status → Type 0 → Type 0
-IfReadFault status.ReadFault P = P
-IfReadFault s P = Unit {0}
-
-abbrev pub IfWriteFault : Status → Type 0 → Type 0
-IfWriteFault status.WriteFault P = P
-IfWriteFault s P = Unit {0}
-
-abbrev pub IfNoMemory : Status → Type 0 → Type 0
-IfNoMemory status.OutOfMemory P = P
-IfNoMemory s P = Unit {0}
-
-abbrev pub IfWireFull : Status → (ℕ → Type 0) → Type 0
-IfWireFull (status.WireFull line) P = P line
-IfWireFull s P = Unit {0}
+stops_at form.Log c = stop_in (trace_of c)
+stops_at form.Resume c = None
 
 -- the most bytes that are read of an input: one more than a script may have
 abbrev pub most_read : ℕ
@@ -114,6 +87,25 @@ pub record Came (had has : Option (List ℕ)) (bytes : List ℕ) : Type 0 where
 pub record Taken : Type 0 where
   pub bytes : Option (List ℕ)
   pub flushed : Option ℕ
+
+-- a source and a sink: what is left to be read and what was taken, where they tell, and their faults so far
+pub record Streams : Type 0 where
+  pub left : Option (List ℕ)
+  pub read_faults : ℕ
+  pub taken : Taken
+  pub write_faults : ℕ
+
+abbrev pub streams : Option (List ℕ) → ℕ → Option (List ℕ) → Option ℕ → ℕ → Streams
+streams left read_faults bytes flushed write_faults =
+    record { left = left; read_faults = read_faults; taken = record { bytes = bytes; flushed = flushed }; write_faults = write_faults }
+
+-- nothing was written
+abbrev pub IsUnwritten : Streams → Streams → Type 0
+IsUnwritten old new = new.taken ≡ old.taken
+
+-- nothing was read
+abbrev pub IsUnread : Streams → Streams → Type 0
+IsUnread old new = (new.left ≡ old.left) × (new.read_faults ≡ old.read_faults)
 
 -- a script came, of this command
 pub record CameScript (m : Mode) (had has : Option (List ℕ)) (script : Script) : Type 0 where
@@ -167,37 +159,81 @@ pub record Began (f : Form) (had has : Option (List ℕ)) (before after : Taken)
   pub is_text : IsText f script text
   pub begun : TakesFront before.bytes after.bytes text
 
--- nothing was written, or a front of the text of a script; of `live` nothing
+-- nothing was written, or a front of the text of a script; of `live` and `resume` nothing
 abbrev pub WroteFront : Form → Option (List ℕ) → Option (List ℕ) → Taken → Taken → Type 0
 WroteFront (form.Live n s) had has before after = after.bytes ≡ before.bytes
+WroteFront form.Resume had has before after = after.bytes ≡ before.bytes
 WroteFront f had has before after = (after.bytes ≡ before.bytes) ⊎ Began f had has before after
-
--- a run that ends before anything is written
-abbrev pub IsEarly : Status → Type 0
-IsEarly status.Ok = ⊥
-IsEarly status.Usage = ⊥
-IsEarly status.WriteFault = ⊥
-IsEarly (status.WireFull line) = ⊥
-IsEarly s = Unit {0}
 
 -- how a run ends whose text was written
 abbrev pub end_of : Option ℕ → Status
 end_of None = status.Ok
 end_of (Some line) = status.WireFull line
 
--- a script is answered by its whole text, or there is no memory
-abbrev pub Ends : Form → Script → Status → Type 0
-Ends f script s = (s ≡ end_of (stops_at f script)) ⊎ (s ≡ status.OutOfMemory)
+-- a form that works on a disk
+abbrev pub IsOfDisk : Form → Type 0
+IsOfDisk form.Log = Unit {0}
+IsOfDisk form.Resume = Unit {0}
+IsOfDisk f = ⊥
+
+-- How a run of a form ends, status by status.
+-- Ok: there is a script, its trace goes to the end, and exactly its text was written and flushed. WireFull: the same of a script whose trace stops at this line.
+-- Refused: what came is no script, or is more than 4 MiB; nothing was written. ReadFault: the source's faults rose; nothing was written.
+-- WriteFault: the sink's faults rose; a front of the script's text was written. OutOfMemory: nothing was written but such a front, and nothing was flushed.
+-- What is so of the ends of a disk stands in `Disks`.
+abbrev pub EndsAs : Form → Streams → Streams → Status → Type 0
+EndsAs f old new status.Ok = Wrote f None old.left new.left old.taken new.taken
+EndsAs f old new status.Usage = ⊥
+EndsAs f old new (status.Refused line why) = HasNone (from_of f) old.left new.left line why × IsUnwritten old new
+EndsAs f old new status.ReadFault = (old.read_faults < new.read_faults) × IsUnwritten old new
+EndsAs f old new status.WriteFault = (old.write_faults < new.write_faults) × Began f old.left new.left old.taken new.taken
+EndsAs f old new status.OutOfMemory = WroteFront f old.left new.left old.taken new.taken × (new.taken.flushed ≡ old.taken.flushed)
+EndsAs f old new (status.WireFull line) = Wrote f (Some line) old.left new.left old.taken new.taken
+EndsAs f old new status.DiskFault = IsOfDisk f
+EndsAs f old new status.LogThere = IsOfDisk f
+EndsAs f old new (status.LogDamaged at) = IsOfDisk f
+EndsAs f old new (status.LogForeign batch) = IsOfDisk f
+
+-- words that are no form are answered by Usage, and then nothing was read or written; no form is
+abbrev pub EndsOf : Option Form → Streams → Streams → Status → Type 0
+EndsOf None old new s = (s ≡ status.Usage) × (new ≡ old)
+EndsOf (Some f) old new s = EndsAs f old new s
+
+-- of a number nothing is read
+abbrev pub ReadsNoMore : Option Form → Streams → Streams → Type 0
+ReadsNoMore o old new = IfSome o (λ f. IfNumber (from_of f) (IsUnread old new))
+
+-- no count of faults fell
+abbrev pub NoneFell : Streams → Streams → Type 0
+NoneFell old new = (old.read_faults ≤ new.read_faults) × (old.write_faults ≤ new.write_faults)
+
+-- no fault rose
+abbrev pub NoneRose : Streams → Streams → Type 0
+NoneRose old new = (new.read_faults ≡ old.read_faults) × (new.write_faults ≡ old.write_faults)
+
+-- a script is answered by its whole text, or there is no memory; with a disk, what stands on it counts too (`Disks`)
+abbrev pub IsCarriedOut : Form → Script → Status → Type 0
+IsCarriedOut form.Log script s = Unit {0}
+IsCarriedOut form.Resume script s = Unit {0}
+IsCarriedOut f script s = (s ≡ end_of (stops_at f script)) ⊎ (s ≡ status.OutOfMemory)
 
 -- what is no script is answered by its first fault, or there is no memory
 abbrev pub Answers : Form → Reading → Status → Type 0
-Answers f (Spelled script) s = Ends f script s
+Answers f (Spelled script) s = IsCarriedOut f script s
 Answers f (Refused line why) s = (s ≡ status.Refused line why) ⊎ (s ≡ status.OutOfMemory)
 
 -- what is to be done: of what is read, where its source tells its bytes; of a number always
 abbrev pub IsAnswered : Form → ScriptFrom → Option (List ℕ) → Status → Type 0
 IsAnswered f (script_from.Input m) told s = IfSome told (λ xs. Answers f (reading m (take most_read xs)) s)
-IsAnswered f (script_from.Number n) told s = Ends f (bulk_script n) s
+IsAnswered f (script_from.Number n) told s = IsCarriedOut f (bulk_script n) s
 
-abbrev pub IsComplete : Form → Option (List ℕ) → Status → Type 0
-IsComplete f told s = IsAnswered f (from_of f) told s
+-- where no fault rose, a form is carried out, or there is no memory
+abbrev pub IsComplete : Option Form → Streams → Streams → Status → Type 0
+IsComplete o old new s = NoneRose old new → IfSome o (λ f. IsAnswered f (from_of f) old.left s)
+
+-- how the reading of a script ends where there is none to go on with: what a source had and then has left, and its faults
+abbrev pub EndsEarly : ScriptFrom → Option (List ℕ) → Option (List ℕ) → ℕ → ℕ → Status → Type 0
+EndsEarly from had has faults after (status.Refused line why) = HasNone from had has line why
+EndsEarly from had has faults after status.ReadFault = faults < after
+EndsEarly from had has faults after status.OutOfMemory = Unit {0}
+EndsEarly from had has faults after s = ⊥

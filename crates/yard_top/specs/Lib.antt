@@ -1,3 +1,4 @@
+pub mod Disks
 pub mod Ends
 pub mod Safely
 pub mod Texts

@@ -2,9 +2,11 @@
 //! cause as a clause of the call.
 #![tactic(auto)]
 
+mod disk;
 mod live;
+mod script;
 mod text;
 mod top;
 
 pub use program_words::{Form, Status};
-pub use top::{sharder, sharder_alone};
+pub use top::{sharder, sharder_alone, sharder_on};

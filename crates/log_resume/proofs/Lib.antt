@@ -1,0 +1,4 @@
+pub mod EntryLaws
+pub mod StepLaws
+pub mod BatchLaws
+pub mod FreedLaws

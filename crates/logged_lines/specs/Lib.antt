@@ -1,0 +1,3 @@
+pub mod Faults
+pub mod Logged
+pub mod Told

@@ -1,0 +1,3 @@
+mod FreedLaws
+mod ResumeLaws
+mod SpellLaws

@@ -1,14 +1,15 @@
 #!/usr/bin/env bash
-# Runs sharder on these words, as `./run.sh replay < examples/failover.txt`.
+# Runs sharder on these words, as `./run.sh replay < examples/failover.txt`; behind the word `judge`, the
+# program of that name, as `./run.sh judge < examples/unsafe_two_incarnations.trace`.
 #
-# Where the program was proved and built of the sources that stand here, it is run, and nothing else is
-# said. Where it wasn't, the sources are run unproved (by `rt try`), and one line on standard error says
-# so. Standard output and the exit status are the program's either way.
+# Where the programs were proved and built of the sources that stand here, the one is run, and nothing else
+# is said. Where they weren't, the sources are run unproved (by `rt try`), and one line on standard error
+# says so. Standard output and the exit status are the program's either way.
 #
-#   ./run.sh --build        proves the program, and builds it
-#   ./run.sh --sum          prints the sum of the sources that it is built of
-#   ./run.sh --built [SUM]  says by its status whether the program is built of the sources that stand here;
-#                           with a sum, notes that `rt ci` has built it of the sources with that sum
+#   ./run.sh --build        proves the programs, and builds them
+#   ./run.sh --sum          prints the sum of the sources that they are built of
+#   ./run.sh --built [SUM]  says by its status whether they are built of the sources that stand here;
+#                           with a sum, notes that `rt ci` has built them of the sources with that sum
 #
 # Statuses of its own: 1 there is no answer, and a line says why; 127 there is no `rt` on the path; above
 # 128 a signal ended it.
@@ -24,9 +25,11 @@ readonly TRY_SECONDS=600
 top=$(cd "$(dirname "$(readlink -f "${BASH_SOURCE[0]}")")" && pwd)
 readonly top
 readonly out=$top/crates/sharder/out
-readonly program=$out/sharder
-# what the program was built of: lines of a word and a value
+readonly programs=("$out/sharder" "$top/crates/judge/out/judge")
+# what the programs were built of: lines of a word and a value
 readonly note=$out/built.sum
+# the one that is run
+name=sharder
 
 say() { echo "run.sh: $*" >&2; }
 
@@ -51,7 +54,7 @@ is_form() {
     esac
 }
 
-# The text of a constant of the program's source.
+# The text of a constant of a program's source.
 text_of() {
     awk -v name="$2" '
         $0 ~ "^const " name ": " { inside = 1 }
@@ -61,19 +64,32 @@ text_of() {
             sub(/^[^"]*"/, "", text); sub(/";\n$/, "", text)
             gsub(/\\\n */, "", text); gsub(/\\n/, "\n", text); gsub(/\\"/, "\"", text)
             printf "%s", text
-        }' "$top/crates/program_words/src/$1"
+        }' "$top/crates/$1"
 }
 
 # Ends with what the program says to words that need no run, where these are such.
 answer_at_once() {
     case $#:${1-} in
-    1:--help) tell notice.rt HELP ;;
-    1:--version) tell notice.rt VERSION ;;
+    1:--help) tell program_words/src/notice.rt HELP ;;
+    1:--version) tell program_words/src/notice.rt VERSION ;;
     esac
-    if ! is_form "$@"; then
-        { text_of status.rt USAGE && echo; } >&2
-        exit 2
-    fi
+    is_form "$@" || refuse program_words/src/status.rt
+}
+
+# The same of `judge`, which takes no words but these.
+answer_of_judge_at_once() {
+    reads=yes
+    case $#:${1-} in
+    0:) ;;
+    1:--help) tell_line judge/src/main.rt HELP ;;
+    1:--version) tell_line judge/src/main.rt VERSION ;;
+    *) refuse judge_run/src/status.rt ;;
+    esac
+}
+
+refuse() {
+    { text_of "$1" USAGE && echo; } >&2
+    exit 2
 }
 
 tell() {
@@ -81,13 +97,18 @@ tell() {
     exit 0
 }
 
+tell_line() {
+    { text_of "$@" && echo; } 2>/dev/null || write_fault
+    exit 0
+}
+
 # (as the program ends where its streams fail)
-read_fault() { echo "sharder: read fault" >&2 && exit 4; }
-write_fault() { echo "sharder: write fault" >&2 && exit 5; }
+read_fault() { echo "$name: read fault" >&2 && exit 4; }
+write_fault() { echo "$name: write fault" >&2 && exit 5; }
 
-# ---- What the program is built of
+# ---- What the programs are built of
 
-# The crates of this repository that the program stands on, itself among them, lowest first.
+# The crates of this repository that the programs stand on, these among them, lowest first.
 needed() {
     awk -F: '/^[a-z]/ { split($1, name, " "); below[name[1]] = $2 }
         function visit(name,    names, i, n) {
@@ -96,7 +117,7 @@ needed() {
             for (i = 1; i <= n; i++) visit(names[i])
             print name
         }
-        END { visit("sharder") }' crates.txt
+        END { visit("sharder"); visit("judge") }' crates.txt
 }
 
 # The folders of these crates that a proof reads.
@@ -110,6 +131,15 @@ parts() {
 }
 
 sum_of() { sha256sum "$@" | cut -d ' ' -f 1; }
+
+# The sums of the programs; a fault where one isn't there.
+sums_of_programs() {
+    local it
+    for it in "${programs[@]}"; do
+        [ -x "$it" ] || return 1
+    done
+    sum_of "${programs[@]}" | paste -sd ' '
+}
 
 # The sum of the sources in a copy of the repository: of crates.txt and of each file of the parts.
 sources_in() {
@@ -130,34 +160,34 @@ untouched() {
         mapfile -t folders < <(parts)
         {
             find "${folders[@]}" -type f -printf '%p %s %i %T@ %C@\n' | LC_ALL=C sort
-            stat -c '%n %s %i %y %z' crates.txt "$program" ${rt:+"$rt" "${rt%/*/*}/KIT-ID"} 2>/dev/null || true
+            stat -c '%n %s %i %y %z' crates.txt "${programs[@]}" ${rt:+"$rt" "${rt%/*/*}/KIT-ID"} 2>/dev/null || true
         } | sum_of
     )
 }
 
-# Whether the program was built of the sources that stand here, by the kit that stands here.
+# Whether the programs were built of the sources that stand here, by the kit that stands here.
 is_built() {
     local key value sources="" kit="" made="" listed="" now
-    [ -x "$program" ] && [ -r "$note" ] || return 1
+    [ -r "$note" ] || return 1
     while read -r key value; do
         case $key in
         sources) sources=$value ;;
         kit) kit=$value ;;
-        program) made=$value ;;
+        programs) made=$value ;;
         untouched) listed=$value ;;
         esac
     done <"$note"
     now=$(untouched) || return 1
     [ "$listed" = "$now" ] && return 0
     # some file was touched: what do they hold?
-    [ "$sources" = "$(sources_in "$top")" ] && [ "$made" = "$(sum_of "$program")" ] || return 1
+    [ "$sources" = "$(sources_in "$top")" ] && [ "$made" = "$(sums_of_programs)" ] || return 1
     ! command -v rt >/dev/null || [ "$kit" = "$(rt version)" ] || return 1
     write_note "$sources" "$kit" "$made" 2>/dev/null || true
 }
 
-# Notes what the program was built of: the sum of its sources, the kit, and its own sum.
+# Notes what the programs were built of: the sum of their sources, the kit, and their own sums.
 write_note() {
-    printf '%s\n' "sources $1" "kit $2" "program $3" "untouched $(untouched)" >"$note.$$"
+    printf '%s\n' "sources $1" "kit $2" "programs $3" "untouched $(untouched)" >"$note.$$"
     mv -f "$note.$$" "$note"
 }
 
@@ -203,7 +233,7 @@ clean() {
 
 need_rt() {
     if ! command -v rt >/dev/null; then
-        say "there is no rt on the path: sharder is written in Rattle, whose toolchain runs, proves and builds it"
+        say "there is no rt on the path: $name is written in Rattle, whose toolchain runs, proves and builds it"
         exit 127
     fi
     trap clean EXIT
@@ -246,7 +276,7 @@ tell_no_answer() {
 run_unproved() {
     local ended
     need_rt
-    if [ "$1" = log ] || [ "$1" = resume ]; then
+    if [ "${1-}" = log ] || [ "${1-}" = resume ]; then
         say "\`$1\` works on a file, and is run proved alone: \`./run.sh --build\` makes the proved program"
         exit 1
     fi
@@ -254,13 +284,13 @@ run_unproved() {
     room=$(mktemp -d)
     : >"$room/script"
     if [ "$reads" = yes ]; then
-        # (past 4 MiB a script is refused)
-        head -c 8388608 <&0 >"$room/script" 2>/dev/null &
+        # (past 4 MiB a script is refused; a trace may be long)
+        if [ "$name" = judge ]; then cat; else head -c 8388608; fi <&0 >"$room/script" 2>/dev/null &
         job=$!
         wait "$job" || read_fault
     fi
     in_turn try "runs unproved"
-    (cd "$top/crates/sharder" && exec rt try --steps 1 --seconds "$TRY_SECONDS" -- "$@") <"$room/script" >"$room/text" 2>"$room/said" &
+    (cd "$top/crates/$name" && exec rt try --steps 1 --seconds "$TRY_SECONDS" -- "$@") <"$room/script" >"$room/text" 2>"$room/said" &
     job=$!
     wait "$job" || true
     ended=$(sed -n 's/^run=ended status=\([0-9]*\) .*/\1/p' "$room/said" | tail -n 1)
@@ -347,11 +377,11 @@ sweep() {
 }
 
 build() {
-    local sources kit count processors
+    local sources kit count processors it
     need_rt
-    in_turn build "builds sharder"
+    in_turn build "builds sharder and judge"
     if is_built; then
-        say "sharder is proved and built already"
+        say "sharder and judge are proved and built already"
         return
     fi
     sweep
@@ -363,7 +393,7 @@ build() {
     count=$(cd "$room" && needed | tee names | wc -l)
     awk -F: 'NR == FNR { needed[$1] = 1; next } { split($1, name, " ") } name[1] in needed' "$room/names" "$top/crates.txt" >"$room/crates.txt"
     processors=$(nproc)
-    say "$count crates are proved, and sharder is built; $(took "$processors")"
+    say "$count crates are proved, and sharder and judge are built; $(took "$processors")"
     (cd "$room" && exec rt ci) >"$room/log" 2>&1 &
     job=$!
     tell_progress "$count" "$processors"
@@ -371,14 +401,17 @@ build() {
     cp "$room/log" "$out/build.log"
     if ! wait "$job"; then
         tail -n 40 "$out/build.log" >&2
-        say "sharder was not built; all that \`rt ci\` said is in $out/build.log"
+        say "sharder and judge were not built; all that \`rt ci\` said is in $out/build.log"
         exit 1
     fi
-    cp "$room/crates/sharder/out/sharder" "$program.$$"
-    mv -f "$program.$$" "$program"
-    write_note "$sources" "$kit" "$(sum_of "$program")"
+    for it in "${programs[@]}"; do
+        mkdir -p "${it%/*}"
+        cp "$room${it#"$top"}" "$it.$$"
+        mv -f "$it.$$" "$it"
+    done
+    write_note "$sources" "$kit" "$(sums_of_programs)"
     grep -q '^rt: [a-z0-9_]* is kept: ' "$out/build.log" || keep_time "$processors" || true
-    say "sharder is proved and built, after $((SECONDS / 60)) minutes"
+    say "sharder and judge are proved and built, after $((SECONDS / 60)) minutes"
 }
 
 # ---- What is asked for
@@ -388,15 +421,24 @@ case $#:${1-} in
 1:--sum) sources_in "$top" ;;
 1:--built) is_built ;;
 2:--built)
-    if [ -x "$program" ] && [ "$2" = "$(sources_in "$top")" ]; then
-        write_note "$2" "$(rt version)" "$(sum_of "$program")"
+    if made=$(sums_of_programs) && [ "$2" = "$(sources_in "$top")" ]; then
+        write_note "$2" "$(rt version)" "$made"
     else
-        say "a source was changed while \`rt ci\` ran, so it is not known of which sources the program is built"
+        say "a source was changed while \`rt ci\` ran, so it is not known of which sources the programs are built"
     fi
+    ;;
+*:judge)
+    shift
+    name=judge
+    if is_built; then
+        exec "${programs[1]}" "$@"
+    fi
+    answer_of_judge_at_once "$@"
+    run_unproved "$@"
     ;;
 *)
     if is_built; then
-        exec "$program" "$@"
+        exec "${programs[0]}" "$@"
     fi
     answer_at_once "$@"
     run_unproved "$@"

@@ -95,6 +95,7 @@ echo "$orders orders, $(stat -c %s sharder.log) bytes of log, $((took / 1000)) m
 killed=0 ahead=0 empty=0 least=$orders most=0
 for ((run = 1; run <= count; run++)); do
     rm -f sharder.log
+    : >printed
     moment=$(awk -v r="$RANDOM" -v s="$RANDOM" -v took="$took" 'BEGIN { printf "%.6f", (r * 32768 + s) / 1073741824 * took * 1.02 / 1000000 }')
     "$program" log <script >printed 2>said &
     it=$!

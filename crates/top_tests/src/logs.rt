@@ -227,34 +227,35 @@ fn each_crash(rt: HostRuntime) -> Result<(), Fail> {
     Ok(())
 }
 
-/// Each call of the disk fails in its turn.
+/// Runs a form over this image again and again, and each time the next call of the disk fails, until none does.
+fn fail_each_call(
+    rt: &(impl Abort + AllocGlobal),
+    word: &str,
+    image: &[u8],
+    text: &[u8],
+) -> Result<(), Fail> {
+    let alloc = rt.alloc();
+    for done in 0..MOST_CALLS {
+        let mut disk = MemDisk::new(alloc, image, &[done + 1])?;
+        let run = ran(alloc, word, FIRST_COMMAND, &mut disk)?;
+        if run.end == Status::Ok {
+            assert!(rt; run.sink.bytes() == text);
+            assert_eq!(rt; calls_of(rt, &disk), done);
+            return Ok(());
+        }
+        assert_eq!(rt; run.end, Status::DiskFault, "{word}, after {done} calls");
+        assert!(rt;
+            text.starts_with(run.sink.bytes()),
+            "{word}, after {done} calls"
+        );
+    }
+    panic!(rt; "{word}: a call failed in each run")
+}
+
 #[test]
 fn each_call_fails(rt: HostRuntime) -> Result<(), Fail> {
-    let alloc = rt.alloc();
-    let forms: [(&str, &[u8], &[u8]); 2] = [
-        ("log", b"", FIRST_TEXT),
-        ("resume", CLOSED_AT_98, RESUMED_QUEUED),
-    ];
-    for (word, image, text) in forms {
-        let mut done = 0;
-        loop {
-            assert!(rt; done < MOST_CALLS);
-            let mut disk = MemDisk::new(alloc, image, &[done + 1])?;
-            let run = ran(alloc, word, FIRST_COMMAND, &mut disk)?;
-            if run.end == Status::Ok {
-                assert!(rt; run.sink.bytes() == text);
-                assert_eq!(rt; calls_of(&rt, &disk), done);
-                break;
-            }
-            assert_eq!(rt; run.end, Status::DiskFault, "{word}, after {done} calls");
-            assert!(rt;
-                text.starts_with(run.sink.bytes()),
-                "{word}, after {done} calls"
-            );
-            done += 1;
-        }
-    }
-    Ok(())
+    fail_each_call(&rt, "log", b"", FIRST_TEXT)?;
+    fail_each_call(&rt, "resume", CLOSED_AT_98, RESUMED_QUEUED)
 }
 
 /// Words that use no disk leave it alone, and a script that is refused does.

@@ -1,0 +1,139 @@
+-- How a run ends.
+use Rattle.std.proofs.Common.{◌≡◌, ◌<◌, ◌≤◌, ℕ, ◌+◌, sym, subst, ap, ap₂, ◌∙◌, refl, arith, length-take-le, inl, inr}
+use Rattle.std.specs.Prelude.{Bool, true, false, nat_lt, List, [], ◌∷◌, ◌++◌, length, take, drop, Option, Some, None, IfSome, Result, Ok, Err, IfErr, IfOk}
+use Rattle.std.proofs.lemmas.List.{append-nil, append_assoc, drop_all, take_all, take-append-drop}
+use Rattle.plain_laws.proofs.Booleans.{below, not_below}
+use Rattle.plain_laws.proofs.Lists.{none_is_not_some, some_is}
+use Rattle.yard_io.specs.Told.{without_first}
+use Rattle.yard_model.specs.Script.{Script}
+use Rattle.script_text.specs.Reading.{Reading, Spelled, Refused, reading}
+use Rattle.script_text.specs.declared.fault.Mode.TheVariants as mode
+use Rattle.script_text.specs.declared.fault.Why.{Why}
+use Rattle.script_text.specs.declared.fault.Why.TheVariants as why
+use Rattle.script_text.proofs.Steps.{reading_long}
+use Rattle.verdict_laws.specs.declared.answer.Answer.{Answer}
+use Rattle.verdict_laws.specs.Meaning.{Means, VerdictMeans}
+use Rattle.verdict_laws.specs.Verdict.{verdict}
+use Rattle.judge_text.specs.Reads.{IsJudged, ahead, left_of}
+use Rattle.judge_text.proofs.ReadLaws.{ahead_both}
+use Rattle.judge_run.specs.declared.status.Status.{Status}
+use Rattle.judge_run.specs.declared.status.Status.TheVariants as status
+use Rattle.judge_run.specs.Ends.{Alone, Answers, Behind, IfRefused, IsInput, Refuses}
+use Rattle.judge_run.specs.Input.{IsCut, IsUncut, script_in, trace_in}
+
+-- What was read at first: this head, up to this limit.
+
+pub record IsHead (had mid : Option (List ℕ)) (head : List ℕ) (limit : ℕ) : Type 0 where
+  pub bytes : IfSome had (λ xs. head ≡ take limit xs)
+  pub rest : mid ≡ without_first limit had
+
+head_told : (had mid : Option (List ℕ)) (head : List ℕ) (limit : ℕ) → IsHead had mid head limit → had ≡ ahead head mid
+head_told None mid head limit h = sym (ap (ahead head) h.rest)
+head_told (Some xs) mid head limit h = sym (ap (ahead head) h.rest ∙ ap (λ t. Some t) (ap (λ t. t ++ drop limit xs) h.bytes ∙ take-append-drop limit xs))
+
+-- where less came, nothing is left
+head_ended : (had mid : Option (List ℕ)) (head : List ℕ) (limit : ℕ) → IsHead had mid head limit → length head < limit → left_of mid ≡ []
+head_ended None mid head limit h less = ap left_of h.rest
+head_ended (Some xs) mid head limit h less = ap left_of h.rest ∙ drop_all limit xs (by (nat_lt limit (length xs)) refl)
+  where
+    by : (b : Bool) → nat_lt limit (length xs) ≡ b → length xs ≤ limit
+    by false e = not_below limit (length xs) e
+    by true e = let long : limit < length xs = below limit (length xs) e in absurd (omega (arith, ap length h.bytes, length-take-le limit xs (omega arith)))
+
+-- all that the source had
+all_input : (had has : Option (List ℕ)) (bytes input : List ℕ) → had ≡ ahead bytes has → input ≡ bytes ++ left_of has → IfSome had (λ xs. input ≡ xs)
+all_input None has bytes input told is = tt
+all_input (Some xs) None bytes input told is = absurd (none_is_not_some xs (sym told))
+all_input (Some xs) (Some ys) bytes input told is = is ∙ sym (some_is xs (bytes ++ ys) told)
+
+input_of : (had has : Option (List ℕ)) (bytes : List ℕ) → had ≡ ahead bytes has → IsInput had has (bytes ++ left_of has)
+input_of had has bytes told = record { bytes = bytes; told = told; input_is = refl; all = all_input had has bytes (bytes ++ left_of has) told refl }
+
+-- A line `trace` came.
+
+pub answers_behind : VerdictMeans → (had mid has : Option (List ℕ)) (head script first : List ℕ) (limit : ℕ) (a : Answer) → IsHead had mid head limit → IsCut head script first → Behind script first mid has a → Answers had has a
+answers_behind means had mid has head script first limit a h k b =
+    let bytes : List ℕ = head ++ b.judged.bytes in
+    let told : had ≡ ahead bytes has = head_told had mid head limit h ∙ (ap (ahead head) b.judged.told ∙ ahead_both head b.judged.bytes has) in
+    let input : List ℕ = bytes ++ left_of has in
+    let more : input ≡ head ++ (b.judged.bytes ++ left_of has) = append_assoc head b.judged.bytes (left_of has) in
+    let script_is : script_in input ≡ script = ap script_in more ∙ k.script_is (b.judged.bytes ++ left_of has) in
+    let trace_is : trace_in input ≡ first ++ (b.judged.bytes ++ left_of has) = ap trace_in more ∙ k.trace_is (b.judged.bytes ++ left_of has) in
+    let answer_is : verdict b.script (trace_in input) ≡ a = ap (verdict b.script) trace_is ∙ b.judged.answer_is in
+    record {
+      input = input;
+      input_is = input_of had has bytes told;
+      script = b.script;
+      spelled = ap (reading mode.Replay) script_is ∙ b.spelled;
+      answer_is = answer_is;
+      means = subst (Means b.script (trace_in input)) answer_is (means b.script (trace_in input) b.some);
+    }
+
+pub refuses_behind : (had mid has : Option (List ℕ)) (head script first : List ℕ) (limit : ℕ) (line : ℕ) (y : Why) → IsHead had mid head limit → IsCut head script first → reading mode.Replay script ≡ Refused line y → has ≡ mid → Refuses had has line y
+refuses_behind had mid has head script first limit line y h k e same =
+    subst (λ o. Refuses had o line y) (sym same) (record {
+      input = head ++ left_of mid;
+      input_is = input_of had mid head (head_told had mid head limit h);
+      refused = ap (reading mode.Replay) (k.script_is (left_of mid)) ∙ e;
+    })
+
+-- None came.
+
+-- the whole input, where less came than the limit
+whole_head : (had mid : Option (List ℕ)) (head : List ℕ) (limit : ℕ) → IsHead had mid head limit → length head < limit → head ++ left_of mid ≡ head
+whole_head had mid head limit h less = ap (λ t. head ++ t) (head_ended had mid head limit h less) ∙ append-nil head
+
+not_long : (text : List ℕ) (c : Script) → reading mode.Replay text ≡ Spelled c → length text ≤ 4194304
+not_long text c e = by (nat_lt 4194304 (length text)) refl
+  where
+    other : (x : Reading) → x ≡ Refused 0 why.TooLong → x ≡ Spelled c → ⊥
+    other x p q = cc
+
+    by : (b : Bool) → nat_lt 4194304 (length text) ≡ b → length text ≤ 4194304
+    by false t = not_below 4194304 (length text) t
+    by true t = absurd (other (reading mode.Replay text) (reading_long mode.Replay text (below 4194304 (length text) t)) e)
+
+pub answers_alone : VerdictMeans → (had mid : Option (List ℕ)) (head : List ℕ) (a : Answer) → IsHead had mid head 4194311 → IsUncut head → Alone head a → Answers had mid a
+answers_alone means had mid head a h k b =
+    let short : length head ≤ 4194304 = not_long head b.script b.spelled in
+    let whole : head ++ left_of mid ≡ head = whole_head had mid head 4194311 h (omega arith) in
+    let answer_is : verdict b.script (trace_in (head ++ left_of mid)) ≡ a = ap (verdict b.script) (ap trace_in whole ∙ k.trace_is) ∙ b.answer_is in
+    record {
+      input = head ++ left_of mid;
+      input_is = input_of had mid head (head_told had mid head 4194311 h);
+      script = b.script;
+      spelled = ap (reading mode.Replay) (ap script_in whole ∙ k.script_is) ∙ b.spelled;
+      answer_is = answer_is;
+      means = subst (Means b.script (trace_in (head ++ left_of mid))) answer_is (means b.script (trace_in (head ++ left_of mid)) b.some);
+    }
+
+pub refuses_alone : (had mid : Option (List ℕ)) (head : List ℕ) (line : ℕ) (y : Why) → IsHead had mid head 4194311 → IsUncut head → reading mode.Replay head ≡ Refused line y → Refuses had mid line y
+refuses_alone had mid head line y h k e = record {
+  input = head ++ left_of mid;
+  input_is = input_of had mid head (head_told had mid head 4194311 h);
+  refused = by (nat_lt (length head) 4194311) refl;
+}
+  where
+    by : (b : Bool) → nat_lt (length head) 4194311 ≡ b → reading mode.Replay (script_in (head ++ left_of mid)) ≡ Refused line y
+    by true t = ap (reading mode.Replay) (ap script_in (whole_head had mid head 4194311 h (below (length head) 4194311 t)) ∙ k.script_is) ∙ e
+    by false t =
+        let full : 4194311 ≤ length head = not_below (length head) 4194311 t in
+        reading_long mode.Replay (script_in (head ++ left_of mid)) (omega (arith, k.longer (left_of mid))) ∙ (sym (reading_long mode.Replay head (omega arith)) ∙ e)
+
+-- Of what a call answers.
+
+pub on_ok : {A E : Type 0} (r : Result A E) (P Q : A → Type 0) → ((a : A) → P a → Q a) → IfOk r P → IfOk r Q
+on_ok (Ok a) P Q f h = f a h
+on_ok (Err e) P Q f h = tt
+
+pub on_refused : {A : Type 0} (r : Result A Status) (P Q : ℕ → Why → Type 0) → ((line : ℕ) (y : Why) → P line y → Q line y) → IfErr r (λ s. IfRefused s P) → IfErr r (λ s. IfRefused s Q)
+on_refused (Ok a) P Q f h = tt
+on_refused (Err (status.Refused line y)) P Q f h = f line y h
+on_refused (Err status.Safe) P Q f h = tt
+on_refused (Err status.Unsafe) P Q f h = tt
+on_refused (Err status.Usage) P Q f h = tt
+on_refused (Err status.NoFact) P Q f h = tt
+on_refused (Err status.NotJudged) P Q f h = tt
+on_refused (Err status.ReadFault) P Q f h = tt
+on_refused (Err status.WriteFault) P Q f h = tt
+on_refused (Err status.OutOfMemory) P Q f h = tt

@@ -1,0 +1,112 @@
+-- A script, a line `trace`, and a trace.
+use Rattle.std.proofs.Common.{◌≡◌, ◌<◌, ◌≤◌, ℕ, ◌+◌, ◌-◌, sym, subst, ap, ap₂, ◌∙◌, refl, arith, length-append}
+use Rattle.std.specs.Prelude.{Bool, true, false, List, [], ◌∷◌, ◌++◌, length, take, codes, Option, Some, None, if◌then◌else◌}
+use Rattle.std.specs.List.{position}
+use Rattle.std.proofs.lemmas.List.{append-nil, append_assoc}
+use Rattle.std.proofs.Math.Seq.{take-append_seam}
+use Rattle.plain_laws.proofs.Booleans.{same_name}
+use Rattle.verdict_laws.specs.Lines.{before_first, is_lf, lines_of}
+use Rattle.verdict_laws.proofs.CutLaws.{Begins, begins, last_line}
+use Rattle.judge_text.specs.Steps.{Cuts}
+use Rattle.judge_run.specs.Input.{IsCut, IsUncut, before_it, behind_it, is_between, joined, script_in, trace_in}
+
+joined_before : (b : ℕ) (ls : List (List ℕ)) → joined (before_first b ls) ≡ b ∷ joined ls
+joined_before b [] = refl
+joined_before b (l ∷ ls) = refl
+
+-- the lines are the text
+pub joined_lines : (text : List ℕ) → joined (lines_of text) ≡ text
+joined_lines [] = refl
+joined_lines (b ∷ bs) = by (is_lf b) (joined_lines bs)
+  where
+    by : (t : Bool) → joined (lines_of bs) ≡ bs → joined (if t then (b ∷ []) ∷ lines_of bs else before_first b (lines_of bs)) ≡ b ∷ bs
+    by true h = ap (λ r. b ∷ r) h
+    by false h = joined_before b (lines_of bs) ∙ ap (λ r. b ∷ r) h
+
+-- a line, and what is behind it
+whole : (rest line behind : List ℕ) → Cuts rest line behind → rest ≡ line ++ behind
+whole rest line behind k =
+    sym (joined_lines rest) ∙ (ap (λ t. joined (lines_of t)) (sym (append-nil rest)) ∙ (ap joined (k.split []) ∙ ap (λ t. line ++ t) (joined_lines (behind ++ []) ∙ append-nil behind)))
+
+-- the lines that were passed are none of a trace yet
+pub record Passed (input rest : List ℕ) : Type 0 where
+  pub passed : List ℕ
+  pub input_is : input ≡ passed ++ rest
+  pub script_is : (more : List ℕ) → script_in (input ++ more) ≡ passed ++ before_it (lines_of (rest ++ more))
+  pub trace_is : (more : List ℕ) → trace_in (input ++ more) ≡ behind_it (lines_of (rest ++ more))
+
+pub none_passed : (input : List ℕ) → Passed input input
+none_passed input = record { passed = []; input_is = refl; script_is = λ more. refl; trace_is = λ more. refl }
+
+pub one_passed : (input rest line behind : List ℕ) → Passed input rest → Cuts rest line behind → is_between line ≡ false → Passed input behind
+one_passed input rest line behind p k other = record {
+  passed = p.passed ++ line;
+  input_is = p.input_is ∙ (ap (λ t. p.passed ++ t) (whole rest line behind k) ∙ sym (append_assoc p.passed line behind));
+  script_is = λ more.
+      p.script_is more
+      ∙ (ap (λ ls. p.passed ++ before_it ls) (k.split more)
+      ∙ (ap (λ b. p.passed ++ (if b then [] else line ++ before_it (lines_of (behind ++ more)))) other
+      ∙ sym (append_assoc p.passed line (before_it (lines_of (behind ++ more))))));
+  trace_is = λ more.
+      p.trace_is more ∙ (ap behind_it (k.split more) ∙ ap (λ b. if b then joined (lines_of (behind ++ more)) else behind_it (lines_of (behind ++ more))) other);
+}
+
+pub shorter : (input rest : List ℕ) → Passed input rest → length rest ≤ length input
+shorter input rest p = omega (arith, ap length p.input_is, length-append p.passed rest)
+
+pub cut_here : (input rest line behind script : List ℕ) → Passed input rest → Cuts rest line behind → is_between line ≡ true → script ≡ take (length input - length rest) input → IsCut input script behind
+cut_here input rest line behind script p k here is =
+    let size : length input - length rest ≡ length p.passed = omega (arith, ap length p.input_is, length-append p.passed rest) in
+    let it : script ≡ p.passed = is ∙ (ap₂ (λ n t. take n t) size p.input_is ∙ take-append_seam p.passed rest) in
+    record {
+      script_is = λ more.
+          p.script_is more
+          ∙ (ap (λ ls. p.passed ++ before_it ls) (k.split more)
+          ∙ (ap (λ b. p.passed ++ (if b then [] else line ++ before_it (lines_of (behind ++ more)))) here
+          ∙ (append-nil p.passed ∙ sym it)));
+      trace_is = λ more.
+          p.trace_is more
+          ∙ (ap behind_it (k.split more)
+          ∙ (ap (λ b. if b then joined (lines_of (behind ++ more)) else behind_it (lines_of (behind ++ more))) here ∙ joined_lines (behind ++ more)));
+    }
+
+-- bytes without LF are no such line
+not_between : (rest : List ℕ) → position is_lf rest ≡ None → is_between rest ≡ false
+not_between rest none = by (is_between rest) refl
+  where
+    lf : position is_lf (codes "trace\n") ≡ None → ⊥
+    lf e = cc
+
+    by : (b : Bool) → is_between rest ≡ b → b ≡ false
+    by false e = refl
+    by true e = absurd (lf (ap (position is_lf) (sym (same_name rest (codes "trace\n") e)) ∙ none))
+
+open_script : (rest : List ℕ) → position is_lf rest ≡ None → before_it (lines_of rest) ≡ rest
+open_script [] none = refl
+open_script (b ∷ bs) none =
+    ap before_it (last_line (b ∷ bs) none (omega arith)) ∙ (ap (λ t. if t then [] else (b ∷ bs) ++ []) (not_between (b ∷ bs) none) ∙ append-nil (b ∷ bs))
+
+open_trace : (rest : List ℕ) → position is_lf rest ≡ None → behind_it (lines_of rest) ≡ []
+open_trace [] none = refl
+open_trace (b ∷ bs) none = ap behind_it (last_line (b ∷ bs) none (omega arith)) ∙ ap (λ t. if t then [] else []) (not_between (b ∷ bs) none)
+
+open_longer : (rest more : List ℕ) → position is_lf rest ≡ None → length rest ≤ length (before_it (lines_of (rest ++ more))) + 6
+open_longer [] more none = omega arith
+open_longer (b ∷ bs) more none =
+    let g : Begins (b ∷ bs) more = begins (b ∷ bs) more none (omega arith) in
+    subst (λ ls. length (b ∷ bs) ≤ length (before_it ls) + 6) (sym g.split) (by g.line g.behind g.longer (is_between g.line) refl)
+  where
+    by : (l : List ℕ) (ls : List (List ℕ)) → length (b ∷ bs) ≤ length l → (t : Bool) → is_between l ≡ t → length (b ∷ bs) ≤ length (if t then [] else l ++ before_it ls) + 6
+    by l ls h true e = let six : length l ≡ 6 = ap length (same_name l (codes "trace\n") e) in omega arith
+    by l ls h false e = omega (arith, h, length-append l (before_it ls))
+
+pub uncut : (input rest : List ℕ) → Passed input rest → position is_lf rest ≡ None → IsUncut input
+uncut input rest p none = record {
+  script_is =
+      ap script_in (sym (append-nil input))
+      ∙ (p.script_is [] ∙ (ap (λ t. p.passed ++ before_it (lines_of t)) (append-nil rest) ∙ (ap (λ t. p.passed ++ t) (open_script rest none) ∙ sym p.input_is)));
+  trace_is = ap trace_in (sym (append-nil input)) ∙ (p.trace_is [] ∙ (ap (λ t. behind_it (lines_of t)) (append-nil rest) ∙ open_trace rest none));
+  longer = λ more.
+      subst (λ t. length input ≤ length t + 6) (sym (p.script_is more))
+      (omega (arith, ap length p.input_is, length-append p.passed rest, length-append p.passed (before_it (lines_of (rest ++ more))), open_longer rest more none));
+}

@@ -1,0 +1,52 @@
+use Rattle.std.proofs.Common.{◌≡◌, ◌∙◌, ap, subst, rules}
+use Rattle.std.specs.Prelude.{List, ℕ}
+use Rattle.script_text.specs.Reading.{Refused, reading}
+use Rattle.script_text.specs.declared.fault.Mode.TheVariants as mode
+use Rattle.judge_run.specs.Ends.{Alone, Answers, Behind, Refuses}
+use Rattle.judge_run.specs.Input.{IsCut, IsUncut}
+use Rattle.judge_run.proofs.EndLaws.{IsHead, answers_alone, answers_behind, on_ok, on_refused, refuses_alone, refuses_behind}
+use Rattle.judge_run.proofs.top.answer_of.Goals as goal
+
+pub returns-in-Some-clause-answers : goal.returns-in-Some-clause-answers
+returns-in-Some-clause-answers g c =
+    let had = g.S.Source.left c.args.source.now in
+    let mid = g.S.Source.left c.read_up_to.new.source in
+    let has = g.S.Source.left c.answer_behind.new.source in
+    let head : List ℕ = c.in-Ok.head.items in
+    let h : IsHead had mid head 4194311 = record { bytes = c.in-Ok.ensures.bytes; rest = c.in-Ok.ensures.rest } in
+    let seen : IsCut c.deref.result.now c.in-Some.script.now c.in-Some.first.now = search rules in
+    let k : IsCut head c.in-Some.script.now c.in-Some.first.now = subst (λ t. IsCut t c.in-Some.script.now c.in-Some.first.now) c.deref.ensures.value seen in
+    on_ok c.answer_behind.result (Behind c.in-Some.script.now c.in-Some.first.now mid has) (Answers had has)
+    (λ a b. answers_behind c.verdict_means.ensures had mid has head c.in-Some.script.now c.in-Some.first.now 4194311 a h k b) c.answer_behind.ensures.answers
+
+pub returns-in-Some-clause-refused : goal.returns-in-Some-clause-refused
+returns-in-Some-clause-refused g c =
+    let had = g.S.Source.left c.args.source.now in
+    let mid = g.S.Source.left c.read_up_to.new.source in
+    let has = g.S.Source.left c.answer_behind.new.source in
+    let head : List ℕ = c.in-Ok.head.items in
+    let h : IsHead had mid head 4194311 = record { bytes = c.in-Ok.ensures.bytes; rest = c.in-Ok.ensures.rest } in
+    let seen : IsCut c.deref.result.now c.in-Some.script.now c.in-Some.first.now = search rules in
+    let k : IsCut head c.in-Some.script.now c.in-Some.first.now = subst (λ t. IsCut t c.in-Some.script.now c.in-Some.first.now) c.deref.ensures.value seen in
+    on_refused c.answer_behind.result (λ line why. (reading mode.Replay c.in-Some.script.now ≡ Refused line why) × (has ≡ mid)) (Refuses had has)
+    (λ line why e. refuses_behind had mid has head c.in-Some.script.now c.in-Some.first.now 4194311 line why h k e.0 e.1) c.answer_behind.ensures.refused
+
+pub returns-clause-answers : goal.returns-clause-answers
+returns-clause-answers g c =
+    let had = g.S.Source.left c.args.source.now in
+    let mid = g.S.Source.left c.read_up_to.new.source in
+    let head : List ℕ = c.in-Ok.head.items in
+    let h : IsHead had mid head 4194311 = record { bytes = c.in-Ok.ensures.bytes; rest = c.in-Ok.ensures.rest } in
+    let k : IsUncut head = subst IsUncut c.deref.ensures.value c.in-None.ensures in
+    on_ok c.answer_alone.result (Alone c.deref-in-None.result.now) (Answers had mid)
+    (λ a b. answers_alone c.verdict_means.ensures had mid head a h k (subst (λ t. Alone t a) c.deref-in-None.ensures.value b)) c.answer_alone.ensures.answers
+
+pub returns-clause-refused : goal.returns-clause-refused
+returns-clause-refused g c =
+    let had = g.S.Source.left c.args.source.now in
+    let mid = g.S.Source.left c.read_up_to.new.source in
+    let head : List ℕ = c.in-Ok.head.items in
+    let h : IsHead had mid head 4194311 = record { bytes = c.in-Ok.ensures.bytes; rest = c.in-Ok.ensures.rest } in
+    let k : IsUncut head = subst IsUncut c.deref.ensures.value c.in-None.ensures in
+    on_refused c.answer_alone.result (λ line why. reading mode.Replay c.deref-in-None.result.now ≡ Refused line why) (Refuses had mid)
+    (λ line why e. refuses_alone had mid head line why h k (subst (λ t. reading mode.Replay t ≡ Refused line why) c.deref-in-None.ensures.value e)) c.answer_alone.ensures.refused

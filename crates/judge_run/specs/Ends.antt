@@ -1,0 +1,164 @@
+-- How a run of the judge may end, and what each end says.
+use Rattle.std.specs.Prelude.{◌≡◌, ◌<◌, ◌≤◌, ◌⊎◌, ℕ, List, [], ◌++◌, Option, Some, None, IfSome}
+use Rattle.yard_io.specs.Told.{followed_by, count_of, TakesFront}
+use Rattle.yard_io.specs.declared.transfer.ReadError.{ReadError}
+use Rattle.yard_io.specs.declared.transfer.ReadError.TheVariants as read_error
+use Rattle.yard_model.specs.Script.{Script}
+use Rattle.yard_model.specs.Text.{Bytes}
+use Rattle.script_text.specs.Reading.{Reading, Spelled, Refused, reading}
+use Rattle.script_text.specs.declared.fault.Mode.TheVariants as mode
+use Rattle.script_text.specs.declared.fault.Why.{Why}
+use Rattle.judge_text.specs.Reads.{IsJudged, ahead, left_of}
+use Rattle.judge_laws.specs.declared.breach.Breach.{Breach}
+use Rattle.judge_laws.specs.declared.breach.Breach.TheVariants as breach
+use Rattle.verdict_laws.specs.declared.answer.Answer.{Answer}
+use Rattle.verdict_laws.specs.declared.answer.Answer.TheVariants as answer
+use Rattle.verdict_laws.specs.Meaning.{Means}
+use Rattle.verdict_laws.specs.Verdict.{verdict}
+use Rattle.judge_run.specs.declared.status.Status.{Status}
+use Rattle.judge_run.specs.declared.status.Status.TheVariants as status
+use Rattle.judge_run.specs.Input.{script_in, trace_in}
+use Rattle.judge_run.specs.Texts.{answer_text}
+
+-- the exit status of the program
+abbrev pub code_of : Status → ℕ
+code_of status.Safe = 0
+code_of status.Unsafe = 1
+code_of status.Usage = 2
+code_of (status.Refused line why) = 3
+code_of status.NoFact = 3
+code_of status.NotJudged = 3
+code_of status.ReadFault = 4
+code_of status.WriteFault = 5
+code_of status.OutOfMemory = 6
+
+-- how a run ends that answered with a breach
+abbrev pub status_by : Breach → Status
+status_by breach.NotJudged = status.NotJudged
+status_by why = status.Unsafe
+
+-- how a run ends whose answer was written
+abbrev pub status_of : Answer → Status
+status_of (answer.Safe n) = status.Safe
+status_of (answer.Broken n why) = status_by why
+status_of (answer.NoFact n) = status.NoFact
+
+-- this is what a source gave and still has: where it tells its bytes, all that it had
+pub record IsInput (had has : Option (List ℕ)) (input : List ℕ) : Type 0 where
+  pub bytes : List ℕ
+  pub told : had ≡ ahead bytes has
+  pub input_is : input ≡ bytes ++ left_of has
+  pub all : IfSome had (λ xs. input ≡ xs)
+
+-- an input whose script is read, and what is answered of its trace
+pub record Answers (had has : Option (List ℕ)) (a : Answer) : Type 0 where
+  pub input : List ℕ
+  pub input_is : IsInput had has input
+  pub script : Script
+  pub spelled : reading mode.Replay (script_in input) ≡ Spelled script
+  pub answer_is : verdict script (trace_in input) ≡ a
+  pub means : Means script (trace_in input) a
+
+-- an input whose script is refused
+pub record Refuses (had has : Option (List ℕ)) (line : ℕ) (why : Why) : Type 0 where
+  pub input : List ℕ
+  pub input_is : IsInput had has input
+  pub refused : reading mode.Replay (script_in input) ≡ Refused line why
+
+-- a run that was answered
+abbrev pub IfAnswered : Status → Type 0 → Type 0
+IfAnswered status.Safe P = P
+IfAnswered status.Unsafe P = P
+IfAnswered status.NoFact P = P
+IfAnswered status.NotJudged P = P
+IfAnswered s P = Unit {0}
+
+abbrev pub IfRefused : Status → (ℕ → Why → Type 0) → Type 0
+IfRefused (status.Refused line why) P = P line why
+IfRefused s P = Unit {0}
+
+abbrev pub IfReadFault : Status → Type 0 → Type 0
+IfReadFault status.ReadFault P = P
+IfReadFault s P = Unit {0}
+
+abbrev pub IfWriteFault : Status → Type 0 → Type 0
+IfWriteFault status.WriteFault P = P
+IfWriteFault s P = Unit {0}
+
+-- nothing is written by a run that ends so
+abbrev pub IfUnwritten : Status → Type 0 → Type 0
+IfUnwritten (status.Refused line why) P = P
+IfUnwritten status.ReadFault P = P
+IfUnwritten status.OutOfMemory P = P
+IfUnwritten s P = Unit {0}
+
+-- what a sink had taken and flushed, where it tells
+pub record Taken : Type 0 where
+  pub bytes : Option (List ℕ)
+  pub flushed : Option ℕ
+
+-- exactly the text of an answer was written and flushed
+pub record Wrote (had has : Option (List ℕ)) (s : Status) (before after : Taken) : Type 0 where
+  pub it : Answer
+  pub answers : Answers had has it
+  pub status_is : s ≡ status_of it
+  pub written : after.bytes ≡ followed_by before.bytes (answer_text it)
+  pub flushed : after.flushed ≡ count_of after.bytes
+
+-- a front of it was written
+pub record Began (had has : Option (List ℕ)) (before after : Taken) : Type 0 where
+  pub it : Answer
+  pub answers : Answers had has it
+  pub begun : TakesFront before.bytes after.bytes (answer_text it)
+
+-- what is to be answered of an input, where there is memory
+abbrev pub IsAnswer : Reading → List ℕ → Status → Type 0
+IsAnswer (Spelled c) trace s = (s ≡ status_of (verdict c trace)) ⊎ (s ≡ status.OutOfMemory)
+IsAnswer (Refused line why) trace s = (s ≡ status.Refused line why) ⊎ (s ≡ status.OutOfMemory)
+
+abbrev pub IsComplete : Option (List ℕ) → Status → Type 0
+IsComplete told s = IfSome told (λ xs. IsAnswer (reading mode.Replay (script_in xs)) (trace_in xs) s)
+
+-- The two halves of a run.
+
+-- one that ends before there is an answer
+abbrev pub IsEarly : Status → Type 0
+IsEarly (status.Refused line why) = Unit {0}
+IsEarly status.ReadFault = Unit {0}
+IsEarly status.OutOfMemory = Unit {0}
+IsEarly s = ⊥
+
+-- one whose script is refused, or isn't read for want of memory
+abbrev pub IsScriptEnd : Status → Type 0
+IsScriptEnd (status.Refused line why) = Unit {0}
+IsScriptEnd status.OutOfMemory = Unit {0}
+IsScriptEnd s = ⊥
+
+abbrev pub status_without : ReadError → Status
+status_without read_error.Failed = status.ReadFault
+status_without read_error.OutOfMemory = status.OutOfMemory
+
+-- a script alone, without a trace
+pub record Alone (text : List ℕ) (a : Answer) : Type 0 where
+  pub script : Script
+  pub spelled : reading mode.Replay text ≡ Spelled script
+  pub some : 0 < script.config.shards
+  pub answer_is : verdict script [] ≡ a
+
+-- a script, and a trace that begins with these bytes
+pub record Behind (text first : List ℕ) (had has : Option (List ℕ)) (a : Answer) : Type 0 where
+  pub script : Script
+  pub spelled : reading mode.Replay text ≡ Spelled script
+  pub some : 0 < script.config.shards
+  pub judged : IsJudged script first had has a
+
+-- a sink, with its faults so far
+pub record Sunk : Type 0 where
+  pub taken : Taken
+  pub faults : ℕ
+
+-- what became of the text of an answer
+abbrev pub Tells : Answer → Status → Sunk → Sunk → Type 0
+Tells a status.WriteFault old new = TakesFront old.taken.bytes new.taken.bytes (answer_text a) × (old.faults < new.faults)
+Tells a status.OutOfMemory old new = new ≡ old
+Tells a s old new = (s ≡ status_of a) × (new.taken.bytes ≡ followed_by old.taken.bytes (answer_text a)) × (new.taken.flushed ≡ count_of new.taken.bytes) × (old.faults ≤ new.faults)

@@ -1,0 +1,3 @@
+pub mod Hears
+pub mod Reads
+pub mod Steps

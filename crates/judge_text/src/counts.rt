@@ -1,0 +1,87 @@
+//! Counts of what was told.
+ghost use Rattle.std.specs.Prelude.{◌≡◌, if◌then◌else◌};
+ghost use Rattle.verdict_laws.specs.Verdict.{counted, is_entry, is_record, next, no_counts};
+ghost use Rattle.judge_text.specs.Hears.{counted_by, stops_at};
+
+use verdict_laws::{Answer, Counts, Step};
+use yard_model::Fact;
+
+/// One more; the greatest count stands still.
+pub(crate) fn next(count: u64) -> u64
+    ensures { result ≡ next count }
+{
+    count.saturating_add(1)
+}
+
+/// One more, if it is so.
+fn more(count: u64, one: bool) -> u64
+    ensures { result ≡ (if one then next count else count) }
+{
+    if one { next(count) } else { count }
+}
+
+fn is_record(fact: &Fact) -> bool
+    ensures { result ≡ is_record fact.now }
+{
+    match fact {
+        Fact::Wrote(_, _) => true,
+        _ => false,
+    }
+}
+
+fn is_entry(fact: &Fact) -> bool
+    ensures { result ≡ is_entry fact.now }
+{
+    match fact {
+        Fact::Granted(_, _, _) | Fact::Freed(_, _, _) => true,
+        Fact::Registered(_) | Fact::Terminated(_) => true,
+        Fact::Allocated(_, _) | Fact::Deallocated(_) => true,
+        Fact::Wrote(_, _) | Fact::Snapshot(_, _) => true,
+        Fact::Remembered(_) | Fact::Forgotten(_) => true,
+        Fact::Queued(_, _, _, _) | Fact::Confirmed(_, _, _) => true,
+        _ => false,
+    }
+}
+
+/// Nothing was told.
+pub(crate) fn no_counts() -> Counts
+    ensures { result ≡ no_counts }
+{
+    Counts {
+        facts: 0,
+        entries: 0,
+        records: 0,
+    }
+}
+
+/// The counts with one fact more.
+fn counted(counts: &Counts, fact: &Fact) -> Counts
+    ensures { result ≡ counted counts.now fact.now }
+{
+    Counts {
+        facts: next(counts.facts),
+        entries: more(counts.entries, is_entry(fact)),
+        records: more(counts.records, is_record(fact)),
+    }
+}
+
+/// The counts after a line that came to this.
+pub(crate) fn counted_by(counts: &Counts, step: &Step) -> Counts
+    ensures { result ≡ counted_by counts.now step.now }
+{
+    match step {
+        Step::Heard(fact) => counted(counts, fact),
+        _ => *counts,
+    }
+}
+
+/// The answer, where a line of this number came to it.
+pub(crate) fn stops_at(line: u64, step: &Step) -> Option<Answer>
+    ensures { result ≡ stops_at line step.now }
+{
+    match step {
+        Step::Broken(why) => Some(Answer::Broken { line, why: *why }),
+        Step::NoFact => Some(Answer::NoFact { line }),
+        Step::Quiet | Step::Heard(_) => None,
+    }
+}

@@ -1,0 +1,111 @@
+-- What is answered of a trace's text.
+use Rattle.std.specs.Prelude.{ℕ, ◌+◌, min, Bool, true, false, List, [], ◌∷◌, ◌++◌, length, fold, Option, Some, None, if◌then◌else◌}
+use Rattle.yard_model.specs.declared.fact.Fact.{Fact}
+use Rattle.yard_model.specs.declared.fact.Fact.TheVariants as fact
+use Rattle.yard_model.specs.declared.incarnation.Incarnation.{Incarnation}
+use Rattle.yard_model.specs.Behaviour.{folded}
+use Rattle.yard_model.specs.Safe.{shard_list_of}
+use Rattle.yard_model.specs.Script.{Script, is_name}
+use Rattle.yard_model.specs.SlotReads.{journal}
+use Rattle.yard_model.specs.Text.{fact_line}
+use Rattle.judge_laws.specs.declared.breach.Breach.{Breach}
+use Rattle.judge_laws.specs.declared.breach.Breach.TheVariants as breach
+use Rattle.judge_laws.specs.Breached.{breach_of}
+use Rattle.verdict_laws.specs.declared.answer.Answer.{Answer}
+use Rattle.verdict_laws.specs.declared.answer.Answer.TheVariants as answer
+use Rattle.verdict_laws.specs.declared.answer.Counts.{Counts}
+use Rattle.verdict_laws.specs.declared.answer.Step.{Step}
+use Rattle.verdict_laws.specs.declared.answer.Step.TheVariants as step
+use Rattle.verdict_laws.specs.Lines.{active_behind, is_end, is_long, is_quiet, lines_of, named_at, read_line}
+
+-- the greatest count
+abbrev pub most : ℕ
+most = 18446744073709551615
+
+-- one more
+abbrev pub next : ℕ → ℕ
+next n = min (n + 1) most
+
+-- One line.
+
+abbrev pub seen_step : Fact → Option Breach → Step
+seen_step f None = step.Heard f
+seen_step f (Some why) = step.Broken why
+
+-- the fact that the entity is active there, with what its journal says
+abbrev pub active_of : Script → List Fact → Incarnation → List ℕ → Fact
+active_of c before x e =
+    fact.Active x e (length (journal e (shard_list_of c e before))) (folded c.config.kind (journal e (shard_list_of c e before)))
+
+abbrev pub same_active : Script → List Fact → List ℕ → Fact → Step
+same_active c before l f = if is_name (fact_line f) l then seen_step f (breach_of c before f) else step.Broken breach.OtherState
+
+abbrev pub active_step : Script → List Fact → List ℕ → Option (Incarnation × List ℕ) → Step
+active_step c before l None = step.NoFact
+active_step c before l (Some x) = same_active c before l (active_of c before x.0 x.1)
+
+abbrev pub read_step : Script → List Fact → Option Fact → Step
+read_step c before None = step.NoFact
+read_step c before (Some f) = seen_step f (breach_of c before f)
+
+abbrev pub loud_step : Script → List Fact → List ℕ → Option (List ℕ) → Step
+loud_step c before l None = read_step c before (read_line l)
+loud_step c before l (Some rest) = active_step c before l (named_at rest)
+
+-- what a line comes to behind these facts
+abbrev pub step_of : Script → List Fact → List ℕ → Step
+step_of c before l = if is_long l then step.NoFact else (if is_quiet l then step.Quiet else loud_step c before l (active_behind l))
+
+-- Counts.
+
+abbrev pub is_record : Fact → Bool
+is_record (fact.Wrote e r) = true
+is_record f = false
+
+abbrev pub is_entry : Fact → Bool
+is_entry (fact.Granted s n x) = true
+is_entry (fact.Freed s n why) = true
+is_entry (fact.Registered x) = true
+is_entry (fact.Terminated x) = true
+is_entry (fact.Allocated s x) = true
+is_entry (fact.Deallocated s) = true
+is_entry (fact.Wrote e r) = true
+is_entry (fact.Snapshot e m) = true
+is_entry (fact.Remembered e) = true
+is_entry (fact.Forgotten e) = true
+is_entry (fact.Queued p e n k) = true
+is_entry (fact.Confirmed p e n) = true
+is_entry f = false
+
+abbrev pub no_counts : Counts
+no_counts = record { facts = 0; entries = 0; records = 0 }
+
+abbrev pub counted : Counts → Fact → Counts
+counted n f = record {
+  facts = next n.facts;
+  entries = if is_entry f then next n.entries else n.entries;
+  records = if is_record f then next n.records else n.records;
+}
+
+-- how many facts, entries and records there are
+abbrev pub counts_of : List Fact → Counts
+counts_of trace = fold counted no_counts trace
+
+-- All lines.
+
+-- by what a line, of this number, came to: what is answered where it is passed over, and where it tells a fact
+abbrev pub answered : Step → ℕ → Answer → (Fact → Answer) → Answer
+answered step.Quiet n quiet heard = quiet
+answered (step.Heard f) n quiet heard = heard f
+answered (step.Broken why) n quiet heard = answer.Broken n why
+answered step.NoFact n quiet heard = answer.NoFact n
+
+-- what is answered of these lines, behind these facts and so many lines
+abbrev pub judged_from : Script → List Fact → ℕ → List (List ℕ) → Answer
+judged_from c before n [] = answer.Safe (counts_of before)
+judged_from c before n (l ∷ ls) =
+    if is_end l then answer.Safe (counts_of before)
+    else answered (step_of c before l) (next n) (judged_from c before (next n) ls) (λ f. judged_from c (before ++ f ∷ []) (next n) ls)
+
+abbrev pub verdict : Script → List ℕ → Answer
+verdict c text = judged_from c [] 0 (lines_of text)

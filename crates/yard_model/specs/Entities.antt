@@ -275,6 +275,14 @@ recovered e st = if is_in_phase phase.Loading st e then in_turn entities_after (
 
 -- Stopping.
 
+-- the order 'passivate' at its node, Active: post Passivate to the node itself
+abbrev pub ask_to_passivate : List ℕ → Entities → List Move
+ask_to_passivate e st = if is_in_phase phase.Active st e then post st.who st.who (body.Passivate e) ∷ [] else []
+
+-- the order 'failwrite' at its node, Active: its next write fails, and so
+abbrev pub arm : List ℕ → Keep → Entities → List Move
+arm e k st = if is_in_phase phase.Active st e then told (fact.Armed e k) ∷ [] else []
+
 -- Passivate, Active: it passivates and becomes Stopping; post StopEntity
 abbrev pub passivate : List ℕ → Entities → List Move
 passivate e st = if is_in_phase phase.Active st e then passivates e ∷ post st.who st.who (body.StopEntity e) ∷ [] else []

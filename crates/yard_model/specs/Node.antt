@@ -274,8 +274,8 @@ turn sends lists (input.Rebalance n) = of_coordinator (coordinator.rebalance n)
 turn sends lists (input.Produce p) = produce lists p
 turn sends lists (input.Rest p) = of_producer p producer.give_back
 turn sends lists (input.Send p) = send sends p
-turn sends lists (input.Passivate e) = λ st. by_entities (post st.who st.who (body.Passivate e)) ∷ []
-turn sends lists (input.FailWrite e k) = λ st. by_entities (told (fact.Armed e k)) ∷ []
+turn sends lists (input.Passivate e) = of_entities (entities.ask_to_passivate e)
+turn sends lists (input.FailWrite e k) = of_entities (entities.arm e k)
 
 -- The crash.
 

@@ -13,6 +13,7 @@ pub mod Genuine
 pub mod Guards
 pub mod Items
 pub mod Lawful
+pub mod Limits
 pub mod Loads
 pub mod Members
 pub mod Move

@@ -91,13 +91,13 @@ fail_knows shows c orders w e a named = by (active_node e w) refl
         (along_shown orders k.views st.who at_k.place k w st armed (plain k armed (λ v. refl) (λ x n o. refl) (λ v o. refl)) (along_start c orders trace w at_k.place st k fit.agree at_k.here s) mine
         (record { count = fit.agree.knows.count; now = fit.agree.knows.now; posted = fit.agree.knows.posted })) in
         let known : AreKnown orders k w st (by_entities (told armed) ∷ []) = λ full.
-            let all_of : input_facts w (item.Fact armed ∷ []) ≡ armed ∷ [] = all_numbered w (item.Fact armed ∷ []) (not_full w (item.Fact armed ∷ []) full) in (
-              subst (λ fs. Fits orders (fold know k fs) (with_node now (fold world_after w fs))) (sym all_of) (record {
-                agree = along_last orders k.views st.who at_k.place (know k armed) (world_after w armed) now along;
-                tidy = tidy_with w (with_node now (world_after w armed)) at_k.place st now at_k.here (ap (λ n. slice_set w.nodes n (Some now)) (back st.who.node at_k.place me.node_is)) fit.tidy lead.tidy;
-              }),
-              subst (λ fs. (fold know k fs).packet ≡ None) (sym all_of) p,
-            ) in
+        let all_of : input_facts w (item.Fact armed ∷ []) ≡ armed ∷ [] = all_numbered w (item.Fact armed ∷ []) (not_full w (item.Fact armed ∷ []) full) in (
+          subst (λ fs. Fits orders (fold know k fs) (with_node now (fold world_after w fs))) (sym all_of) (record {
+            agree = along_last orders k.views st.who at_k.place (know k armed) (world_after w armed) now along;
+            tidy = tidy_with w (with_node now (world_after w armed)) at_k.place st now at_k.here (ap (λ n. slice_set w.nodes n (Some now)) (back st.who.node at_k.place me.node_is)) fit.tidy lead.tidy;
+          }),
+          subst (λ fs. (fold know k fs).packet ≡ None) (sym all_of) p,
+        ) in
         subst (λ (b : Bool). AreKnown orders k w st (map by_entities (if b then told armed ∷ [] else []))) (sym is) known full
 
 -- Producing and sending.

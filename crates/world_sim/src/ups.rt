@@ -7,7 +7,7 @@ ghost use Rattle.world_sim.specs.Stepped.{Stepped};
 ghost use Rattle.world_sim.specs.Steps.{entered};
 ghost use Rattle.world_sim.specs.Yard.{IsSeen, IsFirm, IsSound};
 
-use crate::members::{post_views, with};
+use crate::members::post_views;
 use crate::places::{is_down, next_number, put_node, set_number};
 use crate::turns::end_at;
 use crate::yard::Yard;
@@ -62,7 +62,7 @@ impl<B: Behaviour + Copy + Drop> Yard<B> {
             Err(fault) => return Err(fault),
         };
         facts.push(Fact::Up(*who))?;
-        self.members = with(&self.members, *who);
+        self.members.join(who);
         self.version = version;
         set_number(&mut self.ups, n, number);
         put_node(&mut self.nodes, n, node);
@@ -101,7 +101,7 @@ impl<B: Behaviour + Copy + Drop> Yard<B> {
         let _posted = self.mail.len();
         let who = &end_at(&mut self.nodes, n, &mut self.book, &mut self.mail)?;
         facts.push(Fact::Gone(*who))?;
-        self.members = self.members.without(who);
+        self.members.leave(who);
         self.version += 1;
         self.mail.tell_items(facts)
     }

@@ -255,9 +255,9 @@ pub passivated_gave : (m : Meaning) (v w : Standing) (e : List ℕ) (before late
 passivated_gave m v w e before late sound rests went = entities_gave m v w (entities.passivate e v.state.entities) before late sound.entities.set_is (passivate_still v.script m (is_held_of v.script v.state is_of_shards) e v.state.entities) rests went
 
 -- what an order asks of an entity
-pub asked_gave : (m : Meaning) (v w : Standing) (e : List ℕ) (before late : Spared Item) → IsSoundNode v.script v.state → Rests m v.script v.state
+pub ask_gave : (m : Meaning) (v w : Standing) (e : List ℕ) (before late : Spared Item) → IsSoundNode v.script v.state → Rests m v.script v.state
     → Went v w before late (of_entities (entities.ask_to_passivate e) v.state) → Gave v.script none (λ lists. of_entities (entities.ask_to_passivate e) v.state) (moment m v.state before.items) (moment m w.state late.items)
-asked_gave m v w e before late sound rests went = entities_gave m v w (entities.ask_to_passivate e v.state.entities) before late sound.entities.set_is (asks_still v.script m (is_held_of v.script v.state is_of_shards) e v.state.entities) rests went
+ask_gave m v w e before late sound rests went = entities_gave m v w (entities.ask_to_passivate e v.state.entities) before late sound.entities.set_is (asks_still v.script m (is_held_of v.script v.state is_of_shards) e v.state.entities) rests went
 
 pub armed_gave : (m : Meaning) (v w : Standing) (e : List ℕ) (k : Keep) (before late : Spared Item) → IsSoundNode v.script v.state → Rests m v.script v.state
     → Went v w before late (of_entities (entities.arm e k) v.state) → Gave v.script none (λ lists. of_entities (entities.arm e k) v.state) (moment m v.state before.items) (moment m w.state late.items)

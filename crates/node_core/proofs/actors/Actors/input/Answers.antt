@@ -14,7 +14,7 @@ use Rattle.yard_model.specs.Region.{leave}
 use Rattle.yard_model.specs.World.{all_sends}
 use Rattle.node_core.proofs.GiveLaws.{region_gave}
 use Rattle.node_core.proofs.ProduceLaws.{sent_gave}
-use Rattle.node_core.proofs.PacketLaws.{leaves_free, rebalanced_gave, asked_gave, armed_gave}
+use Rattle.node_core.proofs.PacketLaws.{leaves_free, rebalanced_gave, ask_gave, armed_gave}
 use Rattle.node_core.proofs.actors.Actors.input.Goals as goal
 
 pub returns-in-Packet-clause-gave : goal.returns-in-Packet-clause-gave
@@ -55,7 +55,7 @@ returns-in-Passivate-clause-gave g c =
     let script : Script = c.args.self.now.script in
     let st : Node = c.args.self.now.state in
     subst (λ (i : Input). (asked : (Slot → Bool)) × Gave script asked (λ lists. rules.turn (all_sends script) lists i st) (moment old st c.args.out.now.items) (moment old c.ask_to_passivate.new.self.state c.ask_to_passivate.new.out.items)) (sym c.in-Passivate.is)
-    (none, asked_gave old c.args.self.now c.ask_to_passivate.new.self c.in-Passivate.entity c.args.out.now c.ask_to_passivate.new.out c.requires.sound c.requires.rests c.ask_to_passivate.ensures)
+    (none, ask_gave old c.args.self.now c.ask_to_passivate.new.self c.in-Passivate.entity c.args.out.now c.ask_to_passivate.new.out c.requires.sound c.requires.rests c.ask_to_passivate.ensures)
 
 pub returns-in-FailWrite-clause-gave : goal.returns-in-FailWrite-clause-gave
 returns-in-FailWrite-clause-gave g c =

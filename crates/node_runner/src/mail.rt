@@ -77,7 +77,7 @@ impl<J: Run> Mail<J> {
     {
         self.held.reverse();
         while let Some(parcel) = self.held.pop() {
-            self.post(rt, boxes, parcel);
+            post_one(rt, boxes, &mut self.pass, &mut self.full, parcel);
         }
     }
 
@@ -99,28 +99,6 @@ impl<J: Run> Mail<J> {
         is_full
     }
 
-    /// Posts a parcel; one that is handed back is lost. It may wait.
-    fn post<R: Wait>(&mut self, rt: &R, boxes: &PostBox<Parcel<J>>, parcel: Parcel<J>)
-        requires belongs { self.old.pass.tables ≡ boxes.now.tables }
-        requires nodes { length boxes.now.tables ≡ J.script.config.nodes }
-        ensures kept { IsSameHolder self.old.pass self.new.pass }
-    {
-        let to = parcel.to();
-        let place = to.get() as usize - 1;
-        self.full[place] = boxes.post(rt, &mut self.pass, to, parcel).is_err();
-    }
-
-    /// Posts a parcel, if there is one. It may wait.
-    fn post_if<R: Wait>(&mut self, rt: &R, boxes: &PostBox<Parcel<J>>, parcel: Option<Parcel<J>>)
-        requires belongs { self.old.pass.tables ≡ boxes.now.tables }
-        requires nodes { length boxes.now.tables ≡ J.script.config.nodes }
-        ensures kept { IsSameHolder self.old.pass self.new.pass }
-    {
-        if let Some(parcel) = parcel {
-            self.post(rt, boxes, parcel);
-        }
-    }
-
     /// Posts a packet that confirms nothing; where the box hands it back, it is lost. It may wait.
     fn post_plain<R: Wait>(&mut self, rt: &R, boxes: &PostBox<Parcel<J>>, packet: &Packet)
         requires belongs { self.old.pass.tables ≡ boxes.now.tables }
@@ -132,7 +110,13 @@ impl<J: Run> Mail<J> {
     {
         let to = node_to::<J>(packet);
         if !self.hands_back(rt, boxes, to) {
-            self.post(rt, boxes, Parcel::plain(*packet));
+            post_one(
+                rt,
+                boxes,
+                &mut self.pass,
+                &mut self.full,
+                Parcel::plain(*packet),
+            );
         }
     }
 
@@ -228,13 +212,47 @@ impl<J: Run> Mail<J> {
             self.held.push(parcel)?;
             return Ok(pass);
         }
-        self.post(rt, boxes, parcel);
+        post_one(rt, boxes, &mut self.pass, &mut self.full, parcel);
         if matches!(fate, Fate::Twice) {
             let (pass, again) = parcel_of::<J, B>(table, pass, me, node, charter, packet);
-            self.post_if(rt, boxes, again);
+            post_if(rt, boxes, &mut self.pass, &mut self.full, again);
             return Ok(pass);
         }
         Ok(pass)
+    }
+}
+
+/// Posts a parcel; one that is handed back is lost, and its box is full.
+fn post_one<J: Run, R: Wait>(
+    rt: &R,
+    boxes: &PostBox<Parcel<J>>,
+    pass: &mut BoxPass<Parcel<J>>,
+    full: &mut [bool; 16],
+    parcel: Parcel<J>,
+)
+    requires belongs { pass.old.tables ≡ boxes.now.tables }
+    requires nodes { length boxes.now.tables ≡ J.script.config.nodes }
+    ensures kept { IsSameHolder pass.old pass.new }
+{
+    let to = parcel.to();
+    let place = to.get() as usize - 1;
+    full[place] = boxes.post(rt, pass, to, parcel).is_err();
+}
+
+/// Posts a parcel, if there is one.
+fn post_if<J: Run, R: Wait>(
+    rt: &R,
+    boxes: &PostBox<Parcel<J>>,
+    pass: &mut BoxPass<Parcel<J>>,
+    full: &mut [bool; 16],
+    parcel: Option<Parcel<J>>,
+)
+    requires belongs { pass.old.tables ≡ boxes.now.tables }
+    requires nodes { length boxes.now.tables ≡ J.script.config.nodes }
+    ensures kept { IsSameHolder pass.old pass.new }
+{
+    if let Some(parcel) = parcel {
+        post_one(rt, boxes, pass, full, parcel);
     }
 }
 

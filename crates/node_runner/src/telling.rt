@@ -1,5 +1,5 @@
 //! What a turn told is published: the list of each slot of which it told an entry.
-ghost use Rattle.std.specs.Prelude.{◌≡◌, true, [], ◌∷◌, ◌++◌, Some, IfSome, OnOk};
+ghost use Rattle.std.specs.Prelude.{◌≡◌, true, [], ◌∷◌, Some, IfSome, OnOk};
 ghost use Rattle.std.specs.List.{list_all};
 ghost use Rattle.yard_model.specs.declared.out.Item.TheVariants as item;
 ghost use Rattle.yard_model.specs.Genuine.{is_slot_of, is_genuine_packet};
@@ -73,19 +73,10 @@ fn publish_item<B: Behaviour + Drop>(
             Ok(())
         }
         Item::Post(packet) => {
-            keep_post(packet, posts)?;
+            posts.push(*packet)?;
             Ok(())
         }
     }
-}
-
-/// A packet goes behind the others. The only error is want of memory.
-fn keep_post(packet: &Packet, posts: &mut Vec<Packet>) -> Result<(), AllocError>
-    ensures { OnOk result (posts.new.items ≡ posts.old.items ++ packet.now ∷ []) }
-{
-    posts.reserve(1)?;
-    posts.push_reserved(*packet);
-    Ok(())
 }
 
 /// Publishes the list of the slot of which the fact is an entry, if it is one.

@@ -3,6 +3,7 @@ pub mod Decimal
 pub mod Overlap
 pub mod FoldLaws
 pub mod PlaceLaws
+pub mod GrownLaws
 pub mod JournalLaws
 pub mod RowLaws
 pub mod TallyLaws

@@ -1,5 +1,6 @@
 pub mod Behind
 pub mod Foldable
+pub mod Grown
 pub mod Json
 pub mod JsonText
 pub mod Parts

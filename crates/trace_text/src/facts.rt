@@ -1,8 +1,10 @@
 //! The line of a fact.
-ghost use Rattle.std.specs.Prelude.{◌≡◌, ◌+◌, ◌≤◌, ◌++◌, ◌∷◌, [], IfOk, OnOk, codes, decimal, take, length};
+ghost use Rattle.std.specs.Prelude.{◌≡◌, ◌+◌, ◌≤◌, ◌++◌, ◌∷◌, [], IfOk, codes, decimal, take, length};
 ghost use Rattle.std.specs.List.{flat_map};
 ghost use Rattle.yard_model.specs.Text.{words, fact_line, fact_words, incarnation_text, slot_text, message_words};
+ghost use Rattle.trace_text.specs.Grown.{Appends, Begins, Grows};
 
+use crate::basics::all_or_none;
 use crate::bodies::{
     put_body, put_ends, put_with_name, put_with_pair, put_with_shard, put_with_stamp,
 };
@@ -18,9 +20,9 @@ use yard_model::{
     Record, ShardNo, Slot, State,
 };
 
-/// Appends the line of a fact. The only error is want of memory; what the text then is stays open.
+/// Appends the line of a fact. The only error is want of memory, and then the text stays as it was.
 pub fn push_fact(text: &mut Vec<u8>, fact: &Fact) -> Result<(), AllocError>
-    ensures { OnOk result (text.new.items ≡ text.old.items ++ fact_line fact.now) }
+    ensures { Appends result text.old.items text.new.items (fact_line fact.now) }
 {
     match fact {
         Fact::Got(number) => push_got(text, *number),
@@ -36,10 +38,19 @@ const SHEET: usize = 2048;
 /// The longest line that is spelled.
 const LONGEST: usize = 512;
 
-/// Appends the lines of these facts. The only error is want of memory; what the text then is stays
-/// open.
+/// Appends the lines of these facts. The only error is want of memory, and then the text stays as it
+/// was.
 pub fn push_facts(text: &mut Vec<u8>, facts: &[Fact]) -> Result<(), AllocError>
-    ensures { OnOk result (text.new.items ≡ text.old.items ++ flat_map fact_line facts.now) }
+    ensures { Appends result text.old.items text.new.items (flat_map fact_line facts.now) }
+{
+    let length = text.len();
+    let pushed = push_lines(text, facts);
+    all_or_none(text, length, pushed)
+}
+
+/// Appends the lines of these facts, or some of them.
+fn push_lines(text: &mut Vec<u8>, facts: &[Fact]) -> Result<(), AllocError>
+    ensures { Grows result text.old.items text.new.items (flat_map fact_line facts.now) }
 {
     let mut cells = [0; SHEET];
     let mut at = 0;
@@ -60,6 +71,7 @@ fn push_next(
     requires { at ≤ 2048 }
     ensures text { IfOk result (λ end. text.new.items ++ take end cells.new ≡ text.old.items ++ (take at cells.old ++ fact_line fact.now)) }
     ensures end { IfOk result (λ end. end ≤ 2048) }
+    ensures begins { Begins text.old.items text.new.items }
 {
     if at > SHEET - LONGEST {
         push_cells(text, cells, at)?;
@@ -71,7 +83,7 @@ fn push_next(
 /// The line of a packet that came.
 #[inline(always)]
 fn push_got(text: &mut Vec<u8>, number: u32) -> Result<(), AllocError>
-    ensures { OnOk result (text.new.items ≡ text.old.items ++ fact_line (Fact.Got number)) }
+    ensures { Appends result text.old.items text.new.items (fact_line (Fact.Got number)) }
 {
     let at = make_cells(text, 16)?;
     let end = put_got(text.as_mut_slice(), at, number);
@@ -91,7 +103,7 @@ fn put_got(cells: &mut [u8], at: usize, number: u32) -> usize
 /// The line of members that a node heard of.
 #[inline(always)]
 fn push_seen(text: &mut Vec<u8>, x: &Incarnation, version: u32) -> Result<(), AllocError>
-    ensures { OnOk result (text.new.items ≡ text.old.items ++ fact_line (Fact.View x.now version)) }
+    ensures { Appends result text.old.items text.new.items (fact_line (Fact.View x.now version)) }
 {
     let at = make_cells(text, 32)?;
     let end = put_seen(text.as_mut_slice(), at, x, version);
@@ -111,7 +123,7 @@ fn put_seen(cells: &mut [u8], at: usize, x: &Incarnation, version: u32) -> usize
 /// The line of a packet that is posted.
 #[inline(always)]
 fn push_sent(text: &mut Vec<u8>, number: u32, packet: &Packet) -> Result<(), AllocError>
-    ensures { OnOk result (text.new.items ≡ text.old.items ++ fact_line (Fact.Sent number packet.now)) }
+    ensures { Appends result text.old.items text.new.items (fact_line (Fact.Sent number packet.now)) }
 {
     let at = make_cells(text, 304)?;
     let end = put_sent_line(text.as_mut_slice(), at, number, packet);
@@ -131,7 +143,7 @@ fn put_sent_line(cells: &mut [u8], at: usize, number: u32, packet: &Packet) -> u
 /// The line of any fact.
 #[inline(never)]
 fn push_other(text: &mut Vec<u8>, fact: &Fact) -> Result<(), AllocError>
-    ensures { OnOk result (text.new.items ≡ text.old.items ++ fact_line fact.now) }
+    ensures { Appends result text.old.items text.new.items (fact_line fact.now) }
 {
     let at = make_cells(text, 512)?;
     let end = put_fact(text.as_mut_slice(), at, fact);

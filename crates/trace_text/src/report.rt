@@ -1,6 +1,6 @@
 //! The report: what the lists of all slots come to, as a text and as JSON.
 ghost use Rattle.trace_text.specs.Places.{lent_all};
-ghost use Rattle.std.specs.Prelude.{◌≡◌, ℕ, ◌++◌, ◌<◌, [], IfOk, OnOk, IsTrue, drop, length, map, slice_index_or};
+ghost use Rattle.std.specs.Prelude.{◌≡◌, ℕ, ◌++◌, ◌<◌, [], IfOk, OnOk, IsTrue, codes, drop, length, map, slice_index_or};
 ghost use Rattle.std.specs.List.{flat_map, list_all};
 ghost use Rattle.std.specs.List.Sorted.{IsStrictlySortedBy};
 ghost use Rattle.std.specs.Ordering.{nat_cmp};
@@ -13,12 +13,13 @@ ghost use Rattle.yard_model.specs.Setting.{shards, shard_of, names_of};
 ghost use Rattle.yard_model.specs.SlotLists.{shard_list};
 ghost use Rattle.yard_model.specs.Text.{report};
 ghost use Rattle.trace_text.specs.Foldable.{are_foldable, is_foldable, is_foldable_shard, is_foldable_in_all};
+ghost use Rattle.trace_text.specs.Grown.{Appends, Grows};
 ghost use Rattle.trace_text.specs.Json.{entities_json, json_report, json_text, queues_json};
 ghost use Rattle.trace_text.specs.JsonText.{values_text};
 ghost use Rattle.trace_text.specs.Parts.{AreNames, report_part, report_parts};
 ghost use Rattle.trace_text.specs.Rows.{rows, shard_rows};
 
-use crate::basics::push;
+use crate::basics::{all_or_none, push};
 use crate::journals::journals_of_list;
 use crate::json_rows::whole_value;
 use crate::json_sheet::JsonRows;
@@ -34,21 +35,36 @@ use yard_model::{Charter, EntityName, Lists, Record, ShardEntry, ShardNo};
 
 /// Appends the report: by shard and name each entity that has a record, with its records; by
 /// producer and name each queue that has a command; nothing of names that aren't the charter's. The
-/// only error is want of memory; what the text then is stays open.
+/// only error is want of memory, and then the text stays as it was.
 pub fn push_report<T: Lists>(
     text: &mut Vec<u8>,
     charter: &Charter,
     stores: &T,
 ) -> Result<(), AllocError>
     requires { IsTrue (is_foldable_in_all (setting charter.now) (T.lists stores.now)) }
-    ensures { OnOk result (text.new.items ≡ text.old.items ++ report (setting charter.now) (T.lists stores.now)) }
+    ensures { Appends result text.old.items text.new.items (report (setting charter.now) (T.lists stores.now)) }
+{
+    let names = ReportNames::new(*text.allocator(), charter)?;
+    let length = text.len();
+    let pushed = push_parts(text, charter, &names, stores);
+    all_or_none(text, length, pushed)
+}
+
+/// Appends the parts of the report, or some of them.
+fn push_parts<T: Lists>(
+    text: &mut Vec<u8>,
+    charter: &Charter,
+    names: &ReportNames,
+    stores: &T,
+) -> Result<(), AllocError>
+    requires foldable { IsTrue (is_foldable_in_all (setting charter.now) (T.lists stores.now)) }
+    requires names { AreNames (setting charter.now) names.now }
+    ensures { Grows result text.old.items text.new.items (report (setting charter.now) (T.lists stores.now)) }
 {
     parts_law();
-    let alloc = *text.allocator();
-    let names = ReportNames::new(alloc, charter)?;
-    let mut sheet = Sheet::new(alloc);
+    let mut sheet = Sheet::new(*text.allocator());
     for k in 0..count_of_parts(charter) {
-        push_part(text, &mut sheet, charter, &names, stores, k)?;
+        push_part(text, &mut sheet, charter, names, stores, k)?;
     }
     Ok(())
 }
@@ -65,7 +81,7 @@ fn push_part<T: Lists>(
     requires foldable { IsTrue (is_foldable_in_all (setting charter.now) (T.lists stores.now)) }
     requires names { AreNames (setting charter.now) names.now }
     requires within { k < length (report_parts (setting charter.now) (T.lists stores.now)) }
-    ensures { OnOk result (text.new.items ≡ text.old.items ++ report_part (setting charter.now) (T.lists stores.now) k) }
+    ensures { Appends result text.old.items text.new.items (report_part (setting charter.now) (T.lists stores.now) k) }
 {
     sheet.clear();
     sheet.push_report_part(charter, names, stores, k)?;
@@ -89,22 +105,22 @@ pub fn report_value<T: Lists>(
     whole_value(alloc, entities, queues)
 }
 
-/// Appends the report as JSON: its compact text, and LF. The only error is want of memory; what the
-/// text then is stays open.
+/// Appends the report as JSON: its compact text, and LF. The only error is want of memory, and then the
+/// text stays as it was.
 pub fn push_json<T: Lists>(
     text: &mut Vec<u8>,
     charter: &Charter,
     stores: &T,
 ) -> Result<(), AllocError>
     requires { IsTrue (is_foldable_in_all (setting charter.now) (T.lists stores.now)) }
-    ensures { OnOk result (text.new.items ≡ text.old.items ++ json_text (setting charter.now) (T.lists stores.now)) }
+    ensures { Appends result text.old.items text.new.items (json_text (setting charter.now) (T.lists stores.now)) }
 {
     let alloc = *text.allocator();
     let entities = entities_sheet(alloc, charter, stores)?;
     let queues = queues_sheet(alloc, charter, stores)?;
-    push_values(text, b"{\"entities\":[", entities.as_slice())?;
-    push_values(text, b"],\"queues\":[", queues.as_slice())?;
-    push(text, b"]}\n")
+    let length = text.len();
+    let pushed = push_object(text, entities.as_slice(), queues.as_slice());
+    all_or_none(text, length, pushed)
 }
 
 /// The entities of all shards as JSON, each with a comma before it.
@@ -136,9 +152,18 @@ fn queues_sheet<T: Lists>(alloc: Global, charter: &Charter, stores: &T) -> Resul
     Ok(sheet)
 }
 
-/// Appends this word and these values, without the comma before the first.
+/// Appends the object of these values, without the comma before the first of each, or some of it.
+fn push_object(text: &mut Vec<u8>, entities: &[u8], queues: &[u8]) -> Result<(), AllocError>
+    ensures { Grows result text.old.items text.new.items ((codes "{\"entities\":[" ++ drop 1 entities.now) ++ (codes "],\"queues\":[" ++ drop 1 queues.now) ++ codes "]}\n") }
+{
+    push_values(text, b"{\"entities\":[", entities)?;
+    push_values(text, b"],\"queues\":[", queues)?;
+    push(text, b"]}\n")
+}
+
+/// Appends this word and these values, without the comma before the first, or some of it.
 fn push_values(text: &mut Vec<u8>, word: &[u8], values: &[u8]) -> Result<(), AllocError>
-    ensures { OnOk result (text.new.items ≡ text.old.items ++ (word.now ++ drop 1 values.now)) }
+    ensures { Grows result text.old.items text.new.items (word.now ++ drop 1 values.now) }
 {
     push(text, word)?;
     match values.split_first() {

@@ -1,6 +1,7 @@
 //! Writing into cells, behind what is there. Each function takes where to write and
 //! returns where what it wrote ends: so that place stays in a register.
-ghost use Rattle.std.specs.Prelude.{◌≡◌, ◌+◌, ◌<◌, ◌≤◌, [], ◌∷◌, ◌++◌, IfOk, OnOk, length, take};
+ghost use Rattle.std.specs.Prelude.{◌≡◌, ◌+◌, ◌<◌, ◌≤◌, [], ◌∷◌, ◌++◌, IfOk, OnErr, OnOk, length, take};
+ghost use Rattle.trace_text.specs.Grown.{Appends};
 
 use std::alloc::AllocError;
 
@@ -108,7 +109,7 @@ fn put_few(cells: &mut [u8], at: usize, bytes: &[u8]) -> usize
 /// Appends the cells up to there.
 pub(crate) fn push_cells(text: &mut Vec<u8>, cells: &[u8], at: usize) -> Result<(), AllocError>
     requires { at ≤ length cells.now }
-    ensures { OnOk result (text.new.items ≡ text.old.items ++ take at cells.now) }
+    ensures { Appends result text.old.items text.new.items (take at cells.now) }
 {
     text.extend_from_slice(&cells[..at])
 }
@@ -120,6 +121,7 @@ pub(crate) fn make_cells(text: &mut Vec<u8>, count: usize) -> Result<usize, Allo
     ensures text { OnOk result (take (length text.old.items) text.new.items ≡ text.old.items) }
     ensures count { OnOk result (length text.new.items ≡ length text.old.items + count) }
     ensures start { IfOk result (λ at. at ≡ length text.old.items) }
+    ensures err { OnErr result (text.new.items ≡ text.old.items) }
 {
     let at = text.len();
     text.resize(at + count, 0)?;

@@ -1,28 +1,40 @@
 //! The lists of all slots: of each that has an entry its name and length, and a line for each entry.
-ghost use Rattle.std.specs.Prelude.{◌≡◌, ◌<◌, ◌++◌, ◌∷◌, [], OnOk, codes, decimal, map};
+ghost use Rattle.std.specs.Prelude.{◌≡◌, ◌+◌, ◌<◌, ◌≤◌, ◌++◌, ◌∷◌, [], codes, decimal, length, map, take};
 ghost use Rattle.std.specs.List.{flat_map};
 ghost use Rattle.yard_model.specs.Entry.{shard_fact, coord_fact, queue_fact};
 ghost use Rattle.yard_model.specs.Script.{setting};
 ghost use Rattle.yard_model.specs.SlotLists.{shard_list, queue_list};
-ghost use Rattle.yard_model.specs.Text.{fact_line, line, slot_lines, slot_text, words};
+ghost use Rattle.yard_model.specs.Text.{fact_line, line, slot_lines, slot_text};
+ghost use Rattle.trace_text.specs.Grown.{Appends, Grows};
 ghost use Rattle.trace_text.specs.Slots.{shards_lists, queues_lists, slots_text};
 
-use crate::basics::{push, push_number};
+use crate::basics::all_or_none;
 use crate::entries::{coord_fact, queue_fact, shard_fact};
 use crate::facts::push_fact;
-use crate::values::push_slot;
+use crate::number::put_wide;
+use crate::room::{push_cells, put, put_word};
+use crate::values::put_slot;
 use std::alloc::AllocError;
 use yard_model::{Charter, CoordEntry, Lists, ProducerNo, QueueEntry, ShardEntry, ShardNo, Slot};
 
 /// Appends the list of each slot that has an entry, shards rising, the coordinator, queues rising:
-/// the slot with its length, and a line for each entry. The only error is want of memory; what the
-/// text then is stays open.
+/// the slot with its length, and a line for each entry. The only error is want of memory, and then the
+/// text stays as it was.
 pub fn push_lists<T: Lists>(
     text: &mut Vec<u8>,
     charter: &Charter,
     stores: &T,
 ) -> Result<(), AllocError>
-    ensures { OnOk result (text.new.items ≡ text.old.items ++ slots_text (setting charter.now) (T.lists stores.now)) }
+    ensures { Appends result text.old.items text.new.items (slots_text (setting charter.now) (T.lists stores.now)) }
+{
+    let length = text.len();
+    let pushed = push_slots(text, charter, stores);
+    all_or_none(text, length, pushed)
+}
+
+/// The lists of all slots, or some of them.
+fn push_slots<T: Lists>(text: &mut Vec<u8>, charter: &Charter, stores: &T) -> Result<(), AllocError>
+    ensures { Grows result text.old.items text.new.items (slots_text (setting charter.now) (T.lists stores.now)) }
 {
     push_shards(text, charter, stores)?;
     push_coordinator(text, stores.coordinator())?;
@@ -35,7 +47,7 @@ fn push_shards<T: Lists>(
     charter: &Charter,
     stores: &T,
 ) -> Result<(), AllocError>
-    ensures { OnOk result (text.new.items ≡ text.old.items ++ shards_lists (setting charter.now) (T.lists stores.now)) }
+    ensures { Grows result text.old.items text.new.items (shards_lists (setting charter.now) (T.lists stores.now)) }
 {
     for i in 0..charter.config().shards {
         push_shard(text, charter, stores, i)?;
@@ -51,7 +63,7 @@ fn push_shard<T: Lists>(
     i: u8,
 ) -> Result<(), AllocError>
     requires { i < charter.now.config.shards }
-    ensures { OnOk result (text.new.items ≡ text.old.items ++ slot_lines (Slot.Shard i) (shard_list (T.lists stores.now) i)) }
+    ensures { Grows result text.old.items text.new.items (slot_lines (Slot.Shard i) (shard_list (T.lists stores.now) i)) }
 {
     match ShardNo::new(i, charter.config().shards) {
         Some(s) => push_shard_list(text, s, stores.shard(s)),
@@ -60,7 +72,7 @@ fn push_shard<T: Lists>(
 }
 
 fn push_shard_list(text: &mut Vec<u8>, s: ShardNo, list: &[ShardEntry]) -> Result<(), AllocError>
-    ensures { OnOk result (text.new.items ≡ text.old.items ++ slot_lines (Slot.Shard s) (map (shard_fact s) list.now)) }
+    ensures { Grows result text.old.items text.new.items (slot_lines (Slot.Shard s) (map (shard_fact s) list.now)) }
 {
     if list.is_empty() {
         return Ok(());
@@ -70,7 +82,7 @@ fn push_shard_list(text: &mut Vec<u8>, s: ShardNo, list: &[ShardEntry]) -> Resul
 }
 
 fn push_shard_entries(text: &mut Vec<u8>, s: ShardNo, list: &[ShardEntry]) -> Result<(), AllocError>
-    ensures { OnOk result (text.new.items ≡ text.old.items ++ flat_map (λ e. fact_line (shard_fact s e)) list.now) }
+    ensures { Grows result text.old.items text.new.items (flat_map (λ e. fact_line (shard_fact s e)) list.now) }
 {
     for entry in list {
         push_fact(text, &shard_fact(s, entry))?;
@@ -80,7 +92,7 @@ fn push_shard_entries(text: &mut Vec<u8>, s: ShardNo, list: &[ShardEntry]) -> Re
 
 /// The coordinator's list.
 fn push_coordinator(text: &mut Vec<u8>, list: &[CoordEntry]) -> Result<(), AllocError>
-    ensures { OnOk result (text.new.items ≡ text.old.items ++ slot_lines Slot.Coordinator (map coord_fact list.now)) }
+    ensures { Grows result text.old.items text.new.items (slot_lines Slot.Coordinator (map coord_fact list.now)) }
 {
     if list.is_empty() {
         return Ok(());
@@ -90,7 +102,7 @@ fn push_coordinator(text: &mut Vec<u8>, list: &[CoordEntry]) -> Result<(), Alloc
 }
 
 fn push_coordinator_entries(text: &mut Vec<u8>, list: &[CoordEntry]) -> Result<(), AllocError>
-    ensures { OnOk result (text.new.items ≡ text.old.items ++ flat_map (λ e. fact_line (coord_fact e)) list.now) }
+    ensures { Grows result text.old.items text.new.items (flat_map (λ e. fact_line (coord_fact e)) list.now) }
 {
     for entry in list {
         push_fact(text, &coord_fact(entry))?;
@@ -104,7 +116,7 @@ fn push_queues<T: Lists>(
     charter: &Charter,
     stores: &T,
 ) -> Result<(), AllocError>
-    ensures { OnOk result (text.new.items ≡ text.old.items ++ queues_lists (setting charter.now) (T.lists stores.now)) }
+    ensures { Grows result text.old.items text.new.items (queues_lists (setting charter.now) (T.lists stores.now)) }
 {
     for i in 0..charter.config().producers {
         push_queue(text, stores, i + 1)?;
@@ -116,7 +128,7 @@ fn push_queues<T: Lists>(
 fn push_queue<T: Lists>(text: &mut Vec<u8>, stores: &T, i: u8) -> Result<(), AllocError>
     requires low { 0 < i }
     requires high { i < 33 }
-    ensures { OnOk result (text.new.items ≡ text.old.items ++ slot_lines (Slot.Queue i) (queue_list (T.lists stores.now) i)) }
+    ensures { Grows result text.old.items text.new.items (slot_lines (Slot.Queue i) (queue_list (T.lists stores.now) i)) }
 {
     match ProducerNo::new(i) {
         Some(p) => push_queue_list(text, p, stores.queue(p)),
@@ -125,7 +137,7 @@ fn push_queue<T: Lists>(text: &mut Vec<u8>, stores: &T, i: u8) -> Result<(), All
 }
 
 fn push_queue_list(text: &mut Vec<u8>, p: ProducerNo, list: &[QueueEntry]) -> Result<(), AllocError>
-    ensures { OnOk result (text.new.items ≡ text.old.items ++ slot_lines (Slot.Queue p) (map (queue_fact p) list.now)) }
+    ensures { Grows result text.old.items text.new.items (slot_lines (Slot.Queue p) (map (queue_fact p) list.now)) }
 {
     if list.is_empty() {
         return Ok(());
@@ -139,7 +151,7 @@ fn push_queue_entries(
     p: ProducerNo,
     list: &[QueueEntry],
 ) -> Result<(), AllocError>
-    ensures { OnOk result (text.new.items ≡ text.old.items ++ flat_map (λ e. fact_line (queue_fact p e)) list.now) }
+    ensures { Grows result text.old.items text.new.items (flat_map (λ e. fact_line (queue_fact p e)) list.now) }
 {
     for entry in list {
         push_fact(text, &queue_fact(p, entry))?;
@@ -149,17 +161,21 @@ fn push_queue_entries(
 
 /// A slot with the length of its list.
 fn push_slot_line(text: &mut Vec<u8>, slot: &Slot, length: u64) -> Result<(), AllocError>
-    ensures { OnOk result (text.new.items ≡ text.old.items ++ line (codes "slot" ∷ slot_text slot.now ∷ decimal length ∷ [])) }
+    ensures { Appends result text.old.items text.new.items (line (codes "slot" ∷ slot_text slot.now ∷ decimal length ∷ [])) }
 {
-    push_slot_length(text, slot, length)?;
-    push(text, b"\n")
+    let mut cells = [0; 48];
+    let end = put_slot_line(&mut cells, 0, slot, length);
+    push_cells(text, &cells, end)
 }
 
-fn push_slot_length(text: &mut Vec<u8>, slot: &Slot, length: u64) -> Result<(), AllocError>
-    ensures { OnOk result (text.new.items ≡ text.old.items ++ words (codes "slot" ∷ slot_text slot.now ∷ decimal length ∷ [])) }
+fn put_slot_line(cells: &mut [u8], at: usize, slot: &Slot, count: u64) -> usize
+    requires { at + 48 ≤ length cells.old }
+    ensures items { take result cells.new ≡ take at cells.old ++ line (codes "slot" ∷ slot_text slot.now ∷ decimal count ∷ []) }
+    ensures end { result ≤ at + 48 }
 {
-    push(text, b"slot ")?;
-    push_slot(text, slot)?;
-    push(text, b" ")?;
-    push_number(text, length)
+    let at = put_word(cells, at, b"slot ");
+    let at = put_slot(cells, at, slot);
+    let at = put(cells, at, b' ');
+    let at = put_wide(cells, at, count);
+    put(cells, at, b'\n')
 }

@@ -338,15 +338,6 @@ fn put_next_item(cells: &mut [u8], at: usize, x: &CartItem) -> usize
     put_item(cells, at, x)
 }
 
-/// Appends a slot. The only error is want of memory.
-pub(crate) fn push_slot(text: &mut Vec<u8>, slot: &Slot) -> Result<(), AllocError>
-    ensures { OnOk result (text.new.items ≡ text.old.items ++ slot_text slot.now) }
-{
-    let mut cells = [0; 16];
-    let end = put_slot(&mut cells, 0, slot);
-    push_cells(text, &cells, end)
-}
-
 /// Appends a command. The only error is want of memory.
 pub(crate) fn push_command(text: &mut Vec<u8>, command: &Command) -> Result<(), AllocError>
     ensures { OnOk result (text.new.items ≡ text.old.items ++ command_text command.now) }

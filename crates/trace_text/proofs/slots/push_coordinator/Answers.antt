@@ -1,10 +1,8 @@
-use Rattle.std.proofs.Common.{◌≡◌, List, ℕ, sym, ◌∙◌, subst, OnOk}
+use Rattle.std.proofs.Common.{sym, ◌∙◌}
 use Rattle.yard_model.specs.declared.incarnation.Slot.TheVariants as slot
 use Rattle.yard_model.specs.Entry.{coord_fact}
-use Rattle.trace_text.proofs.SlotLaws.{slot_behind}
+use Rattle.trace_text.proofs.SlotLaws.{slot_grows}
 use Rattle.trace_text.proofs.slots.push_coordinator.Goals as goal
 
 pub returns : goal.returns
-returns c = subst (λ (l : List ℕ). OnOk c.push_coordinator_entries.result (c.push_coordinator_entries.new.text.items ≡ l))
-    (slot_behind slot.Coordinator coord_fact c.args.list.now c.args.text.now.items c.push_slot_line.new.text.items (sym c.is_empty.ensures ∙ c.if-is_empty.false) c.in_ok-push_slot_line.ensures)
-    c.push_coordinator_entries.ensures
+returns c = slot_grows slot.Coordinator coord_fact c.args.list.now c.push_coordinator_entries.result c.args.text.now.items c.push_slot_line.new.text.items c.push_coordinator_entries.new.text.items (sym c.is_empty.ensures ∙ c.if-is_empty.false) c.in_ok-push_slot_line.ensures c.push_coordinator_entries.ensures

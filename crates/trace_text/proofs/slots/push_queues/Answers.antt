@@ -3,6 +3,7 @@ use Rattle.yard_model.specs.declared.charter.Config.{Config}
 use Rattle.yard_model.specs.declared.incarnation.Slot.TheVariants as slot
 use Rattle.yard_model.specs.SlotLists.{queue_list}
 use Rattle.yard_model.specs.Text.{slot_lines}
+use Rattle.trace_text.proofs.GrownLaws.{begins_more, begins_then}
 use Rattle.trace_text.proofs.RowLaws.{numbers_step}
 use Rattle.trace_text.proofs.slots.push_queues.Goals as goal
 
@@ -12,4 +13,5 @@ loop-i-preserved g c =
     record {
       text = numbers_step (λ p. slot_lines (slot.Queue p) (queue_list (g.T.Lists.lists c.args.stores.now) p)) (c.loop-i.i + 1) c.loop-i.i c.args.charter.now.config.producers _ _ _ (omega arith) c.in_ok-push_queue.ensures c.loop-i.invariant.text;
       within = omega arith;
+      begins = begins_then c.args.text.now.items c.loop-i.text.items c.push_queue.new.text.items c.loop-i.invariant.begins (begins_more c.loop-i.text.items c.push_queue.new.text.items _ c.in_ok-push_queue.ensures);
     }

@@ -1,29 +1,28 @@
 #!/usr/bin/env python3
-"""refused_memory.py [-s SCRIPT,..] N..: refuses one allocation of a run, the Nth, and looks at what the program then does.
+"""refused_memory.py [-s CASE,..] [-m MOST] PROGRAM: refuses one allocation of a run after the other, and looks at what the program then does.
 
-N is a number or a range, as 1-20. For each N the program is run, unproved, on each script of crates/known_replays that is named
-(without -s, on a few), by `rt try --fail-alloc N --cases`: one build for each N, of some 90 seconds on two quiet processors. Of each
-run either holds:
+PROGRAM is the built, proved program (crates/sharder/out/sharder). For each case it is run once, to count its allocations, and then once
+for each of them, with that one refused (refuse.c, loaded before it): at most MOST times, 2,000 without -m, spread evenly. Of each run one holds:
 
     refused    the status is 6, and what was written is a front of the known text
-    whole      the status and the text are the known ones: the run needs fewer allocations, or did without that one
+    whole      the status and the text are the known ones: the run did without that allocation
+    otherwise  anything else, which is a fault
 
-A line for each N says how many runs ended which way, and names each that ended otherwise; then the status is 1. Needs `rt` on the
-path, Python 3.8 and nothing else.
+Of `live`, whose text differs from run to run, no front is known: refused wrote nothing, and whole ends its text with 'end'.
+What the host refuses before the program's first own line (its arguments) counts as refused where the status is 1 and nothing was written.
+
+A line for each case; the status is 1 where some run ended otherwise. Needs a C compiler (cc), Python 3.8 and nothing else.
 """
 import os
-import re
 import subprocess
 import sys
 import tempfile
 
-TOP = os.path.dirname(os.path.dirname(os.path.abspath(__file__)))
-KNOWN = f"{TOP}/crates/known_replays/data"
-# Scripts whose runs differ: one of each form, and those with the most kinds of facts.
-FEW = "one_command first_command crash_after_04 carts second_version node_leaves_remembered settle_of_failed_write first_command_json bulk_3 instances_start_and_end job_given_again".split()
+HERE = os.path.dirname(os.path.abspath(__file__))
+KNOWN = f"{os.path.dirname(HERE)}/crates/known_replays/data"
 NO_MEMORY = 6
-# How long one run may take, in seconds.
 SECONDS = 60
+LIVE = b"config nodes=2 shards=4\nup 1\nup 2\nproduce 1 1\nproduce 2 2\n" + b"send 1 a add 1\n" * 10 + b"send 2 b add 2\n" * 10
 
 
 def read(path):
@@ -32,87 +31,91 @@ def read(path):
 
 
 class Case:
-    """A known script: its words, its status and its text."""
+    """A run: its words, its script, the disk that it begins with (None: none), and the status and text that are known of it."""
 
-    def __init__(self, line):
-        self.name, status, *self.words = line.split()
-        self.status = int(status)
+    def __init__(self, name, words, script, disk=None):
+        self.name, self.words, self.script, self.disk = name, words, script, disk
+        self.status, self.text = None, None
 
-    def put(self, folder):
-        """Puts the script and the words where `rt try --cases` looks for them."""
-        with open(f"{folder}/{self.name}", "wb") as file:
-            file.write(read(f"{KNOWN}/{self.name}.in"))
-        with open(f"{folder}/{self.name}.args", "w", encoding="ascii") as file:
-            file.writelines(word + "\n" for word in self.words)
+    def run(self, program, library, number, count=None):
+        """Runs it with that allocation refused (0: none): the status and the text."""
+        with tempfile.TemporaryDirectory() as folder:
+            if self.disk is not None:
+                with open(f"{folder}/sharder.log", "wb") as file:
+                    file.write(self.disk)
+            surroundings = {"LD_PRELOAD": library, "REFUSE": str(number)}
+            if count:
+                surroundings["REFUSE_COUNT"] = count
+            ran = subprocess.run([program, *self.words], input=self.script, env=surroundings, cwd=folder, capture_output=True, timeout=SECONDS, check=False)
+            self.left = read(f"{folder}/sharder.log") if os.path.exists(f"{folder}/sharder.log") else None
+            return ran.returncode, ran.stdout
 
     def verdict(self, status, text):
-        """How a run ended, by its status and what it wrote."""
-        whole = read(f"{KNOWN}/{self.name}.out")
-        # (the tool ends an output with a line feed where it has none)
-        if status == NO_MEMORY and (whole.startswith(text) or text.endswith(b"\n") and whole.startswith(text[:-1])):
+        if self.words[:1] == ["live"]:
+            if status == NO_MEMORY and not text or status == 1 and not text:
+                return "refused"
+            return "whole" if status == 0 and text.endswith(b"end\n") else "otherwise"
+        if status == NO_MEMORY and self.text.startswith(text) or status == 1 and not text:
             return "refused"
-        return "whole" if status == self.status and text == whole else "otherwise"
+        return "whole" if (status, text) == (self.status, self.text) else "otherwise"
 
 
-def outputs(told, names):
-    """What each case wrote: each stands behind a line with its name."""
-    found, at = {}, 0
-    marks = []
-    for name in names:
-        mark = f"== {name}\n".encode()
-        at = told.find(mark, at)
-        if at < 0:
-            return {}
-        marks.append((at, at + len(mark)))
-        at += len(mark)
-    for place, name in enumerate(names):
-        end = marks[place + 1][0] if place + 1 < len(names) else len(told)
-        found[name] = told[marks[place][1] : end]
-    return found
+def known(name, words):
+    return Case(name, words, read(f"{KNOWN}/{name}.in"))
 
 
-def tried(cases, number):
-    """Runs each case with this allocation refused; how many ended which way, and the lines of those that ended otherwise."""
-    with tempfile.TemporaryDirectory() as folder:
-        for case in cases:
-            case.put(folder)
-        words = ["rt", "try", "--steps", "1", "--seconds", str(SECONDS), "--fail-alloc", str(number), "--cases", folder]
-        ran = subprocess.run(words, cwd=f"{TOP}/crates/sharder", stdin=subprocess.DEVNULL, capture_output=True, check=False)
-    said = ran.stderr.decode(errors="replace")
-    ends = dict(re.findall(r"(?m)^case=(\S+) run=ended status=(\d+)", said))
-    wrote = outputs(ran.stdout, re.findall(r"(?m)^case=(\S+) ", said))
+def cases_of(program, library):
+    """One run of each form, and those with the most kinds of facts."""
+    there = {}
+    for line in read(f"{KNOWN}/index").decode().splitlines():
+        name, _, *words = line.split()
+        there[name] = words
+    first = read(f"{KNOWN}/first_command.in")
+    logged = Case("log", ["log"], first)
+    logged.run(program, library, 0)
+    names = "one_command first_command settled_from_sends carts second_version more_shards settle_of_failed_write first_command_json bulk_3".split()
+    names += [name for name in there if there[name][:1] in (["pull"], ["daemon"])][:4]
+    return [known(name, there[name]) for name in names] + [
+        Case("live 50 1", ["live", "50", "1"], LIVE),
+        logged,
+        Case("resume of half a log", ["resume"], first, logged.left[: len(logged.left) // 2]),
+        Case("resume of a log", ["resume"], first, logged.left),
+    ]
+
+
+def tried(case, program, library, most):
+    """How many runs ended which way, and the lines of those that ended otherwise."""
+    with tempfile.NamedTemporaryFile() as count:
+        case.status, case.text = case.run(program, library, 0, count.name)
+        needed = int(read(count.name))
+    step = max(1, -(-needed // most))
     counts, others = {"refused": 0, "whole": 0, "otherwise": 0}, []
-    for case in cases:
-        status, text = ends.get(case.name), wrote.get(case.name)
-        how = case.verdict(int(status), text) if status is not None and text is not None else "otherwise"
+    for number in range(1, needed + 1, step):
+        status, text = case.run(program, library, number)
+        how = case.verdict(status, text)
         counts[how] += 1
         if how == "otherwise":
-            others.append(f"    {case.name}: status {status}, {'no text' if text is None else f'{len(text)} bytes'}")
-    if not ends:
-        others.append(said[-2_000:])
-    return counts, others
-
-
-def numbers(words):
-    for word in words:
-        first, _, last = word.partition("-")
-        yield from range(int(first), int(last or first) + 1)
+            others.append(f"    allocation {number}: status {status}, {len(text)} bytes")
+    return needed, counts, others
 
 
 def main():
-    words, names = sys.argv[1:], FEW
-    if words[:1] == ["-s"] and len(words) > 1:
-        names, words = words[1].split(","), words[2:]
-    if not words or not all(re.fullmatch(r"[1-9][0-9]*(-[1-9][0-9]*)?", word) for word in words):
+    words, names, most = sys.argv[1:], None, 2000
+    while len(words) > 2 and words[0] in ("-s", "-m"):
+        names, most = (words[1].split(","), most) if words[0] == "-s" else (names, int(words[1]))
+        words = words[2:]
+    if len(words) != 1:
         sys.exit(__doc__)
-    there = [Case(line) for line in read(f"{KNOWN}/index").decode().splitlines()]
-    # (the tool takes them by their names)
-    cases = sorted((case for case in there if case.name in names), key=lambda case: case.name)
-    amiss = 0
-    for number in sorted(set(numbers(words))):
-        counts, others = tried(cases, number)
-        amiss += counts["otherwise"]
-        print(f"{number}: {counts['refused']} refused, {counts['whole']} whole, {counts['otherwise']} otherwise", *others, sep="\n", flush=True)
+    program, amiss = os.path.abspath(words[0]), 0
+    with tempfile.TemporaryDirectory() as folder:
+        library = f"{folder}/refuse.so"
+        subprocess.run(["cc", "-O2", "-shared", "-fPIC", "-o", library, f"{HERE}/refuse.c", "-ldl"], check=True)
+        for case in cases_of(program, library):
+            if names and case.name not in names:
+                continue
+            needed, counts, others = tried(case, program, library, most)
+            amiss += counts["otherwise"]
+            print(f"{case.name}: {needed} allocations; {counts['refused']} refused, {counts['whole']} whole, {counts['otherwise']} otherwise", *others, sep="\n", flush=True)
     sys.exit(1 if amiss else 0)
 
 

@@ -78,6 +78,9 @@ own_post c who to b from there genuine =
 pub recovered_post_keeps : (c : Script) (st : Entities) (e : List ℕ) → IsEntities c st → is_brought c e ≡ true → KeepsEntities c st (post st.who st.who (body.Recovered e) ∷ [])
 recovered_post_keeps c st e is brought = still_keeps c st (post st.who st.who (body.Recovered e)) is refl (own_post c st.who st.who (body.Recovered e) is.who_is is.who_is brought) refl
 
+pub passivate_post_keeps : (c : Script) (st : Entities) (e : List ℕ) → IsEntities c st → is_brought c e ≡ true → KeepsEntities c st (post st.who st.who (body.Passivate e) ∷ [])
+passivate_post_keeps c st e is brought = still_keeps c st (post st.who st.who (body.Passivate e)) is refl (own_post c st.who st.who (body.Passivate e) is.who_is is.who_is brought) refl
+
 pub stop_post_keeps : (c : Script) (st : Entities) (e : List ℕ) → IsEntities c st → is_brought c e ≡ true → KeepsEntities c st (post st.who st.who (body.StopEntity e) ∷ [])
 stop_post_keeps c st e is brought = cell_keeps c st (post st.who st.who (body.StopEntity e)) e is brought refl refl (own_post c st.who st.who (body.StopEntity e) is.who_is is.who_is brought) refl
     (there (cell st e).phase) (stash (cell st e).phase)

@@ -33,9 +33,9 @@ use Rattle.yard_laws.specs.Entries.{IsHosted, MessageFollows, NextFollows, Entit
 use Rattle.plain_laws.proofs.Booleans.{and_both, both, number_itself, of_not, same_name}
 use Rattle.plain_laws.proofs.Lists.{inside, by_place, all_join, all_if}
 use Rattle.actor_laws.specs.EntitiesStand.{IsHeldShard, is_for, IsEntities, IsMessage, KeepsEntities}
-use Rattle.actor_laws.proofs.EntitiesMoves.{keeps_none, keeps_both, who_stays, set_stays, some_of, start_keeps, failed_keeps, stashed_keeps, dropped_keeps, active_keeps, list_in_hand}
+use Rattle.actor_laws.proofs.EntitiesMoves.{keeps_none, keeps_both, who_stays, set_stays, some_of, start_keeps, failed_keeps, stashed_keeps, dropped_keeps, active_keeps, armed_keeps, list_in_hand}
 use Rattle.plain_laws.proofs.Names.{name_itself}
-use Rattle.actor_laws.proofs.EntitiesEntries.{still_keeps, own_post, recovered_post_keeps, stop_post_keeps, request_post_keeps, passivates_keeps, entry_keeps}
+use Rattle.actor_laws.proofs.EntitiesEntries.{still_keeps, own_post, recovered_post_keeps, passivate_post_keeps, stop_post_keeps, request_post_keeps, passivates_keeps, entry_keeps}
 
 -- Choices.
 
@@ -299,6 +299,14 @@ recovered_keeps c st e next law is brought = keeps_if c st (is_in_phase phase.Lo
     loading : (p : Phase) → is_phase phase.Loading p ≡ true → is_phase phase.Absent p ≡ false
     loading phase.Loading h = refl
     loading p h = absurd (true≢false (sym h))
+
+-- What an order asks.
+
+pub ask_to_passivate_keeps : (c : Script) (st : Entities) (e : List ℕ) → IsEntities c st → is_brought c e ≡ true → KeepsEntities c st (entities.ask_to_passivate e st)
+ask_to_passivate_keeps c st e is brought = keeps_if c st (is_in_phase phase.Active st e) (post st.who st.who (body.Passivate e) ∷ []) [] (λ b. passivate_post_keeps c st e is brought) (λ b. keeps_none c st is)
+
+pub arm_keeps : (c : Script) (st : Entities) (e : List ℕ) (k : Keep) → IsEntities c st → is_brought c e ≡ true → KeepsEntities c st (entities.arm e k st)
+arm_keeps c st e k is brought = keeps_if c st (is_in_phase phase.Active st e) (told (fact.Armed e k) ∷ []) [] (λ b. armed_keeps c st e k is brought) (λ b. keeps_none c st is)
 
 -- Passivation.
 

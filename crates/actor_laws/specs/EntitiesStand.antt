@@ -1,5 +1,5 @@
 -- What stands of the entities of a node between their rules, and what a rule keeps and tells.
-use Rattle.std.specs.Prelude.{◌≡◌, ℕ, Bool, true, false, ◌&&◌, not, List, [], ◌∷◌, length, fold, Some, IfSome, IsTrue}
+use Rattle.std.specs.Prelude.{◌≡◌, ℕ, Bool, true, false, ◌&&◌, not, List, length, fold, Some, IfSome, IsTrue}
 use Rattle.std.specs.List.{list_all}
 use Rattle.yard_model.specs.declared.fact.Fact.{Fact}
 use Rattle.yard_model.specs.declared.fact.Fact.TheVariants as fact
@@ -13,7 +13,7 @@ use Rattle.yard_model.specs.Entities as entities
 use Rattle.yard_model.specs.Entities.{Entities, Hosted, new_entities, cell, hosted, is_hosted, is_in_phase, entities_after}
 use Rattle.yard_model.specs.Genuine.{is_node, is_brought, is_producer, is_genuine}
 use Rattle.yard_model.specs.Lawful.{own}
-use Rattle.yard_model.specs.Move.{Move, told}
+use Rattle.yard_model.specs.Move.{Move}
 use Rattle.yard_model.specs.Script.{Script, is_name, names_in, setting, is_version}
 use Rattle.yard_model.specs.Setting.{shard_of}
 use Rattle.yard_model.specs.SlotLists.{shard_list}
@@ -89,7 +89,8 @@ pub record EntityRules (c : Script) (st : Entities) : Type 0 where
   pub delivers : (m : Message) → IsMessage c m → is_hosted st (shard_of st.set m.entity) ≡ true → KeepsEntities c st (entities.deliver m st)
   pub recovers : (e : List ℕ) → is_brought c e ≡ true → KeepsEntities c st (entities.recovered e st)
   pub passivates : (e : List ℕ) → is_brought c e ≡ true → KeepsEntities c st (entities.passivate e st)
-  pub arms : (e : List ℕ) (k : Keep) → is_brought c e ≡ true → KeepsEntities c st (told (fact.Armed e k) ∷ [])
+  pub asks_to_passivate : (e : List ℕ) → is_brought c e ≡ true → KeepsEntities c st (entities.ask_to_passivate e st)
+  pub arms : (e : List ℕ) (k : Keep) → is_brought c e ≡ true → KeepsEntities c st (entities.arm e k st)
   pub hands_off : (s : ℕ) (stamp : Stamp) (from : Incarnation) → is_hosted st s ≡ true → is_node c from ≡ true → KeepsEntities c st (entities.hand_off s stamp from st)
   pub stops : (e : List ℕ) → is_brought c e ≡ true → KeepsEntities c st (entities.stop e st)
   pub ticks : KeepsEntities c st (entities.tick_entities st)

@@ -1,5 +1,6 @@
 //! One drawing after the other.
 ghost use Rattle.std.specs.Prelude.{◌≡◌, ◌≤◌, ◌+◌, ◌*◌, ◌<◌, ◌++◌, OnOk, length};
+ghost use Rattle.yard_model.specs.Limits.{most_orders};
 ghost use Rattle.bulk_gen.specs.Bulk.{of_kind, one_drawn, drawn, with_lines};
 
 use crate::draws::draw;
@@ -15,7 +16,7 @@ pub(crate) fn push_drawn(
     rng: &mut Lcg64Xsh32,
     count: u32,
 ) -> Result<(), AllocError>
-    requires { length lines.now.items + 2 * count ≤ 200000 }
+    requires { length lines.now.items + 2 * count ≤ most_orders }
     ensures { OnOk result (lines.new.items ≡ with_lines lines.old.items (drawn count rng.old)) }
 {
     for _ in 0..count {
@@ -26,7 +27,7 @@ pub(crate) fn push_drawn(
 
 /// Appends the orders of one drawing.
 fn push_one(lines: &mut Vec<Line>, rng: &mut Lcg64Xsh32) -> Result<(), AllocError>
-    requires { length lines.now.items + 2 ≤ 200000 }
+    requires { length lines.now.items + 2 ≤ most_orders }
     ensures lines { OnOk result (lines.new.items ≡ with_lines lines.old.items (one_drawn rng.old).0) }
     ensures rest { rng.new ≡ (one_drawn rng.old).1 }
 {
@@ -36,7 +37,7 @@ fn push_one(lines: &mut Vec<Line>, rng: &mut Lcg64Xsh32) -> Result<(), AllocErro
 
 /// Appends the orders of this kind.
 fn push_kind(lines: &mut Vec<Line>, rng: &mut Lcg64Xsh32, kind: u32) -> Result<(), AllocError>
-    requires { length lines.now.items + 2 ≤ 200000 }
+    requires { length lines.now.items + 2 ≤ most_orders }
     ensures lines { OnOk result (lines.new.items ≡ with_lines lines.old.items (of_kind kind rng.old).0) }
     ensures rest { rng.new ≡ (of_kind kind rng.old).1 }
 {

@@ -12,3 +12,4 @@ pub mod LimitLaws
 pub mod LostLaws
 pub mod AckLaws
 pub mod HomedLaws
+pub mod KeepLaws

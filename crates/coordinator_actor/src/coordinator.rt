@@ -8,6 +8,7 @@ ghost use Rattle.yard_model.specs.Coordinator.{coordinator_after, new_coordinato
 ghost use Rattle.yard_model.specs.declared.incarnation.Slot.TheVariants as slot;
 ghost use Rattle.yard_model.specs.Genuine.{is_node, is_shard};
 ghost use Rattle.yard_model.specs.Lawful.{own};
+ghost use Rattle.yard_model.specs.Limits.{turn_room};
 ghost use Rattle.yard_model.specs.Move.{item_of, told, started, quits};
 ghost use Rattle.yard_model.specs.Script.{setting, IsScript};
 ghost use Rattle.yard_model.specs.SlotReads.{holder, regions};
@@ -31,6 +32,13 @@ use yard_model::{
     Body, Charter, Fact, Incarnation, Item, Loads, Out, Packet, ShardNo, ShardSet, Slot, Stamp,
     State,
 };
+
+/// For how many entries a turn may write there is room.
+const ROOM: u32 = 300;
+
+/// For how many there is room where it is made anew, so that many turns may write before it is so
+/// again.
+const AMPLE: u32 = 364;
 
 /// The shard coordinator of a node that holds its slot (Akka 2.6, Cluster Sharding concepts): the
 /// store of the slot, which regions leave, which shards are started, and the round of handoffs that
@@ -120,7 +128,7 @@ impl Coordinator {
         ensures state { self.new.state ≡ self.old.state }
         ensures spare { self.old.spare ≤ self.new.spare }
         ensures places { self.old.places ≤ self.new.places }
-        ensures enough { OnOk result (300 ≤ self.new.spare) }
+        ensures enough { OnOk result (turn_room ≤ self.new.spare) }
         ensures place { OnOk result (1 ≤ self.new.places) }
     {
         if self.is_ready() {
@@ -131,10 +139,10 @@ impl Coordinator {
 
     /// Whether there is room for all that a turn may write, and for one region more that leaves.
     fn is_ready(&self) -> bool
-        ensures entries { result ≡ true → 300 ≤ self.now.spare }
+        ensures entries { result ≡ true → turn_room ≤ self.now.spare }
         ensures places { result ≡ true → 1 ≤ self.now.places }
     {
-        self.store.spare() >= 300 && self.quitting.spare() >= 1
+        self.store.spare() >= ROOM && self.quitting.spare() >= 1
     }
 
     /// The same as `reserve`, where there isn't; with room for some turns more.
@@ -144,11 +152,11 @@ impl Coordinator {
         ensures state { self.new.state ≡ self.old.state }
         ensures spare { self.old.spare ≤ self.new.spare }
         ensures places { self.old.places ≤ self.new.places }
-        ensures enough { OnOk result (300 ≤ self.new.spare) }
+        ensures enough { OnOk result (turn_room ≤ self.new.spare) }
         ensures place { OnOk result (1 ≤ self.new.places) }
     {
         self.quitting.reserve(1)?;
-        self.store.reserve(364)
+        self.store.reserve(AMPLE)
     }
 
     /// Whose coordinator it is.

@@ -1,10 +1,11 @@
 //! The coordinator's part of a packet.
-ghost use Rattle.std.specs.Prelude.{◌≡◌, ℕ, ◌+◌, ◌<◌, ◌≤◌, ◌++◌, length, fold, IsTrue};
+ghost use Rattle.std.specs.Prelude.{◌≡◌, ℕ, ◌+◌, ◌<◌, ◌≤◌, ◌++◌, length, fold, false, IsTrue};
 ghost use Rattle.std.specs.List.{flat_map};
 ghost use Rattle.yard_model.specs.Coordinator.{coordinate, coordinator_after};
 ghost use Rattle.yard_model.specs.Genuine.{is_genuine_packet};
 ghost use Rattle.yard_model.specs.Move.{item_of};
 ghost use Rattle.coordinator_actor.specs.Held.{are_viewed};
+ghost use Rattle.coordinator_actor.specs.Homes.{is_stop_of, KeepsHome};
 
 use crate::coordinator::Coordinator;
 use membership_view::View;
@@ -13,7 +14,9 @@ use yard_model::{Body, Out, Packet};
 impl Coordinator {
     /// The coordinator's part of a packet: a region registers, asks for a home, has started or
     /// stopped a shard, acknowledges that one moves, or leaves (Akka 2.6, Cluster Sharding
-    /// concepts). Other packets are nothing to it.
+    /// concepts). Other packets are nothing to it. A shard keeps its home, unless the packet is its
+    /// ShardStopped and matches the open round.
+    #[tactic(auto, using(crate::proofs::KeepLaws::handled))]
     pub fn handle(&mut self, packet: &Packet, view: &View, out: &mut Out)
         requires genuine { IsTrue (is_genuine_packet self.old.script packet.now) }
         requires viewed { IsTrue (are_viewed view.now.members self.old.state.entries) }
@@ -28,6 +31,7 @@ impl Coordinator {
         ensures entries { length self.new.state.entries + self.new.spare ≡ length self.old.state.entries + self.old.spare }
         ensures least { self.old.spare ≤ self.new.spare + 2 }
         ensures places { self.old.places ≤ self.new.places + 1 }
+        ensures homes { (s : ℕ) → is_stop_of s packet.now.from packet.now.body self.old.state ≡ false → KeepsHome s self.old.state self.new.state }
     {
         let from = &packet.from;
         match &packet.body {

@@ -6,6 +6,7 @@ ghost use Rattle.yard_model.specs.Move.{item_of};
 ghost use Rattle.yard_model.specs.Words.{is_among};
 ghost use Rattle.handoff_steps.specs.Places.{lost_at, moving};
 ghost use Rattle.coordinator_actor.specs.Held.{are_viewed};
+ghost use Rattle.coordinator_actor.specs.Homes.{KeepsViewed};
 ghost use Rattle.coordinator_actor.specs.Parts.{at_shard, lost_all, lost_posts, step_posts, stay, terminate_if_lost};
 
 use crate::coordinator::Coordinator;
@@ -18,7 +19,8 @@ impl Coordinator {
     /// The node has this view: each registered region that isn't in it is lost, in order of
     /// registration (Akka 2.6, Cluster Sharding concepts). Its shards have no home any more, it is
     /// awaited by no shard of the round, and a shard that waited for it alone is handed off.
-    /// Afterwards every registered region is in the view.
+    /// Afterwards every registered region is in the view. A shard whose home is in the view keeps it.
+    #[tactic(auto, using(crate::proofs::KeepLaws::lost))]
     pub fn view_taken(&mut self, view: &View, out: &mut Out)
         requires store { 16 ≤ self.old.spare }
         requires room { length (flat_map item_of (terminate_lost view.now.members self.old.state)) ≤ out.old.spare }
@@ -30,6 +32,7 @@ impl Coordinator {
         ensures entries { length self.new.state.entries + self.new.spare ≡ length self.old.state.entries + self.old.spare }
         ensures least { self.old.spare ≤ self.new.spare + 16 }
         ensures places { self.new.places ≡ self.old.places }
+        ensures homes { (s : ℕ) → KeepsViewed view.now.members s self.old.state self.new.state }
     {
         if self.are_viewed(view) {
             return;

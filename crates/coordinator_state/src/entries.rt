@@ -1,5 +1,5 @@
 //! The list of entries, with a spare.
-ghost use Rattle.std.specs.Prelude.{◌≡◌, ◌+◌, ◌<◌, ◌≤◌, ◌^◌, [], ◌∷◌, ◌++◌, length, OnOk, OnErr};
+ghost use Rattle.std.specs.Prelude.{◌≡◌, ◌+◌, ◌<◌, ◌≤◌, ◌^◌, [], ◌∷◌, ◌++◌, length, IfOk, OnOk, OnErr};
 
 use std::alloc::{AllocError, Global};
 use std::marker::{Model, PhantomData};
@@ -37,6 +37,19 @@ impl Entries {
             spare: 0,
             holds: PhantomData,
         }
+    }
+
+    /// The same entries, with no spare. The only error is want of memory.
+    pub(crate) fn copy(&self, alloc: Global) -> Result<Entries, AllocError>
+        ensures { IfOk result (λ e. e ≡ record { items = self.now.items; spare = 0 }) }
+    {
+        let mut list = Vec::with_capacity(alloc, self.list.len())?;
+        list.extend_from_slice(self.list.as_slice())?;
+        Ok(Entries {
+            list,
+            spare: 0,
+            holds: PhantomData,
+        })
     }
 
     /// Makes the spare at least `n`. It answers want of memory too where there would be 2^32

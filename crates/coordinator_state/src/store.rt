@@ -168,40 +168,32 @@ impl CoordStore {
         self.leased = false;
     }
 
-    /// The number of shards becomes that of `charter`, which says the same beside it, and `epoch` is
-    /// the greatest of any shard's lease so far: no shard has a home, and the regions stay
-    /// registered. The only error is want of memory.
+    /// The store for the number of shards of `charter`, which says the same beside it, where `epoch` is
+    /// the greatest of any shard's lease so far: no shard has a home, and the regions are registered
+    /// as they are here. It has no spare. The only error is want of memory.
     pub fn reshard(
-        self,
+        &self,
         alloc: Global,
         charter: &Charter,
         epoch: u32,
     ) -> Result<CoordStore, AllocError>
-        requires spare { 0 < self.spare }
-        requires free { is_held self.entries ≡ false }
-        requires shards { self.script.config.shards ≤ 128 }
-        requires charter { charter.now ≡ with_shards charter.now.config.shards self.script }
+        requires free { is_held self.now.entries ≡ false }
+        requires shards { self.now.script.config.shards ≤ 128 }
+        requires charter { charter.now ≡ with_shards charter.now.config.shards self.now.script }
         ensures script { IfOk result (λ c. c.script ≡ charter.now) }
-        ensures entries { IfOk result (λ c. c.entries ≡ self.entries ++ fact.Reshard charter.now.config.shards epoch ∷ []) }
-        ensures spare { IfOk result (λ c. c.spare + 1 ≡ self.spare) }
+        ensures entries { IfOk result (λ c. c.entries ≡ self.now.entries ++ fact.Reshard charter.now.config.shards epoch ∷ []) }
     {
-        let CoordStore {
-            script: _,
-            entries,
-            homes,
-            epoch: number,
-            leased,
-        } = self;
-        let mut entries = entries;
         let shards = charter.config().shards;
-        let homes = homes.cleared(alloc)?;
+        let homes = self.homes.cleared(alloc)?;
+        let mut entries = self.entries.copy(alloc)?;
+        entries.reserve(1)?;
         entries.push(CoordEntry::Reshard { shards, epoch });
         Ok(CoordStore {
             script: Ghost::of(charter),
             entries,
             homes,
-            epoch: number,
-            leased,
+            epoch: self.epoch,
+            leased: self.leased,
         })
     }
 

@@ -13,7 +13,7 @@ use Rattle.yard_model.specs.declared.incarnation.Cause.{Cause}
 use Rattle.yard_model.specs.declared.incarnation.Incarnation.{Incarnation}
 use Rattle.yard_model.specs.declared.incarnation.Slot.{Slot}
 use Rattle.yard_model.specs.Entry.{queue_fact}
-use Rattle.yard_model.specs.Script.{Script, is_name, sends}
+use Rattle.yard_model.specs.Script.{Script, is_name, names_in, sends, with_shards}
 use Rattle.yard_model.specs.SlotReads as reads
 use Rattle.durable_queue.specs.Kept.{counted, place_of, AreNamed, AreOrdered, AreSized, ArePlans, CountsQueued, CountsConfirmed, IsList, AreSums, IsKept}
 use Rattle.plain_laws.proofs.Booleans.{get_replicate}
@@ -117,3 +117,25 @@ kept_none c p items names commands sent seen capacity none producer ordered name
   room = omega arith;
   few = omega arith;
 })
+
+-- What is kept of the same entries under another number of shards, with no spare.
+pub kept_again : (c d : Script) (p : ℕ) (items new : List QueueEntry) (names names' : List (List ℕ)) (commands commands' : List (List Command)) (sent sent' seen seen' : List ℕ) (sum last : ℕ) (held : Bool) (free capacity capacity' : ℕ) →
+    IsKept c p items names commands sent seen sum last held free capacity → d ≡ with_shards d.config.shards c → new ≡ items → sent' ≡ sent → seen' ≡ seen → length new ≤ capacity' →
+    AreOrdered d names' → AreNamed names' (sends d p) → length commands' ≡ length names' → ArePlans names' commands' (sends d p) → IsKept d p new names' commands' sent' seen' sum last held 0 capacity'
+kept_again c d p items new names names' commands commands' sent sent' seen seen' sum last held free capacity capacity' k same new_is sent_is seen_is fits ordered named sized plans =
+    let names_are : names' ≡ names = ordered.are ∙ (ap (λ (s : Script). names_in s.orders) same ∙ sym k.ordered.are) in
+    let list : IsList d p (map (queue_fact p) items) = subst (λ s. IsList s p (map (queue_fact p) items)) (sym same) (record { lawful = k.list.lawful; first = record { each = k.list.first.each } }) in
+    let small : length new ≡ length items = ap length new_is in record {
+      list = subst (λ l. IsList d p (map (queue_fact p) l)) (sym new_is) list;
+      producer = subst (λ s. is_producer s p ≡ true) (sym same) k.producer;
+      ordered = ordered;
+      named = named;
+      sized = record { plans = sized; queued = ap length sent_is ∙ (k.sized.queued ∙ ap length (sym names_are)); confirmed = ap length seen_is ∙ (k.sized.confirmed ∙ ap length (sym names_are)) };
+      plans = plans;
+      queued = subst (λ l. CountsQueued names' sent' (map (queue_fact p) l)) (sym new_is) (subst (λ n. CountsQueued n sent' (map (queue_fact p) items)) (sym names_are) (subst (λ n. CountsQueued names n (map (queue_fact p) items)) (sym sent_is) k.queued));
+      confirmed = subst (λ l. CountsConfirmed names' seen' (map (queue_fact p) l)) (sym new_is) (subst (λ n. CountsConfirmed n seen' (map (queue_fact p) items)) (sym names_are) (subst (λ n. CountsConfirmed names n (map (queue_fact p) items)) (sym seen_is) k.confirmed));
+      sums = subst (λ l. AreSums sum last held (map (queue_fact p) l)) (sym new_is) k.sums;
+      small = record { total = omega (arith, k.small.total, small); epoch = omega (arith, k.small.epoch, small) };
+      room = omega (arith, fits);
+      few = omega (arith, k.few, small);
+    }

@@ -13,6 +13,15 @@ pub(crate) fn zeros_of(alloc: Global, count: usize) -> Result<Vec<u32>, AllocErr
     vec![in alloc; 0u32; count]
 }
 
+/// The same numbers. The only error is want of memory.
+pub(crate) fn copy_of(alloc: Global, counts: &[u32]) -> Result<Vec<u32>, AllocError>
+    ensures { IfOk result (λ same. same.items ≡ counts.now) }
+{
+    let mut same = Vec::with_capacity(alloc, counts.len())?;
+    same.extend_from_slice(counts)?;
+    Ok(same)
+}
+
 /// The number of a name; 0 of one that has no place.
 pub(crate) fn count_of(names: &Names, counts: &[u32], entity: &EntityName) -> u32
     requires { length counts.now ≡ length names.now }

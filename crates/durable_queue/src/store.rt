@@ -9,7 +9,7 @@ ghost use Rattle.yard_model.specs.Script.{names_in, sends, plan, with_shards};
 ghost use Rattle.yard_model.specs.SlotReads as reads;
 ghost use Rattle.durable_queue.specs.Queue.{name_at};
 
-use crate::counts::{count_at, count_of, put_at, zeros_of};
+use crate::counts::{copy_of, count_at, count_of, put_at, zeros_of};
 use crate::names::Names;
 use crate::plans::{command_at, command_to, plans_of};
 use std::alloc::{AllocError, Global};
@@ -235,15 +235,31 @@ impl QueueStore {
     }
 
     /// The same queue under `charter`, which has another number of shards and says the same beside
-    /// it.
-    pub fn reshard(self, charter: &Charter) -> QueueStore
-        requires { charter.now ≡ with_shards charter.now.config.shards self.script }
-        ensures { result ≡ record self { script = charter.now } }
+    /// it. It has no spare. The only error is want of memory.
+    pub fn reshard(&self, alloc: Global, charter: &Charter) -> Result<QueueStore, AllocError>
+        requires { charter.now ≡ with_shards charter.now.config.shards self.now.script }
+        ensures { IfOk result (λ q. q ≡ record self.now { script = charter.now; spare = 0 }) }
     {
-        QueueStore {
+        let sends = charter.sends(self.producer);
+        let names = Names::new(alloc, charter)?;
+        let plans = plans_of(alloc, &names, sends)?;
+        let queued = copy_of(alloc, self.queued.as_slice())?;
+        let confirmed = copy_of(alloc, self.confirmed.as_slice())?;
+        let entries = entries_of(alloc, sends.len(), self.entries.as_slice())?;
+        Ok(QueueStore {
             script: Ghost::of(charter),
-            ..self
-        }
+            producer: self.producer,
+            entries,
+            names,
+            plans,
+            queued,
+            confirmed,
+            total: self.total,
+            epoch: self.epoch,
+            leased: self.leased,
+            free: 0,
+            holds: PhantomData,
+        })
     }
 
     /// A grant to this incarnation, in a new epoch, which it answers.
@@ -362,6 +378,19 @@ impl QueueStore {
 /// asked for at the end: where a list grows it moves.
 fn room_for(sends: usize) -> usize {
     sends.saturating_mul(2).saturating_add(640)
+}
+
+/// The same entries, with room for those of so many sends. The only error is want of memory.
+fn entries_of(
+    alloc: Global,
+    sends: usize,
+    entries: &[QueueEntry],
+) -> Result<Vec<QueueEntry>, AllocError>
+    ensures { IfOk result (λ same. same.items ≡ entries.now) }
+{
+    let mut same = Vec::with_capacity(alloc, room_for(sends))?;
+    same.extend_from_slice(entries)?;
+    Ok(same)
 }
 
 /// One entry more, for which there is room.

@@ -1,5 +1,6 @@
 //! How many records each producer has among those that a snapshot stands for.
 ghost use Rattle.std.specs.Prelude.{◌≡◌, ◌+◌, ◌-◌, ◌<◌, replicate, slice_set, slice_index_or};
+ghost use Rattle.yard_model.specs.Limits.{number_limit};
 
 use std::marker::Model;
 use yard_model::ProducerNo;
@@ -39,7 +40,7 @@ impl Positions {
 
     /// One record more of producer `p`.
     pub fn plus_one(self, p: ProducerNo) -> Positions
-        requires { slice_index_or self (p - 1) 0 < 4000000000 }
+        requires { slice_index_or self (p - 1) 0 < number_limit }
         ensures { result ≡ slice_set self (p - 1) (slice_index_or self (p - 1) 0 + 1) }
     {
         let mut positions = self;

@@ -1,4 +1,5 @@
 pub mod BehindLaws
+mod DecimalLaws
 pub mod EntryLaws
 pub mod FactLaws
 pub mod NumberLaws

@@ -2,6 +2,7 @@
 use Rattle.std.specs.Prelude.{ℕ, Bool, true, false, ◌&&◌, nat_le, length}
 use Rattle.std.specs.List.{list_all}
 use Rattle.yard_model.specs.Behaviour.{is_in, is_amount, is_memo, is_item_number, is_item, most}
+use Rattle.yard_model.specs.Limits.{number_limit}
 use Rattle.fact_lines.specs.Reads.{is_entity}
 use Rattle.yard_model.specs.declared.fact.Fact.{Fact}
 use Rattle.yard_model.specs.declared.fact.Fact.TheVariants as fact
@@ -18,7 +19,7 @@ use Rattle.yard_model.specs.declared.packet.Record.{Record}
 
 -- a number of which nothing else is said
 abbrev pub is_number : ℕ → Bool
-is_number n = nat_le n 4000000000
+is_number n = nat_le n number_limit
 
 abbrev pub is_producer : ℕ → Bool
 is_producer p = is_in 1 32 p

@@ -14,7 +14,8 @@ pub(crate) const LONG: u64 = 4_294_967_295;
 /// The greatest number of 16 bits.
 pub(crate) const SHORT: u64 = 65_535;
 
-fn is_digit(b: u8) -> bool
+#[inline(always)]
+pub(crate) fn is_digit(b: u8) -> bool
     ensures { result ≡ is_digit b }
 {
     b.is_ascii_digit()

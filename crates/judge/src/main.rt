@@ -2,7 +2,7 @@
 //! says that the trace is safe, or which line ends its safety and why.
 #![tactic(auto)]
 
-use judge_run::{Status, judge};
+use judge_run::{Asked, Status, asked_for, judge};
 use std::env::{self, Env};
 use std::io;
 use std::process::ExitCode;
@@ -36,20 +36,9 @@ fn tell(rt: &impl Print, text: &str) -> Status {
     }
 }
 
-/// Does what a word behind the program's name asks for.
-fn notice(rt: &impl Print, word: &str) -> Status {
-    if word == "--help" {
-        tell(rt, HELP)
-    } else if word == "--version" {
-        tell(rt, VERSION)
-    } else {
-        Status::Usage
-    }
-}
-
 /// What stands on standard error beside the status, if anything.
 fn complain(rt: &impl Eprint, status: Status) {
-    if status.code() > 1 && status != Status::NoFact && status != Status::NotJudged {
+    if status.complains() {
         let _ = eprintln!(rt; "{status}");
     }
 }
@@ -57,10 +46,11 @@ fn complain(rt: &impl Eprint, status: Status) {
 fn main(rt: HostRuntime) -> ExitCode {
     let mut source = StdSource::new(rt.stdin());
     let status = match (StdSink::new(rt.alloc(), rt.stdout()), arguments(&rt)) {
-        (Ok(mut sink), Ok(words)) => match words.as_slice() {
-            [] | [_] => judge(rt.alloc(), &mut source, &mut sink),
-            [_, word] => notice(&rt, word.as_str()),
-            _ => Status::Usage,
+        (Ok(mut sink), Ok(arguments)) => match asked_for(arguments.as_slice()) {
+            Asked::Judge => judge(rt.alloc(), &mut source, &mut sink),
+            Asked::Help => tell(&rt, HELP),
+            Asked::Version => tell(&rt, VERSION),
+            Asked::Usage => Status::Usage,
         },
         _ => Status::OutOfMemory,
     };

@@ -1,3 +1,5 @@
+pub mod Complaint
 pub mod Ends
 pub mod Input
 pub mod Texts
+pub mod Words

@@ -7,8 +7,10 @@ mod sentences;
 mod status;
 mod text;
 mod top;
+mod words;
 
 pub use sentences::sentence_of;
 pub use status::Status;
 pub use text::text_of;
 pub use top::judge;
+pub use words::{Asked, asked_for};

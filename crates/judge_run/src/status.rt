@@ -1,5 +1,6 @@
 //! How a run of the judge ends.
 ghost use Rattle.std.specs.Prelude.{◌≡◌};
+ghost use Rattle.judge_run.specs.Complaint.{complains};
 ghost use Rattle.judge_run.specs.Ends.{code_of, status_of};
 
 use judge_laws::Breach;
@@ -54,6 +55,20 @@ impl Status {
             Status::OutOfMemory => 6,
         }
     }
+
+    /// Whether a line stands on standard error beside it: where no answer was written.
+    pub fn complains(self) -> bool
+        ensures { result ≡ complains self }
+    {
+        match self {
+            Status::Safe | Status::Unsafe | Status::NoFact | Status::NotJudged => false,
+            Status::Usage
+            | Status::Refused { .. }
+            | Status::ReadFault
+            | Status::WriteFault
+            | Status::OutOfMemory => true,
+        }
+    }
 }
 
 /// How a run ends whose answer was written.
@@ -73,6 +88,11 @@ pub(crate) fn status_of(answer: Answer) -> Status
 
 /// What stands on standard error beside the status, as one line; nothing where an answer was written.
 impl fmt::Display for Status {
+    ghost use Rattle.std.specs.Prelude.{Some};
+    ghost use Rattle.judge_run.specs.Complaint.{complaint};
+
+    ghost output = { λ s. Some (complaint s) };
+
     fn fmt<W: fmt::Write>(&self, f: &mut fmt::Formatter<W>) -> fmt::Result {
         match *self {
             Status::Safe | Status::Unsafe | Status::NoFact | Status::NotJudged => Ok(()),

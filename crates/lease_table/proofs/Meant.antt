@@ -18,7 +18,7 @@ use Rattle.shard_store.specs.declared.store.Store.{Store}
 use Rattle.shard_store.specs.Stores.{entries_of, place_of, slot_at}
 use Rattle.shard_lease.specs.declared.leases.Acquire.{Acquire}
 use Rattle.shard_lease.specs.declared.leases.Acquire.TheVariants as answer
-use Rattle.shard_lease.specs.Meaning.{Meaning, Begins, IsVouched, confirms, is_taken, Serves, Stays, Apart, Acquired, Returns, Released}
+use Rattle.shard_lease.specs.Meaning.{Meaning, Begins, IsVouched, confirms, is_taken, Serves, Stays, Apart, Acquired, Claims, Returns, Released}
 use Rattle.lease_table.specs.declared.View.{View}
 use Rattle.lease_table.specs.Lists.{seen_at, Has}
 use Rattle.yard_model.specs.Words.{at}
@@ -134,6 +134,11 @@ acquired z y v w n who s (answer.Held h) nums serves is t =
         tells_is = λ q. refl;
       },
     )
+
+-- nothing can be told of the slot, and the answer is what one claim more has found
+pub claims : (z y : TableId) (v w : View) (n : ℕ) (who : Incarnation) (s : Slot) (k : ℕ) (r : Acquire) → Answers v who k r w → Claims (meaning_of z v n) s r (meaning_of y w n)
+claims z y v w n who s k (answer.Granted x) t = (ap (λ (u : View). u.claims) t.now, ap (λ (u : View). u.found) t.now)
+claims z y v w n who s k (answer.Held h) t = (ap (λ (u : View). u.claims) t.now, ap (λ (u : View). u.found) t.now)
 
 pub released : (z y : TableId) (v w : View) (n : ℕ) (who : Incarnation) (s : Slot) (x : Store) (cause : Cause) (l : List Fact) → is_slot_of v.charter s ≡ true → who.node ≡ n → w ≡ freed (published v (place_of v.charter.config s) l) (place_of v.charter.config s) → Released (meaning_of z v n) who s x cause (meaning_of y w n)
 released z y v w n who s x cause l here is now =

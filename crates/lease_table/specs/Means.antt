@@ -30,4 +30,6 @@ meaning_of z v n = record {
   seen = λ s. if is_slot_of v.charter s then seen_at v.seen (place_of v.charter.config s) else [];
   vouches = λ e p i. recorded e p i (seen_at v.seen (home_of v.charter e));
   tells = λ s. None;
+  claims = v.claims;
+  found = v.found;
 }

@@ -308,8 +308,8 @@ turn_keeps_queue sends lists st (input.Rebalance n) p k some rest own here = all
 turn_keeps_queue sends lists st (input.Produce q) p k some rest own here = produce_keeps lists st p q k some own here
 turn_keeps_queue sends lists st (input.Rest q) p k some rest own here = rest_keeps st p q k some own rest here
 turn_keeps_queue sends lists st (input.Send q) p k some rest own here = all_keep st (send sends q st) p k here (all_some is_keeping (λ j. send_by q (producer.next_sending (slice_index_or sends (q - 1) []) j) st) (at st.producers (q - 1)) (λ j. keep_send_by q (producer.next_sending (slice_index_or sends (q - 1) []) j) st))
-turn_keeps_queue sends lists st (input.Passivate e) p k some rest own here = all_keep st (turn sends lists (input.Passivate e) st) p k here refl
-turn_keeps_queue sends lists st (input.FailWrite e w) p k some rest own here = all_keep st (turn sends lists (input.FailWrite e w) st) p k here refl
+turn_keeps_queue sends lists st (input.Passivate e) p k some rest own here = all_keep st (turn sends lists (input.Passivate e) st) p k here (keep_entities (entities.ask_to_passivate e st.entities))
+turn_keeps_queue sends lists st (input.FailWrite e w) p k some rest own here = all_keep st (turn sends lists (input.FailWrite e w) st) p k here (keep_entities (entities.arm e w st.entities))
 
 -- A send.
 

@@ -35,7 +35,9 @@ fn a_full_box_hands_back(rt: HostRuntime) -> Result<(), Fail> {
     let second = NodeNo::new(2).ok_or("a node")?;
     let (boxes, mut one, mut two) = two_boxes(rt.alloc(), 1)?;
     assert_eq!(rt; boxes.take(&rt, &mut two, second), None);
+    assert_eq!(rt; boxes.count(&rt, &mut one, second), 0);
     assert_eq!(rt; boxes.post(&rt, &mut one, second, 5), Ok(()));
+    assert_eq!(rt; boxes.count(&rt, &mut one, second), 1);
     assert_eq!(rt; boxes.post(&rt, &mut one, second, 6), Err(6));
     assert_eq!(rt; boxes.take(&rt, &mut two, second), Some(5));
     assert_eq!(rt; boxes.take(&rt, &mut two, second), None);

@@ -26,6 +26,8 @@ any_leases c = record {
   seen = λ s. [];
   vouches = λ e p n. true;
   tells = λ s. None;
+  claims = 0;
+  found = 0;
 }
 
 all_within : (c : Script) (rs : List Incarnation) → list_all (λ r. (any_leases c).within r.number) rs ≡ true

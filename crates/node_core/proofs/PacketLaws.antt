@@ -5,6 +5,7 @@ use Rattle.std.specs.Option.{option_map}
 use Rattle.std.specs.List.{list_all, list_any}
 use Rattle.std.proofs.lemmas.Bool.Decides.{nat_tests}
 use Rattle.yard_model.specs.declared.incarnation.Incarnation.{Incarnation}
+use Rattle.yard_model.specs.declared.incarnation.Keep.{Keep}
 use Rattle.yard_model.specs.declared.incarnation.Slot.{Slot}
 use Rattle.yard_model.specs.declared.incarnation.Stamp.{Stamp}
 use Rattle.yard_model.specs.declared.incarnation.Slot.TheVariants as slot
@@ -20,7 +21,7 @@ use Rattle.yard_model.specs.Coordinator.{Coordinator}
 use Rattle.yard_model.specs.Entities as entities
 use Rattle.yard_model.specs.Genuine.{is_brought, is_genuine_body, is_genuine_packet, is_node}
 use Rattle.yard_model.specs.Move.{Move, post}
-use Rattle.yard_model.specs.Node.{Node, Act, Rule, by_region, by_entities, by_coordinator, of_coordinator, of_entities, after, all_in_turn, of_region, acquire, hand_off, lead, packet, route}
+use Rattle.yard_model.specs.Node.{Node, Act, Rule, by_region, by_coordinator, of_coordinator, of_entities, after, all_in_turn, of_region, acquire, hand_off, lead, packet, route}
 use Rattle.yard_model.specs.Producer.{Producer}
 use Rattle.yard_model.specs.Region as region
 use Rattle.yard_model.specs.Region.{Region, take_view, takes_home, takes_host, learn, register, route_away, is_home, takes_hand_off}
@@ -30,7 +31,7 @@ use Rattle.yard_model.specs.SlotLists.{SlotLists}
 use Rattle.yard_model.specs.Spared.{Spared}
 use Rattle.yard_model.specs.Turns.{for_each}
 use Rattle.yard_laws.specs.Free.{is_free_move}
-use Rattle.plain_laws.proofs.Booleans.{of_not, and_both, both}
+use Rattle.plain_laws.proofs.Booleans.{of_not, and_both}
 use Rattle.yard_laws.proofs.FreeLaws.{region_is_free}
 use Rattle.actor_laws.specs.RegionStands.{ShardsAreThere}
 use Rattle.actor_laws.proofs.EntitiesStops.{running_hosted}
@@ -50,7 +51,7 @@ use Rattle.node_core.specs.Went.{Went}
 use Rattle.node_core.proofs.BesideLaws.{frees_none, gave_keeps}
 use Rattle.node_core.proofs.GaveLaws.{gave_nothing, gave_same, gave_asked, gave_then, gave_first}
 use Rattle.node_core.proofs.GiveLaws.{region_gave, entities_gave, office_gave, hosted_may}
-use Rattle.node_core.proofs.StillEntities.{deliver_within, recovered_within, passivate_still, stashed_for, stop_first, stop_within}
+use Rattle.node_core.proofs.StillEntities.{deliver_within, recovered_within, asks_still, arm_still, passivate_still, stashed_for, stop_first, stop_within}
 use Rattle.node_core.proofs.StillOffice.{coordinate_still, lost_still, rebalance_still, regions_within}
 
 -- The region's part of a packet.
@@ -253,10 +254,14 @@ pub passivated_gave : (m : Meaning) (v w : Standing) (e : List ℕ) (before late
     → Went v w before late (of_entities (entities.passivate e) v.state) → Gave v.script none (λ lists. of_entities (entities.passivate e) v.state) (moment m v.state before.items) (moment m w.state late.items)
 passivated_gave m v w e before late sound rests went = entities_gave m v w (entities.passivate e v.state.entities) before late sound.entities.set_is (passivate_still v.script m (is_held_of v.script v.state is_of_shards) e v.state.entities) rests went
 
--- acts of the entities that write nothing
-pub silent_gave : (m : Meaning) (v w : Standing) (x : Move) (before late : Spared Item) → IsSoundNode v.script v.state → is_still_move m v.script (is_held_of v.script v.state is_of_shards) x ≡ true → Rests m v.script v.state
-    → Went v w before late (by_entities x ∷ []) → Gave v.script none (λ lists. by_entities x ∷ []) (moment m v.state before.items) (moment m w.state late.items)
-silent_gave m v w x before late sound still rests went = entities_gave m v w (x ∷ []) before late sound.entities.set_is (both (is_still_move m v.script (is_held_of v.script v.state is_of_shards) x) true still refl) rests went
+-- what an order asks of an entity
+pub ask_gave : (m : Meaning) (v w : Standing) (e : List ℕ) (before late : Spared Item) → IsSoundNode v.script v.state → Rests m v.script v.state
+    → Went v w before late (of_entities (entities.ask_to_passivate e) v.state) → Gave v.script none (λ lists. of_entities (entities.ask_to_passivate e) v.state) (moment m v.state before.items) (moment m w.state late.items)
+ask_gave m v w e before late sound rests went = entities_gave m v w (entities.ask_to_passivate e v.state.entities) before late sound.entities.set_is (asks_still v.script m (is_held_of v.script v.state is_of_shards) e v.state.entities) rests went
+
+pub armed_gave : (m : Meaning) (v w : Standing) (e : List ℕ) (k : Keep) (before late : Spared Item) → IsSoundNode v.script v.state → Rests m v.script v.state
+    → Went v w before late (of_entities (entities.arm e k) v.state) → Gave v.script none (λ lists. of_entities (entities.arm e k) v.state) (moment m v.state before.items) (moment m w.state late.items)
+armed_gave m v w e k before late sound rests went = entities_gave m v w (entities.arm e k v.state.entities) before late sound.entities.set_is (arm_still v.script m (is_held_of v.script v.state is_of_shards) e k v.state.entities) rests went
 
 pub routed_gave : (m : Meaning) (v w : Standing) (x : Message) (before late : Spared Item) → ShardsAreThere → IsScript v.script → IsSoundNode v.script v.state → Rests m v.script v.state
     → Went v w before late (route x v.state) → Gave v.script none (λ lists. route x v.state) (moment m v.state before.items) (moment m w.state late.items)

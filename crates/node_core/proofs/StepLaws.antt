@@ -1,14 +1,16 @@
 -- What the steps of one actor make of the node; and what a step that asks for nothing gives.
-use Rattle.std.proofs.Common.{◌≡◌, ℕ, ◌+◌, ◌-◌, List, [], ◌∷◌, ◌++◌, length, map, sym, ap, subst, ◌∙◌, refl, append-nil, append_assoc, true, arith}
-use Rattle.std.specs.Prelude.{fold, Option, Some, None}
+use Rattle.std.proofs.Common.{◌≡◌, ℕ, ◌+◌, ◌-◌, List, [], ◌∷◌, ◌++◌, length, map, sym, ap, subst, ◌∙◌, refl, append-nil, append_assoc, true, false, arith}
+use Rattle.std.specs.Prelude.{Bool, fold, Option, Some, None, if◌then◌else◌}
 use Rattle.std.specs.Option.{option_map}
 use Rattle.std.specs.List.{list_all, flat_map}
 use Rattle.std.proofs.lemmas.List.{length-append}
 use Rattle.yard_model.specs.declared.incarnation.Incarnation.{Incarnation}
+use Rattle.yard_model.specs.declared.input.Phase.TheVariants as phase
 use Rattle.yard_model.specs.declared.out.Item.{Item}
+use Rattle.yard_model.specs.declared.packet.Body.TheVariants as body
 use Rattle.yard_model.specs.Coordinator.{Coordinator, coordinator_after}
-use Rattle.yard_model.specs.Entities.{Entities, entities_after}
-use Rattle.yard_model.specs.Move.{Move, made, item_of}
+use Rattle.yard_model.specs.Entities.{Entities, entities_after, is_in_phase, ask_to_passivate}
+use Rattle.yard_model.specs.Move.{Move, made, post, item_of}
 use Rattle.yard_model.specs.Node.{Node, Act, by_region, by_entities, by_producer, by_coordinator, of_coordinator, after, items_of}
 use Rattle.yard_model.specs.Producer.{Producer}
 use Rattle.yard_model.specs.Region.{Region, region_after}
@@ -125,6 +127,18 @@ entities_went c r e now p k ms before late set_is goes told = record {
   queues_are = entities_queues p.rooms ms;
   office_is = refl;
 }
+
+-- what is asked of an entity changes none
+asks_stay : (v : Lodged) (e : List ℕ) → v ≡ moved v (ask_to_passivate e v.state)
+asks_stay v e = by (is_in_phase phase.Active v.state e)
+  where
+    by : (b : Bool) → v ≡ moved v (if b then post v.state.who v.state.who (body.Passivate e) ∷ [] else [])
+    by true = refl
+    by false = refl
+
+pub asks_went : (c : Script) (r : Region) (e : Lodged) (p : Producing) (k : Option Held) (name : List ℕ) (before late : Spared Item)
+    → e.state.set ≡ setting c → late ≡ given before (ask_to_passivate name e.state) → Went (standing_of c r e p k) (standing_of c r e p k) before late (map by_entities (ask_to_passivate name e.state))
+asks_went c r e p k name before late set_is told = entities_went c r e e p k (ask_to_passivate name e.state) before late set_is (asks_stay e name) told
 
 -- The coordinator.
 

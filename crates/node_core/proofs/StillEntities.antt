@@ -20,7 +20,7 @@ use Rattle.yard_model.specs.declared.packet.Body.TheVariants as body
 use Rattle.yard_model.specs.declared.packet.Message.{Message}
 use Rattle.yard_model.specs.declared.packet.Record.{Record}
 use Rattle.yard_model.specs.Genuine.{is_brought, is_genuine, is_producer}
-use Rattle.yard_model.specs.Entities.{Entities, Hosted, Stopping, entities_after, cell, hosted, entries_in, entries, entities_of, is_in_phase, is_running, start_entity, start_remembered, stash_message, record_of, snapshot_at, ask_more, write, deliver_at, deliver_by, deliver, activate, recovered, passivate, free_if_left, hand_off, forget_passivated, drop_stash, after_stop, stop, remind_by, tick_entities}
+use Rattle.yard_model.specs.Entities.{Entities, Hosted, Stopping, entities_after, cell, hosted, entries_in, entries, entities_of, is_in_phase, is_running, start_entity, start_remembered, stash_message, record_of, snapshot_at, ask_more, write, deliver_at, deliver_by, deliver, activate, recovered, ask_to_passivate, arm, passivate, free_if_left, hand_off, forget_passivated, drop_stash, after_stop, stop, remind_by, tick_entities}
 use Rattle.yard_model.specs.Move.{Move, made, took, handed_off, passivates, told, post}
 use Rattle.yard_model.specs.Script.{Script, Setting, setting, is_name}
 use Rattle.yard_model.specs.Setting.{shards, shard_of, names_of}
@@ -82,8 +82,11 @@ frees_later c m may (x ∷ ms) more h =
 pub passivate_still : (c : Script) (m : Meaning) (may : Slot → Bool) (e : List ℕ) (st : Entities) → list_all (is_still_move m c may) (passivate e st) ≡ true
 passivate_still c m may e st = all_if (is_still_move m c may) (is_in_phase phase.Active st e) (passivates e ∷ post st.who st.who (body.StopEntity e) ∷ []) [] refl refl
 
-pub armed_still : (c : Script) (m : Meaning) (may : Slot → Bool) (e : List ℕ) (k : Keep) → list_all (is_still_move m c may) (told (fact.Armed e k) ∷ []) ≡ true
-armed_still c m may e k = refl
+pub asks_still : (c : Script) (m : Meaning) (may : Slot → Bool) (e : List ℕ) (st : Entities) → list_all (is_still_move m c may) (ask_to_passivate e st) ≡ true
+asks_still c m may e st = all_if (is_still_move m c may) (is_in_phase phase.Active st e) (post st.who st.who (body.Passivate e) ∷ []) [] refl refl
+
+pub arm_still : (c : Script) (m : Meaning) (may : Slot → Bool) (e : List ℕ) (k : Keep) (st : Entities) → list_all (is_still_move m c may) (arm e k st) ≡ true
+arm_still c m may e k st = all_if (is_still_move m c may) (is_in_phase phase.Active st e) (told (fact.Armed e k) ∷ []) [] refl refl
 
 pub start_still : (c : Script) (m : Meaning) (may : Slot → Bool) (e : List ℕ) (st : Entities) → list_all (is_still_move m c may) (start_entity e st) ≡ true
 start_still c m may e st = refl

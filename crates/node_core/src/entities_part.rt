@@ -1,13 +1,9 @@
 //! The entities' steps.
-ghost use Rattle.std.specs.Prelude.{◌≡◌, ℕ, ◌+◌, ◌≤◌, [], ◌∷◌, None, true, IfSome, MatchOption, if◌then◌else◌};
-ghost use Rattle.yard_model.specs.declared.fact.Fact.TheVariants as fact;
-ghost use Rattle.yard_model.specs.declared.packet.Body.TheVariants as body;
+ghost use Rattle.std.specs.Prelude.{◌≡◌, ℕ, ◌+◌, ◌≤◌, None, true, IfSome, MatchOption, if◌then◌else◌};
 ghost use Rattle.yard_model.specs.declared.input.Phase.TheVariants as phase;
-ghost use Rattle.yard_model.specs.Entities.{hosted, is_in_phase, deliver, recovered, passivate, hand_off, stop, tick_entities};
+ghost use Rattle.yard_model.specs.Entities.{hosted, is_in_phase, deliver, recovered, ask_to_passivate, arm, passivate, hand_off, stop, tick_entities};
 ghost use Rattle.yard_model.specs.Genuine.{is_brought, is_genuine, is_shard};
-ghost use Rattle.yard_model.specs.Move.{post, told};
 ghost use Rattle.yard_model.specs.Node as rules;
-ghost use Rattle.yard_model.specs.Node.{by_entities};
 ghost use Rattle.yard_model.specs.Setting.{shard_of};
 ghost use Rattle.node_laws.specs.NodeStands.{IsSoundNode};
 ghost use Rattle.node_core.specs.Found.{none};
@@ -24,9 +20,7 @@ use behaviour_core::Behaviour;
 use shard_entities::Stopped;
 use shard_lease::Leases;
 use shard_store::{ShardStore, Store};
-use yard_model::{
-    Body, Cause, EntityName, Incarnation, Item, Keep, Message, Out, Packet, ShardNo, Slot, Stamp,
-};
+use yard_model::{Cause, EntityName, Incarnation, Keep, Message, Out, ShardNo, Slot, Stamp};
 
 impl<B: Behaviour + Drop> Actors<B> {
     /// A message is delivered to its entity, whose shard is running here.
@@ -71,24 +65,22 @@ impl<B: Behaviour + Drop> Actors<B> {
         self.entities.tick(out);
     }
 
-    /// The next write of an entity is to fail, and so.
+    /// The next write of an entity that takes commands is to fail, and so.
     pub(crate) fn arm(&mut self, entity: &EntityName, keep: Keep, out: &mut Out)
         requires name { is_brought self.old.script entity.now ≡ true }
         requires room { 1 ≤ out.old.spare }
-        ensures { Went self.old self.new out.old out.new (by_entities (told (fact.Armed entity.now keep)) ∷ []) }
+        ensures { Went self.old self.new out.old out.new (rules.of_entities (arm entity.now keep) self.old.state) }
     {
         self.entities.arm(entity, keep, out);
     }
 
-    /// An entity is to ask for its stop.
+    /// An entity that takes commands is to ask for its stop.
     pub(crate) fn ask_to_passivate(&mut self, entity: &EntityName, out: &mut Out)
+        requires name { is_brought self.old.script entity.now ≡ true }
         requires room { 1 ≤ out.old.spare }
-        ensures { Went self.old self.new out.old out.new (by_entities (post self.old.state.who self.old.state.who (body.Passivate entity.now)) ∷ []) }
+        ensures { Went self.old self.new out.old out.new (rules.of_entities (ask_to_passivate entity.now) self.old.state) }
     {
-        let from = self.region.who();
-        let to = self.region.who();
-        let body = Body::Passivate(*entity);
-        out.push(Item::Post(Packet { from, to, body }));
+        self.entities.ask_to_passivate(entity, out);
     }
 
     /// An entity that is told to stop has stopped; after the last one its shard is let go.

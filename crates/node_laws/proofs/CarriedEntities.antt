@@ -53,6 +53,12 @@ start_quiet s st = all_if is_quiet st.set.config.remember (flat_map (λ e. entit
 activate_quiet : (e : List ℕ) (st : Entities) → list_all is_quiet (entities.activate e st) ≡ true
 activate_quiet e st = all_if is_quiet (st.set.config.remember && not (is_remembered e (entries st e))) (told (fact.Remembered e) ∷ []) [] refl refl
 
+pub ask_to_passivate_quiet : (e : List ℕ) (st : Entities) → list_all is_quiet (entities.ask_to_passivate e st) ≡ true
+ask_to_passivate_quiet e st = all_if is_quiet (is_in_phase phase.Active st e) (post st.who st.who (body.Passivate e) ∷ []) [] refl refl
+
+pub arm_quiet : (e : List ℕ) (k : Keep) (st : Entities) → list_all is_quiet (entities.arm e k st) ≡ true
+arm_quiet e k st = all_if is_quiet (is_in_phase phase.Active st e) (told (fact.Armed e k) ∷ []) [] refl refl
+
 pub passivate_quiet : (e : List ℕ) (st : Entities) → list_all is_quiet (entities.passivate e st) ≡ true
 passivate_quiet e st = all_if is_quiet (is_in_phase phase.Active st e) (passivates e ∷ post st.who st.who (body.StopEntity e) ∷ []) [] refl refl
 

@@ -35,7 +35,7 @@ use Rattle.node_laws.specs.NodeFound.{NodeKeepsIf, FindsOffice, FindsShard, Find
 use Rattle.node_laws.specs.NodeStands.{IsSoundNode, NodeInHand}
 use Rattle.node_laws.specs.NodeTurns.{IsPromised, MayTake}
 use Rattle.actor_laws.specs.RegionStands as regions
-use Rattle.node_laws.proofs.CarriedEntities.{start_quiet, passivate_quiet, hand_off_quiet, stop_quiet, ticks_quiet, recovered_carried}
+use Rattle.node_laws.proofs.CarriedEntities.{start_quiet, ask_to_passivate_quiet, arm_quiet, passivate_quiet, hand_off_quiet, stop_quiet, ticks_quiet, recovered_carried}
 use Rattle.node_laws.proofs.CarriedLists.{are_carried, carries_on}
 use Rattle.node_laws.proofs.CarriedQueues.{ack_carry, request_carry, resend_carry, send_carry, queues_carry}
 use Rattle.node_laws.proofs.CarriedRoutes.{Carrying, Any, carry_both, carry_then, carry_if, carry_none, carry_end, Quiet, carry_quiet, quiet_both, quiet_if, region_quiet, entities_quiet, office_quiet, queue_quiet, coordinated_quiet, produced_quiet, acquire_quiet, register_quiet, begin_quiet, learn_quiet, leave_quiet, tick_region_quiet, view_quiet, route_carry, release_carry}
@@ -273,8 +273,10 @@ input_carry laws c v lists st (input.Produce p) h script is lawful may hand find
     carry_quiet Any c st (produce lists p st) (quiet_if (is_none (at st.producers (p - 1))) (map (by_producer p) takes) [] (queue_quiet p takes (acquire_quiet (slot.Queue p) st.who (queue_list lists p) (holder (queue_list lists p)))) refl) h hand tt k
 input_carry laws c v lists st (input.Rest p) h script is lawful may hand finds k brought = carry_quiet Any c st (of_producer p producer.give_back st) (produced_quiet p producer.give_back st (λ x. refl)) h hand tt k
 input_carry laws c v lists st (input.Send p) h script is lawful may hand finds k brought = send_carry c v p st laws.turns script is may h hand tt k
-input_carry laws c v lists st (input.Passivate e) h script is lawful may hand finds k brought = refl
-input_carry laws c v lists st (input.FailWrite e x) h script is lawful may hand finds k brought = refl
+input_carry laws c v lists st (input.Passivate e) h script is lawful may hand finds k brought =
+    carry_quiet Any c st (of_entities (entities.ask_to_passivate e) st) (entities_quiet (entities.ask_to_passivate e st.entities) (ask_to_passivate_quiet e st.entities)) h hand tt k
+input_carry laws c v lists st (input.FailWrite e x) h script is lawful may hand finds k brought =
+    carry_quiet Any c st (of_entities (entities.arm e x) st) (entities_quiet (entities.arm e x st.entities) (arm_quiet e x st.entities)) h hand tt k
 
 pub turn_carries : CarryLaws → TurnCarries
 turn_carries laws c v lists st i h script is viewed lawful may hand finds k brought = carries_on c h st (turn (all_sends c) lists i st) (input_carry laws c v lists st i h script is lawful may hand finds k brought) k

@@ -119,6 +119,12 @@ pub recovered_grants : (e : List ℕ) (st : Entities) → Grantless (entities.re
 recovered_grants e st = all_if grants_none (entities.is_in_phase phase.Loading st e) (in_turn entities_after (entities.activate e) (for_each entities_after entities.deliver (entities.cell st e).stash) st) []
     (then_grants (entities.activate e) (for_each entities_after entities.deliver (entities.cell st e).stash) st (λ st. all_if grants_none _ (told (fact.Remembered e) ∷ []) [] refl refl) (stashed_grants (entities.cell st e).stash)) refl
 
+pub ask_to_passivate_grants : (e : List ℕ) (st : Entities) → Grantless (entities.ask_to_passivate e st)
+ask_to_passivate_grants e st = all_if grants_none (entities.is_in_phase phase.Active st e) (post st.who st.who (body.Passivate e) ∷ []) [] refl refl
+
+pub arm_grants : (e : List ℕ) (k : Keep) (st : Entities) → Grantless (entities.arm e k st)
+arm_grants e k st = all_if grants_none (entities.is_in_phase phase.Active st e) (told (fact.Armed e k) ∷ []) [] refl refl
+
 pub passivate_grants : (e : List ℕ) (st : Entities) → Grantless (entities.passivate e st)
 passivate_grants e st = all_if grants_none (entities.is_in_phase phase.Active st e) (passivates e ∷ post st.who st.who (body.StopEntity e) ∷ []) [] refl refl
 

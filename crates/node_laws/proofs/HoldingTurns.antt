@@ -30,7 +30,7 @@ use Rattle.actor_laws.specs.EntitiesStand.{IsEntities}
 use Rattle.actor_laws.specs.Owes.{facts_in}
 use Rattle.node_laws.specs.NodeHolds.{HoldsAll, TurnHolds}
 use Rattle.node_laws.specs.NodeStands.{IsProducerAt, IsSoundNode}
-use Rattle.node_laws.proofs.Granting.{all_mapped, oldest_grants, away_grants, register_grants, view_grants, learn_grants, begin_hand_grants, tick_region_grants, remembered_grant, deliver_grants, recovered_grants, passivate_grants, hand_off_grants, stop_grants, tick_entities_grants, calm_grants}
+use Rattle.node_laws.proofs.Granting.{all_mapped, oldest_grants, away_grants, register_grants, view_grants, learn_grants, begin_hand_grants, tick_region_grants, remembered_grant, deliver_grants, recovered_grants, ask_to_passivate_grants, arm_grants, passivate_grants, hand_off_grants, stop_grants, tick_entities_grants, calm_grants}
 use Rattle.node_laws.proofs.Holding.{lists_in_hand, keeps_slots, Holding, Holds, Keeping, none_holds, if_holds, some_holds, two_hold, each_holds, rules_hold, region_holds, entities_hold, producer_holds, of_producer_holds, of_coordinator_holds, shard_acquired, office_acquired, queue_acquired}
 use Rattle.node_laws.proofs.NodeCoordinator.{coordinate_calm, terminate_lost_calm, tick_calm, rebalance_calm}
 
@@ -164,8 +164,8 @@ input_holds c sends lists (input.Rebalance n) st is = of_coordinator_holds c (co
 input_holds c sends lists (input.Produce p) st is = produce_holds c lists p st
 input_holds c sends lists (input.Rest p) st is = rest_holds c st p is
 input_holds c sends lists (input.Send p) st is = send_holds c sends p st
-input_holds c sends lists (input.Passivate e) st is = entities_hold c st (post st.who st.who (body.Passivate e) ∷ []) refl
-input_holds c sends lists (input.FailWrite e k) st is = entities_hold c st (told (fact.Armed e k) ∷ []) refl
+input_holds c sends lists (input.Passivate e) st is = entities_hold c st (entities.ask_to_passivate e st.entities) (ask_to_passivate_grants e st.entities)
+input_holds c sends lists (input.FailWrite e k) st is = entities_hold c st (entities.arm e k st.entities) (arm_grants e k st.entities)
 
 pub turn_holds : TurnHolds
 turn_holds c sends lists st i h is holds =

@@ -11,24 +11,22 @@ use Rattle.yard_model.specs.declared.incarnation.Slot.TheVariants as slot
 use Rattle.yard_model.specs.Coordinator as coordinator
 use Rattle.yard_model.specs.Coordinator.{Coordinator}
 use Rattle.yard_model.specs.Genuine.{is_node, is_shard, is_producer, is_brought}
-use Rattle.yard_model.specs.Move.{Move, post, demanded}
-use Rattle.yard_model.specs.Node.{Node, Act, by_entities, by_producer, after, of_producer, of_coordinator, route_numbers, all_in_turn, acquire, push, request, ack, send, send_by, produce, packet}
+use Rattle.yard_model.specs.Move.{Move, demanded}
+use Rattle.yard_model.specs.Node.{Node, Act, by_producer, after, of_producer, of_coordinator, route_numbers, all_in_turn, acquire, push, request, ack, send, send_by, produce, packet}
 use Rattle.yard_model.specs.Producer as producer
 use Rattle.yard_model.specs.Producer.{Producer, producer_after}
 use Rattle.yard_model.specs.Script.{Script, IsScript, sends}
 use Rattle.yard_model.specs.SlotLists.{SlotLists, queue_list}
 use Rattle.yard_model.specs.SlotReads.{regions}
 use Rattle.yard_model.specs.Turns.{where_some}
-use Rattle.yard_model.specs.Words.{at, is_same, is_among}
+use Rattle.yard_model.specs.Words.{at, is_among}
 use Rattle.yard_model.specs.World.{all_sends}
-use Rattle.plain_laws.proofs.Booleans.{and_both, both, at_most}
-use Rattle.plain_laws.proofs.Members.{itself_is}
+use Rattle.plain_laws.proofs.Booleans.{and_both, at_most}
 use Rattle.plain_laws.proofs.Lists.{inside, some_is, placed_at, none_of}
 use Rattle.actor_laws.specs.Owes.{Hand}
 use Rattle.actor_laws.proofs.Room.{room}
 use Rattle.actor_laws.specs.CoordinatorStands as coordinators
 use Rattle.actor_laws.specs.CoordinatorStands.{IsGoodCoordinator, CoordinatorBegins}
-use Rattle.actor_laws.specs.EntitiesStand.{InHand}
 use Rattle.actor_laws.specs.ProducerStands.{ProducerKeeps, ProducerRoutes, ProducerIsGranted, is_sent_well}
 use Rattle.actor_laws.specs.RegionStands.{IsRegion}
 use Rattle.actor_laws.specs.ShardStart.{ShardStarts}
@@ -158,21 +156,6 @@ produces_node c v lists p st laws is lawful number = if_if (Finds lists st) c v 
     weaker (Finds lists st) (λ h. queue_list h.lists p ≡ queue_list lists p) c v st (map (by_producer p) (acquire (slot.Queue p) st.who (queue_list lists p))) (λ h f. f.queues p none)
     (produce_node laws.granted c v st p (queue_list lists p) is number none (lawful.queues p number)))
     (λ e. plain_if (Finds lists st) c v st [] (node_none c v st is))
-
--- Entities.
-
--- a node passivates an entity of its own by a packet to itself
-pub note_node : (c : Script) (v : List ℕ → ℕ → ℕ → Bool) (st : Node) (e : List ℕ) → IsSoundNode c st → is_brought c e ≡ true → NodeKeeps c v st (by_entities (post st.who st.who (body.Passivate e)) ∷ [])
-note_node c v st e is brought = record {
-  stands = is;
-  posts_are = both (is_same st.who st.who && (is_node c st.who && is_node c st.who && is_brought c e)) true
-      (both (is_same st.who st.who) (is_node c st.who && is_node c st.who && is_brought c e) (itself_is st.who st.who refl)
-      (both (is_node c st.who && is_node c st.who) (is_brought c e) (both (is_node c st.who) (is_node c st.who) is.who_is is.who_is) brought)) refl;
-  own_are = refl;
-  held_are = λ h i. refl;
-  guarded_are = λ h i. refl;
-  goes_along = λ h i. record { entities = (let x : InHand c h st.entities = i.entities in record { there = x.there; lists_are = x.lists_are; version_is = x.version_is; live_are = x.live_are }); queues_there = i.queues_there; producers = i.producers; coordinator = i.coordinator };
-}
 
 -- Each packet.
 

@@ -7,6 +7,7 @@ use Rattle.yard_model.specs.declared.packet.Body.{Body}
 use Rattle.yard_model.specs.declared.packet.Body.TheVariants as body
 use Rattle.yard_model.specs.declared.packet.Message.{Message}
 use Rattle.yard_model.specs.declared.incarnation.Incarnation.{Incarnation}
+use Rattle.yard_model.specs.declared.incarnation.Keep.{Keep}
 use Rattle.yard_model.specs.declared.incarnation.Stamp.{Stamp}
 use Rattle.yard_model.specs.Entities as entities
 use Rattle.yard_model.specs.Genuine.{is_node, is_shard, is_brought, is_genuine_body}
@@ -93,6 +94,12 @@ same_set c st is = let e : IsEntities c st.entities = is.entities in is.set_is �
 
 pub recovered_node : (c : Script) (v : List ℕ → ℕ → ℕ → Bool) (st : Node) (e : List ℕ) → EntityRules c st.entities → IsSoundNode c st → is_brought c e ≡ true → NodeKeeps c v st (of_entities (entities.recovered e) st)
 recovered_node c v st e r is brought = entities_node c v st (entities.recovered e st.entities) is (r.recovers e brought)
+
+pub ask_to_passivate_node : (c : Script) (v : List ℕ → ℕ → ℕ → Bool) (st : Node) (e : List ℕ) → EntityRules c st.entities → IsSoundNode c st → is_brought c e ≡ true → NodeKeeps c v st (of_entities (entities.ask_to_passivate e) st)
+ask_to_passivate_node c v st e r is brought = entities_node c v st (entities.ask_to_passivate e st.entities) is (r.asks_to_passivate e brought)
+
+pub arm_node : (c : Script) (v : List ℕ → ℕ → ℕ → Bool) (st : Node) (e : List ℕ) (k : Keep) → EntityRules c st.entities → IsSoundNode c st → is_brought c e ≡ true → NodeKeeps c v st (of_entities (entities.arm e k) st)
+arm_node c v st e k r is brought = entities_node c v st (entities.arm e k st.entities) is (r.arms e k brought)
 
 pub passivate_node : (c : Script) (v : List ℕ → ℕ → ℕ → Bool) (st : Node) (e : List ℕ) → EntityRules c st.entities → IsSoundNode c st → is_brought c e ≡ true → NodeKeeps c v st (of_entities (entities.passivate e) st)
 passivate_node c v st e r is brought = entities_node c v st (entities.passivate e st.entities) is (r.passivates e brought)

@@ -230,5 +230,5 @@ turn_viewed sends lists st (input.Rebalance n) k = calm_viewed st (turn sends li
 turn_viewed sends lists st (input.Produce p) k = calm_viewed st (turn sends lists (input.Produce p) st) (all_if (is_calm_act st.region.view) (is_none (at st.producers (p - 1))) (map (by_producer p) (acquire (slot.Queue p) st.who (queue_list lists p))) [] (producer_calm st.region.view p (acquire (slot.Queue p) st.who (queue_list lists p))) refl) k
 turn_viewed sends lists st (input.Rest p) k = calm_viewed st (turn sends lists (input.Rest p) st) (of_producer_calm st.region.view p producer.give_back st) k
 turn_viewed sends lists st (input.Send p) k = calm_viewed st (turn sends lists (input.Send p) st) (send_calm st.region.view p sends st) k
-turn_viewed sends lists st (input.Passivate e) k = k
-turn_viewed sends lists st (input.FailWrite e n) k = k
+turn_viewed sends lists st (input.Passivate e) k = calm_viewed st (turn sends lists (input.Passivate e) st) (entities_calm st.region.view (entities.ask_to_passivate e st.entities)) k
+turn_viewed sends lists st (input.FailWrite e n) k = calm_viewed st (turn sends lists (input.FailWrite e n) st) (entities_calm st.region.view (entities.arm e n st.entities)) k

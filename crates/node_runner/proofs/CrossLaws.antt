@@ -17,6 +17,7 @@ use Rattle.durable_queue.specs.contracts.store.QueueStore as queue
 use Rattle.shard_store.specs.contracts.shelf.ShardStore as shelf
 use Rattle.shard_store.specs.contracts.store.Store as store
 use Rattle.shard_store.proofs.SendLaws.{store_send}
+use Rattle.members_by_age.specs.contracts.by_age.ByAge as by_age
 use Rattle.lease_table.specs.contracts.table.LeaseTable as table
 use Rattle.lease_table.specs.contracts.pass.LeasePass as pass
 use Rattle.lease_table.proofs.SendLaws.{pass_send}
@@ -65,8 +66,13 @@ charter_sync =
     let s : IsSync sending.the_field.row = sending_sync in
     search (heap.crosses, maps.crosses, sendable) depth 100 fits 100000
 
+by_age_send : IsSend by_age.the_row
+by_age_send = search (heap.crosses, maps.crosses, sendable) depth 100 fits 100000
+
 pub roster_send : (T : RattleType) (g : Ghosts T.Denot) → IsSend T → IsSend (roster.the_row T g)
-roster_send T g s = recorded_send (roster.the_field T g).row _ _ (roster.the_type T g).to_one (struct_send (struct.shape (roster.the_type T g)) (search (heap.crosses, maps.crosses, sendable) depth 100 fits 100000, (search (heap.crosses, maps.crosses, sendable) depth 100 fits 100000, (search (heap.crosses, maps.crosses, sendable) depth 100 fits 100000, (search (heap.crosses, maps.crosses, sendable) depth 100 fits 100000, tt)))))
+roster_send T g s =
+    let b : IsSend by_age.the_row = by_age_send in
+    recorded_send (roster.the_field T g).row _ _ (roster.the_type T g).to_one (struct_send (struct.shape (roster.the_type T g)) (b, (search (heap.crosses, maps.crosses, sendable) depth 100 fits 100000, (search (heap.crosses, maps.crosses, sendable) depth 100 fits 100000, (search (heap.crosses, maps.crosses, sendable) depth 100 fits 100000, tt)))))
 
 pub job_send : (T : RattleType) → IsSend T → IsSend (job.the_row T)
 job_send T s =

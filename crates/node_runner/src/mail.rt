@@ -3,12 +3,13 @@ ghost use Rattle.std.specs.Prelude.{◌≡◌, ◌≤◌, true, false, length, I
 ghost use Rattle.yard_model.specs.Genuine.{is_genuine_packet};
 ghost use Rattle.lease_table.specs.Belongs.{id_of, charter_of};
 ghost use Rattle.rand_pcg.specs.Pcg.{pcg32};
+ghost use Rattle.post_box.specs.Holding.{WasHolding};
 ghost use Rattle.node_runner.specs.Rested.{Rested, ArePublished};
 ghost use Rattle.node_runner.specs.Parcels.{is_confirming, is_within_packet};
 ghost use Rattle.node_runner.specs.Mailed.{IsSameHolder};
 
 use crate::draws::{Draws, Fate};
-use crate::parcel::{Parcel, Run};
+use crate::parcel::{Parcel, Run, is_within_limit};
 use crate::record::parcel_of;
 use crate::up_node::UpNode;
 use behaviour_core::Behaviour;
@@ -18,13 +19,14 @@ use std::alloc::{AllocError, Global};
 use std::sync::Wait;
 use yard_model::{Charter, NodeNo, Packet};
 
-/// The pass of a worker at the boxes, its draws, the parcels that it is to post after the next turn, and how
-/// many packets it let go because it couldn't show what they need.
+/// The pass of a worker at the boxes, its draws, the parcels that it is to post after the next turn, which boxes were
+/// full when it looked last, and how many packets it let go because it couldn't show what they need.
 #[derive(Drop)]
 pub struct Mail<J: Run> {
     pub(crate) pass: BoxPass<Parcel<J>>,
     pub(crate) draws: Draws,
     held: Vec<Parcel<J>>,
+    full: [bool; 16],
     pub(crate) unshown: u64,
 }
 
@@ -38,6 +40,7 @@ impl<J: Run> Mail<J> {
             pass,
             draws,
             held: Vec::new(alloc),
+            full: [false; 16],
             unshown: 0,
         }
     }
@@ -74,7 +77,68 @@ impl<J: Run> Mail<J> {
     {
         self.held.reverse();
         while let Some(parcel) = self.held.pop() {
-            post_one(rt, boxes, &mut self.pass, parcel);
+            post_one(rt, boxes, &mut self.pass, &mut self.full, parcel);
+        }
+    }
+
+    /// Whether the box of a node hands back what is posted to it: it was full when it was looked at last, and is full
+    /// at a step of this call. It may wait.
+    fn hands_back<R: Wait>(&mut self, rt: &R, boxes: &PostBox<Parcel<J>>, to: NodeNo) -> bool
+        requires belongs { self.old.pass.tables ≡ boxes.now.tables }
+        requires to { to ≤ length boxes.now.tables }
+        ensures kept { IsSameHolder self.old.pass self.new.pass }
+        ensures full { result ≡ true → WasHolding boxes.now.capacity self.old.pass to }
+    {
+        let place = to.get() as usize - 1;
+        if !self.full[place] {
+            return false;
+        }
+        let count = boxes.count(rt, &mut self.pass, to);
+        let is_full = is_all(count, boxes.capacity());
+        self.full[place] = is_full;
+        is_full
+    }
+
+    /// Posts a packet that confirms nothing; where the box hands it back, it is lost. It may wait.
+    fn post_plain<R: Wait>(&mut self, rt: &R, boxes: &PostBox<Parcel<J>>, packet: &Packet)
+        requires belongs { self.old.pass.tables ≡ boxes.now.tables }
+        requires nodes { length boxes.now.tables ≡ J.script.config.nodes }
+        requires genuine { is_genuine_packet J.script packet.now ≡ true }
+        requires within { is_within_packet packet.now ≡ true }
+        requires plain { is_confirming packet.now.body ≡ false }
+        ensures kept { IsSameHolder self.old.pass self.new.pass }
+    {
+        let to = node_to::<J>(packet);
+        if !self.hands_back(rt, boxes, to) {
+            post_one(
+                rt,
+                boxes,
+                &mut self.pass,
+                &mut self.full,
+                Parcel::plain(*packet),
+            );
+        }
+    }
+
+    /// The same as `send_plain`, where an incarnation in the packet may have a number above 4,000,000,000: then it is
+    /// let go. It may wait. The only error is want of memory.
+    pub(crate) fn send_other<R: Wait>(
+        &mut self,
+        rt: &R,
+        boxes: &PostBox<Parcel<J>>,
+        packet: &Packet,
+    ) -> Result<(), AllocError>
+        requires belongs { self.old.pass.tables ≡ boxes.now.tables }
+        requires nodes { length boxes.now.tables ≡ J.script.config.nodes }
+        requires genuine { is_genuine_packet J.script packet.now ≡ true }
+        requires plain { is_confirming packet.now.body ≡ false }
+        ensures kept { IsSameHolder self.old.pass self.new.pass }
+    {
+        if is_within_limit(packet) {
+            self.send_plain(rt, boxes, packet)
+        } else {
+            self.let_go(1);
+            Ok(())
         }
     }
 
@@ -100,12 +164,12 @@ impl<J: Run> Mail<J> {
                 Ok(())
             }
             Fate::Once => {
-                post_one(rt, boxes, &mut self.pass, Parcel::plain(*packet));
+                self.post_plain(rt, boxes, packet);
                 Ok(())
             }
             Fate::Twice => {
-                post_one(rt, boxes, &mut self.pass, Parcel::plain(*packet));
-                post_one(rt, boxes, &mut self.pass, Parcel::plain(*packet));
+                self.post_plain(rt, boxes, packet);
+                self.post_plain(rt, boxes, packet);
                 Ok(())
             }
         }
@@ -148,21 +212,22 @@ impl<J: Run> Mail<J> {
             self.held.push(parcel)?;
             return Ok(pass);
         }
-        post_one(rt, boxes, &mut self.pass, parcel);
+        post_one(rt, boxes, &mut self.pass, &mut self.full, parcel);
         if matches!(fate, Fate::Twice) {
             let (pass, again) = parcel_of::<J, B>(table, pass, me, node, charter, packet);
-            post_if(rt, boxes, &mut self.pass, again);
+            post_if(rt, boxes, &mut self.pass, &mut self.full, again);
             return Ok(pass);
         }
         Ok(pass)
     }
 }
 
-/// Posts a parcel; one that is handed back is lost.
+/// Posts a parcel; one that is handed back is lost, and its box is full.
 fn post_one<J: Run, R: Wait>(
     rt: &R,
     boxes: &PostBox<Parcel<J>>,
     pass: &mut BoxPass<Parcel<J>>,
+    full: &mut [bool; 16],
     parcel: Parcel<J>,
 )
     requires belongs { pass.old.tables ≡ boxes.now.tables }
@@ -170,7 +235,8 @@ fn post_one<J: Run, R: Wait>(
     ensures kept { IsSameHolder pass.old pass.new }
 {
     let to = parcel.to();
-    let _ = boxes.post(rt, pass, to, parcel);
+    let place = to.get() as usize - 1;
+    full[place] = boxes.post(rt, pass, to, parcel).is_err();
 }
 
 /// Posts a parcel, if there is one.
@@ -178,6 +244,7 @@ fn post_if<J: Run, R: Wait>(
     rt: &R,
     boxes: &PostBox<Parcel<J>>,
     pass: &mut BoxPass<Parcel<J>>,
+    full: &mut [bool; 16],
     parcel: Option<Parcel<J>>,
 )
     requires belongs { pass.old.tables ≡ boxes.now.tables }
@@ -185,6 +252,22 @@ fn post_if<J: Run, R: Wait>(
     ensures kept { IsSameHolder pass.old pass.new }
 {
     if let Some(parcel) = parcel {
-        post_one(rt, boxes, pass, parcel);
+        post_one(rt, boxes, pass, full, parcel);
     }
+}
+
+/// Whether a box has no room beside so many parcels.
+fn is_all(count: usize, capacity: u16) -> bool
+    requires { count ≤ capacity }
+    ensures { result ≡ true → count ≡ capacity }
+{
+    count >= capacity as usize
+}
+
+/// The node to which a packet goes, one of the run's.
+fn node_to<J: Run>(packet: &Packet) -> NodeNo
+    requires { is_genuine_packet J.script packet.now ≡ true }
+    ensures { result ≤ J.script.config.nodes }
+{
+    packet.to.node
 }

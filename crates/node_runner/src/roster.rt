@@ -1,5 +1,5 @@
 //! Who is up, between threads.
-ghost use Rattle.std.specs.Prelude.{◌≡◌, ◌≤◌, true, false, [], length, map, slice_get, Some, IfSome, MatchOption};
+ghost use Rattle.std.specs.Prelude.{◌≡◌, ◌≤◌, true, false, [], length, map, slice_get, Some, IfOk, IfSome, MatchOption};
 ghost use Rattle.yard_model.specs.Genuine.{is_genuine_packet};
 ghost use Rattle.yard_model.specs.Members.{has_node};
 ghost use Rattle.node_runner.specs.Entered.{is_member, are_members, entered, next_version, view_to};
@@ -7,6 +7,8 @@ ghost use Rattle.node_runner.specs.Parcels.{is_confirming, is_within_packet};
 ghost use Rattle.yard_model.specs.Words.{without};
 
 use crate::parcel::Run;
+use members_by_age::ByAge;
+use std::alloc::{AllocError, Global};
 use std::marker::PhantomData;
 use std::sync::{Mutex, Wait};
 use yard_model::{Body, Incarnation, Members, NodeNo, Packet};
@@ -16,7 +18,7 @@ use yard_model::{Body, Incarnation, Members, NodeNo, Packet};
 /// incarnation is of the run's script, with a number of at most 4,000,000,000.
 #[derive(Drop)]
 pub struct Roster<J: Run> {
-    members: Members,
+    members: ByAge,
     version: u32,
     unshown: u64,
     run: PhantomData<J>,
@@ -33,16 +35,17 @@ pub struct Views<J: Run> {
 }
 
 impl<J: Run> Roster<J> {
-    /// Nobody is up.
-    pub fn new() -> Roster<J>
-        ensures { (result.members ≡ []) × (result.version ≡ 0) }
+    /// Nobody is up. The only error is want of memory.
+    pub fn new(alloc: Global) -> Result<Roster<J>, AllocError>
+        ensures { IfOk result (λ r. (r.members ≡ []) × (r.version ≡ 0)) }
     {
-        Roster {
-            members: Members::empty(),
+        let members = ByAge::new(alloc)?;
+        Ok(Roster {
+            members,
             version: 0,
             unshown: 0,
             run: PhantomData,
-        }
+        })
     }
 
     /// One comes up, and is the youngest member, unless one of its node is there, or there is no room; what
@@ -53,7 +56,7 @@ impl<J: Run> Roster<J> {
         ensures version { self.new.version ≡ next_version self.old.version }
         ensures views { (result.members ≡ self.new.members) × (result.version ≡ self.new.version) }
     {
-        self.members = with(&self.members, who);
+        join(&mut self.members, &who);
         self.version = self.version.saturating_add(1);
         self.views()
     }
@@ -64,7 +67,7 @@ impl<J: Run> Roster<J> {
         ensures version { self.new.version ≡ next_version self.old.version }
         ensures views { (result.members ≡ self.new.members) × (result.version ≡ self.new.version) }
     {
-        self.members = self.members.without(&who);
+        self.members.leave(&who);
         self.version = self.version.saturating_add(1);
         self.views()
     }
@@ -81,7 +84,7 @@ impl<J: Run> Roster<J> {
         ensures { (result.members ≡ self.now.members) × (result.version ≡ self.now.version) }
     {
         Views {
-            members: self.members,
+            members: self.members.members(),
             version: self.version,
             run: PhantomData,
         }
@@ -139,12 +142,12 @@ pub(crate) fn all_let_go<J: Run, R: Wait>(rt: &R, roster: &Mutex<Roster<J>>) -> 
     roster.lock(rt).unshown
 }
 
-/// These members and a younger one, where none is of its node and there is room.
-fn with(members: &Members, who: Incarnation) -> Members
-    ensures { result ≡ entered members.now who }
+/// A younger one joins, where none is of its node and there is room.
+fn join(members: &mut ByAge, who: &Incarnation)
+    ensures { members.new ≡ entered members.old who.now }
 {
     if members.has_node(who.node) || members.len() >= 16 {
-        return *members;
+        return;
     }
-    (*members).with(who)
+    members.join(who);
 }

@@ -226,7 +226,7 @@ fn run_all<
 {
     charter.config();
     let (boxes, box_passes) = all_boxes::<Parcel<J>>(alloc, charter)?;
-    let roster = Mutex::new(Roster::<J>::new());
+    let roster = Mutex::new(Roster::<J>::new(alloc)?);
     let jobs = all_jobs(alloc, table, &boxes, charter, passes, box_passes)?;
     let left = run_jobs(
         rt, alloc, table, &boxes, &roster, charter, jobs, turns, seed, gate, behaviour,

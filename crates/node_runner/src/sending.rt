@@ -1,6 +1,7 @@
 //! What a worker posts after a turn: what was held, the views, and what its node posted.
 ghost use Rattle.std.specs.Prelude.{◌≡◌, true, [], length, IfOk, IfSome, OnOk};
 ghost use Rattle.yard_model.specs.Behaviour.{is_in};
+ghost use Rattle.yard_model.specs.Genuine.{is_genuine_packet};
 ghost use Rattle.lease_table.specs.Belongs.{id_of, charter_of};
 ghost use Rattle.node_runner.specs.Entered.{is_member};
 ghost use Rattle.node_runner.specs.Mailed.{IsSameHolder};
@@ -9,7 +10,7 @@ ghost use Rattle.node_runner.specs.Progress.{StandsAt};
 ghost use Rattle.node_runner.specs.Rested.{Rested, ArePublished};
 
 use crate::mail::Mail;
-use crate::parcel::{Parcel, Run};
+use crate::parcel::{Parcel, Run, confirms};
 use crate::roster::{Roster, Views, enter, leave};
 use crate::steps::Place;
 use crate::tray::Tray;
@@ -174,7 +175,36 @@ fn post_all<J: Run, R: Wait, B: Behaviour + Drop>(
 {
     let mut pass = pass;
     for place in 0..packets.len() {
-        pass = mail.send(rt, boxes, table, pass, node, charter, &packets[place])?;
+        pass = post_next(rt, table, boxes, charter, mail, pass, node, &packets[place])?;
     }
+    Ok(pass)
+}
+
+/// Posts a packet of a node that is up. It may wait. The only error is want of memory.
+#[inline(always)]
+fn post_next<J: Run, R: Wait, B: Behaviour + Drop>(
+    rt: &R,
+    table: &LeaseTable,
+    boxes: &PostBox<Parcel<J>>,
+    charter: &Charter,
+    mail: &mut Mail<J>,
+    pass: LeasePass,
+    node: &UpNode<B>,
+    packet: &Packet,
+) -> Result<LeasePass, AllocError>
+    requires belongs { mail.old.pass.tables ≡ boxes.now.tables }
+    requires nodes { length boxes.now.tables ≡ J.script.config.nodes }
+    requires run { (J.script ≡ charter_of table.now) × (J.table ≡ id_of table.now) }
+    requires charter { charter.now ≡ charter_of table.now }
+    requires rested { Rested (id_of table.now) (charter_of table.now) mail.old.pass.node pass node.now }
+    requires published { ArePublished (charter_of table.now) pass node.now.state }
+    requires genuine { is_genuine_packet (charter_of table.now) packet.now ≡ true }
+    ensures kept { IsSameHolder mail.old.pass mail.new.pass }
+    ensures pass { IfOk result (λ p. p ≡ pass) }
+{
+    if confirms(&packet.body) {
+        return mail.send(rt, boxes, table, pass, node, charter, packet);
+    }
+    mail.send_other(rt, boxes, packet)?;
     Ok(pass)
 }

@@ -1,5 +1,5 @@
 //! Laws of names and numbers.
-ghost use Rattle.plain_laws.specs.Laws.{LessIsDecided, SameNameIsEqual};
+ghost use Rattle.plain_laws.specs.Laws.{LessIsDecided, LimitsFit, SameNameIsEqual};
 
 /// Names that are found the same are equal.
 pub fn same_name_is_equal()
@@ -9,4 +9,9 @@ pub fn same_name_is_equal()
 /// The test of a number below another decides it.
 pub fn less_is_decided()
     ensures { LessIsDecided }
+{}
+
+/// The limits of numbers leave room for all that a script adds, and fit a `u32`.
+pub fn limits_fit()
+    ensures { LimitsFit }
 {}

@@ -70,6 +70,19 @@ fold_placed e nodes (o ∷ ys) all found h = fold_placed e nodes ys (λ j st k. 
 pub active_placed : (e : List ℕ) (w : World) → IsPlaced w.nodes (active_node e w)
 active_placed e w = fold_placed e w.nodes w.nodes (λ j st k. record { place = j; here = k }) None (λ st k. absurd (none_is_not_some st k))
 
+fold_active : (e : List ℕ) (ys : List (Option Node)) (found : Option Node) → ((st : Node) → found ≡ Some st → is_active_at e (Some st) ≡ true)
+    → (st : Node) → fold (λ found o. if is_active_at e o then o else found) found ys ≡ Some st → is_active_at e (Some st) ≡ true
+fold_active e [] found h = h
+fold_active e (o ∷ ys) found h = fold_active e ys (if is_active_at e o then o else found) (by (is_active_at e o) refl)
+  where
+    by : (b : Bool) → is_active_at e o ≡ b → (st : Node) → (if b then o else found) ≡ Some st → is_active_at e (Some st) ≡ true
+    by true is = λ st k. subst (λ y. is_active_at e y ≡ true) k is
+    by false is = h
+
+-- it is active there
+pub active_is : (e : List ℕ) (w : World) (st : Node) → active_node e w ≡ Some st → is_active_at e (Some st) ≡ true
+active_is e w = fold_active e w.nodes None (λ st k. absurd (none_is_not_some st k))
+
 -- Inputs.
 
 -- what the input promises, after any trace that leads to this world

@@ -152,6 +152,9 @@ recovered_tells e st = all_if is_turn_move (entities.is_in_phase phase.Loading s
     (λ st. all_if is_turn_move _ (told (fact.Remembered e) ∷ []) [] refl refl)
     (λ now. all_for is_turn_move entities_after entities.deliver (entities.cell st e).stash now deliver_tells)) refl
 
+ask_to_passivate_tells : (e : List ℕ) (st : Entities) → Tell (entities.ask_to_passivate e st)
+ask_to_passivate_tells e st = all_if is_turn_move (entities.is_in_phase phase.Active st e) (post st.who st.who (body.Passivate e) ∷ []) [] refl refl
+
 passivate_tells : (e : List ℕ) (st : Entities) → Tell (entities.passivate e st)
 passivate_tells e st = all_if is_turn_move (entities.is_in_phase phase.Active st e) (passivates e ∷ post st.who st.who (body.StopEntity e) ∷ []) [] refl refl
 
@@ -374,7 +377,7 @@ turn_acts sends lists (input.Rebalance n) st h = of_coordinator_acts (coordinato
 turn_acts sends lists (input.Produce p) st h = all_if is_turn_act _ (map (by_producer p) (node.acquire (slot.Queue p) st.who (queue_list lists p))) [] (producer_acts p (node.acquire (slot.Queue p) st.who (queue_list lists p)) (acquire_tells (slot.Queue p) st.who (queue_list lists p))) refl
 turn_acts sends lists (input.Rest p) st h = of_producer_acts p producer.give_back st (λ k. refl)
 turn_acts sends lists (input.Send p) st h = send_acts sends p st
-turn_acts sends lists (input.Passivate e) st h = refl
+turn_acts sends lists (input.Passivate e) st h = entities_acts (entities.ask_to_passivate e st.entities) (ask_to_passivate_tells e st.entities)
 turn_acts sends lists (input.FailWrite e k) st h = absurd (no h)
   where
     no : false ≡ true → ⊥
@@ -408,8 +411,16 @@ items_still [] h = refl
 items_still (item.Fact f ∷ is) h = let m : (is_turn_fact f ≡ true) × (list_all is_turn_item is ≡ true) = and_both (is_turn_fact f) (list_all is_turn_item is) h in both (is_still f) (list_all is_still (facts_in is)) (turn_is_still f m.0) (items_still is m.1)
 items_still (item.Post p ∷ is) h = items_still is (and_both (not (is_view p.body)) (list_all is_turn_item is) h).1
 
+-- what is so of the items of an order that a write is to fail, and of none
+pub armed_items : (P : List Item → Type 0) (e : List ℕ) (k : Keep) (st : Node) → P (item.Fact (fact.Armed e k) ∷ []) → P [] → P (items_of (of_entities (entities.arm e k) st))
+armed_items P e k st told_is nothing_is = by (entities.is_in_phase phase.Active st.entities e)
+  where
+    by : (b : Bool) → P (items_of (map by_entities (if b then told (fact.Armed e k) ∷ [] else [])))
+    by true = told_is
+    by false = nothing_is
+
 pub turn_still : (sends : List (List Sending)) (lists : SlotLists) (i : Input) (st : Node) → list_all is_still (facts_in (items_of (node.turn sends lists i st))) ≡ true
-turn_still sends lists (input.FailWrite e k) st = refl
+turn_still sends lists (input.FailWrite e k) st = armed_items (λ is. list_all is_still (facts_in is) ≡ true) e k st refl refl
 turn_still sends lists (input.Packet p) st = items_still (items_of (node.turn sends lists (input.Packet p) st)) (turn_tells sends lists (input.Packet p) st refl)
 turn_still sends lists input.Tick st = items_still (items_of (node.turn sends lists input.Tick st)) (turn_tells sends lists input.Tick st refl)
 turn_still sends lists input.Leave st = items_still (items_of (node.turn sends lists input.Leave st)) (turn_tells sends lists input.Leave st refl)
@@ -417,4 +428,4 @@ turn_still sends lists (input.Rebalance n) st = items_still (items_of (node.turn
 turn_still sends lists (input.Produce p) st = items_still (items_of (node.turn sends lists (input.Produce p) st)) (turn_tells sends lists (input.Produce p) st refl)
 turn_still sends lists (input.Rest p) st = items_still (items_of (node.turn sends lists (input.Rest p) st)) (turn_tells sends lists (input.Rest p) st refl)
 turn_still sends lists (input.Send p) st = items_still (items_of (node.turn sends lists (input.Send p) st)) (turn_tells sends lists (input.Send p) st refl)
-turn_still sends lists (input.Passivate e) st = refl
+turn_still sends lists (input.Passivate e) st = items_still (items_of (node.turn sends lists (input.Passivate e) st)) (turn_tells sends lists (input.Passivate e) st refl)

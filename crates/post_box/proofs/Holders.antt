@@ -101,6 +101,43 @@ module _ {P : Type 0} where
         subst (λ v. Held n (Stands v)) known e.2,
       )
 
+  -- what a look at a place told of the pass there
+  abbrev pub Counted : ℕ → QueuePass P → QueuePass P → Type 0
+  Counted n s t = (state t ≡ state s) × Held n (Stands (view s))
+
+  pub counted : (xs : List (QueuePass P)) (k n : ℕ) (s t : QueuePass P) → get_elem? xs k ≡ maybe.some s → table_of t ≡ table_of s → t.me.1 ≡ s.me.1 → s.me.1 ≡ [] → view t ≡ view s → Held n (Stands (view s)) → At xs (slice_set xs k t) k (Counted n)
+  counted xs k n s t here same out none seen told = record { old = s; new = t; there = here; is = refl; table = same; step = (state_is t (view s) seen (out ∙ none) ∙ sym (state_is s (view s) refl none), told) }
+
+  pub counted_stands : (node n k : ℕ) (senders senders' : List (QueuePass P)) (reader : QueuePass P) → IsHolder node senders reader → At senders senders' k (Counted n) → IsHolder node senders' reader
+  counted_stands node n k senders senders' reader h at =
+      subst (λ l. IsHolder node l reader) (sym at.is) (stands_again node k senders reader at.old at.new h at.there at.table (alone node at.new (posted_by at.old) (at.step.0 ∙ same_at state (posting node) senders h.posts k at.old at.there)))
+
+  counted_shows : (node n to : ℕ) (senders senders' : List (QueuePass P)) (reader : QueuePass P) → IsHolder node senders reader → At senders senders' (to - 1) (Counted n)
+      → (shown node senders' reader ≡ shown node senders reader) × WasHolding n (shown node senders reader) to
+  counted_shows node n to senders senders' reader h at = (
+    again
+        ∙ ap (λ l. holder (map table_of senders) node l (taken_by reader))
+        (sym (map-set posted_by senders k at.new) ∙ map-set_same posted_by senders k at.new at.old (ap (λ (q : QueueState P). q.0.posted) at.step.0 ∙ ap posted_by (sym (got senders k at.old at.old at.there)))),
+    subst (λ v. Held n (Stands v)) known at.step.1,
+  )
+    where
+      k : ℕ
+      k = to - 1
+
+      here : posted_to (shown node senders reader) to ≡ posted_by at.old
+      here = got (map posted_by senders) k (posted_by at.old) [] (at_map posted_by senders k at.old at.there)
+
+      known : view at.old ≡ sender node (posted_to (shown node senders reader) to)
+      known = ap (λ (q : QueueState P). q.0) (same_at state (posting node) senders h.posts k at.old at.there) ∙ ap (sender node) (sym here)
+
+      again : shown node senders' reader ≡ holder (map table_of senders) node (slice_set (map posted_by senders) k (posted_by at.new)) (taken_by reader)
+      again = ap (λ l. shown node l reader) at.is ∙ shown_again node k senders reader at.old at.new at.there at.table
+
+  pub counted_told : (node n to k : ℕ) (senders senders' : List (QueuePass P)) (reader : QueuePass P) (h : Holder P) → IsHolder node senders reader → shown node senders reader ≡ h → k ≡ to - 1 → At senders senders' k (Counted n)
+      → (shown node senders' reader ≡ h) × WasHolding n h to
+  counted_told node n to k senders senders' reader h stands is place at =
+      subst (λ (y : Holder P). (shown node senders' reader ≡ y) × WasHolding n y to) is (counted_shows node n to senders senders' reader stands (subst (λ j. At senders senders' j (Counted n)) place at))
+
   -- the pass that takes belongs to the queue of the node
   pub may_take : (ids : List TableId) (node : ℕ) (senders : List (QueuePass P)) (reader : QueuePass P) (id : TableId) → IsHolder node senders reader → map table_of senders ≡ ids → get_elem? ids (node - 1) ≡ maybe.some id
       → (table_of reader ≡ id) × (reader.me.1 ≡ []) × (view reader ≡ taker (view reader).next (taken_by reader)) × (view reader ≡ taker (length (map table_of senders) + 1) (taken_by reader))

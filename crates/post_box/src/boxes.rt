@@ -5,7 +5,7 @@ ghost use Rattle.post_box.specs.Rule.{envelope, parcels_of};
 
 use crate::pass::BoxPass;
 use crate::queue::{Queue, compare, pop};
-use crate::seats::push_at;
+use crate::seats::{count_at, push_at};
 use std::marker::Model;
 use std::sync::Wait;
 use yard_model::NodeNo;
@@ -55,6 +55,19 @@ impl<P> PostBox<P> {
         let place = to.get() as usize - 1;
         let queue = &self.boxes[place];
         push_at(rt, queue, &mut pass.senders, place, pass.node, parcel)
+    }
+
+    /// How many parcels lay in a node's box at a step of this call. It may wait, and takes no memory.
+    pub fn count<R: Wait>(&self, rt: &R, pass: &mut BoxPass<P>, to: NodeNo) -> usize
+        requires belongs { pass.old.tables ≡ self.now.tables }
+        requires to { to ≤ length self.now.tables }
+        ensures pass { pass.new ≡ pass.old }
+        ensures few { result ≤ self.now.capacity }
+        ensures counted { WasHolding result pass.old to }
+    {
+        let place = to.get() as usize - 1;
+        let queue = &self.boxes[place];
+        count_at(rt, queue, &mut pass.senders, place, pass.node)
     }
 
     /// Takes the oldest parcel of the pass's own box. None only where it was empty at a step of this call.

@@ -1,6 +1,6 @@
 //! The queue of one box: of each sender, what it posted is what was taken of it, and then what lies
 //! there of it.
-ghost use Rattle.std.specs.Prelude.{◌≡◌, ◌<◌, ◌+◌, ◌++◌, ◌∷◌, [], true, ℕ, List, IfOk, MatchResult, MatchOption};
+ghost use Rattle.std.specs.Prelude.{◌≡◌, ◌<◌, ◌≤◌, ◌+◌, ◌++◌, ◌∷◌, [], true, ℕ, List, IfOk, MatchResult, MatchOption};
 ghost use Rattle.crossbeam_queue.specs.Fifo.{Held};
 ghost use Rattle.crossbeam_queue.specs.Passes.{view, IsPassOf, IsSamePass, ruled_capacity};
 ghost use Rattle.post_box.specs.Rule.{taker, sender, envelope, Stands, parcels_of};
@@ -156,6 +156,17 @@ pub(crate) fn pop<P, R: Wait>(rt: &R, queue: &Queue<P>, pass: &mut QueuePass<P>)
         Some(Envelope { from: _, parcel }) => Some(parcel),
         None => None,
     }
+}
+
+/// How many parcels lay in the queue at a step of this call. It may wait.
+pub(crate) fn count<P, R: Wait>(rt: &R, queue: &Queue<P>, pass: &mut QueuePass<P>) -> usize
+    requires queue { IsPassOf queue.now pass.old }
+    ensures queue { IsSamePass pass.old pass.new }
+    ensures same { view pass.new ≡ view pass.old }
+    ensures few { result ≤ ruled_capacity queue.now }
+    ensures counted { Held result (Stands (view pass.old)) }
+{
+    queue.len_as::<Posts, R>(rt, pass)
 }
 
 /// What was taken of the sender is a beginning of what it posted.

@@ -1,5 +1,5 @@
 //! Steps of the pass at a place.
-ghost use Rattle.std.specs.Prelude.{◌≡◌, ◌+◌, ◌<◌, ◌++◌, ◌∷◌, [], length, MatchResult};
+ghost use Rattle.std.specs.Prelude.{◌≡◌, ◌+◌, ◌<◌, ◌≤◌, ◌++◌, ◌∷◌, [], length, MatchResult};
 ghost use mathlib.Core.Option as maybe;
 ghost use lib.ListN.{get_elem?};
 ghost use Rattle.crossbeam_queue.specs.Fifo.{Held};
@@ -8,7 +8,7 @@ ghost use Rattle.post_box.specs.Holding.{QueuePass as Seat, At, table_of, posted
 ghost use Rattle.post_box.specs.Rule.{taker, sender, Stands};
 ghost use Rattle.post_box.specs.Tables.{queue_table, queue_room};
 
-use crate::queue::{Queue, QueuePass, next_sender, push};
+use crate::queue::{Queue, QueuePass, count, next_sender, push};
 use std::sync::Wait;
 use yard_model::NodeNo;
 
@@ -40,4 +40,21 @@ pub(crate) fn push_at<P, R: Wait>(
     ensures posted { At senders.old.items senders.new.items place (λ s t. MatchResult result (λ _. state t ≡ (sender from (posted_by s ++ parcel ∷ []), [])) (λ x. (x ≡ parcel) × (state t ≡ state s) × Held (queue_room queue.now) (Stands (view s)))) }
 {
     push(rt, queue, &mut senders[place], from, parcel)
+}
+
+/// How many parcels lay in the queue of the pass at a place, at a step of this call. It may wait.
+pub(crate) fn count_at<P, R: Wait>(
+    rt: &R,
+    queue: &Queue<P>,
+    senders: &mut Vec<QueuePass<P>>,
+    place: usize,
+    from: NodeNo,
+) -> usize
+    requires place { place < length senders.old.items }
+    requires queue { (s : Seat P) → get_elem? senders.old.items place ≡ maybe.some s → (table_of s ≡ queue_table queue.now) × (state s ≡ posting from s) }
+    ensures few { result ≤ queue_room queue.now }
+    ensures counted { At senders.old.items senders.new.items place (λ s t. (state t ≡ state s) × Held result (Stands (view s))) }
+{
+    let _ = from;
+    count(rt, queue, &mut senders[place])
 }

@@ -4,6 +4,7 @@ mod NamedLaws
 mod BegunLaws
 mod ProducingLaws
 mod PlainLaws
+pub mod WithinLaws
 mod StoreLaws
 mod SentLaws
 mod SendLaws

@@ -1,7 +1,7 @@
 -- What a call makes of a node's producers, and that they stand after it.
 use Rattle.std.proofs.Common.{◌≡◌, ℕ, ◌<◌, ◌+◌, ◌-◌, List, [], ◌∷◌, length, map, sym, ap, subst, ◌∙◌, refl, true, false, arith, get_or-set_same, get_or-set_other}
-use Rattle.std.specs.Prelude.{Bool, Option, None, Some, IfSome, slice_set, slice_index_or}
-use Rattle.std.specs.List.{list_all}
+use Rattle.std.specs.Prelude.{Bool, Option, None, Some, IfSome, fold, slice_set, slice_index_or}
+use Rattle.std.specs.List.{All, list_all}
 use Rattle.std.specs.Option.{option_map}
 use Rattle.std.proofs.lemmas.Bool.Decides.{nat_tests}
 use Rattle.std.proofs.lemmas.List.{map-set, length-set, get_or-map, get_or_default, set-get_or, set-set}
@@ -23,7 +23,9 @@ use Rattle.producer_ctl.specs.declared.producers.Pending.{Pending}
 use Rattle.producer_ctl.specs.declared.place.Place.{Place}
 use Rattle.producer_ctl.specs.Paired.{IsPlace, numbers_of}
 use Rattle.producer_ctl.specs.Produced.{Produced, Gives, moved, produced_after, room_step}
-use Rattle.producer_ctl.specs.Producing.{Producing, Routing, producing, producing_after, IsProducing, IsHeld, IsPending, IsQueued, IsSent, HasPlaces, state_of, room_of, place_at, routing, moved_by, of_held, stepped, held}
+use Rattle.producer_ctl.specs.Within.{IsWithin, RoutesWithin}
+use Rattle.producer_ctl.proofs.RuleLaws.{moved_state}
+use Rattle.producer_ctl.specs.Producing.{Producing, Routing, producing, producing_after, IsProducing, IsHeld, IsPending, IsSent, HasPlaces, MaySend, state_of, room_of, place_at, routing, moved_by, of_held, stepped, held}
 
 -- The place of a producer.
 
@@ -97,13 +99,13 @@ new_none f (Some x) new is none = absurd (none_is_not_some (moved x (f x.state).
 placed : (c : Script) (w : Place) → IsPlace c w → IsPlace c (place_at c w.at)
 placed c w k = record { within = k.within; it = refl; at_is = k.at_is ∙ ap (place (setting c)) (sym k.it) }
 
-pub sent_stands : (p : ℕ) (w : Place) (f : Producer → Gives) {c : Script} {who : Incarnation} {names : List (List ℕ)} {items : List (Option Produced)} {tables : List (Option ℕ)} {pending : Option Pending} {v : Producing} {i : ℕ} {o new : Option Produced} {sends : Option Sends} {pend : Option Pending} → ((st : Producer) → (f st).entity ≡ w.entity) → IsPlace v.script w
+pub sent_stands : (p : ℕ) (w : Place) (f : Producer → Gives) {c : Script} {who : Incarnation} {names : List (List ℕ)} {items : List (Option Produced)} {tables : List (Option ℕ)} {pending : Option Pending} {v : Producing} {i : ℕ} {o new : Option Produced} {sends : Option Sends} {pend : Option Pending} → ((st : Producer) → (f st).entity ≡ w.entity) → RoutesWithin f → IsPlace v.script w
     → IsProducing c who names items tables pending → producing c who items pending ≡ v → is_producer v.script p ≡ true → i ≡ p - 1 → o ≡ slice_index_or items i o → IsSent f o new sends → pend ≡ option_map (λ (s : Sends). record { producer = p; at = w.at; sends = s }) sends
     → IsProducing c who names (slice_set items i new) tables pend
-sent_stands p w f {c} {who} {names} {items} {tables} {pending} {v} {i} {o} {new} {sends} {pend} to stands k seen its same read sent pend_is =
+sent_stands p w f {c} {who} {names} {items} {tables} {pending} {v} {i} {o} {new} {sends} {pend} to within stands k seen its same read sent pend_is =
     item_put i new tables pend k here.0 (new_held f c who (i + 1) o new sent.held_is (subst (λ x. IfSome x (IsHeld c who (i + 1))) here.1 (k.each i))) refl (λ j apart. refl)
     (λ none. k.free i (subst (λ n. i < n) k.there here.0) (here.1 ∙ new_none f o new sent.held_is none))
-    (subst (λ x. IfSome x (IsPending c (slice_set items i new))) (sym pend_is) (at_sends sends sent.numbers_are sent.queued_are))
+    (subst (λ x. IfSome x (IsPending c (slice_set items i new))) (sym pend_is) (at_sends sends sent.numbers_are))
   where
     here : (i < length items) × (at items i ≡ o)
     here = item_read p k seen its same read
@@ -111,16 +113,21 @@ sent_stands p w f {c} {who} {names} {items} {tables} {pending} {v} {i} {o} {new}
     placed_here : IsPlace c w
     placed_here = subst (λ (s : Script). IsPlace s w) (ap (λ (v : Producing). v.script) (sym seen)) stands
 
-    entity_is : (o : Option Produced) (s : Sends) → option_map numbers_of (Some s) ≡ option_map (λ k. (f k.state).numbers) o → option_map (λ k. (f k.state).entity) o ≡ Some w.entity
-    entity_is None s is = absurd (none_is_not_some (numbers_of s) (sym is))
-    entity_is (Some x) s is = ap Some (to x.state)
+    new_is : at (slice_set items i new) (p - 1) ≡ option_map (λ k. moved k (f k.state).moves) o
+    new_is = ap (at (slice_set items i new)) (sym same) ∙ (get_or-set_same items i new None here.0 ∙ sent.held_is)
 
-    at_sends : (sends : Option Sends) → option_map numbers_of sends ≡ option_map (λ k. (f k.state).numbers) o → ((e : List ℕ) → option_map (λ k. (f k.state).entity) o ≡ Some e → IfSome sends (λ s. s.after < s.last → IsQueued e s.last new))
-        → IfSome (option_map (λ (s : Sends). record { producer = p; at = w.at; sends = s }) sends) (IsPending c (slice_set items i new))
-    at_sends None is there = tt
-    at_sends (Some s) is there = record {
+    may_send : (o : Option Produced) (s : Sends) → Some (numbers_of s) ≡ option_map (λ k. (f k.state).numbers) o → MaySend w.entity (numbers_of s) (option_map (λ k. moved k (f k.state).moves) o)
+    may_send None s is = absurd (none_is_not_some (numbers_of s) (sym is))
+    may_send (Some x) s is =
+        subst (λ st. All (IsWithin w.entity st) (numbers_of s)) (sym (moved_state x (f x.state).moves))
+        (subst (λ e. All (IsWithin e (fold producer_after x.state (f x.state).moves)) (numbers_of s)) (to x.state)
+        (subst (All (IsWithin (f x.state).entity (fold producer_after x.state (f x.state).moves))) (sym (some_is (numbers_of s) (f x.state).numbers is)) (within x.state)))
+
+    at_sends : (sends : Option Sends) → option_map numbers_of sends ≡ option_map (λ k. (f k.state).numbers) o → IfSome (option_map (λ (s : Sends). record { producer = p; at = w.at; sends = s }) sends) (IsPending c (slice_set items i new))
+    at_sends None is = tt
+    at_sends (Some s) is = record {
       stands = placed c w placed_here;
-      there = λ some. subst (λ e. IsQueued e s.last (at (slice_set items i new) (p - 1))) (sym placed_here.it) (subst (IsQueued w.entity s.last) (sym (ap (at (slice_set items i new)) (sym same) ∙ get_or-set_same items i new None here.0)) (there w.entity (entity_is o s is) some));
+      there = subst (λ e. MaySend e (numbers_of s) (at (slice_set items i new) (p - 1))) (sym placed_here.it) (subst (MaySend w.entity (numbers_of s)) (sym new_is) (may_send o s is));
     }
 
 -- Moves of one of them.

@@ -1,6 +1,7 @@
 -- What is routed next; what is queued next; what stands of a producer.
 use Rattle.std.proofs.Common.{◌≡◌, ℕ, ◌<◌, ◌≤◌, ◌+◌, ◌-◌, List, [], ◌∷◌, length, map, replicate, sym, ap, subst, ◌∙◌, refl, true, arith, get_or-set_other}
-use Rattle.std.specs.Prelude.{zero, suc, Bool, Option, None, Some, IfSome, Result, Ok, Err, OnOk, slice_index_or, slice_set}
+use Rattle.std.specs.Prelude.{zero, suc, Bool, Option, None, Some, IfSome, MatchOption, Result, Ok, Err, OnOk, slice_index_or, slice_set}
+use Rattle.std.specs.List.{All}
 use Rattle.std.specs.Option.{option_map, option_and_then}
 use Rattle.std.proofs.lemmas.List.{length-map, get_or-map, ext_get_or}
 use Rattle.yard_model.specs.declared.charter.Sending.{Sending}
@@ -15,14 +16,17 @@ use Rattle.yard_model.specs.Words.{at, numbers}
 use Rattle.durable_queue.specs.Queue.{Queue}
 use Rattle.plain_laws.proofs.Lists.{by_place, none_is_not_some, some_is}
 use Rattle.producer_ctl.specs.declared.pair.Pair.{Pair}
+use Rattle.producer_ctl.specs.declared.pair.Sends.{Sends}
 use Rattle.producer_ctl.specs.declared.producers.Pending.{Pending}
 use Rattle.producer_ctl.specs.Paired.{IsPair, IsPlace, name_at, no_pair, numbers_of, progress_of}
 use Rattle.producer_ctl.specs.Produced.{Produced, IsProduced, StandsAs, produced, queueing}
-use Rattle.producer_ctl.specs.Producing.{Producing, producing, IsProducing, IsHeld, IsPending, IsQueued, IsReserved, IsBounded, Stands, AreMore, AreReady, IsRoomy, after_message, first_of, held, next_message, no_routing, place_at, rest_of, room_of, sending, state_of, with_room}
+use Rattle.producer_ctl.specs.Producing.{Producing, producing, IsProducing, IsHeld, IsPending, IsQueued, MaySend, MayGo, IsReserved, IsBounded, Stands, AreMore, AreReady, IsRoomy, after_message, first_of, held, next_message, no_routing, place_at, rest_of, room_of, sending, state_of, with_room}
 use Rattle.producer_ctl.proofs.NamedLaws.{none_at}
 use Rattle.producer_ctl.proofs.ProducingLaws.{item_read, held_is, numbered}
 use Rattle.producer_ctl.proofs.SentLaws.{sent_is_brought}
 use Rattle.producer_ctl.proofs.StoreLaws.{no_room}
+use Rattle.producer_ctl.proofs.WithinLaws.{first_of_all, rest_of_all}
+use Rattle.producer_ctl.specs.Within.{IsWithin}
 
 -- What is routed next.
 
@@ -32,23 +36,49 @@ numbers_step after last some = ap (numbers (after + 1)) (less after last some)
     less : (a b : ℕ) → a < b → b + 1 - (a + 1) ≡ suc (b + 1 - (a + 1 + 1))
     less a b h = omega (arith, h)
 
--- the one that is read, where something is still to be routed
+-- the one that is read, where something is to be routed
 pub pending_read : {c : Script} {who : Incarnation} {names : List (List ℕ)} {items : List (Option Produced)} {tables : List (Option ℕ)} {pending : Option Pending} {x : Pending} {i : ℕ} {o : Option Produced}
-    → IsProducing c who names items tables pending → pending ≡ Some x → x.sends.after < x.sends.last → i ≡ x.producer - 1 → o ≡ slice_index_or items i o → (at items i ≡ o) × IsQueued (name_at (setting c).names x.at) x.sends.last o
-pending_read {c} {who} {names} {items} {tables} {pending} {x} {i} {o} k some below same read =
+    → IsProducing c who names items tables pending → pending ≡ Some x → i ≡ x.producer - 1 → o ≡ slice_index_or items i o → (at items i ≡ o) × MaySend (name_at (setting c).names x.at) (numbers_of x.sends) o
+pending_read {c} {who} {names} {items} {tables} {pending} {x} {i} {o} k some same read =
     let here : at items i ≡ o = in_items items i o there_at read in
-    (here, subst (IsQueued (name_at (setting c).names x.at) x.sends.last) here there_at)
+    (here, subst (MaySend (name_at (setting c).names x.at) (numbers_of x.sends)) here there_at)
   where
     p : IsPending c items x
     p = subst (λ y. IfSome y (IsPending c items)) some k.pending_is
 
-    there_at : IsQueued (name_at (setting c).names x.at) x.sends.last (at items i)
-    there_at = subst (λ n. IsQueued (name_at (setting c).names x.at) x.sends.last (at items n)) (sym same) (p.there below)
+    there_at : MaySend (name_at (setting c).names x.at) (numbers_of x.sends) (at items i)
+    there_at = subst (λ n. MaySend (name_at (setting c).names x.at) (numbers_of x.sends) (at items n)) (sym same) p.there
 
-    in_items : (items : List (Option Produced)) (i : ℕ) (o : Option Produced) → IsQueued (name_at (setting c).names x.at) x.sends.last (at items i) → o ≡ slice_index_or items i o → at items i ≡ o
+    in_items : (items : List (Option Produced)) (i : ℕ) (o : Option Produced) → MaySend (name_at (setting c).names x.at) (numbers_of x.sends) (at items i) → o ≡ slice_index_or items i o → at items i ≡ o
     in_items [] i o q read = absurd q
     in_items (y ∷ items) zero o q read = sym read
     in_items (y ∷ items) (suc i) o q read = in_items items i o q read
+
+-- the first of them may be sent, and so may those after it
+first_within : (e : List ℕ) (s : Sends) (st : Producer) → s.after < s.last → All (IsWithin e st) (numbers_of s) → IsWithin e st (s.after + 1)
+first_within e s st below all =
+    first_of_all (IsWithin e st) (s.after + 1) (numbers_of (record { after = s.after + 1; last = s.last })) (subst (All (IsWithin e st)) (numbers_step s.after s.last below) all)
+
+rest_may : (e : List ℕ) (s : Sends) (o : Option Produced) → s.after < s.last → MaySend e (numbers_of s) o → MaySend e (numbers_of (record { after = s.after + 1; last = s.last })) o
+rest_may e s None below may = may
+rest_may e s (Some k) below all =
+    rest_of_all (IsWithin e k.state) (s.after + 1) (numbers_of (record { after = s.after + 1; last = s.last })) (subst (All (IsWithin e k.state)) (numbers_step s.after s.last below) all)
+
+-- once the first is routed
+pub pending_passed : {c : Script} {who : Incarnation} {names : List (List ℕ)} {items : List (Option Produced)} {tables : List (Option ℕ)} {pending : Option Pending} {x : Pending}
+    → IsProducing c who names items tables pending → pending ≡ Some x → x.sends.after < x.sends.last → IsProducing c who names items tables (Some (record { producer = x.producer; at = x.at; sends = record { after = x.sends.after + 1; last = x.sends.last } }))
+pending_passed {c} {who} {names} {items} {tables} {pending} {x} k some below = record {
+  names_are = k.names_are;
+  sorted = k.sorted;
+  there = k.there;
+  tables_there = k.tables_there;
+  each = k.each;
+  free = k.free;
+  pending_is = record { stands = p.stands; there = rest_may (name_at (setting c).names x.at) x.sends (at items (x.producer - 1)) below p.there };
+}
+  where
+    p : IsPending c items x
+    p = subst (λ y. IfSome y (IsPending c items)) some k.pending_is
 
 -- the name that is lent is the one that is to be routed to
 pub pending_named : (e : List ℕ) (n : ℕ) {c : Script} {who : Incarnation} {names : List (List ℕ)} {items : List (Option Produced)} {tables : List (Option ℕ)} {pending : Option Pending}
@@ -65,18 +95,18 @@ pending_within {c} {who} {names} {items} {tables} {pending} {x} k some = subst (
 pub pending_queued : (e : List ℕ) {c : Script} {who : Incarnation} {names : List (List ℕ)} {items : List (Option Produced)} {tables : List (Option ℕ)} {pending : Option Pending} {x : Pending} {i : ℕ} {o : Option Produced}
     → IsProducing c who names items tables pending → pending ≡ Some x → x.sends.after < x.sends.last → i ≡ x.producer - 1 → o ≡ slice_index_or items i o → e ≡ name_at names x.at → IsQueued e (x.sends.after + 1) o
 pending_queued e {c} {who} {names} {items} {tables} {pending} {x} {i} {o} k some below same read is =
-    subst (λ f. IsQueued f (x.sends.after + 1) o) (sym (pending_named e x.at k is)) (weaker o (pending_read k some below same read).1)
+    subst (λ f. IsQueued f (x.sends.after + 1) o) (sym (pending_named e x.at k is)) (weaker o (pending_read k some same read).1)
   where
-    weaker : (o : Option Produced) → IsQueued (name_at (setting c).names x.at) x.sends.last o → IsQueued (name_at (setting c).names x.at) (x.sends.after + 1) o
+    weaker : (o : Option Produced) → MaySend (name_at (setting c).names x.at) (numbers_of x.sends) o → IsQueued (name_at (setting c).names x.at) (x.sends.after + 1) o
     weaker None q = q
-    weaker (Some k) q = omega (arith, q, below)
+    weaker (Some k) q = (first_within (name_at (setting c).names x.at) x.sends k.state below q).is_queued
 
 -- its place is one of the script of the producer that is read
 pub pending_placed : (e : List ℕ) {c : Script} {who : Incarnation} {names : List (List ℕ)} {items : List (Option Produced)} {tables : List (Option ℕ)} {pending : Option Pending} {x : Pending} {i : ℕ} {o : Option Produced}
     → IsProducing c who names items tables pending → pending ≡ Some x → x.sends.after < x.sends.last → i ≡ x.producer - 1 → o ≡ slice_index_or items i o → e ≡ name_at names x.at → IfSome o (λ k. IsPlace k.script (record { entity = e; at = x.at }))
 pending_placed e {c} {who} {names} {items} {tables} {pending} {x} {i} {o} k some below same read is =
     subst (λ f. IfSome o (λ k. IsPlace k.script (record { entity = f; at = x.at }))) (sym (pending_named e x.at k is))
-    (by o (subst (λ y. IfSome y (IsHeld c who (i + 1))) (pending_read k some below same read).0 (k.each i)))
+    (by o (subst (λ y. IfSome y (IsHeld c who (i + 1))) (pending_read k some same read).0 (k.each i)))
   where
     p : IsPending c items x
     p = subst (λ y. IfSome y (IsPending c items)) some k.pending_is
@@ -104,12 +134,29 @@ message_is e {c} {who} {names} {items} {tables} {pending} {v} {x} {i} {o} {m} k 
     (subst (λ y. Some m ≡ next_message (producing c who items y)) (sym some)
     (sym (ap (λ l. option_and_then (λ n. option_map (λ st. message_of (name_at (setting c).names x.at) st n) (at (map (option_map state_of) items) (x.producer - 1))) (first_of l)) (numbers_step x.sends.after x.sends.last below)
     ∙ (ap (λ n. option_map (λ st. message_of (name_at (setting c).names x.at) st (x.sends.after + 1)) (at (map (option_map state_of) items) n)) (sym same)
-    ∙ (ap (option_map (λ st. message_of (name_at (setting c).names x.at) st (x.sends.after + 1))) (at_map items i ∙ ap (option_map state_of) (pending_read k some below same read).0)
+    ∙ (ap (option_map (λ st. message_of (name_at (setting c).names x.at) st (x.sends.after + 1))) (at_map items i ∙ ap (option_map state_of) (pending_read k some same read).0)
     ∙ (both o ∙ (ap (λ f. option_map (λ k. message_of f k.state (x.sends.after + 1)) o) (sym (pending_named e x.at k is)) ∙ made)))))))
   where
     both : (o : Option Produced) → option_map (λ st. message_of (name_at (setting c).names x.at) st (x.sends.after + 1)) (option_map state_of o) ≡ option_map (λ k. message_of (name_at (setting c).names x.at) k.state (x.sends.after + 1)) o
     both None = refl
     both (Some k) = refl
+
+-- and its number may be sent
+pub message_may_go : (e : List ℕ) {c : Script} {who : Incarnation} {names : List (List ℕ)} {items : List (Option Produced)} {tables : List (Option ℕ)} {pending : Option Pending} {v : Producing} {x : Pending} {i : ℕ} {o : Option Produced} {m : Message}
+    → IsProducing c who names items tables pending → producing c who items pending ≡ v → pending ≡ Some x → x.sends.after < x.sends.last → i ≡ x.producer - 1 → o ≡ slice_index_or items i o → e ≡ name_at names x.at → option_map (λ k. message_of e k.state (x.sends.after + 1)) o ≡ Some m → MayGo v m
+message_may_go e {c} {who} {names} {items} {tables} {pending} {v} {x} {i} {o} {m} k seen some below same read is made =
+    subst (λ (v : Producing). MayGo v m) seen
+    (subst (λ y. MayGo (producing c who items y) m) (sym some)
+    (subst (λ y. MatchOption y ⊥ (λ st. IsWithin m.entity st m.number)) (sym held_here) (by o (pending_read k some same read).1 made)))
+  where
+    held_here : at (map (option_map state_of) items) (x.producer - 1) ≡ option_map state_of o
+    held_here = ap (at (map (option_map state_of) items)) (sym same) ∙ (at_map items i ∙ ap (option_map state_of) (pending_read k some same read).0)
+
+    by : (o : Option Produced) → MaySend (name_at (setting c).names x.at) (numbers_of x.sends) o → option_map (λ k. message_of e k.state (x.sends.after + 1)) o ≡ Some m → MatchOption (option_map state_of o) ⊥ (λ st. IsWithin m.entity st m.number)
+    by None q made = absurd q
+    by (Some k2) q made =
+        subst (λ (m : Message). IsWithin m.entity k2.state m.number) (some_is (message_of e k2.state (x.sends.after + 1)) m made)
+        (subst (λ f. IsWithin f k2.state (x.sends.after + 1)) (sym (pending_named e x.at k is)) (first_within (name_at (setting c).names x.at) x.sends k2.state below q))
 
 -- What is left.
 
@@ -254,9 +301,9 @@ reserved_none : (o n : Option Produced) → IsReserved o n → n ≡ None → o 
 reserved_none None n r e = refl
 reserved_none (Some k) n r e = absurd (none_is_not_some (with_room (room_of n) k) (sym e ∙ r.same))
 
-reserved_queued : (e : List ℕ) (m : ℕ) (o n : Option Produced) → IsReserved o n → IsQueued e m o → IsQueued e m n
-reserved_queued e m None n r q = absurd q
-reserved_queued e m (Some k) n r q = subst (IsQueued e m) (sym r.same) q
+reserved_may : (e ns : List ℕ) (o n : Option Produced) → IsReserved o n → MaySend e ns o → MaySend e ns n
+reserved_may e ns None n r q = absurd q
+reserved_may e ns (Some k) n r q = subst (MaySend e ns) (sym r.same) q
 
 abbrev pub AllReserved : List (Option Produced) → List (Option Produced) → Type 0
 AllReserved old new = (i : ℕ) → IsReserved (at old i) (at new i)
@@ -275,7 +322,7 @@ reserved_stands {c} {who} {names} {items} {new} {tables} {pending} k size all = 
   where
     pend : (y : Option Pending) → IfSome y (IsPending c items) → IfSome y (IsPending c new)
     pend None h = tt
-    pend (Some x) h = record { stands = h.stands; there = λ some. reserved_queued (name_at (setting c).names x.at) x.sends.last (at items (x.producer - 1)) (at new (x.producer - 1)) (all (x.producer - 1)) (h.there some) }
+    pend (Some x) h = record { stands = h.stands; there = reserved_may (name_at (setting c).names x.at) (numbers_of x.sends) (at items (x.producer - 1)) (at new (x.producer - 1)) (all (x.producer - 1)) h.there }
 
 pub reserved_seen : (items new : List (Option Produced)) (pending : Option Pending) {c : Script} {who : Incarnation} {v : Producing} → producing c who items pending ≡ v → length new ≡ length items → AllReserved items new
     → producing c who new pending ≡ record { script = v.script; who = v.who; producers = v.producers; rooms = map room_of new; pending = v.pending }

@@ -24,6 +24,7 @@ use Rattle.producer_ctl.specs.declared.place.Place.{Place}
 use Rattle.producer_ctl.specs.declared.producers.Pending.{Pending}
 use Rattle.producer_ctl.specs.Paired.{IsPlace, name_at}
 use Rattle.producer_ctl.specs.Produced.{Produced, Gives, IsStoreOf, given}
+use Rattle.producer_ctl.specs.Within.{RoutesWithin}
 use Rattle.producer_ctl.specs.Producing.{Producing, producing, IsProducing, IsHeld, IsBounded, IsSent, IsStore, HasPlaces, held, holding, moved_by, no_routing, room_of, routing, state_of, without}
 use Rattle.name_index.proofs.NameLaws.{placed}
 use Rattle.producer_ctl.proofs.ProducingLaws.{item_put, item_read, held_is, numbered, sent_stands}
@@ -41,12 +42,12 @@ place_stands i x {c} {who} {names} {items} {tables} {pending} {v} k seen inside 
 
 -- Nothing of it changes.
 
-pub resent_stands : (p : ℕ) (w : Place) (f : Producer → Gives) {c : Script} {who : Incarnation} {names : List (List ℕ)} {items : List (Option Produced)} {tables : List (Option ℕ)} {pending : Option Pending} {v : Producing} {i : ℕ} {o : Option Produced} {sends : Option Sends} {pend : Option Pending} → ((st : Producer) → (f st).entity ≡ w.entity) → IsPlace v.script w
+pub resent_stands : (p : ℕ) (w : Place) (f : Producer → Gives) {c : Script} {who : Incarnation} {names : List (List ℕ)} {items : List (Option Produced)} {tables : List (Option ℕ)} {pending : Option Pending} {v : Producing} {i : ℕ} {o : Option Produced} {sends : Option Sends} {pend : Option Pending} → ((st : Producer) → (f st).entity ≡ w.entity) → RoutesWithin f → IsPlace v.script w
     → IsProducing c who names items tables pending → producing c who items pending ≡ v → is_producer v.script p ≡ true → i ≡ p - 1 → o ≡ slice_index_or items i o → IsSent f o o sends → pend ≡ option_map (λ (s : Sends). record { producer = p; at = w.at; sends = s }) sends
     → IsProducing c who names items tables pend
-resent_stands p w f {c} {who} {names} {items} {tables} {pending} {v} {i} {o} {sends} {pend} to stands k seen its same read sent pend_is =
+resent_stands p w f {c} {who} {names} {items} {tables} {pending} {v} {i} {o} {sends} {pend} to within stands k seen its same read sent pend_is =
     subst (λ l. IsProducing c who names l tables pend) (ap (slice_set items i) (sym (item_read p k seen its same read).1) ∙ set-get_or items i None)
-    (sent_stands p w f to stands k seen its same read sent pend_is)
+    (sent_stands p w f to within stands k seen its same read sent pend_is)
 
 -- A queue is taken.
 

@@ -3,3 +3,4 @@ pub mod Paired
 pub mod Produced
 pub mod Producing
 pub mod Routed
+pub mod Within

@@ -1,5 +1,6 @@
 -- The producers of a node as they are kept, and what moves make of them.
-use Rattle.std.specs.Prelude.{◌≡◌, ℕ, ◌+◌, ◌-◌, ◌<◌, ◌≤◌, List, [], ◌∷◌, length, map, fold, slice_index_or, slice_set, Bool, false, Option, None, Some, IfSome}
+use Rattle.std.specs.Prelude.{◌≡◌, ℕ, ◌+◌, ◌-◌, ◌<◌, ◌≤◌, List, [], ◌∷◌, length, map, fold, slice_index_or, slice_set, Bool, false, Option, None, Some, IfSome, MatchOption}
+use Rattle.std.specs.List.{All}
 use Rattle.std.specs.List.Sorted.{IsStrictlySortedBy}
 use Rattle.std.specs.Option.{option_map, option_map_or, option_and_then}
 use Rattle.std.specs.Ordering.{nat_cmp}
@@ -8,6 +9,7 @@ use Rattle.yard_model.specs.declared.incarnation.Incarnation.{Incarnation}
 use Rattle.yard_model.specs.declared.incarnation.Slot.TheVariants as slot
 use Rattle.yard_model.specs.declared.charter.Sending.{Sending}
 use Rattle.yard_model.specs.declared.packet.Message.{Message}
+use Rattle.yard_model.specs.Limits.{turn_room}
 use Rattle.yard_model.specs.Move.{Move, took}
 use Rattle.yard_model.specs.Node.{by_producer, producers_part}
 use Rattle.yard_model.specs.Producer.{Producer, no_progress, message_of, next_sending}
@@ -20,6 +22,7 @@ use Rattle.producer_ctl.specs.declared.place.Place.{Place}
 use Rattle.producer_ctl.specs.declared.producers.Pending.{Pending}
 use Rattle.producer_ctl.specs.Paired.{IsPlace, name_at, numbers_of}
 use Rattle.producer_ctl.specs.Produced.{Produced, Gives, moved, room_step, queueing, waits_to}
+use Rattle.producer_ctl.specs.Within.{IsWithin}
 
 -- the numbers to an entity that a producer is still to route
 pub record Routing : Type 0 where
@@ -115,6 +118,10 @@ next_message v = option_and_then (λ n. option_map (λ st. message_of v.pending.
 abbrev pub after_message : Producing → Producing
 after_message v = routing (record { producer = v.pending.producer; entity = v.pending.entity; numbers = rest_of v.pending.numbers }) v
 
+-- the producer whose numbers are routed may send the number of this message
+abbrev pub MayGo : Producing → Message → Type 0
+MayGo v m = MatchOption (held v.pending.producer v) ⊥ (λ st. IsWithin m.entity st m.number)
+
 -- How they are kept.
 
 abbrev pub state_of : Produced → Producer
@@ -152,10 +159,15 @@ abbrev pub IsQueued : List ℕ → ℕ → Option Produced → Type 0
 IsQueued e n None = ⊥
 IsQueued e n (Some k) = n ≤ queued e k.state.entries
 
--- what is to be routed is queued, to a name of the script
+-- there is a producer, and it may send each of these numbers to the entity
+abbrev pub MaySend : List ℕ → List ℕ → Option Produced → Type 0
+MaySend e ns None = ⊥
+MaySend e ns (Some k) = All (IsWithin e k.state) ns
+
+-- what is to be routed may be sent, to a name of the script
 pub record IsPending (c : Script) (items : List (Option Produced)) (x : Pending) : Type 0 where
   pub stands : IsPlace c (place_at c x.at)
-  pub there : x.sends.after < x.sends.last → IsQueued (name_at (setting c).names x.at) x.sends.last (at items (x.producer - 1))
+  pub there : MaySend (name_at (setting c).names x.at) (numbers_of x.sends) (at items (x.producer - 1))
 
 pub record IsProducing (c : Script) (who : Incarnation) (names : List (List ℕ)) (items : List (Option Produced)) (tables : List (Option ℕ)) (pending : Option Pending) : Type 0 where
   pub names_are : names ≡ (setting c).names
@@ -168,11 +180,11 @@ pub record IsProducing (c : Script) (who : Incarnation) (names : List (List ℕ)
 
 -- where it is held, the queue has room for all that a turn may write there
 abbrev pub IsRoomy : Option Produced → Type 0
-IsRoomy o = (o ≡ None → ⊥) → 300 ≤ room_of o
+IsRoomy o = (o ≡ None → ⊥) → turn_room ≤ room_of o
 
 -- each queue that is held has room for all that a turn may write there
 abbrev pub AreReady : List (Option Produced) → Type 0
-AreReady items = (i : ℕ) → (at items i ≡ None → ⊥) → 300 ≤ room_of (at items i)
+AreReady items = (i : ℕ) → (at items i ≡ None → ⊥) → turn_room ≤ room_of (at items i)
 
 -- the store of the queue that is held
 pub record IsStore (v : Producing) (p : ℕ) (x : Queue) : Type 0 where
@@ -200,7 +212,6 @@ pub record Stands (p : ℕ) (v : Producing) : Type 0 where
 pub record IsSent (f : Producer → Gives) (old new : Option Produced) (result : Option Sends) : Type 0 where
   pub held_is : new ≡ option_map (λ k. moved k (f k.state).moves) old
   pub numbers_are : option_map numbers_of result ≡ option_map (λ k. (f k.state).numbers) old
-  pub queued_are : (e : List ℕ) → option_map (λ k. (f k.state).entity) old ≡ Some e → IfSome result (λ s. s.after < s.last → IsQueued e s.last new)
 
 -- no room is less
 pub record AreMore (old new : List ℕ) : Type 0 where

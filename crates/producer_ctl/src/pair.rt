@@ -17,9 +17,9 @@ pub(crate) struct Pair {
     pub confirmed: u32,
 }
 
-/// Numbers that are to be sent: those after the first up to the last.
+/// Numbers that are to be routed: those after the first up to the last.
 #[derive(Clone, Copy)]
-pub(crate) struct Sends {
+pub struct Sends {
     /// The number before the first of them.
     pub after: u32,
     /// The last of them.
@@ -85,8 +85,7 @@ impl Pair {
 
     /// What may be sent and wasn't yet.
     pub(crate) fn to_push(&self) -> Sends
-        ensures numbers { numbers_of result ≡ from_to (max self.now.sent self.now.confirmed + 1) (allowed_of self.now) }
-        ensures queued { result.last ≤ self.now.queued }
+        ensures { numbers_of result ≡ from_to (max self.now.sent self.now.confirmed + 1) (allowed_of self.now) }
     {
         Sends {
             after: larger(self.sent, self.confirmed),
@@ -96,8 +95,7 @@ impl Pair {
 
     /// What was sent from this number on and isn't confirmed.
     pub(crate) fn to_resend(&self, from: u32) -> Sends
-        ensures numbers { numbers_of result ≡ from_to (max from (self.now.confirmed + 1)) (allowed_of self.now) }
-        ensures queued { result.last ≤ self.now.queued }
+        ensures { numbers_of result ≡ from_to (max from (self.now.confirmed + 1)) (allowed_of self.now) }
     {
         let before = if from > 0 { from - 1 } else { 0 };
         Sends {
@@ -115,8 +113,7 @@ impl Pair {
 
     /// The first that isn't confirmed, where one waits.
     pub(crate) fn to_repeat(&self) -> Sends
-        ensures numbers { numbers_of result ≡ (if nat_lt self.now.confirmed self.now.queued then (self.now.confirmed + 1) ∷ [] else []) }
-        ensures queued { result.last ≤ max self.now.queued self.now.confirmed }
+        ensures { numbers_of result ≡ (if nat_lt self.now.confirmed self.now.queued then (self.now.confirmed + 1) ∷ [] else []) }
     {
         let last = if self.waits() {
             self.confirmed + 1

@@ -3,7 +3,7 @@ use yard_model::EntityName;
 
 /// A name of a script, and its place among the names.
 #[derive(Clone, Copy)]
-pub(crate) struct Place {
+pub struct Place {
     /// The name.
     pub entity: EntityName,
     /// Its place, from 0.

@@ -21,11 +21,15 @@ use yard_model::{
     Charter, Command, EntityName, Fact, Incarnation, Item, Message, Out, ProducerNo, Sending,
 };
 
-/// A producer whose queue the node holds: the queue and, of each name of the script, what was
-/// demanded and sent, with what is queued and confirmed at hand. Contracts see it as the definition's
-/// state and the queue's room.
+/// A producer whose queue the node holds (Akka 2.6, Reliable Delivery: the sharding producer
+/// controller of one producer, with its durable queue): the queue and, of each name of the script,
+/// what was demanded and sent, with what is queued and confirmed at hand.
+///
+/// Contracts see it as the definition's state, the script and the queue's room; what a call makes of it
+/// is one equation, the definition's moves folded. `queue_next`, `demand`, `ack`, `resend` and `tick`
+/// answer the numbers that are to be routed, each of which may be sent (`numbers_are_within`).
 #[derive(Drop)]
-pub(crate) struct Producer {
+pub struct Producer {
     who: Incarnation,
     number: ProducerNo,
     store: QueueStore,
@@ -51,9 +55,9 @@ pub(crate) fn push(out: &mut Out, item: Item)
     out.push(item);
 }
 
-/// What a producer was made of.
+/// What a producer leaves.
 #[derive(Drop)]
-pub(crate) struct Parts {
+pub struct Parts {
     /// The queue's store.
     pub store: QueueStore,
     /// Room for the table of what is kept of each name.
@@ -61,13 +65,9 @@ pub(crate) struct Parts {
 }
 
 impl Producer {
-    /// A producer whose queue is granted; the table gets a place for each of the names.
-    pub(crate) fn begun(
-        who: Incarnation,
-        number: ProducerNo,
-        store: QueueStore,
-        table: Blank,
-    ) -> Producer
+    /// A producer whose queue is granted to this node: nothing was demanded, nothing was sent. The table
+    /// gets a place for each of the names. It takes no memory.
+    pub fn begin(who: Incarnation, number: ProducerNo, store: QueueStore, table: Blank) -> Producer
         requires number { store.producer ≡ number }
         requires leased { holder store.entries ≡ Some who }
         requires sorted { IsStrictlySortedBy (slice_cmp nat_cmp) (setting store.script).names }
@@ -84,15 +84,16 @@ impl Producer {
         }
     }
 
-    /// What stands of it.
-    pub(crate) fn knows(&self)
+    /// What stands of it: the queue is leased to this node, and no demand is above the confirmed number
+    /// and the window.
+    pub fn knows(&self)
         ensures { StandsAs self.now }
     {
         let _who = self.who;
     }
 
-    /// The queue's store, and the room of the table.
-    pub(crate) fn into_parts(self) -> Parts
+    /// The queue's store, leased still, and the room of the table; the rest is gone.
+    pub fn end(self) -> Parts
         ensures store { IsStoreOf self result.store }
         ensures table { result.table ≡ length (setting self.script).names }
     {
@@ -110,7 +111,7 @@ impl Producer {
     }
 
     /// The queue's store.
-    pub(crate) fn store(&self) -> &QueueStore
+    pub fn store(&self) -> &QueueStore
         ensures { IsStoreOf self.now result.now }
     {
         &self.store
@@ -118,7 +119,7 @@ impl Producer {
 
     /// The next place, from one on, to whose name a command is queued that isn't confirmed; the number
     /// of names where there is none.
-    pub(crate) fn next_waiting(&self, from: usize) -> usize
+    pub fn next_waiting(&self, from: usize) -> usize
         requires { from ≤ length (setting self.now.script).names }
         ensures { IsNext (λ k. waits_to (name_at (setting self.now.script).names k) self.now.state) from (length (setting self.now.script).names) result }
     {
@@ -126,7 +127,7 @@ impl Producer {
     }
 
     /// Whether there is room for so many entries in the queue.
-    pub(crate) fn has_room(&self, wanted: u32) -> bool
+    pub fn has_room(&self, wanted: u32) -> bool
         ensures { result ≡ true → wanted ≤ self.now.room }
     {
         wanted <= self.store.spare()
@@ -134,7 +135,7 @@ impl Producer {
 
     /// Makes room for so many entries in the queue. The only error is want of memory; then nothing
     /// changes.
-    pub(crate) fn reserve(&mut self, wanted: u32) -> Result<(), AllocError>
+    pub fn reserve(&mut self, wanted: u32) -> Result<(), AllocError>
         ensures state { self.new ≡ record self.old { room = self.new.room } }
         ensures more { self.old.room ≤ self.new.room }
         ensures ok { OnOk result (wanted ≤ self.new.room) }
@@ -151,7 +152,7 @@ impl Producer {
     }
 
     /// The next of the producer's sends that isn't queued; None exactly where all are.
-    pub(crate) fn next(&self, charter: &Charter) -> Option<Sending>
+    pub fn next(&self, charter: &Charter) -> Option<Sending>
         requires charter { charter.now ≡ self.now.script }
         ensures { result ≡ next_sending (sends self.now.script self.now.state.number) self.now.state }
     {
@@ -160,7 +161,7 @@ impl Producer {
     }
 
     /// The message of a queued number.
-    pub(crate) fn message(&self, at: usize, entity: &EntityName, number: u32) -> Message
+    pub fn message(&self, at: usize, entity: &EntityName, number: u32) -> Message
         requires place { IsPlace self.now.script (record { entity = entity.now; at = at }) }
         requires some { 0 < number }
         requires queued { number ≤ queued entity.now self.now.state.entries }
@@ -261,15 +262,15 @@ impl Producer {
         requires place { IsPlace self.old.script place.now }
         ensures state { self.new ≡ moved self.old (push_marks place.now.entity self.old.state) }
         ensures numbers { numbers_of result ≡ to_push place.now.entity self.old.state }
-        ensures queued { result.last ≤ queued place.now.entity self.new.state.entries }
     {
         let pair = self.pair(place);
         self.set_sent(place, larger(pair.confirmed, pair.allowed()));
         pair.to_push()
     }
 
-    /// Send: the next of the sends is queued; Push of its pair.
-    pub(crate) fn queue_next(&mut self, place: &Place, sending: &Sending, out: &mut Out) -> Sends
+    /// Send: the next of the sends is queued, which is told. What may be sent to its entity and wasn't
+    /// yet.
+    pub fn queue_next(&mut self, place: &Place, sending: &Sending, out: &mut Out) -> Sends
         requires place { IsPlace self.old.script place.now }
         requires entity { place.now.entity ≡ sending.now.entity }
         requires next { next_sending (sends self.old.script self.old.state.number) self.old.state ≡ Some sending.now }
@@ -278,20 +279,14 @@ impl Producer {
         ensures state { self.new ≡ moved self.old (queueing sending.now self.old.state).moves }
         ensures out { out.new ≡ given out.old (queueing sending.now self.old.state).moves }
         ensures numbers { numbers_of result ≡ (queueing sending.now self.old.state).numbers }
-        ensures queued { result.last ≤ queued sending.now.entity self.new.state.entries }
     {
         self.tell_queued(place, sending, out);
         self.push(place)
     }
 
-    /// Request: Confirm; the demand; Push.
-    pub(crate) fn demand(
-        &mut self,
-        place: &Place,
-        confirmed: u32,
-        up_to: u32,
-        out: &mut Out,
-    ) -> Sends
+    /// Request: what is confirmed is noted, which is told where it is news; the entity asks for more, up
+    /// to a number. What may be sent to it and wasn't yet.
+    pub fn demand(&mut self, place: &Place, confirmed: u32, up_to: u32, out: &mut Out) -> Sends
         requires place { IsPlace self.old.script place.now }
         requires queued { confirmed ≤ queued place.now.entity self.old.state.entries }
         requires bounded { up_to ≤ confirmed + self.old.script.config.window }
@@ -300,15 +295,15 @@ impl Producer {
         ensures state { self.new ≡ moved self.old (asking place.now.entity confirmed up_to self.old.state).moves }
         ensures out { out.new ≡ given out.old (asking place.now.entity confirmed up_to self.old.state).moves }
         ensures numbers { numbers_of result ≡ (asking place.now.entity confirmed up_to self.old.state).numbers }
-        ensures queued { result.last ≤ queued place.now.entity self.new.state.entries }
     {
         self.confirm(place, confirmed, out);
         self.set_demand(place, up_to);
         self.push(place)
     }
 
-    /// Ack: Confirm; Push.
-    pub(crate) fn ack(&mut self, place: &Place, confirmed: u32, out: &mut Out) -> Sends
+    /// Ack: what is confirmed is noted, which is told where it is news. What may be sent to the entity
+    /// and wasn't yet.
+    pub fn ack(&mut self, place: &Place, confirmed: u32, out: &mut Out) -> Sends
         requires place { IsPlace self.old.script place.now }
         requires queued { confirmed ≤ queued place.now.entity self.old.state.entries }
         requires store { 0 < self.old.room }
@@ -316,28 +311,25 @@ impl Producer {
         ensures state { self.new ≡ moved self.old (acking place.now.entity confirmed self.old.state).moves }
         ensures out { out.new ≡ given out.old (acking place.now.entity confirmed self.old.state).moves }
         ensures numbers { numbers_of result ≡ (acking place.now.entity confirmed self.old.state).numbers }
-        ensures queued { result.last ≤ queued place.now.entity self.new.state.entries }
     {
         self.confirm(place, confirmed, out);
         self.push(place)
     }
 
-    /// Resend: what was sent from this number on and isn't confirmed.
-    pub(crate) fn resend(&self, place: &Place, from: u32) -> Sends
+    /// Resend: what may be sent to the entity from this number on and isn't confirmed.
+    pub fn resend(&self, place: &Place, from: u32) -> Sends
         requires place { IsPlace self.now.script place.now }
-        ensures numbers { numbers_of result ≡ to_resend place.now.entity from self.now.state }
-        ensures queued { result.last ≤ queued place.now.entity self.now.state.entries }
+        ensures { numbers_of result ≡ to_resend place.now.entity from self.now.state }
     {
         let pair = self.pair(place);
         pair.to_resend(from)
     }
 
-    /// The tick of a pair: the first queued number that isn't confirmed, where there is one.
-    pub(crate) fn tick(&mut self, place: &Place) -> Sends
+    /// The tick of one name: the first queued number that isn't confirmed, where there is one.
+    pub fn tick(&mut self, place: &Place) -> Sends
         requires place { IsPlace self.old.script place.now }
         ensures state { self.new ≡ moved self.old (repeating place.now.entity self.old.state).moves }
         ensures numbers { numbers_of result ≡ (repeating place.now.entity self.old.state).numbers }
-        ensures queued { result.after < result.last → result.last ≤ queued place.now.entity self.new.state.entries }
     {
         let pair = self.pair(place);
         if pair.waits() {

@@ -9,6 +9,7 @@ ghost use Rattle.yard_model.specs.declared.fact.Fact.TheVariants as fact;
 ghost use Rattle.yard_model.specs.declared.incarnation.Cause.TheVariants as cause;
 ghost use Rattle.yard_model.specs.declared.incarnation.Slot.TheVariants as slot;
 ghost use Rattle.yard_model.specs.Genuine.{is_brought, is_producer};
+ghost use Rattle.yard_model.specs.Limits.{turn_room};
 ghost use Rattle.yard_model.specs.Move.{told};
 ghost use Rattle.yard_model.specs.Producer.{give_back, next_sending};
 ghost use Rattle.yard_model.specs.Script.{setting, sends, is_name};
@@ -20,7 +21,7 @@ ghost use Rattle.durable_queue.specs.Queue.{Queue};
 ghost use Rattle.producer_ctl.specs.declared.pair.Sends.{Sends};
 ghost use Rattle.producer_ctl.specs.Paired.{IsPlace, IsNext, name_at};
 ghost use Rattle.producer_ctl.specs.Produced.{given, acking, asking, queueing, resending, repeating};
-ghost use Rattle.producer_ctl.specs.Producing.{no_routing, routing, held, waits, of_held, sending, moves_of, moved_by, stepped, holding, without, next_message, after_message, IsStore, IsReserved, Stands, AreMore, AreReady, IsRoomy, HasPlaces, room_of};
+ghost use Rattle.producer_ctl.specs.Producing.{no_routing, routing, held, waits, of_held, sending, moves_of, moved_by, stepped, holding, without, next_message, after_message, MayGo, IsStore, IsReserved, Stands, AreMore, AreReady, IsRoomy, HasPlaces, room_of};
 
 use crate::held::{
     ack_in, demand_in, has_room_in, knows_in, message_in, next_in, next_waiting_in, queue_in,
@@ -165,7 +166,7 @@ impl Producers {
     pub fn reserve(&mut self) -> Result<(), AllocError>
         ensures state { self.new ≡ record self.old { rooms = self.new.rooms } }
         ensures more { AreMore self.old.rooms self.new.rooms }
-        ensures ok { OnOk result ((p : ℕ) → is_producer self.old.script p ≡ true → (held p self.old ≡ None → ⊥) → 300 ≤ slice_index_or self.new.rooms (p - 1) 0) }
+        ensures ok { OnOk result ((p : ℕ) → is_producer self.old.script p ≡ true → (held p self.old ≡ None → ⊥) → turn_room ≤ slice_index_or self.new.rooms (p - 1) 0) }
     {
         reserve_all(&mut self.held, &mut self.ready)
     }
@@ -181,7 +182,7 @@ impl Producers {
     {
         let place = place_of(p);
         let table = take_table(&mut self.tables, place);
-        let producer = Producer::begun(self.who, p, store, table);
+        let producer = Producer::begin(self.who, p, store, table);
         self.held[place] = Some(producer);
         self.ready = false;
         self.pending = None;
@@ -213,7 +214,7 @@ impl Producers {
         self.ready = false;
         match self.held[place].take() {
             Some(producer) => {
-                let parts = producer.into_parts();
+                let parts = producer.end();
                 self.tables[place] = Some(parts.table);
                 Some(parts.store)
             }
@@ -332,10 +333,12 @@ impl Producers {
         self.pending = pending_of(p, place.at, sends);
     }
 
-    /// The next message that is to be routed; None exactly where none is left.
+    /// The next message that is to be routed; None exactly where none is left. Its number is queued, is
+    /// above the confirmed one, and is at most what was demanded, or the first that isn't confirmed.
     pub fn next_send(&mut self) -> Option<Message>
         ensures state { self.new ≡ after_message self.old }
         ensures message { result ≡ next_message self.old }
+        ensures within { IfSome result (MayGo self.old) }
     {
         match self.pending_shard() {
             Some(_) => Some(self.take_message()),
@@ -362,12 +365,14 @@ impl Producers {
         }
     }
 
-    /// The next message that is to be routed, where one is left.
+    /// The next message that is to be routed, where one is left; its number is bounded as that of
+    /// `next_send`.
     pub fn take_message(&mut self) -> Message
         requires left { 0 < length self.old.pending.numbers }
         ensures state { self.new ≡ after_message self.old }
         ensures message { next_message self.old ≡ Some result }
         ensures entity { result.entity ≡ self.old.pending.entity }
+        ensures within { MayGo self.old result }
     {
         match &mut self.pending {
             Some(pending) => {
@@ -466,7 +471,7 @@ fn reserve_all(held: &mut Vec<Option<Producer>>, ready: &mut bool) -> Result<(),
     requires ready { ready.old ≡ true → AreReady held.old.items }
     ensures there { length held.new.items ≡ length held.old.items }
     ensures kept { (i : ℕ) → IsReserved (at held.old.items i) (at held.new.items i) }
-    ensures ok { OnOk result ((i : ℕ) → (at held.old.items i ≡ None → ⊥) → 300 ≤ room_of (at held.new.items i)) }
+    ensures ok { OnOk result ((i : ℕ) → (at held.old.items i ≡ None → ⊥) → turn_room ≤ room_of (at held.new.items i)) }
     ensures ready { ready.new ≡ true → AreReady held.new.items }
 {
     if *ready {
@@ -482,7 +487,7 @@ fn reserve_all(held: &mut Vec<Option<Producer>>, ready: &mut bool) -> Result<(),
 fn reserve_each(held: &mut Vec<Option<Producer>>) -> Result<(), AllocError>
     ensures there { length held.new.items ≡ length held.old.items }
     ensures kept { (i : ℕ) → IsReserved (at held.old.items i) (at held.new.items i) }
-    ensures ok { OnOk result ((i : ℕ) → (at held.old.items i ≡ None → ⊥) → 300 ≤ room_of (at held.new.items i)) }
+    ensures ok { OnOk result ((i : ℕ) → (at held.old.items i ≡ None → ⊥) → turn_room ≤ room_of (at held.new.items i)) }
 {
     for place in 0..held.len() {
         reserve_in(&mut held[place], AMPLE)?;

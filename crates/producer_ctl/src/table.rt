@@ -80,10 +80,10 @@ impl Table {
     }
 }
 
-/// Room for a table, of which nothing is written before a queue is granted; seen as how many places the
-/// table will have.
+/// Room for what a producer keeps of each name, of which nothing is written before a queue is granted;
+/// seen as how many places there will be.
 #[derive(Drop)]
-pub(crate) struct Blank {
+pub struct Blank {
     names: usize,
     pairs: Vec<Pair>,
     waiting: PlaceSet,
@@ -101,8 +101,8 @@ impl Model for Blank {
 }
 
 impl Blank {
-    /// Room for a table with so many places. The only error is want of memory.
-    pub(crate) fn new(alloc: Global, names: usize) -> Result<Blank, AllocError>
+    /// Room for so many places. The only error is want of memory.
+    pub fn new(alloc: Global, names: usize) -> Result<Blank, AllocError>
         ensures { IfOk result (λ b. b ≡ names) }
     {
         let pairs = Vec::with_capacity(alloc, names)?;

@@ -38,7 +38,7 @@ use Rattle.play_laws.specs.Sound.{Sound}
 use Rattle.play_laws.proofs.Handled.{Laws}
 use Rattle.play_laws.proofs.Orders.{IsPlaced, Place, at_place, give_leads, deliver_leads, drain_leads, AllLead, all_lead, downs_lead, produces_lead, ticks_lead, downs_empty, first_node, producers_are, end_leads, of_placed, active_placed}
 use Rattle.play_laws.proofs.Steps.{Leads, then_leads, up_leads, heard, come_up_leads, go_down_leads, crash_frees, is_freed, AreFreed, freed_still, ordered_sound}
-use Rattle.play_laws.proofs.Tells.{turn_tells, turn_is_still, turn_still}
+use Rattle.play_laws.proofs.Tells.{turn_tells, turn_is_still, turn_still, armed_items}
 use Rattle.play_laws.specs.TurnItems.{is_turn_fact, is_turn_item}
 use Rattle.play_laws.proofs.Turned.{is_still, members_still, wire_still}
 use Rattle.actor_laws.specs.Owes.{facts_in}
@@ -151,7 +151,7 @@ near_item (item.Post p) h = h
 
 -- so are the items of a turn
 near_turn : (sends : List (List Sending)) (lists : SlotLists) (given : Input) (st : Node) → list_all is_near_item (items_of (turn sends lists given st)) ≡ true
-near_turn sends lists (input.FailWrite e a) st = refl
+near_turn sends lists (input.FailWrite e a) st = armed_items (λ is. list_all is_near_item is ≡ true) e a st refl refl
 near_turn sends lists given st = all_map is_turn_item is_near_item near_item (items_of (turn sends lists given st)) (turn_tells sends lists given st refl)
 
 items_near : (orders : List Line) (limit : ℕ) (is : List Item) (n : ℕ) (k : Known) (w : World) → list_all is_near_item is ≡ true → Near orders k w → Near orders (fold know k (numbered limit n is)) (fold world_after w (numbered limit n is))

@@ -1,5 +1,5 @@
 -- The queries after the orders of a script, but for the settling.
-use Rattle.std.proofs.Common.{◌≡◌, ℕ, zero, suc, ◌+◌, ◌-◌, List, [], ◌∷◌, ◌++◌, sym, ap, subst, ◌∙◌, refl, true, false, true≢false, arith}
+use Rattle.std.proofs.Common.{◌≡◌, ℕ, zero, suc, ◌+◌, ◌-◌, List, [], ◌∷◌, ◌++◌, map, sym, ap, subst, ◌∙◌, refl, true, false, true≢false, arith}
 use Rattle.std.specs.Prelude.{Bool, ◌==◌, ◌||◌, not, find, fold, take, Option, Some, None, is_none, slice_set, if◌then◌else◌}
 use Rattle.std.specs.List.{list_any}
 use Rattle.std.specs.Option.{option_map, option_and_then}
@@ -19,20 +19,20 @@ use Rattle.yard_model.specs.declared.incarnation.Keep.{Keep}
 use Rattle.yard_model.specs.Follow.{each_follows}
 use Rattle.yard_model.specs.Genuine.{is_producer, is_brought}
 use Rattle.yard_model.specs.Move.{told}
-use Rattle.yard_model.specs.Node.{Node, Act, after, by_entities}
+use Rattle.yard_model.specs.Node.{Node, Act, after, by_entities, items_of}
 use Rattle.yard_model.specs.Queries.{Known, know, actor, order_at, told_by, show, show_item, show_order}
 use Rattle.yard_model.specs.Script.{Script}
 use Rattle.yard_model.specs.SlotLists.{queue_list}
 use Rattle.yard_model.specs.SlotReads.{queued_in_all}
 use Rattle.yard_model.specs.Words.{at}
 use Rattle.yard_model.specs.World as world
-use Rattle.yard_model.specs.World.{World, Made, Step, world_after, tell, then_step, input_facts, with_node, handle, give_or, give, node_at, queue_holder, is_of_node, ordered_of, active_node, with_order, play_line}
+use Rattle.yard_model.specs.World.{World, Made, Step, world_after, tell, then_step, input_facts, with_node, handle, give_or, give, node_at, queue_holder, is_of_node, ordered_of, is_active_at, active_node, with_order, play_line}
 use Rattle.plain_laws.proofs.Booleans.{and_both, number_itself, of_not}
 use Rattle.node_laws.specs.Cluster.{IsMember}
 use Rattle.node_laws.specs.Traces.{recorded}
 use Rattle.play_laws.specs.Sound.{Sound}
 use Rattle.play_laws.proofs.Handled.{Laws}
-use Rattle.play_laws.proofs.Orders.{IsPlaced, Place, May, at_place, active_placed, give_leads}
+use Rattle.play_laws.proofs.Orders.{IsPlaced, Place, May, at_place, active_placed, active_is, give_leads}
 use Rattle.play_laws.proofs.Tells.{is_no_fail}
 use Rattle.play_laws.proofs.Steps.{heard, ordered_sound}
 use Rattle.query_laws.specs.Shown.{opened, packet_of, IsTold, IsShown}
@@ -61,6 +61,10 @@ give_knows shows c orders w i o placed may no_fail same packet told_is = give_or
 pub silent_knows : (c : Script) (orders : List Line) (w : World) → Knows NoPacket c orders w (world.nothing w)
 silent_knows c orders w = nothing_knows NoPacket (λ k p. p) c orders w
 
+-- a node's acts are known
+abbrev AreKnown : List Line → Known → World → Node → List Act → Type 0
+AreKnown orders k w st acts = let fs : List Fact = input_facts w (items_of acts) in (fold world_after w fs).full ≡ false → Fits orders (fold know k fs) (with_node (fold after st acts) (fold world_after w fs)) × ((fold know k fs).packet ≡ None)
+
 -- a write of an entity is to fail
 pub fail_knows : Shows → (c : Script) (orders : List Line) (w : World) (e : List ℕ) (a : Keep) → is_brought c e ≡ true → Knows NoPacket c orders w (give_or (input.FailWrite e a) (active_node e w) world.nothing w)
 fail_knows shows c orders w e a named = by (active_node e w) refl
@@ -77,21 +81,24 @@ fail_knows shows c orders w e a named = by (active_node e w) refl
         let at_k : Place w.nodes st = active_placed e w st active in
         let me : IsMember c trace at_k.place st = s.cluster.members at_k.place st at_k.here in
         let now : Node = fold after st (by_entities (told armed) ∷ []) in
-        let lead : IsShown k (input.FailWrite e a) st (by_entities (told armed) ∷ []) =
-        shows.shown c (recorded c trace) k st (input.FailWrite e a) me.hand s.script_is me.sound me.viewed (fit.tidy at_k.place st at_k.here) me.has.holds named
-        (ap (λ (v : World). v.set) fit.agree.world_is ∙ s.set_is) (ap (λ (v : World). v.lists) fit.agree.world_is ∙ (s.lists_are ∙ sym me.has.of_trace.lists_are)) p tt in
-        let all_of : input_facts w (item.Fact armed ∷ []) ≡ armed ∷ [] = all_numbered w (item.Fact armed ∷ []) (not_full w (item.Fact armed ∷ []) full) in
+        let is : is_active_at e (Some st) ≡ true = active_is e w st active in
+        let lead : IsShown k (input.FailWrite e a) st (by_entities (told armed) ∷ []) = subst (λ (b : Bool). IsShown k (input.FailWrite e a) st (map by_entities (if b then told armed ∷ [] else []))) is
+        (shows.shown c (recorded c trace) k st (input.FailWrite e a) me.hand s.script_is me.sound me.viewed (fit.tidy at_k.place st at_k.here) me.has.holds named
+        (ap (λ (v : World). v.set) fit.agree.world_is ∙ s.set_is) (ap (λ (v : World). v.lists) fit.agree.world_is ∙ (s.lists_are ∙ sym me.has.of_trace.lists_are)) p tt) in
         let mine : actor k armed ≡ Some st.who = ap (λ v. option_map (λ (st : Node). st.who) (active_node e v)) fit.agree.world_is ∙ ap (option_map (λ (st : Node). st.who)) active in
         let along : Along orders k.views st.who at_k.place (know k armed) (world_after w armed) now =
         subst (Along orders k.views st.who at_k.place (know k armed) (world_after w armed)) lead.shown_is
         (along_shown orders k.views st.who at_k.place k w st armed (plain k armed (λ v. refl) (λ x n o. refl) (λ v o. refl)) (along_start c orders trace w at_k.place st k fit.agree at_k.here s) mine
-        (record { count = fit.agree.knows.count; now = fit.agree.knows.now; posted = fit.agree.knows.posted })) in (
+        (record { count = fit.agree.knows.count; now = fit.agree.knows.now; posted = fit.agree.knows.posted })) in
+        let known : AreKnown orders k w st (by_entities (told armed) ∷ []) = λ full.
+        let all_of : input_facts w (item.Fact armed ∷ []) ≡ armed ∷ [] = all_numbered w (item.Fact armed ∷ []) (not_full w (item.Fact armed ∷ []) full) in (
           subst (λ fs. Fits orders (fold know k fs) (with_node now (fold world_after w fs))) (sym all_of) (record {
             agree = along_last orders k.views st.who at_k.place (know k armed) (world_after w armed) now along;
             tidy = tidy_with w (with_node now (world_after w armed)) at_k.place st now at_k.here (ap (λ n. slice_set w.nodes n (Some now)) (back st.who.node at_k.place me.node_is)) fit.tidy lead.tidy;
           }),
           subst (λ fs. (fold know k fs).packet ≡ None) (sym all_of) p,
-        )
+        ) in
+        subst (λ (b : Bool). AreKnown orders k w st (map by_entities (if b then told armed ∷ [] else []))) (sym is) known full
 
 -- Producing and sending.
 

@@ -506,14 +506,20 @@ tick_entities_shown k st is = entities_shown k st (entities.tick_entities st.ent
 pub tick_entities_tidy : (st : Node) → IsTidy st → IsTidy (fold after st (of_entities entities.tick_entities st))
 tick_entities_tidy st tidy = entities_tidy None st (entities.tick_entities st.entities) (ticks_all (is_shown_move None) st.entities (λ e. refl) (λ e. refl)) (calm_all st.entities (entities.tick_entities st.entities) (ticks_all is_calming st.entities (λ e. refl) (λ e. refl)) tidy.started) tidy
 
-pub armed_shown : (k : Known) (e : List ℕ) (a : Keep) (st : Node) → AreShownBeside k st (by_entities (told (fact.Armed e a)) ∷ [])
-armed_shown k e a st = entities_shown k st (told (fact.Armed e a) ∷ []) refl
+arm_all : (p : Move → Bool) (e : List ℕ) (a : Keep) (st : Entities) → p (told (fact.Armed e a)) ≡ true → list_all p (entities.arm e a st) ≡ true
+arm_all p e a st is = all_if p (entities.is_in_phase phase.Active st e) (told (fact.Armed e a) ∷ []) [] (both (p (told (fact.Armed e a))) true is refl) refl
 
-pub armed_tidy : (e : List ℕ) (a : Keep) (st : Node) → IsTidy st → IsTidy (fold after st (by_entities (told (fact.Armed e a)) ∷ []))
-armed_tidy e a st tidy = entities_tidy None st (told (fact.Armed e a) ∷ []) refl (calm_all st.entities (told (fact.Armed e a) ∷ []) refl tidy.started) tidy
+pub armed_shown : (k : Known) (e : List ℕ) (a : Keep) (st : Node) → AreShownBeside k st (of_entities (entities.arm e a) st)
+armed_shown k e a st = entities_shown k st (entities.arm e a st.entities) (arm_all (is_shown_move k.packet) e a st.entities refl)
 
-pub asks_passivate_shown : (k : Known) (e : List ℕ) (st : Node) → AreShownBeside k st (by_entities (post st.who st.who (body.Passivate e)) ∷ [])
-asks_passivate_shown k e st = entities_shown k st (post st.who st.who (body.Passivate e) ∷ []) refl
+pub armed_tidy : (e : List ℕ) (a : Keep) (st : Node) → IsTidy st → IsTidy (fold after st (of_entities (entities.arm e a) st))
+armed_tidy e a st tidy = entities_tidy None st (entities.arm e a st.entities) (arm_all (is_shown_move None) e a st.entities refl) (calm_all st.entities (entities.arm e a st.entities) (arm_all is_calming e a st.entities refl) tidy.started) tidy
 
-pub asks_passivate_tidy : (e : List ℕ) (st : Node) → IsTidy st → IsTidy (fold after st (by_entities (post st.who st.who (body.Passivate e)) ∷ []))
-asks_passivate_tidy e st tidy = entities_tidy None st (post st.who st.who (body.Passivate e) ∷ []) refl (calm_all st.entities (post st.who st.who (body.Passivate e) ∷ []) refl tidy.started) tidy
+asks_all : (p : Move → Bool) (e : List ℕ) (st : Entities) → p (post st.who st.who (body.Passivate e)) ≡ true → list_all p (entities.ask_to_passivate e st) ≡ true
+asks_all p e st is = all_if p (entities.is_in_phase phase.Active st e) (post st.who st.who (body.Passivate e) ∷ []) [] (both (p (post st.who st.who (body.Passivate e))) true is refl) refl
+
+pub asks_passivate_shown : (k : Known) (e : List ℕ) (st : Node) → AreShownBeside k st (of_entities (entities.ask_to_passivate e) st)
+asks_passivate_shown k e st = entities_shown k st (entities.ask_to_passivate e st.entities) (asks_all (is_shown_move k.packet) e st.entities refl)
+
+pub asks_passivate_tidy : (e : List ℕ) (st : Node) → IsTidy st → IsTidy (fold after st (of_entities (entities.ask_to_passivate e) st))
+asks_passivate_tidy e st tidy = entities_tidy None st (entities.ask_to_passivate e st.entities) (asks_all (is_shown_move None) e st.entities refl) (calm_all st.entities (entities.ask_to_passivate e st.entities) (asks_all is_calming e st.entities refl) tidy.started) tidy

@@ -4,7 +4,6 @@ use Rattle.std.specs.Prelude.{Bool, nat_le, fold, Option, Some, None, slice_inde
 use Rattle.std.specs.List.{list_all, flat_map}
 use Rattle.std.proofs.lemmas.List.{append-nil, append_assoc}
 use Rattle.std.proofs.lemmas.List.Sums.{fold-append}
-use Rattle.yard_model.specs.declared.fact.Fact.TheVariants as fact
 use Rattle.yard_model.specs.declared.input.Input.{Input}
 use Rattle.yard_model.specs.declared.input.Input.TheVariants as input
 use Rattle.yard_model.specs.declared.packet.Body.{Body}
@@ -19,7 +18,7 @@ use Rattle.yard_model.specs.declared.incarnation.Stamp.{Stamp}
 use Rattle.yard_model.specs.Coordinator as coordinator
 use Rattle.yard_model.specs.Entities as entities
 use Rattle.yard_model.specs.Genuine.{is_brought}
-use Rattle.yard_model.specs.Move.{Move, marked, handed_off, pushed, told, post}
+use Rattle.yard_model.specs.Move.{Move, marked, handed_off, pushed}
 use Rattle.yard_model.specs.Node.{Node, Act, Rule, by_region, by_entities, by_producer, by_coordinator, after, items_of, of_region, of_entities, of_producer, of_coordinator, all_in_turn, route, send_again, start_again, lead, shard_home, host_shard, hand_off, tick, packet, turn}
 use Rattle.yard_model.specs.Producer as producer
 use Rattle.yard_model.specs.Producer.{Producer}
@@ -65,10 +64,10 @@ pub sequenced_whole : (c : Script) (k : Known) (lists : SlotLists) (st : Node) (
 sequenced_whole c k lists st from to m is tidy = whole k (input.Packet (packet_for from to (body.Sequenced m))) st (route m st) (route_shown k m st tidy.started) refl (route_apart m st) (route_tidy m st (sound_well c st is).set_is tidy)
 
 pub armed_whole : (k : Known) (sends : List (List Sending)) (lists : SlotLists) (st : Node) (e : List ℕ) (a : Keep) → IsTidy st → IsShown k (input.FailWrite e a) st (turn sends lists (input.FailWrite e a) st)
-armed_whole k sends lists st e a tidy = whole k (input.FailWrite e a) st (by_entities (told (fact.Armed e a)) ∷ []) (armed_shown k e a st) refl refl (armed_tidy e a st tidy)
+armed_whole k sends lists st e a tidy = whole k (input.FailWrite e a) st (of_entities (entities.arm e a) st) (armed_shown k e a st) refl (entities_apart (entities.arm e a st.entities)) (armed_tidy e a st tidy)
 
 pub asks_passivate_whole : (k : Known) (sends : List (List Sending)) (lists : SlotLists) (st : Node) (e : List ℕ) → IsTidy st → IsShown k (input.Passivate e) st (turn sends lists (input.Passivate e) st)
-asks_passivate_whole k sends lists st e tidy = whole k (input.Passivate e) st (by_entities (post st.who st.who (body.Passivate e)) ∷ []) (asks_passivate_shown k e st) refl refl (asks_passivate_tidy e st tidy)
+asks_passivate_whole k sends lists st e tidy = whole k (input.Passivate e) st (of_entities (entities.ask_to_passivate e) st) (asks_passivate_shown k e st) refl (entities_apart (entities.ask_to_passivate e st.entities)) (asks_passivate_tidy e st tidy)
 
 -- The region.
 

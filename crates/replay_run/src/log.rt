@@ -2,6 +2,7 @@
 ghost use Rattle.std.specs.Prelude.{◌≡◌, ◌≢◌, ◌+◌, ◌<◌, ◌≤◌, ◌^◌, ◌++◌, ℕ, List, [], None, Some, Err, IfErr, IfOk, OnOk, OnErr, IsTrue, fold, length, slice_get};
 ghost use Rattle.std.specs.List.{flat_map};
 ghost use Rattle.yard_model.specs.declared.fact.Fact.{Fact as FactValue};
+ghost use Rattle.yard_model.specs.Limits.{most_orders};
 ghost use Rattle.yard_model.specs.Replay.{replay_text};
 ghost use Rattle.yard_model.specs.Text.{fact_line, report};
 ghost use Rattle.yard_model.specs.World.{played, trace_of, wire_limit};
@@ -86,7 +87,7 @@ fn logged<B: Behaviour + Copy + Drop, K: Sink, D: Disk>(
     disk: &mut D,
 ) -> Result<Option<u32>, LogError>
     requires kind { B.kind_of behaviour ≡ charter.config.kind }
-    requires few { length charter.orders ≤ 200000 }
+    requires few { length charter.orders ≤ most_orders }
     ensures wrote { WritesLog (replay_text charter) result
         (record { taken = K.taken sink.old; flushed = K.flushed sink.old; faults = K.faults sink.old })
         (record { taken = K.taken sink.new; flushed = K.flushed sink.new; faults = K.faults sink.new }) }
@@ -140,7 +141,7 @@ fn play<B: Behaviour + Copy + Drop, K: Sink, D: Disk>(
     disk: &mut D,
 ) -> Result<(), LogError>
     requires world { world.old ≡ record { script = world.old.script; given = None; count = 0; fault = None } }
-    requires few { length world.old.script.orders ≤ 200000 }
+    requires few { length world.old.script.orders ≤ most_orders }
     requires course { desk.old.course ≡ start }
     requires rests { Rests D.tells log (D.content disk.old) (D.images disk.old) [] }
     ensures wrote { WritesLog (trace_text world.old.script) result

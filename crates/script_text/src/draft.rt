@@ -1,6 +1,7 @@
 //! A script that is being read.
 ghost use Rattle.std.specs.Prelude.{◌≡◌, ◌==◌, ℕ, ◌+◌, ◌≤◌, if◌then◌else◌, List, [], ◌∷◌, ◌++◌, length, min, false, IfOk, OnOk, IsTrue};
 ghost use Rattle.yard_model.specs.Counts.{names};
+ghost use Rattle.yard_model.specs.Limits.{most_orders};
 ghost use Rattle.yard_model.specs.Script.{is_config, is_order, brought, names_in, pairs_in, with_brought, with_pair, Pair};
 ghost use Rattle.script_text.specs.Drafts.{KeepsPairs};
 ghost use Rattle.script_text.specs.Fit.{is_ping};
@@ -108,7 +109,7 @@ impl Draft {
     pub fn finish(self, alloc: Global) -> Result<Charter, AllocError>
         requires names { length (names_in self.orders) ≤ 1000 }
         requires pairs { length (pairs_in self.orders) ≤ 4000 }
-        requires few { length self.orders ≤ 200000 }
+        requires few { length self.orders ≤ most_orders }
         ensures { IfOk result (λ c. c ≡ self) }
     {
         let Draft {

@@ -156,6 +156,12 @@ recovered_tells e st = all_if is_unqueued_move (entities.is_in_phase phase.Loadi
     (λ st. all_if is_unqueued_move _ (told (fact.Remembered e) ∷ []) [] refl refl)
     (λ now. all_for is_unqueued_move entities_after entities.deliver (entities.cell st e).stash now deliver_tells)) refl
 
+ask_to_passivate_tells : (e : List ℕ) (st : Entities) → Tell (entities.ask_to_passivate e st)
+ask_to_passivate_tells e st = all_if is_unqueued_move (entities.is_in_phase phase.Active st e) (post st.who st.who (body.Passivate e) ∷ []) [] refl refl
+
+arm_tells : (e : List ℕ) (k : Keep) (st : Entities) → Tell (entities.arm e k st)
+arm_tells e k st = all_if is_unqueued_move (entities.is_in_phase phase.Active st e) (told (fact.Armed e k) ∷ []) [] refl refl
+
 passivate_tells : (e : List ℕ) (st : Entities) → Tell (entities.passivate e st)
 passivate_tells e st = all_if is_unqueued_move (entities.is_in_phase phase.Active st e) (passivates e ∷ post st.who st.who (body.StopEntity e) ∷ []) [] refl refl
 
@@ -370,8 +376,8 @@ turn_acts sends lists input.Leave st h = region_acts (region.leave st.region) (o
 turn_acts sends lists (input.Rebalance n) st h = of_coordinator_acts (coordinator.rebalance n) st (rebalance_tells n)
 turn_acts sends lists (input.Produce p) st h = all_if is_unqueued_act _ (map (by_producer p) (node.acquire (slot.Queue p) st.who (queue_list lists p))) [] (producer_acts p (node.acquire (slot.Queue p) st.who (queue_list lists p)) (acquire_tells (slot.Queue p) st.who (queue_list lists p))) refl
 turn_acts sends lists (input.Rest p) st h = of_producer_acts p producer.give_back st (λ k. refl)
-turn_acts sends lists (input.FailWrite e k) st h = refl
-turn_acts sends lists (input.Passivate e) st h = refl
+turn_acts sends lists (input.FailWrite e k) st h = entities_acts (entities.arm e k st.entities) (arm_tells e k st.entities)
+turn_acts sends lists (input.Passivate e) st h = entities_acts (entities.ask_to_passivate e st.entities) (ask_to_passivate_tells e st.entities)
 turn_acts sends lists (input.Send p) st h = absurd (no h)
   where
     no : false ≡ true → ⊥

@@ -6,7 +6,7 @@ use Rattle.yard_model.specs.declared.fact.Fact.TheVariants as fact
 use Rattle.yard_model.specs.declared.incarnation.Keep.{Keep}
 use Rattle.yard_model.specs.declared.input.Phase.TheVariants as phase
 use Rattle.yard_model.specs.declared.packet.Body.TheVariants as body
-use Rattle.yard_model.specs.Entities.{Entities, Hosted, hosted, entries, start_entity, start_remembered, passivate, is_in_phase}
+use Rattle.yard_model.specs.Entities.{Entities, Hosted, hosted, entries, start_entity, start_remembered, arm, passivate, is_in_phase}
 use Rattle.yard_model.specs.Move.{told, post, passivates}
 use Rattle.yard_model.specs.Script.{setting}
 use Rattle.yard_model.specs.Setting.{names_of}
@@ -63,5 +63,9 @@ passivate_takes v {w} s e step = takes_same s (subst (IsSame v) (sym step) (by_t
     by_test true = record { script_is = refl; who_is = refl; set_is = refl; hosted_is = refl; rooms_is = refl }
     by_test false = same_here v
 
-pub arm_takes : (v : Lodged) {w : Lodged} (s : ℕ) (e : List ℕ) (k : Keep) → w ≡ moved v (told (fact.Armed e k) ∷ []) → Takes v w s 0
-arm_takes v {w} s e k step = takes_same s (subst (IsSame v) (sym step) record { script_is = refl; who_is = refl; set_is = refl; hosted_is = refl; rooms_is = refl })
+pub arm_takes : (v : Lodged) {w : Lodged} (s : ℕ) (e : List ℕ) (k : Keep) → w ≡ moved v (arm e k v.state) → Takes v w s 0
+arm_takes v {w} s e k step = takes_same s (subst (IsSame v) (sym step) (by_test (is_in_phase phase.Active v.state e)))
+  where
+    by_test : (b : Bool) → IsSame v (moved v (if b then told (fact.Armed e k) ∷ [] else []))
+    by_test true = record { script_is = refl; who_is = refl; set_is = refl; hosted_is = refl; rooms_is = refl }
+    by_test false = same_here v

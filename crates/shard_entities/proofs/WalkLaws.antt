@@ -13,7 +13,7 @@ use Rattle.yard_model.specs.declared.input.Phase.TheVariants as phase
 use Rattle.yard_model.specs.declared.packet.Body.TheVariants as body
 use Rattle.yard_model.specs.declared.packet.Message.{Message}
 use Rattle.yard_model.specs.declared.packet.Record.{Record}
-use Rattle.yard_model.specs.Entities.{Cell, Hosted, cell, cell_after, new_cell, entity_of, hosted, hosted_step, cells_by, entries, deliver, deliver_by, deliver_at, write, record_of, ask_more, stash_message, start_entity, phase_step, stash_step, is_phase, is_in_phase, passivate}
+use Rattle.yard_model.specs.Entities.{Cell, Hosted, cell, cell_after, new_cell, entity_of, hosted, hosted_step, cells_by, entries, deliver, deliver_by, deliver_at, write, record_of, ask_more, stash_message, start_entity, phase_step, stash_step, is_phase, is_in_phase, arm, passivate}
 use Rattle.yard_model.specs.Move.{Move, told, post, passivates}
 use Rattle.yard_model.specs.Script.{Setting}
 use Rattle.yard_model.specs.Setting.{place, shard_of}
@@ -369,8 +369,12 @@ kept_settled {v} {p} m of phases stashes on within settled =
       clear = λ active. stashes (cell v.state p.entity).phase (cell v.state p.entity).stash ∙ old.clear (sym (phases (cell v.state p.entity).phase) ∙ active);
     })
 
-pub armed_settled : {v w : Lodged} {p : Place} (k : Keep) → Stands v → IsPlace v.script p → IsSettled v → w ≡ moved v (told (fact.Armed p.entity k) ∷ []) → IsSettled w
-armed_settled {v} {w} {p} k s is settled step = subst IsSettled (sym step) (kept_settled (told (fact.Armed p.entity k)) (of_arm p.entity k) (λ q. refl) (λ q l. refl) (on_of s is) (named_within s is) settled)
+pub armed_settled : {v w : Lodged} {p : Place} (k : Keep) → Stands v → IsPlace v.script p → IsSettled v → w ≡ moved v (arm p.entity k v.state) → IsSettled w
+armed_settled {v} {w} {p} k s is settled step = subst IsSettled (sym step) (by_test (is_in_phase phase.Active v.state p.entity))
+  where
+    by_test : (b : Bool) → IsSettled (moved v (if b then told (fact.Armed p.entity k) ∷ [] else []))
+    by_test true = kept_settled (told (fact.Armed p.entity k)) (of_arm p.entity k) (λ q. refl) (λ q l. refl) (on_of s is) (named_within s is) settled
+    by_test false = settled
 
 -- An entity starts, of a shard that is hosted.
 

@@ -4,7 +4,7 @@ ghost use Rattle.std.specs.List.{list_any};
 ghost use Rattle.yard_model.specs.declared.fact.Fact.TheVariants as fact;
 ghost use Rattle.yard_model.specs.declared.input.Phase.TheVariants as phase;
 ghost use Rattle.yard_model.specs.declared.packet.Body.TheVariants as body;
-ghost use Rattle.yard_model.specs.Entities.{new_entities, hosted, is_hosted, is_running, is_in_phase, deliver, recovered, passivate, start_remembered, hand_off, stop, forget_passivated, drop_stash, entities_of, tick_entities};
+ghost use Rattle.yard_model.specs.Entities.{new_entities, hosted, is_hosted, is_running, is_in_phase, deliver, recovered, ask_to_passivate, arm, passivate, start_remembered, hand_off, stop, forget_passivated, drop_stash, entities_of, tick_entities};
 ghost use Rattle.yard_model.specs.Genuine.{is_brought, is_genuine, is_producer};
 ghost use Rattle.yard_model.specs.Move.{told, post, handed_off};
 ghost use Rattle.yard_model.specs.Script.{setting, is_version};
@@ -194,12 +194,22 @@ impl Entities {
         self.shards.passivate(&place, out);
     }
 
-    /// The next write of an entity is to fail, in this way; its stop undoes that.
+    /// An entity is to ask for its stop, where it takes commands; else nothing happens.
+    pub fn ask_to_passivate(&self, entity: &EntityName, out: &mut Out)
+        requires name { is_brought self.now.script entity.now ≡ true }
+        requires room { 0 < out.old.spare }
+        ensures { out.new ≡ given out.old (ask_to_passivate entity.now self.now.state) }
+    {
+        self.shards.ask_to_passivate(&self.shards.find(entity), out);
+    }
+
+    /// The next write of an entity is to fail, in this way, where it takes commands; its stop undoes
+    /// that. Else nothing happens.
     pub fn arm(&mut self, entity: &EntityName, keep: Keep, out: &mut Out)
         requires name { is_brought self.old.script entity.now ≡ true }
         requires room { 0 < out.old.spare }
-        ensures state { self.new ≡ moved self.old (told (fact.Armed entity.now keep) ∷ []) }
-        ensures out { out.new ≡ given out.old (told (fact.Armed entity.now keep) ∷ []) }
+        ensures state { self.new ≡ moved self.old (arm entity.now keep self.old.state) }
+        ensures out { out.new ≡ given out.old (arm entity.now keep self.old.state) }
         ensures takes { Takes self.old self.new (shard_of (setting self.old.script) entity.now) 0 }
     {
         self.shards.knows();

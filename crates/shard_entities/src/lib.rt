@@ -11,6 +11,7 @@ mod entities;
 mod handoff;
 mod hosting;
 mod moves;
+mod orders;
 mod passivation;
 mod place;
 mod places;

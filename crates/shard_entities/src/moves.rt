@@ -36,8 +36,8 @@ pub(crate) fn push(out: &mut Out, item: Item)
 }
 
 impl Shards {
-    /// The next write of an entity is to fail, in this way; its stop undoes that.
-    pub(crate) fn arm(&mut self, place: &Place, keep: Keep, out: &mut Out)
+    /// Its next write is to fail, in this way; its stop undoes that.
+    pub(crate) fn tell_armed(&mut self, place: &Place, keep: Keep, out: &mut Out)
         requires place { IsPlace self.old.script place.now }
         requires room { 0 < out.old.spare }
         ensures state { self.new ≡ moved self.old (told (fact.Armed place.now.entity keep) ∷ []) }

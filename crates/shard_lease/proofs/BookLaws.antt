@@ -29,7 +29,7 @@ use Rattle.shard_store.proofs.PlaceLaws.{IsSlotAt, place_within, slot_back, slot
 use Rattle.shard_lease.specs.Book.{Book, IsPlace, IsBook, AreLent, known_at, is_of_node, tells_of, holds_of, meaning_of}
 use Rattle.shard_lease.specs.declared.leases.Acquire.{Acquire}
 use Rattle.shard_lease.specs.declared.leases.Acquire.TheVariants as acquired
-use Rattle.shard_lease.specs.Meaning.{Known, Meaning, Acquired, Apart, Still, Begins, is_taken, confirms, Serves, Stays, Hands, Refuses, Returns, Released}
+use Rattle.shard_lease.specs.Meaning.{Known, Meaning, Acquired, Claims, found_in, Apart, Still, Begins, is_taken, confirms, Serves, Stays, Hands, Refuses, Returns, Released}
 
 and_both : (a b : Bool) → (a && b) ≡ true → (a ≡ true) × (b ≡ true)
 and_both true b e = (refl, e)
@@ -229,6 +229,11 @@ refuses b who h s is slot_is free there =
     node : (o : Option Store) → IsPlace b.script s o (Some h) → is_node b.script h ≡ true
     node None e = e
     node (Some x) e = absurd e
+
+-- a book tells of each of its slots, so that it makes no claims
+pub no_claims : (v w : Book) (who : Incarnation) (s : Slot) (r : Acquire) → Serves (meaning_of v) who s → Claims (meaning_of v) s r (meaning_of w)
+no_claims v w who s r serves =
+    subst (λ b. MatchOption (if b then Some (known_at v (place_of v.script.config s)) else None) (((meaning_of w).claims ≡ (meaning_of v).claims + 1) × ((meaning_of w).found ≡ found_in r)) (λ k. Unit {0})) (sym serves.slot_is) tt
 
 -- y is the store that was given back, with the entry that frees it
 pub released : (b : Book) (who : Incarnation) (s : Slot) (x y : Store) (why : Cause) → IsBook b → is_slot_of b.script s ≡ true → holds_of b who.node s ≡ true → slot_of x ≡ s

@@ -44,7 +44,7 @@ tells_of b s = if is_slot_of b.script s then Some (known_at b (place_of b.script
 abbrev pub holds_of : Book → ℕ → Slot → Bool
 holds_of b n s = is_slot_of b.script s && is_of_node n (at b.holders (place_of b.script.config s))
 
--- it serves each incarnation of the charter's nodes, admits each of these nodes to each of the charter's slots, vouches for all, and tells of each slot
+-- it serves each incarnation of the charter's nodes, admits each of these nodes to each of the charter's slots, vouches for all, and tells of each slot, so that it makes no claims
 abbrev pub meaning_of : Book → Meaning
 meaning_of b = record {
   name = [];
@@ -57,6 +57,8 @@ meaning_of b = record {
   seen = λ s. [];
   vouches = λ e p n. true;
   tells = tells_of b;
+  claims = 0;
+  found = 0;
 }
 
 -- a store, as it is lent

@@ -32,6 +32,8 @@ pub record Meaning : Type 0 where
   pub seen : Slot → List Fact  -- a beginning of its list that it has seen
   pub vouches : List ℕ → ℕ → ℕ → Bool  -- it has seen the record of this entity, producer and place
   pub tells : Slot → Option Known  -- what it can tell of the slot
+  pub claims : ℕ  -- how many claims it has made, where it can't tell
+  pub found : ℕ  -- the node that its last claim found to hold the slot, 0 where the claim won
 
 -- it serves this incarnation at this slot
 pub record Serves (m : Meaning) (who : Incarnation) (s : Slot) : Type 0 where
@@ -114,6 +116,15 @@ pub record Refuses (old : Meaning) (who : Incarnation) (s : Slot) (h : ℕ) : Ty
 abbrev pub Acquired : Meaning → Incarnation → Slot → Acquire → Meaning → Type 0
 Acquired old who s (answer.Granted x) new = Hands old who s x new × Apart who.node s old new
 Acquired old who s (answer.Held h) new = Refuses old who s h × Still old new
+
+-- the node that was found to hold the slot, 0 where there was none
+abbrev pub found_in : Acquire → ℕ
+found_in (answer.Granted x) = 0
+found_in (answer.Held h) = h
+
+-- where nothing can be told of the slot, this answer is what one claim more has found
+abbrev pub Claims : Meaning → Slot → Acquire → Meaning → Type 0
+Claims old s a new = MatchOption (old.tells s) ((new.claims ≡ old.claims + 1) × (new.found ≡ found_in a)) (λ k. Unit {0})
 
 -- what a release asks of the store
 pub record Returns (m : Meaning) (who : Incarnation) (s : Slot) (x : Store) : Type 0 where

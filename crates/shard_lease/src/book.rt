@@ -1,5 +1,5 @@
 //! The plain form of leases: a book of all slots.
-ghost use Rattle.std.specs.Prelude.{◌≡◌, ℕ, ◌+◌, ◌-◌, ◌<◌, [], ◌∷◌, ◌++◌, false, Some, None, length, replicate, slice_set, is_some, is_none, IfOk, IfSome, IsTrue};
+ghost use Rattle.std.specs.Prelude.{◌≡◌, ℕ, ◌+◌, ◌-◌, ◌<◌, [], ◌∷◌, ◌++◌, false, Some, None, length, replicate, slice_set, is_some, is_none, IfOk, OnOk, OnErr, IfSome, IsTrue};
 ghost use Rattle.yard_model.specs.declared.fact.Fact.TheVariants as fact;
 ghost use Rattle.yard_model.specs.Lawful.{own, is_held};
 ghost use Rattle.yard_model.specs.Words.{at};
@@ -15,6 +15,7 @@ use crate::leases::{Acquire, Leases};
 use shard_store::{Parts, Store, StoreRef, Stores, greatest_of};
 use std::alloc::{AllocError, Global};
 use std::marker::{Model, PhantomData};
+use std::mem;
 use std::snapshot::Snapshot as Ghost;
 use yard_model::{Cause, Charter, Incarnation, Slot};
 
@@ -70,30 +71,36 @@ impl LeaseBook {
         greatest_of(self.places.as_slice(), self.shards)
     }
 
-    /// The book for another number of shards, that of `charter`, which says the same beside it, where
-    /// nobody holds a slot: each shard's list begins anew with the entries of its names. The only error
-    /// is want of memory.
-    pub fn reshape(self, alloc: Global, charter: &Charter) -> Result<LeaseBook, AllocError>
-        requires charter { charter.now ≡ with_shards charter.now.config.shards self.script }
-        requires free { (s : Slot) → IsTrue (is_slot_of self.script s) → at self.holders (place_of self.script.config s) ≡ None }
-        ensures script { IfOk result (λ b. b.script ≡ charter.now) }
-        ensures lists { IfOk result (λ b. lists_at charter.now.config b.places ≡ reshaped (setting self.script) charter.now.config.shards (greatest_epoch (lists_at self.script.config self.places)) (lists_at self.script.config self.places)) }
-        ensures holders { IfOk result (λ b. b.holders ≡ replicate (length b.places) None) }
+    /// The book goes over to another number of shards, that of `charter`, which says the same beside it,
+    /// where nobody holds a slot: each shard's list begins anew with the entries of its names. The only
+    /// error is want of memory, and then nothing changes.
+    pub fn reshape(&mut self, alloc: Global, charter: &Charter) -> Result<(), AllocError>
+        requires charter { charter.now ≡ with_shards charter.now.config.shards self.old.script }
+        requires free { (s : Slot) → IsTrue (is_slot_of self.old.script s) → at self.old.holders (place_of self.old.script.config s) ≡ None }
+        ensures script { OnOk result (self.new.script ≡ charter.now) }
+        ensures lists { OnOk result (lists_at charter.now.config self.new.places ≡ reshaped (setting self.old.script) charter.now.config.shards (greatest_epoch (lists_at self.old.script.config self.old.places)) (lists_at self.old.script.config self.old.places)) }
+        ensures holders { OnOk result (self.new.holders ≡ replicate (length self.new.places) None) }
+        ensures err { OnErr result (self.new ≡ self.old) }
     {
-        let LeaseBook {
-            script,
-            shards,
-            places,
-            holders: _,
-            holds: _,
-        } = self;
+        let script = mem::replace(&mut self.script, Ghost::of(charter));
+        let places = mem::replace(&mut self.places, Vec::new(alloc));
         let stores = Stores::from_parts(Parts {
             script,
-            shards,
+            shards: self.shards,
             places,
         });
-        let stores = stores.reshape(alloc, charter)?;
-        LeaseBook::new(alloc, stores)
+        match book_after(alloc, &stores, charter) {
+            Ok(book) => {
+                *self = book;
+                Ok(())
+            }
+            Err(error) => {
+                let parts = stores.into_parts();
+                self.script = parts.script;
+                self.places = parts.places;
+                Err(error)
+            }
+        }
     }
 
     /// The store of a slot that nobody holds, lent; None exactly where somebody does.
@@ -154,6 +161,19 @@ impl Leases for LeaseBook {
         self.holders[place] = None;
         put_back(&mut self.places, place, store);
     }
+}
+
+/// The book of these stores for another number of shards, that of `charter`, which says the same beside it.
+/// The only error is want of memory.
+fn book_after(alloc: Global, stores: &Stores, charter: &Charter) -> Result<LeaseBook, AllocError>
+    requires charter { charter.now ≡ with_shards charter.now.config.shards stores.now.script }
+    requires free { (k : ℕ) → k < length stores.now.places → is_held (entries_at stores.now.places k) ≡ false }
+    ensures script { IfOk result (λ b. b.script ≡ charter.now) }
+    ensures lists { IfOk result (λ b. lists_at charter.now.config b.places ≡ reshaped (setting stores.now.script) charter.now.config.shards (greatest_epoch (lists_at stores.now.script.config stores.now.places)) (lists_at stores.now.script.config stores.now.places)) }
+    ensures holders { IfOk result (λ b. b.holders ≡ replicate (length b.places) None) }
+{
+    let stores = stores.reshape(alloc, charter)?;
+    LeaseBook::new(alloc, stores)
 }
 
 /// The store, with the lease of the next epoch granted to `who`. Its list is lawful by itself.

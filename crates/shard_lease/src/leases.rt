@@ -21,18 +21,20 @@ pub enum Acquire {
 /// What gives out the leases of the slots, each with the slot's store, and takes them back.
 pub trait Leases {
     ghost use Rattle.std.specs.Prelude.{◌≡◌, false};
-    ghost use Rattle.shard_lease.specs.Meaning.{Meaning, Serves, Stays, Acquired, Returns, Released};
+    ghost use Rattle.shard_lease.specs.Meaning.{Meaning, Serves, Stays, Acquired, Claims, Returns, Released};
 
     ghost meaning: { Self → Meaning };
 
     /// Asks for a slot, for an incarnation that is served and whose node doesn't hold it. Held(h)
     /// only where another node h held it at a step of this call; Granted gives the slot's store with
-    /// the grant as its last entry.
+    /// the grant as its last entry. Where nothing can be told of the slot, the call makes one claim,
+    /// and answers what that found.
     fn acquire(&mut self, who: Incarnation, slot: Slot) -> Acquire
         requires serves { Serves (meaning self.old) who slot }
         requires free { (meaning self.old).holds who.node slot ≡ false }
         ensures stays { Stays (meaning self.old) (meaning self.new) }
-        ensures answer { Acquired (meaning self.old) who slot result (meaning self.new) };
+        ensures answer { Acquired (meaning self.old) who slot result (meaning self.new) }
+        ensures claim { Claims (meaning self.old) slot result (meaning self.new) };
 
     /// Gives a slot back that the node holds: its store, which is leased and extends what is told of
     /// the slot; it gets the entry that frees it.

@@ -1,7 +1,6 @@
 -- The stores of all slots after a change of the number of shards.
 use Rattle.std.proofs.Common.{◌≡◌, ℕ, zero, suc, ◌+◌, ◌-◌, ◌<◌, ◌≤◌, List, length, sym, ap, subst, ◌∙◌, refl, true, false, arith}
-use Rattle.std.specs.Prelude.{Bool, [], ◌∷◌, ◌++◌, ◌==◌, ◌&&◌, nat_lt, nat_le, map, fold, max, slice_set, Option, Some, None, if◌then◌else◌}
-use Rattle.std.proofs.lemmas.List.{get_or-set_other}
+use Rattle.std.specs.Prelude.{Bool, [], ◌∷◌, ◌++◌, ◌==◌, ◌&&◌, nat_lt, nat_le, map, fold, max, Option, Some, None, if◌then◌else◌}
 use Rattle.plain_laws.proofs.Booleans.{and_both, both, number_itself, at_most, below, not_below, is_below}
 use Rattle.yard_model.specs.declared.fact.Fact.{Fact}
 use Rattle.yard_model.specs.declared.fact.Fact.TheVariants as fact
@@ -170,9 +169,6 @@ other_after d c n k old j i x y same it slot_is list_is here after =
     subst (λ u. IsAfter c u (list_at new u) y) (sym (ap (λ (z : Script). slot_at z.config i) same ∙ (ap (slot_at (with_shards n d).config) here ∙ it.slot_is)))
     (subst (λ l. IsAfter c t l y) it.list_is at_it)
 
-pub left_more : (old now new : List (Option Store)) (place : ℕ) → new ≡ slice_set now place None → ((j : ℕ) → place ≤ j → at now j ≡ at old j) → (j : ℕ) → place + 1 ≤ j → at new j ≡ at old j
-left_more old now new place is left j past = ap (λ l. at l j) is ∙ (get_or-set_other now place j None None (λ e. absurd (omega (arith, e, past))) ∙ left j (omega (arith, past)))
-
 -- All slots.
 
 map_numbers : (f g : ℕ → List Fact) (a n : ℕ) → ((i : ℕ) → a ≤ i → i < a + n → f i ≡ g i) → map f (numbers a n) ≡ map g (numbers a n)
@@ -236,17 +232,14 @@ lists_after d c n k old places same homes all =
     let new : SlotLists = reshaped (setting d) n k (lists_at d.config old) in
     ap (λ (y : Script). lists_at y.config places) same ∙ lists_by d n k old places homes (subst (λ (y : Script). AreAll y new places) same all)
 
--- of stores in parts
-pub whole : (x : Shelves) (c d : Script) (old places result : List (Option Store)) (k : ℕ) → d ≡ x.script → old ≡ x.places → k ≡ greatest_epoch (lists_at x.script.config x.places) → c ≡ with_shards c.config.shards x.script → AreHomes d old
-    → AreAll c (reshaped (setting d) c.config.shards k (lists_at d.config old)) places → result ≡ places
+pub whole : (x : Shelves) (c : Script) (places result : List (Option Store)) (k : ℕ) → k ≡ greatest_epoch (lists_at x.script.config x.places) → c ≡ with_shards c.config.shards x.script → AreHomes x.script x.places
+    → AreAll c (next_lists x c.config.shards k) places → result ≡ places
     → lists_at c.config result ≡ reshaped (setting x.script) c.config.shards (greatest_epoch (lists_at x.script.config x.places)) (lists_at x.script.config x.places)
-whole x c d old places result k script_is old_is k_is same homes all is =
+whole x c places result k k_is same homes all is =
     let n : ℕ = c.config.shards in
     ap (lists_at c.config) is
-    ∙ (lists_after d c n k old places (same ∙ ap (with_shards n) (sym script_is)) homes all
-    ∙ (ap (λ (y : Script). reshaped (setting y) n k (lists_at y.config old)) script_is
-    ∙ (ap (λ l. reshaped (setting x.script) n k (lists_at x.script.config l)) old_is
-    ∙ ap (λ m. reshaped (setting x.script) n m (lists_at x.script.config x.places)) k_is)))
+    ∙ (lists_after x.script c n k x.places places same homes all
+    ∙ ap (λ m. reshaped (setting x.script) n m (lists_at x.script.config x.places)) k_is)
 
 -- The shards that come first are at the places of their slots.
 

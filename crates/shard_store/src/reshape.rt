@@ -1,6 +1,7 @@
 //! The stores for another number of shards: each shard's list begins anew with the entries of its names.
-ghost use Rattle.std.specs.Prelude.{◌≡◌, ℕ, ◌+◌, ◌-◌, ◌<◌, ◌≤◌, ◌++◌, true, false, None, filter, length, map, slice_set, IfOk, OnOk, IsTrue};
+ghost use Rattle.std.specs.Prelude.{◌≡◌, ℕ, ◌+◌, ◌<◌, ◌≤◌, [], ◌∷◌, ◌++◌, true, false, None, filter, length, map, slice_set, IfOk, OnOk, IsTrue};
 ghost use Rattle.std.specs.List.{list_all, flat_map};
+ghost use Rattle.yard_model.specs.declared.fact.Fact.TheVariants as fact;
 ghost use Rattle.yard_model.specs.declared.incarnation.Slot.TheVariants as slot;
 ghost use Rattle.yard_model.specs.Entry.{shard_fact};
 ghost use Rattle.yard_model.specs.Era.{entries_of as named_entries, reshaped};
@@ -10,12 +11,11 @@ ghost use Rattle.yard_model.specs.Script.{setting, with_shards};
 ghost use Rattle.yard_model.specs.Setting.{names_of};
 ghost use Rattle.yard_model.specs.SlotLists.{shard_list};
 ghost use Rattle.yard_model.specs.SlotReads.{journal, last_snapshot};
-ghost use Rattle.yard_model.specs.Words.{at};
 ghost use Rattle.yard_model.specs.World.{greatest_epoch};
 ghost use Rattle.shard_store.specs.Planned.{sent_to};
 ghost use Rattle.shard_store.specs.Reshaped.{slot_lists, next_lists, MayGoOver, is_entry_of, AreEach, IsJournalOf, IsLatestOf, IsMarkOf, IsAfter, IsAfterAt, going_on, is_of_shards};
 ghost use Rattle.shard_store.specs.Shelved.{no_journal, no_snapshots, IsJournal, IsLatest};
-ghost use Rattle.shard_store.specs.Stores.{AreHomes, lists_at, slot_at, script_of, slot_of, entries_of, entries_at, spare_of};
+ghost use Rattle.shard_store.specs.Stores.{AreHomes, lists_at, slot_at, script_of, slot_of, entries_of, entries_at};
 
 use crate::list::SlotList;
 use crate::name_table::NameTable;
@@ -23,6 +23,8 @@ use crate::names::Names;
 use crate::shelf::ShardStore;
 use crate::store::Store;
 use crate::stores::{Parts, SPARE, Stores};
+use coordinator_state::CoordStore;
+use durable_queue::QueueStore;
 use entity_journal::Journal;
 use entity_snapshot::Snapshots;
 use remember_store::Remembered;
@@ -34,17 +36,17 @@ impl Stores {
     /// The stores for another number of shards, that of `charter`, which says the same beside it; no
     /// slot is leased. Each shard's list begins anew with the entries of its names. The only error is
     /// want of memory.
-    pub fn reshape(self, alloc: Global, charter: &Charter) -> Result<Stores, AllocError>
-        requires charter { charter.now ≡ with_shards charter.now.config.shards self.script }
-        requires free { (k : ℕ) → k < length self.places → is_held (entries_at self.places k) ≡ false }
+    pub fn reshape(&self, alloc: Global, charter: &Charter) -> Result<Stores, AllocError>
+        requires charter { charter.now ≡ with_shards charter.now.config.shards self.now.script }
+        requires free { (k : ℕ) → k < length self.now.places → is_held (entries_at self.now.places k) ≡ false }
         ensures script { IfOk result (λ s. s.script ≡ charter.now) }
-        ensures lists { IfOk result (λ s. lists_at charter.now.config s.places ≡ reshaped (setting self.script) charter.now.config.shards (greatest_epoch (lists_at self.script.config self.places)) (lists_at self.script.config self.places)) }
+        ensures lists { IfOk result (λ s. lists_at charter.now.config s.places ≡ reshaped (setting self.now.script) charter.now.config.shards (greatest_epoch (lists_at self.now.script.config self.now.places)) (lists_at self.now.script.config self.now.places)) }
         ensures free { IfOk result (λ s. (k : ℕ) → k < length s.places → is_held (entries_at s.places k) ≡ false) }
     {
         let epoch = self.greatest_epoch();
         let shards = charter.config().shards;
-        let places = shards_after(alloc, &self, charter, epoch)?;
-        let places = others_after(alloc, places, self.into_parts(), charter, epoch)?;
+        let places = shards_after(alloc, self, charter, epoch)?;
+        let places = others_after(alloc, places, self, charter, epoch)?;
         Ok(Stores::from_parts(Parts {
             script: Ghost::of(charter),
             shards,
@@ -303,65 +305,69 @@ fn set_mark(marks: &mut Remembered, place: u16, mark: bool)
 fn others_after(
     alloc: Global,
     places: Vec<Option<Store>>,
-    old: Parts,
+    stores: &Stores,
     charter: &Charter,
     epoch: u32,
 ) -> Result<Vec<Option<Store>>, AllocError>
-    requires homes { AreHomes old.script.value old.places.items }
-    requires shards { old.shards ≡ old.script.value.config.shards }
-    requires charter { charter.now ≡ with_shards charter.now.config.shards old.script.value }
-    requires free { (k : ℕ) → k < length old.places.items → is_held (entries_at old.places.items k) ≡ false }
-    requires first { AreEach None (λ k. IsAfterAt charter.now (reshaped (setting old.script.value) charter.now.config.shards epoch (lists_at old.script.value.config old.places.items)) (slot.Shard k)) places.items charter.now.config.shards }
-    ensures { IfOk result (λ all. AreEach None (λ k. IsAfterAt charter.now (reshaped (setting old.script.value) charter.now.config.shards epoch (lists_at old.script.value.config old.places.items)) (slot_at charter.now.config k)) all.items (charter.now.config.shards + charter.now.config.producers + 1)) }
+    requires charter { charter.now ≡ with_shards charter.now.config.shards stores.now.script }
+    requires free { (k : ℕ) → k < length stores.now.places → is_held (entries_at stores.now.places k) ≡ false }
+    requires first { AreEach None (λ k. IsAfterAt charter.now (next_lists stores.now charter.now.config.shards epoch) (slot.Shard k)) places.items charter.now.config.shards }
+    ensures all { IfOk result (λ all. AreEach None (λ k. IsAfterAt charter.now (next_lists stores.now charter.now.config.shards epoch) (slot_at charter.now.config k)) all.items (charter.now.config.shards + charter.now.config.producers + 1)) }
+    ensures homes { AreHomes stores.now.script stores.now.places }
 {
     let mut places = places;
-    let Parts {
-        script: _,
-        shards,
-        places: mut stores,
-    } = old;
-    let first = shards as usize;
+    let first = stores.shards() as usize;
     for place in first..stores.len() {
-        let Some(store) = take_out(&mut stores, place) else {
-            unreachable!()
-        };
-        let store = store_after(alloc, store, charter, epoch)?;
+        let store = store_after(alloc, stores.at_place(place), charter, epoch)?;
         places.push(Some(store))?;
     }
     Ok(places)
 }
 
-/// Takes what stands at a place.
-fn take_out(places: &mut Vec<Option<Store>>, place: usize) -> Option<Store>
-    requires { place < length places.old.items }
-    ensures taken { result ≡ at places.old.items place }
-    ensures places { places.new.items ≡ slice_set places.old.items place None }
-{
-    places[place].take()
-}
-
 /// The store of a slot that isn't a shard's, from here on. The only error is want of memory.
 fn store_after(
     alloc: Global,
-    store: Store,
+    store: &Store,
     charter: &Charter,
     epoch: u32,
 ) -> Result<Store, AllocError>
-    requires charter { charter.now ≡ with_shards charter.now.config.shards (script_of store) }
-    requires shards { (script_of store).config.shards ≤ 128 }
-    requires other { is_of_shards (slot_of store) ≡ false }
-    requires free { is_held (entries_of store) ≡ false }
-    requires spare { 100 ≤ spare_of store }
-    ensures { IfOk result (IsAfter charter.now (slot_of store) (going_on charter.now.config.shards epoch (slot_of store) (entries_of store))) }
+    requires charter { charter.now ≡ with_shards charter.now.config.shards (script_of store.now) }
+    requires shards { (script_of store.now).config.shards ≤ 128 }
+    requires other { is_of_shards (slot_of store.now) ≡ false }
+    requires free { is_held (entries_of store.now) ≡ false }
+    ensures { IfOk result (IsAfter charter.now (slot_of store.now) (going_on charter.now.config.shards epoch (slot_of store.now) (entries_of store.now))) }
 {
     match store {
         Store::Shard(_) => unreachable!(),
-        Store::Coordinator(store) => {
-            let mut store = store;
-            store.reserve(SPARE + 1)?;
-            let store = store.reshard(alloc, charter, epoch)?;
-            Ok(Store::Coordinator(store))
-        }
-        Store::Queue(store) => Ok(Store::Queue(store.reshard(charter))),
+        Store::Coordinator(store) => coordinator_after(alloc, store, charter, epoch),
+        Store::Queue(store) => queue_after(alloc, store, charter),
     }
+}
+
+/// The coordinator's store from here on. The only error is want of memory.
+fn coordinator_after(
+    alloc: Global,
+    store: &CoordStore,
+    charter: &Charter,
+    epoch: u32,
+) -> Result<Store, AllocError>
+    requires charter { charter.now ≡ with_shards charter.now.config.shards store.now.script }
+    requires shards { store.now.script.config.shards ≤ 128 }
+    requires free { is_held store.now.entries ≡ false }
+    ensures { IfOk result (IsAfter charter.now slot.Coordinator (store.now.entries ++ fact.Reshard charter.now.config.shards epoch ∷ [])) }
+{
+    let mut next = store.reshard(alloc, charter, epoch)?;
+    next.reserve(SPARE)?;
+    Ok(Store::Coordinator(next))
+}
+
+/// A queue from here on. The only error is want of memory.
+fn queue_after(alloc: Global, store: &QueueStore, charter: &Charter) -> Result<Store, AllocError>
+    requires charter { charter.now ≡ with_shards charter.now.config.shards store.now.script }
+    requires free { is_held store.now.entries ≡ false }
+    ensures { IfOk result (IsAfter charter.now (slot.Queue store.now.producer) store.now.entries) }
+{
+    let mut next = store.reshard(alloc, charter)?;
+    next.reserve(SPARE)?;
+    Ok(Store::Queue(next))
 }

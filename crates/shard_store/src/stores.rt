@@ -93,6 +93,29 @@ impl Stores {
         store_at(self.places.as_slice(), shard_of(name, self.shards))
     }
 
+    /// How many shards there are; each slot has its store.
+    pub(crate) fn shards(&self) -> u8
+        ensures value { result ≡ self.now.script.config.shards }
+        ensures homes { AreHomes self.now.script self.now.places }
+    {
+        self.shards
+    }
+
+    /// How many slots there are.
+    pub(crate) fn len(&self) -> usize
+        ensures { result ≡ length self.now.places }
+    {
+        self.places.len()
+    }
+
+    /// The store at a place.
+    pub(crate) fn at_place(&self, place: usize) -> &Store
+        requires { place < length self.now.places }
+        ensures { at self.now.places place ≡ Some result.now }
+    {
+        store_in(self.places.as_slice(), place)
+    }
+
     /// The stores of these parts, where each slot has its store.
     pub fn from_parts(parts: Parts) -> Stores
         requires homes { AreHomes parts.script.value parts.places.items }
@@ -274,6 +297,17 @@ fn epoch_of(store: &Option<Store>) -> u32
     match store {
         Some(store) => store.epoch(),
         None => 0,
+    }
+}
+
+/// The store at a place.
+fn store_in(places: &[Option<Store>], place: usize) -> &Store
+    requires { (c : Script) × AreHomes c places.now × (place < length places.now) }
+    ensures { at places.now place ≡ Some result.now }
+{
+    match &places[place] {
+        Some(store) => store,
+        None => unreachable!(),
     }
 }
 

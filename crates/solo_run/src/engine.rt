@@ -2,6 +2,7 @@
 ghost use Rattle.std.specs.Prelude.{◌≡◌, ◌+◌, ◌-◌, ◌<◌, ◌≤◌, ℕ, List, [], ◌∷◌, ◌++◌, length, map, slice_set, slice_index_or, IfOk, OnOk, IsTrue, slice_get, fold};
 ghost use Rattle.std.specs.List.{list_all};
 ghost use Rattle.yard_model.specs.Behaviour.{is_of_kind};
+ghost use Rattle.yard_model.specs.Limits.{most_orders};
 ghost use Rattle.yard_model.specs.Shard.{shard};
 ghost use Rattle.yard_model.specs.Solo.{next_message, after_order, after_line, alone, start};
 ghost use Rattle.yard_model.specs.SlotReads.{journal};
@@ -71,7 +72,7 @@ impl Engine {
         requires posted { self.old.posted ≡ [] }
         requires lists { facts_of self.old.lists.items ≡ map held (numbers 0 self.old.config.shards) }
         requires orders { IsTrue (list_all (λ l. is_order self.old.config l.order) lines.now) }
-        requires fits { length lines.now ≤ 200000 }
+        requires fits { length lines.now ≤ most_orders }
         ensures state { OnOk result (state_of self.old.config self.new.posted (facts_of self.new.lists.items)
             ≡ fold (after_line (bare self.old.config)) (start (bare self.old.config)) lines.now) }
         ensures config { self.new.config ≡ self.old.config }

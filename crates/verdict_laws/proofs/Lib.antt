@@ -1,4 +1,5 @@
 pub mod CutLaws
 pub mod LineLaws
 pub mod MeaningLaws
+pub mod RangeLaws
 pub mod StepLaws

@@ -1,5 +1,5 @@
 -- The lines of facts that may be told: each is heard as its fact.
-use Rattle.std.proofs.Common.{◌≡◌, ℕ, sym, ap, ◌∙◌, refl, true≢false}
+use Rattle.std.proofs.Common.{◌≡◌, ℕ, sym, subst, ap, ◌∙◌, refl, true≢false}
 use Rattle.std.specs.Prelude.{Bool, true, false, List, [], ◌∷◌, ◌++◌, codes, decimal, Option, Some, None, if◌then◌else◌}
 use Rattle.std.proofs.lemmas.List.{append-nil, append_assoc}
 use Rattle.plain_laws.proofs.Booleans.{same_name}
@@ -17,6 +17,7 @@ use Rattle.fact_lines.proofs.NumberLaws.{entity_read}
 use Rattle.fact_lines.proofs.PartLaws.{incarnation_read}
 use Rattle.verdict_laws.specs.Lines.{active_behind, is_end, is_quiet, named_at, named_in, read_as, read_line}
 use Rattle.verdict_laws.specs.Meaning.{IsTold, active_in}
+use Rattle.verdict_laws.proofs.RangeLaws.{read_fits}
 
 -- it isn't passed over
 pub told_loud : (f : Fact) → IsTold f → is_quiet (fact_line f) ≡ false
@@ -117,6 +118,24 @@ read_is l f h = by (fact_at l) h
     by : (o : Option Fact) → read_as l o ≡ Some f → l ≡ fact_line f
     by None e = absurd (none_some e)
     by (Some g) e = same g (is_name (fact_line g) l) refl e
+
+-- and that fact may be told
+pub read_readable : (l : List ℕ) (f : Fact) → read_line l ≡ Some f → IsReadable f
+read_readable l f h = by (fact_at l) refl h
+  where
+    it : (g : Fact) → Some g ≡ Some f → g ≡ f
+    it g e = cc
+
+    none_some : None ≡ Some f → ⊥
+    none_some e = cc
+
+    same : (g : Fact) → fact_at l ≡ Some g → (b : Bool) → (if b then Some g else None) ≡ Some f → IsReadable f
+    same g r true e = subst IsReadable (it g e) (read_fits l g r)
+    same g r false e = absurd (none_some e)
+
+    by : (o : Option Fact) → fact_at l ≡ o → read_as l o ≡ Some f → IsReadable f
+    by None r e = absurd (none_some e)
+    by (Some g) r e = same g r (is_name (fact_line g) l) e
 
 -- who is active, of the line of such a fact
 pub active_there : (x : Incarnation) (e : List ℕ) (m : ℕ) (st : State) → IsTold (fact.Active x e m st) → active_in (active_behind (fact_line (fact.Active x e m st))) ≡ Some (x, e)

@@ -27,7 +27,7 @@ use Rattle.verdict_laws.specs.declared.answer.Step.TheVariants as step
 use Rattle.verdict_laws.specs.Lines.{active_behind, is_long, is_quiet, named_at, read_line}
 use Rattle.verdict_laws.specs.Meaning.{Breaks, IsLine, IsNoFact, IsOther, IsOtherState, IsPassed, IsTold, active_in}
 use Rattle.verdict_laws.specs.Verdict.{active_of, active_step, loud_step, read_step, same_active, seen_step, step_of}
-use Rattle.verdict_laws.proofs.LineLaws.{active_there, line_read, read_is, readable_is_other, told_loud}
+use Rattle.verdict_laws.proofs.LineLaws.{active_there, line_read, read_is, read_readable, readable_is_other, told_loud}
 
 abbrev pub StateLaw : Type 0
 StateLaw = (a b : State) → IsTrue (is_state a b) ↔ (a ≡ b)
@@ -213,7 +213,7 @@ step_unread c before l (inr o) = by_long (is_long l) refl
   where
     by_read : (r : Option Fact) → read_line l ≡ r → read_step c before r ≡ step.NoFact
     by_read None e = refl
-    by_read (Some f) e = absurd (o.no_fact f (read_is l f e))
+    by_read (Some f) e = absurd (o.no_fact f (told_of f (read_readable l f e)) (read_is l f e))
 
     by_word : (a : Option (List ℕ)) → active_in a ≡ None → loud_step c before l a ≡ step.NoFact
     by_word None e = by_read (read_line l) refl

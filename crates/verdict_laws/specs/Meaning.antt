@@ -145,11 +145,11 @@ pub record IsAnsweredBroken (c : Script) (text : List ℕ) (n : ℕ) : Type 0 wh
 abbrev pub BrokenIsAnswered : Type 0
 BrokenIsAnswered = (c : Script) (text : List ℕ) (trace : List Fact) (n : ℕ) (line : List ℕ) → 0 < c.config.shards → HasTrace c trace → TellsUpTo text trace n line → IsUnsafe c trace line → IsAnsweredBroken c text n
 
--- the next line is of no fact, isn't passed over, and doesn't say that an entity is active
+-- the next line is of no fact that may be told, isn't passed over, and doesn't say that an entity is active
 pub record IsOther (line : List ℕ) : Type 0 where
   pub loud : is_quiet line ≡ false
   pub not_active : active_in (active_behind line) ≡ None
-  pub no_fact : (f : Fact) → line ≡ fact_line f → ⊥
+  pub no_fact : (f : Fact) → IsTold f → line ≡ fact_line f → ⊥
 
 abbrev pub UnreadIsAnswered : Type 0
 UnreadIsAnswered = (c : Script) (text : List ℕ) (trace : List Fact) (n : ℕ) (line : List ℕ) → 0 < c.config.shards → HasTrace c trace → TellsUpTo text trace n line → (is_long line ≡ true) ⊎ IsOther line → verdict c text ≡ answer.NoFact n

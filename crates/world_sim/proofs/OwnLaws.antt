@@ -11,7 +11,7 @@ use Rattle.yard_model.specs.declared.charter.Sending.{Sending}
 use Rattle.yard_model.specs.Node.{Node, items_of, turn}
 use Rattle.yard_model.specs.SlotLists.{SlotLists}
 use Rattle.plain_laws.proofs.Booleans.{all_map}
-use Rattle.play_laws.proofs.Tells.{is_no_fail, turn_tells}
+use Rattle.play_laws.proofs.Tells.{is_no_fail, turn_tells, armed_items}
 use Rattle.play_laws.specs.TurnItems.{is_turn_fact, is_turn_item}
 use Rattle.world_sim.specs.Told.{TurnIsOwn, PostsAreOwn, is_own, is_own_item}
 
@@ -33,7 +33,7 @@ by_rules : (sends : List (List Sending)) (lists : SlotLists) (i : Input) (st : N
 by_rules sends lists i st h = all_map is_turn_item is_own_item item_own (items_of (turn sends lists i st)) (turn_tells sends lists i st h)
 
 pub turn_is_own : TurnIsOwn
-turn_is_own sends lists (input.FailWrite e k) st = refl
+turn_is_own sends lists (input.FailWrite e k) st = armed_items (λ is. list_all is_own_item is ≡ true) e k st refl refl
 turn_is_own sends lists (input.Packet p) st = by_rules sends lists (input.Packet p) st refl
 turn_is_own sends lists input.Tick st = by_rules sends lists input.Tick st refl
 turn_is_own sends lists input.Leave st = by_rules sends lists input.Leave st refl
@@ -41,7 +41,7 @@ turn_is_own sends lists (input.Rebalance n) st = by_rules sends lists (input.Reb
 turn_is_own sends lists (input.Produce p) st = by_rules sends lists (input.Produce p) st refl
 turn_is_own sends lists (input.Rest p) st = by_rules sends lists (input.Rest p) st refl
 turn_is_own sends lists (input.Send p) st = by_rules sends lists (input.Send p) st refl
-turn_is_own sends lists (input.Passivate e) st = refl
+turn_is_own sends lists (input.Passivate e) st = by_rules sends lists (input.Passivate e) st refl
 
 pub posts_are_own : PostsAreOwn
 posts_are_own f [] = refl

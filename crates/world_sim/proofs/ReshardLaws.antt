@@ -217,11 +217,9 @@ reshaped_seen keeps n y z w t quiet fits other r =
     }
 
 -- the lists are the code's
-pub relisted : (a b : Book) (s c : Script) (n : ℕ) (lists : SlotLists) → b ≡ a → c ≡ with_shards n s → lists ≡ reshaped (setting b.script) c.config.shards (greatest_epoch (lists_at b.script.config b.places)) (lists_at b.script.config b.places)
+pub relisted : (a : Book) (s c : Script) (n : ℕ) (lists : SlotLists) → c ≡ with_shards n s → lists ≡ reshaped (setting a.script) c.config.shards (greatest_epoch (lists_at a.script.config a.places)) (lists_at a.script.config a.places)
     → lists ≡ reshaped (setting a.script) n (greatest_epoch (lists_at a.script.config a.places)) (lists_at a.script.config a.places)
-relisted a b s c n lists e f g =
-    g ∙ (ap (λ (b : Book). reshaped (setting b.script) c.config.shards (greatest_epoch (lists_at b.script.config b.places)) (lists_at b.script.config b.places)) e
-    ∙ ap (λ (c : Script). reshaped (setting a.script) c.config.shards (greatest_epoch (lists_at a.script.config a.places)) (lists_at a.script.config a.places)) f)
+relisted a s c n lists e f = f ∙ ap (λ (c : Script). reshaped (setting a.script) c.config.shards (greatest_epoch (lists_at a.script.config a.places)) (lists_at a.script.config a.places)) e
 
 pub played_as : (n : ℕ) (q : Step) (y old new : Yard) (before after : List Fact) → y ≡ old → IsPlayed n q y new before after → IsPlayed n q old new before after
 played_as n q y old new before after e s = subst (λ o. IsPlayed n q o new before after) e s

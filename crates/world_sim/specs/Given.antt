@@ -7,6 +7,7 @@ use Rattle.yard_model.specs.declared.incarnation.Slot.{Slot}
 use Rattle.yard_model.specs.Genuine.{is_slot_of}
 use Rattle.yard_model.specs.Lawful.{lawful}
 use Rattle.yard_model.specs.Script.{Script, is_version}
+use Rattle.yard_model.specs.Limits.{number_limit}
 use Rattle.yard_model.specs.SlotLists.{SlotLists}
 use Rattle.yard_model.specs.Trace.{list_at}
 use Rattle.settle_laws.specs.Settles.{IsUnheld}
@@ -18,8 +19,8 @@ pub record Given : Type 0 where
 
 -- an incarnation that was granted the slot, or registered, has a number within the limit
 abbrev pub is_numbered : Fact → Bool
-is_numbered (fact.Granted s n x) = nat_le x.number 4000000000
-is_numbered (fact.Registered x) = nat_le x.number 4000000000
+is_numbered (fact.Granted s n x) = nat_le x.number number_limit
+is_numbered (fact.Registered x) = nat_le x.number number_limit
 is_numbered f = true
 
 -- lawful lists of a script with at most 20,000 orders, of which no slot is held; and a version that it admits

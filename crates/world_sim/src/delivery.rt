@@ -1,5 +1,6 @@
 //! Packets that are delivered.
 ghost use Rattle.std.specs.Prelude.{◌≡◌, ◌<◌, ◌≤◌, length, Some};
+ghost use Rattle.yard_model.specs.Limits.{number_limit};
 ghost use Rattle.yard_model.specs.World.{World, hand_over, deliver, deliver_by, drain, pump};
 ghost use Rattle.wire_packet.specs.Wire.{packet_at};
 ghost use Rattle.world_sim.specs.Stepped.{Stepped};
@@ -90,7 +91,7 @@ impl<B: Behaviour + Copy + Drop> Yard<B> {
         facts: &mut Told<N>,
     ) -> Result<(), AllocError>
         requires world { (w : World) × IsSoundTo (Drains from n) self.old w }
-        requires from { from < 4000000000 }
+        requires from { from < number_limit }
         ensures { Stepped (IsSoundTo (Drains from n)) 0 (drain from n) result self.old self.new facts.old facts.new }
     {
         standing_is_kept();

@@ -13,10 +13,7 @@ use crate::places::is_any_up;
 use crate::scene::Scene;
 use crate::yard::Yard;
 use behaviour_core::Behaviour;
-use shard_lease::LeaseBook;
-use shard_store::Stores;
 use std::alloc::AllocError;
-use std::mem;
 use trace_notes::{Notes, Told};
 use yard_model::Fact;
 
@@ -60,10 +57,7 @@ impl<B: Behaviour + Copy + Drop> Yard<B> {
         standing_is_kept();
         let epoch = self.book.greatest_epoch();
         let charter = self.scene.charter().with_shards(shards)?;
-        let stores = Stores::new(self.alloc, &charter)?;
-        let empty = LeaseBook::new(self.alloc, stores)?;
-        let book = mem::replace(&mut self.book, empty);
-        self.book = book.reshape(self.alloc, &charter)?;
+        self.book.reshape(self.alloc, &charter)?;
         let scene = Scene::new(self.alloc, charter)?;
         facts.push(Fact::Reshard(shards, epoch))?;
         self.scene = scene;

@@ -2,6 +2,7 @@
 ghost use Rattle.std.specs.Prelude.{◌≡◌, ℕ, ◌*◌, ◌-◌, ◌<◌, ◌≤◌, true, nat_lt, map, slice_index_or, sum};
 ghost use Rattle.std.specs.List.{list_any};
 ghost use Rattle.yard_model.specs.Genuine.{is_producer};
+ghost use Rattle.yard_model.specs.Limits.{most_orders, number_limit};
 ghost use Rattle.yard_model.specs.Setting.{producers};
 ghost use Rattle.yard_model.specs.SlotLists.{queue_list};
 ghost use Rattle.yard_model.specs.SlotReads as reads;
@@ -89,7 +90,7 @@ impl<B: Behaviour + Copy + Drop> Yard<B> {
     /// Whether something is left, or a packet above `from` was never delivered.
     pub(crate) fn is_unsettled(&self, from: u32) -> bool
         requires world { (w : World) × IsSound self.now w }
-        requires from { from < 4000000000 }
+        requires from { from < number_limit }
         ensures { (w : World) → IsSound self.now w → result ≡ is_unsettled from w }
     {
         self.is_any_left() || self.mail.has_after(from)
@@ -110,9 +111,9 @@ impl<B: Behaviour + Copy + Drop> Yard<B> {
     /// How many of all ordered sends aren't confirmed.
     fn outstanding_in_all(&self) -> u32
         requires world { (w : World) × IsSound self.now w }
-        requires ordered { (k : ℕ) → slice_index_or self.now.ordered k 0 ≤ 200000 }
+        requires ordered { (k : ℕ) → slice_index_or self.now.ordered k 0 ≤ most_orders }
         ensures sent { (w : World) → IsSound self.now w → result ≡ sum (map (outstanding w) (producers w.set)) }
-        ensures few { result ≤ 200000 * 32 }
+        ensures few { result ≤ most_orders * 32 }
     {
         let count = self.scene.config().producers;
         let mut total = 0;
@@ -128,7 +129,7 @@ impl<B: Behaviour + Copy + Drop> Yard<B> {
     /// The budget of a settle: no drain of it makes so many deliveries, and it not so many ticks.
     pub(crate) fn settle_bound(&self) -> u32
         requires world { (w : World) × IsSound self.now w }
-        requires ordered { (k : ℕ) → slice_index_or self.now.ordered k 0 ≤ 200000 }
+        requires ordered { (k : ℕ) → slice_index_or self.now.ordered k 0 ≤ most_orders }
         ensures { (w : World) → IsSound self.now w → result ≡ settle_bound w }
     {
         let outstanding = self.outstanding_in_all();

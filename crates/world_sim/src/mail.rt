@@ -3,6 +3,7 @@ ghost use Rattle.std.specs.Prelude.{◌≡◌, ◌+◌, ◌-◌, ◌<◌, ◌≤
 ghost use Rattle.std.specs.Borrow.{sem};
 ghost use Rattle.yard_model.specs.declared.fact.Fact.TheVariants as fact;
 ghost use Rattle.yard_model.specs.declared.out.Item.TheVariants as item;
+ghost use Rattle.yard_model.specs.Limits.{number_limit};
 ghost use Rattle.yard_model.specs.Words.{is_empty, numbers};
 ghost use Rattle.yard_model.specs.World.{numbered, wire_limit};
 ghost use Rattle.wire_packet.specs.Wire.{packet_at};
@@ -164,7 +165,7 @@ impl Mail {
     /// The lowest number above `from` whose packet was never delivered; None where there is none.
     /// The search passes over the numbers at the front that were delivered.
     pub fn next_after(&self, from: u32) -> Option<u32>
-        requires { from < 4000000000 }
+        requires { from < number_limit }
         ensures { MatchOption result (filter (nat_lt from) self.now.fresh ≡ []) (λ k. Heads k (filter (nat_lt from) self.now.fresh)) }
     {
         let start = after_run(self.base, self.reached, from);
@@ -174,7 +175,7 @@ impl Mail {
     /// Whether some packet above `from` was never delivered.
     #[tactic(auto, using(crate::proofs::FreshLaws::some_heads))]
     pub fn has_after(&self, from: u32) -> bool
-        requires { from < 4000000000 }
+        requires { from < number_limit }
         ensures { result ≡ not (is_empty (filter (nat_lt from) self.now.fresh)) }
     {
         self.next_after(from).is_some()

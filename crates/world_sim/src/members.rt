@@ -1,22 +1,25 @@
 //! Members: who is up, oldest first.
-ghost use Rattle.std.specs.Prelude.{◌≡◌, ◌+◌, ◌<◌, ◌≤◌, ◌++◌, [], ◌∷◌, length, map, false};
-ghost use Rattle.yard_model.specs.Members.{has_node};
+ghost use Rattle.std.specs.Prelude.{◌≡◌, ◌+◌, ◌<◌, ◌≤◌, ◌++◌, [], ◌∷◌, map};
 ghost use Rattle.world_sim.specs.Steps.{view_item};
 
 use crate::mail::Mail;
+use members_by_age::ByAge;
 use yard_model::{Body, Incarnation, Item, Members, Packet};
 
-/// One member more, of a node that has none.
-pub(crate) fn with(members: &Members, who: Incarnation) -> Members
-    requires other { has_node who.node members.now ≡ false }
-    requires room { length members.now < 16 }
-    ensures { result ≡ members.now ++ who ∷ [] }
+/// A view of these members, of this version, is to be posted to each of them.
+pub(crate) fn post_views(mail: &mut Mail, members: &ByAge, version: u32)
+    requires { 16 ≤ mail.old.spare }
+    ensures items { mail.new.items ≡ mail.old.items ++ map (view_item version members.now) members.now }
+    ensures packets { mail.new.packets ≡ mail.old.packets }
+    ensures fresh { mail.new.fresh ≡ mail.old.fresh }
+    ensures full { mail.new.full ≡ mail.old.full }
 {
-    (*members).with(who)
+    let all = members.members();
+    post_to_all(mail, &all, version);
 }
 
 /// A view of these members, of this version, is to be posted to each of them.
-pub(crate) fn post_views(mail: &mut Mail, members: &Members, version: u32)
+fn post_to_all(mail: &mut Mail, members: &Members, version: u32)
     requires { 16 ≤ mail.old.spare }
     ensures items { mail.new.items ≡ mail.old.items ++ map (view_item version members.now) members.now }
     ensures packets { mail.new.packets ≡ mail.old.packets }

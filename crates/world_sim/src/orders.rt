@@ -1,5 +1,6 @@
 //! The orders of a script.
 ghost use Rattle.std.specs.Prelude.{ℕ, ◌≡◌, ◌<◌, ◌≤◌, IsTrue, slice_index_or};
+ghost use Rattle.yard_model.specs.Limits.{most_orders, number_limit, order_limit};
 ghost use Rattle.yard_model.specs.Script.{is_order};
 ghost use Rattle.yard_model.specs.World.{World, play, play_line};
 ghost use Rattle.play_laws.specs.Played.{is_named};
@@ -24,9 +25,9 @@ impl<B: Behaviour + Copy + Drop> Yard<B> {
         requires world { (w : World) × IsBacked self.old w }
         requires order { IsTrue (is_order self.old.script.config line.now.order) }
         requires named { IsTrue (is_named self.old.script line.now.order) }
-        requires version { self.old.version < 3000000000 }
-        requires ups { (k : ℕ) → slice_index_or self.old.ups k 0 < 3000000000 }
-        requires ordered { (k : ℕ) → slice_index_or self.old.ordered k 0 < 200000 }
+        requires version { self.old.version < order_limit }
+        requires ups { (k : ℕ) → slice_index_or self.old.ups k 0 < order_limit }
+        requires ordered { (k : ℕ) → slice_index_or self.old.ordered k 0 < most_orders }
         ensures { Plays 20 (play_line line.now) result self.old self.new facts.old facts.new }
     {
         facts.push(Fact::At(line.number))?;
@@ -38,7 +39,7 @@ impl<B: Behaviour + Copy + Drop> Yard<B> {
     fn note(&mut self, order: &Order)
         requires world { (w : World) × IsSound self.old w }
         requires order { IsTrue (is_order self.old.script.config order.now) }
-        requires ordered { (k : ℕ) → slice_index_or self.old.ordered k 0 < 4000000000 }
+        requires ordered { (k : ℕ) → slice_index_or self.old.ordered k 0 < number_limit }
         ensures { self.new ≡ noted order.now self.old }
     {
         if let Order::Send(p, _, _) = order {
@@ -51,9 +52,9 @@ impl<B: Behaviour + Copy + Drop> Yard<B> {
         requires world { (w : World) × IsBacked self.old w }
         requires order { IsTrue (is_order self.old.script.config order.now) }
         requires named { IsTrue (is_named self.old.script order.now) }
-        requires version { self.old.version < 3000000000 }
-        requires ups { (k : ℕ) → slice_index_or self.old.ups k 0 < 3000000000 }
-        requires ordered { (k : ℕ) → slice_index_or self.old.ordered k 0 ≤ 200000 }
+        requires version { self.old.version < order_limit }
+        requires ups { (k : ℕ) → slice_index_or self.old.ups k 0 < order_limit }
+        requires ordered { (k : ℕ) → slice_index_or self.old.ordered k 0 ≤ most_orders }
         ensures { Plays 20 (play order.now) result self.old self.new facts.old facts.new }
     {
         standing_is_kept();

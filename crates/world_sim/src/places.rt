@@ -1,6 +1,7 @@
 //! Nodes by their numbers.
 ghost use Rattle.std.specs.Prelude.{◌≡◌, ◌+◌, ◌-◌, ◌<◌, ◌≤◌, length, is_none, is_some, slice_set, slice_index_or, replicate, IfOk, Some, None, if◌then◌else◌};
 ghost use Rattle.std.specs.List.{list_any};
+ghost use Rattle.yard_model.specs.Limits.{number_limit, settle_limit};
 ghost use Rattle.yard_model.specs.Words.{at};
 ghost use Rattle.world_sim.specs.Found.{is_up_in, is_who};
 
@@ -63,7 +64,7 @@ pub(crate) fn put_node<B: Behaviour + Drop>(
 /// The number of the next incarnation of this node.
 pub(crate) fn next_number(ups: &Vec<u32>, n: NodeNo) -> u32
     requires within { n ≤ length ups.now.items }
-    requires fits { slice_index_or ups.now.items (n - 1) 0 < 4100000000 }
+    requires fits { slice_index_or ups.now.items (n - 1) 0 < settle_limit }
     ensures { result ≡ slice_index_or ups.now.items (n - 1) 0 + 1 }
 {
     let place = n.get() as usize - 1;
@@ -121,7 +122,7 @@ pub(crate) fn count_at(counts: &Vec<u32>, p: ProducerNo) -> u32
 /// One more at the place of a producer.
 pub(crate) fn count_one(counts: &mut Vec<u32>, p: ProducerNo)
     requires within { p ≤ length counts.old.items }
-    requires fits { slice_index_or counts.old.items (p - 1) 0 < 4000000000 }
+    requires fits { slice_index_or counts.old.items (p - 1) 0 < number_limit }
     ensures { counts.new.items ≡ slice_set counts.old.items (p - 1) (slice_index_or counts.old.items (p - 1) 0 + 1) }
 {
     let place = p.get() as usize - 1;

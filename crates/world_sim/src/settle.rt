@@ -2,6 +2,7 @@
 ghost use Rattle.std.specs.Prelude.{◌≡◌, ℕ, ◌<◌, ◌≤◌, None, length, slice_index_or};
 ghost use Rattle.yard_model.specs.declared.charter.Order.TheVariants as order;
 ghost use Rattle.yard_model.specs.declared.input.Input.TheVariants as input;
+ghost use Rattle.yard_model.specs.Limits.{most_orders, number_limit, order_limit, settle_limit};
 ghost use Rattle.yard_model.specs.Words.{at};
 ghost use Rattle.yard_model.specs.World.{World, play, tick_while_left, settle_end, wire_limit};
 ghost use Rattle.world_sim.specs.Stepped.{Stepped};
@@ -28,9 +29,9 @@ impl<B: Behaviour + Copy + Drop> Yard<B> {
     /// every queue; and it is given its timer while some send that was ordered isn't confirmed.
     pub(crate) fn settle<N: Notes>(&mut self, facts: &mut Told<N>) -> Result<(), AllocError>
         requires world { (w : World) × IsSoundTo Settles self.old w }
-        requires version { self.old.version < 3000000000 }
-        requires ups { (k : ℕ) → slice_index_or self.old.ups k 0 ≤ 4000000000 }
-        requires ordered { (k : ℕ) → slice_index_or self.old.ordered k 0 ≤ 200000 }
+        requires version { self.old.version < order_limit }
+        requires ups { (k : ℕ) → slice_index_or self.old.ups k 0 ≤ number_limit }
+        requires ordered { (k : ℕ) → slice_index_or self.old.ordered k 0 ≤ most_orders }
         ensures { Stepped (IsSoundTo Settles) 18 (play order.Settle) result self.old self.new facts.old facts.new }
     {
         let from = self.begin();
@@ -57,9 +58,9 @@ impl<B: Behaviour + Copy + Drop> Yard<B> {
         facts: &mut Told<N>,
     ) -> Result<(), AllocError>
         requires world { (w : World) × IsSoundTo (SettlesBy from bound) self.old w }
-        requires from { from < 4000000000 }
-        requires version { self.old.version < 3000000000 }
-        requires ups { (k : ℕ) → slice_index_or self.old.ups k 0 ≤ 4000000000 }
+        requires from { from < number_limit }
+        requires version { self.old.version < order_limit }
+        requires ups { (k : ℕ) → slice_index_or self.old.ups k 0 ≤ number_limit }
         ensures { Stepped (IsSoundTo (SettlesBy from bound)) 18 (settled_by self.old.script from bound) result self.old self.new facts.old facts.new }
     {
         standing_is_kept();
@@ -70,7 +71,7 @@ impl<B: Behaviour + Copy + Drop> Yard<B> {
     /// Every node that is up goes down. Nobody is told.
     fn go_all_down<N: Notes>(&mut self, facts: &mut Told<N>) -> Result<(), AllocError>
         requires world { (w : World) × IsSound self.old w }
-        requires version { self.old.version < 3000000000 }
+        requires version { self.old.version < order_limit }
         ensures { Stepped IsSound 16 (all_down self.old.script) result self.old self.new facts.old facts.new }
     {
         standing_is_kept();
@@ -92,10 +93,10 @@ impl<B: Behaviour + Copy + Drop> Yard<B> {
         facts: &mut Told<N>,
     ) -> Result<(), AllocError>
         requires world { (w : World) × IsSoundTo (ComesUp from bound) self.old w }
-        requires from { from < 4000000000 }
+        requires from { from < number_limit }
         requires down { at self.old.nodes 0 ≡ None }
         requires version { self.old.version < 3999999999 }
-        requires ups { slice_index_or self.old.ups 0 0 < 4100000000 }
+        requires ups { slice_index_or self.old.ups 0 0 < settle_limit }
         ensures { Stepped (IsSoundTo (ComesUp from bound)) 2 (from_up self.old.script from bound) result self.old self.new facts.old facts.new }
     {
         standing_is_kept();
@@ -114,8 +115,8 @@ impl<B: Behaviour + Copy + Drop> Yard<B> {
         facts: &mut Told<N>,
     ) -> Result<(), AllocError>
         requires world { (w : World) × IsSoundTo (Begins from bound) self.old w }
-        requires from { from < 4000000000 }
-        requires version { self.old.version < 4000000000 }
+        requires from { from < number_limit }
+        requires version { self.old.version < number_limit }
         ensures { Stepped (IsSoundTo (Begins from bound)) 1 (from_first self.old.script from bound) result self.old self.new facts.old facts.new }
     {
         standing_is_kept();
@@ -134,8 +135,8 @@ impl<B: Behaviour + Copy + Drop> Yard<B> {
         facts: &mut Told<N>,
     ) -> Result<(), AllocError>
         requires world { (w : World) × IsSoundTo Takes self.old w }
-        requires from { from < 4000000000 }
-        requires version { self.old.version < 4000000000 }
+        requires from { from < number_limit }
+        requires version { self.old.version < number_limit }
         ensures { Stepped (IsSoundTo Takes) 1 (from_taking self.old.script from bound) result self.old self.new facts.old facts.new }
     {
         standing_is_kept();
@@ -173,8 +174,8 @@ impl<B: Behaviour + Copy + Drop> Yard<B> {
         facts: &mut Told<N>,
     ) -> Result<(), AllocError>
         requires world { (w : World) × IsBacked self.old w }
-        requires from { from < 4000000000 }
-        requires version { self.old.version < 4000000000 }
+        requires from { from < number_limit }
+        requires version { self.old.version < number_limit }
         ensures { Stepped IsBacked 1 (from_second from bound) result self.old self.new facts.old facts.new }
     {
         standing_is_kept();
@@ -193,8 +194,8 @@ impl<B: Behaviour + Copy + Drop> Yard<B> {
         facts: &mut Told<N>,
     ) -> Result<(), AllocError>
         requires world { (w : World) × IsBacked self.old w }
-        requires from { from < 4000000000 }
-        requires version { self.old.version < 4000000000 }
+        requires from { from < number_limit }
+        requires version { self.old.version < number_limit }
         ensures { Stepped IsBacked 1 (from_ticks from bound) result self.old self.new facts.old facts.new }
     {
         standing_is_kept();
@@ -214,7 +215,7 @@ impl<B: Behaviour + Copy + Drop> Yard<B> {
         facts: &mut Told<N>,
     ) -> Result<(), AllocError>
         requires world { (w : World) × IsBacked self.old w }
-        requires from { from < 4000000000 }
+        requires from { from < number_limit }
         ensures { Stepped IsBacked 0 (tick_while_left from bound bound) result self.old self.new facts.old facts.new }
     {
         standing_is_kept();
@@ -238,7 +239,7 @@ impl<B: Behaviour + Copy + Drop> Yard<B> {
         facts: &mut Told<N>,
     ) -> Result<(), AllocError>
         requires world { (w : World) × IsBacked self.old w }
-        requires from { from < 4000000000 }
+        requires from { from < number_limit }
         ensures { Stepped IsBacked 0 (ticked from n) result self.old self.new facts.old facts.new }
     {
         standing_is_kept();
@@ -265,8 +266,8 @@ impl<B: Behaviour + Copy + Drop> Yard<B> {
     /// told that all is settled.
     fn settle_end<N: Notes>(&mut self, from: u32, facts: &mut Told<N>) -> Result<(), AllocError>
         requires world { (w : World) × IsSound self.old w }
-        requires from { from < 4000000000 }
-        requires version { self.old.version < 4000000000 }
+        requires from { from < number_limit }
+        requires version { self.old.version < number_limit }
         ensures { Stepped IsSound 1 (settle_end from) result self.old self.new facts.old facts.new }
     {
         if self.is_unsettled(from) {
@@ -278,7 +279,7 @@ impl<B: Behaviour + Copy + Drop> Yard<B> {
     /// Node 1 goes down, and it is told that all is settled.
     fn end_settled<N: Notes>(&mut self, facts: &mut Told<N>) -> Result<(), AllocError>
         requires world { (w : World) × IsSound self.old w }
-        requires version { self.old.version < 4000000000 }
+        requires version { self.old.version < number_limit }
         ensures { Stepped IsSound 1 ended result self.old self.new facts.old facts.new }
     {
         self.go_down(first(), facts)?;

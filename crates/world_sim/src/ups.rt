@@ -1,13 +1,14 @@
 //! Nodes that come up and go down.
 ghost use Rattle.std.specs.Prelude.{◌≡◌, ◌-◌, ◌<◌, true, None, slice_index_or};
 ghost use Rattle.yard_model.specs.Behaviour.{is_in};
+ghost use Rattle.yard_model.specs.Limits.{number_limit, settle_limit};
 ghost use Rattle.yard_model.specs.Words.{at};
 ghost use Rattle.yard_model.specs.World.{World, views, come_up, go_down, up, crash_node};
 ghost use Rattle.world_sim.specs.Stepped.{Stepped};
 ghost use Rattle.world_sim.specs.Steps.{entered};
 ghost use Rattle.world_sim.specs.Yard.{IsSeen, IsFirm, IsSound};
 
-use crate::members::{post_views, with};
+use crate::members::post_views;
 use crate::places::{is_down, next_number, put_node, set_number};
 use crate::turns::end_at;
 use crate::yard::Yard;
@@ -36,8 +37,8 @@ impl<B: Behaviour + Copy + Drop> Yard<B> {
         requires world { (w : World) × IsSound self.old w }
         requires node { is_in 1 self.old.script.config.nodes n ≡ true }
         requires down { at self.old.nodes (n - 1) ≡ None }
-        requires version { self.old.version < 4000000000 }
-        requires ups { slice_index_or self.old.ups (n - 1) 0 < 4100000000 }
+        requires version { self.old.version < number_limit }
+        requires ups { slice_index_or self.old.ups (n - 1) 0 < settle_limit }
         ensures { Stepped IsSound 1 (come_up n) result self.old self.new facts.old facts.new }
     {
         self.enter(n, facts)?;
@@ -50,8 +51,8 @@ impl<B: Behaviour + Copy + Drop> Yard<B> {
         requires world { (w : World) × IsSound self.old w }
         requires node { is_in 1 self.old.script.config.nodes n ≡ true }
         requires down { at self.old.nodes (n - 1) ≡ None }
-        requires version { self.old.version < 4000000000 }
-        requires ups { slice_index_or self.old.ups (n - 1) 0 < 4100000000 }
+        requires version { self.old.version < number_limit }
+        requires ups { slice_index_or self.old.ups (n - 1) 0 < settle_limit }
         ensures { Stepped IsSound 1 (entered n) result self.old self.new facts.old facts.new }
     {
         let number = next_number(&self.ups, n);
@@ -62,7 +63,7 @@ impl<B: Behaviour + Copy + Drop> Yard<B> {
             Err(fault) => return Err(fault),
         };
         facts.push(Fact::Up(*who))?;
-        self.members = with(&self.members, *who);
+        self.members.join(who);
         self.version = version;
         set_number(&mut self.ups, n, number);
         put_node(&mut self.nodes, n, node);
@@ -73,8 +74,8 @@ impl<B: Behaviour + Copy + Drop> Yard<B> {
     pub(crate) fn up<N: Notes>(&mut self, n: NodeNo, facts: &mut Told<N>) -> Result<(), AllocError>
         requires world { (w : World) × IsSound self.old w }
         requires node { is_in 1 self.old.script.config.nodes n ≡ true }
-        requires version { self.old.version < 4000000000 }
-        requires ups { slice_index_or self.old.ups (n - 1) 0 < 4100000000 }
+        requires version { self.old.version < number_limit }
+        requires ups { slice_index_or self.old.ups (n - 1) 0 < settle_limit }
         ensures { Stepped IsSound 1 (up n) result self.old self.new facts.old facts.new }
     {
         if is_down(&self.nodes, n) {
@@ -92,7 +93,7 @@ impl<B: Behaviour + Copy + Drop> Yard<B> {
     ) -> Result<(), AllocError>
         requires world { (w : World) × IsFirm self.old w }
         requires node { is_in 1 self.old.script.config.nodes n ≡ true }
-        requires version { self.old.version < 4000000000 }
+        requires version { self.old.version < number_limit }
         ensures { Stepped IsFirm 1 (go_down n) result self.old self.new facts.old facts.new }
     {
         if is_down(&self.nodes, n) {
@@ -101,7 +102,7 @@ impl<B: Behaviour + Copy + Drop> Yard<B> {
         let _posted = self.mail.len();
         let who = &end_at(&mut self.nodes, n, &mut self.book, &mut self.mail)?;
         facts.push(Fact::Gone(*who))?;
-        self.members = self.members.without(who);
+        self.members.leave(who);
         self.version += 1;
         self.mail.tell_items(facts)
     }
@@ -114,7 +115,7 @@ impl<B: Behaviour + Copy + Drop> Yard<B> {
     ) -> Result<(), AllocError>
         requires world { (w : World) × IsSound self.old w }
         requires node { is_in 1 self.old.script.config.nodes n ≡ true }
-        requires version { self.old.version < 4000000000 }
+        requires version { self.old.version < number_limit }
         ensures { Stepped IsSound 1 (crash_node n) result self.old self.new facts.old facts.new }
     {
         if is_down(&self.nodes, n) {

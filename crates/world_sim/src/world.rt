@@ -18,6 +18,7 @@ use crate::scene::Scene;
 use crate::sent::all_sent;
 use crate::yard::Yard;
 use behaviour_core::Behaviour;
+use members_by_age::ByAge;
 use settle_laws::worlds::{few_orders_fit, given_may_settle, settle_line_settles, stores_settle};
 use shard_lease::LeaseBook;
 use shard_store::Stores;
@@ -25,7 +26,7 @@ use std::alloc::{AllocError, Global};
 use std::marker::{Model, PhantomData};
 use std::snapshot::Snapshot;
 use trace_notes::{Notes, Told};
-use yard_model::{Charter, Line, Members, NodeNo};
+use yard_model::{Charter, Line, NodeNo};
 
 /// All nodes of a script, one step after the other: the members, the packets between them, and the
 /// leases. It begins before the script's first order, or with given stores, which it settles. Seen as
@@ -225,6 +226,7 @@ fn given_yard<B: Behaviour + Copy + Drop>(
     set_number(&mut ups, NodeNo::FIRST, greatest);
     let ordered = all_sent(alloc, &charter)?;
     let mail = Mail::new(alloc, &charter)?;
+    let members = ByAge::new(alloc)?;
     let scene = Scene::new(alloc, charter)?;
     scene.config();
     Ok(Yard {
@@ -233,7 +235,7 @@ fn given_yard<B: Behaviour + Copy + Drop>(
         behaviour,
         book,
         nodes,
-        members: Members::empty(),
+        members,
         version: 0,
         ups,
         ordered,
@@ -271,6 +273,7 @@ fn new_yard<B: Behaviour + Copy + Drop>(
     let ups = zeros(alloc, count)?;
     let ordered = zeros(alloc, producers)?;
     let mail = Mail::new(alloc, &charter)?;
+    let members = ByAge::new(alloc)?;
     let scene = Scene::new(alloc, charter)?;
     scene.config();
     Ok(Yard {
@@ -279,7 +282,7 @@ fn new_yard<B: Behaviour + Copy + Drop>(
         behaviour,
         book,
         nodes,
-        members: Members::empty(),
+        members,
         version: 0,
         ups,
         ordered,

@@ -4,11 +4,12 @@ ghost use Rattle.std.specs.Prelude.{◌≡◌};
 use crate::mail::Mail;
 use crate::scene::Scene;
 use behaviour_core::Behaviour;
+use members_by_age::ByAge;
 use node_core::Node;
 use shard_lease::LeaseBook;
 use std::alloc::Global;
 use std::marker::{Model, PhantomData};
-use yard_model::{Body, Fact, Item, Members, Packet, Slot, State};
+use yard_model::{Body, Fact, Item, Packet, Slot, State};
 
 /// What a world keeps: the nodes that are up, who is a member, the leases, the packets, and how many of
 /// each producer's sends were ordered; the script with the number of shards in force, the behaviour in
@@ -20,7 +21,7 @@ pub(crate) struct Yard<B: Behaviour> {
     pub(crate) behaviour: B,
     pub(crate) book: LeaseBook,
     pub(crate) nodes: Vec<Option<Node<B>>>,
-    pub(crate) members: Members,
+    pub(crate) members: ByAge,
     pub(crate) version: u32,
     pub(crate) ups: Vec<u32>,
     pub(crate) ordered: Vec<u32>,

@@ -29,7 +29,7 @@ returns-clause-seen g c =
     let greatest = c.greatest_number-greatest.ensures version ∙ ap (λ (s : Script). fold number_step 0 (opening_of version (lists_at s.config c.args.stores.places))) c.requires.script in
     seen_given _ c.args.charter.now version (lists_at c.args.charter.now.config c.args.stores.places) c.requires.given.unheld (record {
       script_is = c.in_ok-scene.ensures ∙ same;
-      members_none = c.empty.ensures;
+      members_none = c.in_ok-members.ensures;
       version_none = refl;
       kind_is = c.requires.kind;
       behaviour_is = refl;

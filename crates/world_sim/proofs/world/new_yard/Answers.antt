@@ -25,7 +25,7 @@ returns-clause-seen g c =
     let script = b.script ∙ (c.from_parts.ensures.script ∙ (t.script ∙ c.in_ok-stores.ensures.script)) in
     seen_new _ c.args.charter (record {
       script_is = c.in_ok-scene.ensures;
-      members_none = c.empty.ensures;
+      members_none = c.in_ok-members.ensures;
       version_none = refl;
       ups_none = c.in_ok-ups.ensures ∙ ap (λ k. replicate k 0) (ap (λ f. f.nodes) c.config.ensures.value);
       kind_is = c.at_version-behaviour.ensures.kind ∙ c.requires;

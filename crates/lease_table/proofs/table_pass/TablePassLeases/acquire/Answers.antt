@@ -3,8 +3,9 @@ use Rattle.yard_model.specs.Genuine.{is_slot_of}
 use Rattle.yard_model.specs.Script.{Script}
 use Rattle.shard_store.specs.Stores.{place_of}
 use Rattle.yard_model.specs.Words.{at}
+use Rattle.lease_table.specs.Belongs.{charter_of}
 use Rattle.lease_table.specs.Leasing.{MayAct, Answers}
-use Rattle.lease_table.proofs.Meant.{acquired, acquired_stays, serves_is, free_there, may_act}
+use Rattle.lease_table.proofs.Meant.{acquired, acquired_stays, claims, serves_is, free_there, may_act}
 use Rattle.lease_table.proofs.table_pass.TablePassLeases.acquire.Goals as goal
 
 pub acquire-requires-clause-slot : goal.acquire-requires-clause-slot
@@ -21,6 +22,10 @@ pub returns-clause-answer : goal.returns-clause-answer
 returns-clause-answer c = let p = c.args.self.now in
     acquired p.pass.table c.acquire.new.pass.table p.pass.view c.acquire.new.pass.view p.node c.args.who c.args.slot c.acquire.result p.one c.requires.serves (serves_is p.pass.table p.pass.view p.node c.args.who c.args.slot c.requires.serves)
     (subst (λ (y : Script). Answers p.pass.view c.args.who (place_of y.config c.args.slot) c.acquire.result c.acquire.new.pass.view) (sym p.charter) c.acquire.ensures.answer)
+
+pub returns-clause-claim : goal.returns-clause-claim
+returns-clause-claim c = let p = c.args.self.now in
+    claims p.pass.table c.acquire.new.pass.table p.pass.view c.acquire.new.pass.view p.node c.args.who c.args.slot (place_of (charter_of p.table.now).config c.args.slot) c.acquire.result c.acquire.ensures.answer
 
 pub returns-clause-stays : goal.returns-clause-stays
 returns-clause-stays c = let p = c.args.self.now in acquired_stays p.pass.table c.acquire.new.pass.table p.pass.view c.acquire.new.pass.view p.node c.args.who (place_of (p.pass.view.charter).config c.args.slot) c.acquire.result c.acquire.ensures.table

@@ -1,4 +1,4 @@
-use Rattle.std.proofs.Common.{sym, subst, refl}
+use Rattle.std.proofs.Common.{sym, subst}
 use Rattle.std.specs.Prelude.{Bool}
 use Rattle.yard_model.specs.declared.incarnation.Slot.{Slot}
 use Rattle.yard_model.specs.Node as rules
@@ -14,7 +14,7 @@ use Rattle.yard_model.specs.Region.{leave}
 use Rattle.yard_model.specs.World.{all_sends}
 use Rattle.node_core.proofs.GiveLaws.{region_gave}
 use Rattle.node_core.proofs.ProduceLaws.{sent_gave}
-use Rattle.node_core.proofs.PacketLaws.{leaves_free, rebalanced_gave, silent_gave}
+use Rattle.node_core.proofs.PacketLaws.{leaves_free, rebalanced_gave, ask_gave, armed_gave}
 use Rattle.node_core.proofs.actors.Actors.input.Goals as goal
 
 pub returns-in-Packet-clause-gave : goal.returns-in-Packet-clause-gave
@@ -55,7 +55,7 @@ returns-in-Passivate-clause-gave g c =
     let script : Script = c.args.self.now.script in
     let st : Node = c.args.self.now.state in
     subst (λ (i : Input). (asked : (Slot → Bool)) × Gave script asked (λ lists. rules.turn (all_sends script) lists i st) (moment old st c.args.out.now.items) (moment old c.ask_to_passivate.new.self.state c.ask_to_passivate.new.out.items)) (sym c.in-Passivate.is)
-    (none, silent_gave old c.args.self.now c.ask_to_passivate.new.self _ c.args.out.now c.ask_to_passivate.new.out c.requires.sound refl c.requires.rests c.ask_to_passivate.ensures)
+    (none, ask_gave old c.args.self.now c.ask_to_passivate.new.self c.in-Passivate.entity c.args.out.now c.ask_to_passivate.new.out c.requires.sound c.requires.rests c.ask_to_passivate.ensures)
 
 pub returns-in-FailWrite-clause-gave : goal.returns-in-FailWrite-clause-gave
 returns-in-FailWrite-clause-gave g c =
@@ -63,7 +63,7 @@ returns-in-FailWrite-clause-gave g c =
     let script : Script = c.args.self.now.script in
     let st : Node = c.args.self.now.state in
     subst (λ (i : Input). (asked : (Slot → Bool)) × Gave script asked (λ lists. rules.turn (all_sends script) lists i st) (moment old st c.args.out.now.items) (moment old c.arm.new.self.state c.arm.new.out.items)) (sym c.in-FailWrite.is)
-    (none, silent_gave old c.args.self.now c.arm.new.self _ c.args.out.now c.arm.new.out c.requires.sound refl c.requires.rests c.arm.ensures)
+    (none, armed_gave old c.args.self.now c.arm.new.self c.in-FailWrite.entity c.in-FailWrite.keep c.args.out.now c.arm.new.out c.requires.sound c.requires.rests c.arm.ensures)
 
 pub returns-in-Produce-clause-gave : goal.returns-in-Produce-clause-gave
 returns-in-Produce-clause-gave g c =

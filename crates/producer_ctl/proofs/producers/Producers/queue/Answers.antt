@@ -4,6 +4,7 @@ use Rattle.producer_ctl.specs.Producing.{held}
 use Rattle.producer_ctl.proofs.ProducingLaws.{sent_stands, sent_moved}
 use Rattle.producer_ctl.proofs.PlainLaws.{plain_queueing}
 use Rattle.producer_ctl.proofs.SendLaws.{next_brought, next_there, room_there, written_ready}
+use Rattle.producer_ctl.proofs.WithinLaws.{queueing_within}
 use Rattle.producer_ctl.proofs.producers.Producers.queue.Goals as goal
 
 pub find-place-requires : goal.find-place-requires
@@ -16,7 +17,7 @@ pub queue_in-sends-requires-clause-store : goal.queue_in-sends-requires-clause-s
 queue_in-sends-requires-clause-store c = room_there c.args.p c.self.invariant.0 c.self.view_is c.requires.producer c.place_of-own.ensures c.index_mut.ensures.value c.requires.store
 
 pub invariant_of-self : goal.invariant_of-self
-invariant_of-self c = (sent_stands c.args.p c.find-place.result (queueing c.args.sending.now) (λ st. sym c.find-place.ensures.entity) c.find-place.ensures.place c.self.invariant.0 c.self.view_is c.requires.producer c.place_of-own.ensures c.index_mut.ensures.value c.queue_in-sends.ensures.sent c.pending_of-self-inside.ensures, λ e. written_ready c.place_of-own.result c.self.inside.held.items c.queue_in-sends.new.held c.self.invariant.1 c.is_ready-self-inside.ensures.before c.is_ready-self-inside.ensures.own e)
+invariant_of-self c = (sent_stands c.args.p c.find-place.result (queueing c.args.sending.now) (λ st. sym c.find-place.ensures.entity) (queueing_within c.args.sending.now) c.find-place.ensures.place c.self.invariant.0 c.self.view_is c.requires.producer c.place_of-own.ensures c.index_mut.ensures.value c.queue_in-sends.ensures.sent c.pending_of-self-inside.ensures, λ e. written_ready c.place_of-own.result c.self.inside.held.items c.queue_in-sends.new.held c.self.invariant.1 c.is_ready-self-inside.ensures.before c.is_ready-self-inside.ensures.own e)
 
 pub returns-clause-state : goal.returns-clause-state
 returns-clause-state c = sent_moved c.args.p c.find-place.result (queueing c.args.sending.now) (λ st. sym c.find-place.ensures.entity) (plain_queueing c.args.sending.now) c.find-place.ensures.place c.self.invariant.0 c.self.view_is c.requires.producer c.place_of-own.ensures c.index_mut.ensures.value c.queue_in-sends.ensures.sent c.pending_of-self-inside.ensures

@@ -21,13 +21,13 @@ node-requires-clause-kind g c =
     let r = c.requires.world in
     (subst (λ v. IsSound v r.0) (sym c.self.view_is) r.1).seen_is.kind_is
 
-pub with-self-inside-requires-clause-other : goal.with-self-inside-requires-clause-other
-with-self-inside-requires-clause-other g c =
+pub join-requires-clause-other : goal.join-requires-clause-other
+join-requires-clause-other g c =
     let r = c.requires.world in
     none_of_down _ r.0 c.args.n (subst (λ v. IsSound v r.0) (sym c.self.view_is) r.1) (subst (λ v. at v.nodes (c.args.n - 1) ≡ None) (sym c.self.view_is) c.requires.down)
 
-pub with-self-inside-requires-clause-room : goal.with-self-inside-requires-clause-room
-with-self-inside-requires-clause-room g c =
+pub join-requires-clause-room : goal.join-requires-clause-room
+join-requires-clause-room g c =
     let r = c.requires.world in
     let s = subst (λ v. IsSound v r.0) (sym c.self.view_is) r.1 in
     room_for _ r.0 (record { node = c.args.n; number = c.next_number-number.result }) s (ap (λ v. is_in 1 v.script.config.nodes c.args.n) c.self.view_is ∙ c.requires.node)
@@ -54,7 +54,7 @@ returns g c =
     let who = came_is c.self.inside.ups.items c.args.n c.next_number-number.result c.next_number-number.ensures in
     whole_as IsSound 1 (entered c.args.n) _ c.args.self.now _ _ _ c.self.view_is
     (entered_whole _ _ c.args.n c.in-Ok.node c.args.facts.now c.push.new.self
-    (yard_is _ _ refl refl refl c.put_node.ensures (c.with-self-inside.ensures ∙ ap (λ x. c.self.inside.members ++ x ∷ []) who) refl
+    (yard_is _ _ refl refl refl c.put_node.ensures (c.join.ensures ∙ ap (λ x. c.self.inside.members ++ x ∷ []) who) refl
     (c.set_number.ensures ∙ ap (λ k. slice_set c.self.inside.ups.items (c.args.n - 1) k) c.next_number-number.ensures) refl refl)
     (ap (λ v. is_in 1 v.script.config.nodes c.args.n) c.self.view_is ∙ c.requires.node)
     c.in-Ok.ensures.script

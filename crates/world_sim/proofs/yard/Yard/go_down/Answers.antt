@@ -24,7 +24,7 @@ returns g c =
     let e = c.in_ok-who.ensures in
     step_seen IsFirm 1 (go_down c.args.n) c.tell_items.result _ _ _ _ _ c.self.view_is
     (down_told _ _ c.args.n c.in_ok-who.field-0 c.end_at.new.book mid c.tell_items.new.self c.tell_items.result c.args.facts.now c.push.new.self c.tell_items.new.facts
-    (yard_is _ _ refl refl refl c.end_at.ensures.nodes c.without-self-inside.ensures refl refl refl refl) (node_within c.args.n _ c.requires.node).0 c.len-posted.ensures.fits e.ended c.in_ok-push.ensures.ok
+    (yard_is _ _ refl refl refl c.end_at.ensures.nodes c.leave.ensures refl refl refl refl) (node_within c.args.n _ c.requires.node).0 c.len-posted.ensures.fits e.ended c.in_ok-push.ensures.ok
     (all_told_is c.tell_items.result mid c.tell_items.new.self c.push.new.self c.tell_items.new.facts t.facts t.packets t.fresh t.full t.items) t.told)
 
 pub returns-in_err-who : goal.returns-in_err-who

@@ -3,10 +3,8 @@ use Rattle.std.specs.Prelude.{None, is_some}
 use Rattle.std.specs.List.{list_any}
 use Rattle.yard_model.specs.declared.incarnation.Slot.{Slot}
 use Rattle.yard_model.specs.Genuine.{is_slot_of}
-use Rattle.yard_model.specs.Lawful.{is_held}
 use Rattle.yard_model.specs.Script.{Script, with_shards}
 use Rattle.yard_model.specs.Words.{at}
-use Rattle.shard_lease.specs.Book.{Book}
 use Rattle.shard_store.specs.Stores.{lists_at, place_of}
 use Rattle.world_sim.specs.Steps.{resharded}
 use Rattle.world_sim.specs.Yard.{Yard, IsBacked}
@@ -21,25 +19,15 @@ with_shards-requires-clause-low g c = (node_within c.args.shards 128 c.requires.
 pub with_shards-requires-clause-high : goal.with_shards-requires-clause-high
 with_shards-requires-clause-high g c = (node_within c.args.shards 128 c.requires.shards).1
 
-pub new-requires-2 : goal.new-requires-2
-new-requires-2 g c = λ k h. ap is_held (c.in_ok-stores.ensures.empty k)
-
 pub reshape-requires-clause-free : goal.reshape-requires-clause-free
 reshape-requires-clause-free g c =
-    subst (λ (b : Book). (t : Slot) → is_slot_of b.script t ≡ true → at b.holders (place_of b.script.config t) ≡ None) (sym c.replace-book.ensures.value)
-    (subst (λ (v : Yard). (t : Slot) → is_slot_of v.book.script t ≡ true → at v.book.holders (place_of v.book.script.config t) ≡ None) (sym c.self.view_is) (nobody_holds c.args.self.now c.requires.world.0 c.requires.world.1.sound c.requires.quiet))
+    subst (λ (v : Yard). (t : Slot) → is_slot_of v.book.script t ≡ true → at v.book.holders (place_of v.book.script.config t) ≡ None) (sym c.self.view_is) (nobody_holds c.args.self.now c.requires.world.0 c.requires.world.1.sound c.requires.quiet)
 
 pub returns-in_err-charter : goal.returns-in_err-charter
 returns-in_err-charter g c = plays_err 0 (resharded c.args.shards) c.from_residual.result _ _ _ _ c.from_residual.ensures.0 (cut_none IsBacked (resharded c.args.shards) _ _ _ _ refl refl)
 
-pub returns-in_err-stores : goal.returns-in_err-stores
-returns-in_err-stores g c = plays_err 0 (resharded c.args.shards) c.from_residual-in_err-stores.result _ _ _ _ c.from_residual-in_err-stores.ensures.0 (cut_none IsBacked (resharded c.args.shards) _ _ _ _ refl refl)
-
-pub returns-in_err-empty : goal.returns-in_err-empty
-returns-in_err-empty g c = plays_err 0 (resharded c.args.shards) c.from_residual-in_err-empty.result _ _ _ _ c.from_residual-in_err-empty.ensures.0 (cut_none IsBacked (resharded c.args.shards) _ _ _ _ refl refl)
-
-pub returns-in_err-self-inside : goal.returns-in_err-self-inside
-returns-in_err-self-inside g c = plays_err 0 (resharded c.args.shards) c.from_residual-in_err-self-inside.result _ _ _ _ c.from_residual-in_err-self-inside.ensures.0 (cut_none IsBacked (resharded c.args.shards) _ _ _ _ (ap (λ (v : Yard). v.script) c.self.view_is) refl)
+pub returns-in_err-reshape : goal.returns-in_err-reshape
+returns-in_err-reshape g c = plays_err 0 (resharded c.args.shards) c.from_residual-in_err-reshape.result _ _ _ _ c.from_residual-in_err-reshape.ensures.0 (cut_none IsBacked (resharded c.args.shards) _ _ _ _ (ap (λ (v : Yard). v.script) c.self.view_is) refl)
 
 pub returns-in_err-scene : goal.returns-in_err-scene
 returns-in_err-scene g c = plays_err 0 (resharded c.args.shards) c.from_residual-in_err-scene.result _ _ _ _ c.from_residual-in_err-scene.ensures.0 (cut_none IsBacked (resharded c.args.shards) _ _ _ _ (ap (λ (v : Yard). v.script) c.self.view_is) refl)
@@ -63,8 +51,8 @@ returns g c =
       ups_are = refl;
       ordered_are = refl;
       mail_is = refl;
-      book_is = c.in_ok-self-inside.ensures.script ∙ sym c.in_ok-scene.ensures;
-      holders_none = c.in_ok-self-inside.ensures.holders;
-      lists_are = ap (λ (s : Script). lists_at s.config c.in_ok-self-inside.field-0.places) c.in_ok-scene.ensures ∙ relisted c.self.inside.book c.replace-book.result c.self.inside.scene c.in_ok-charter.charter c.args.shards _ c.replace-book.ensures.value (c.in_ok-charter.ensures ∙ ap (with_shards c.args.shards) c.charter.ensures) c.in_ok-self-inside.ensures.lists;
+      book_is = c.in_ok-reshape.ensures.script ∙ sym c.in_ok-scene.ensures;
+      holders_none = c.in_ok-reshape.ensures.holders;
+      lists_are = ap (λ (s : Script). lists_at s.config c.reshape.new.self.places) c.in_ok-scene.ensures ∙ relisted c.self.inside.book c.self.inside.scene c.in_ok-charter.charter c.args.shards _ (c.in_ok-charter.ensures ∙ ap (with_shards c.args.shards) c.charter.ensures) c.in_ok-reshape.ensures.lists;
     })
     c.in_ok-push.ensures.ok)

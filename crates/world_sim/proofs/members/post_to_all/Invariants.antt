@@ -1,6 +1,6 @@
 use Rattle.std.proofs.Common.{◌≡◌, ◌+◌, ◌≤◌, ◌++◌, length, map, take}
 use Rattle.world_sim.specs.Steps.{view_item}
-use Rattle.world_sim.proofs.members.post_views.Given as goal
+use Rattle.world_sim.proofs.members.post_to_all.Given as goal
 
 abbrev pub invariant-loop-place : goal.invariant-loop-place
 invariant-loop-place l =

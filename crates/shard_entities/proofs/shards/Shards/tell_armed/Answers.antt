@@ -6,7 +6,7 @@ use Rattle.shard_entities.proofs.CountLaws.{stays}
 use Rattle.shard_entities.proofs.LodgedLaws.{cell_read, cell_moved, stands}
 use Rattle.shard_entities.proofs.MoveLaws.{of_arm, keeps_arm}
 use Rattle.shard_entities.proofs.RestlessLaws.{rests_on}
-use Rattle.shard_entities.proofs.shards.Shards.arm.Goals as goal
+use Rattle.shard_entities.proofs.shards.Shards.tell_armed.Goals as goal
 
 pub invariant_of-self : goal.invariant_of-self
 invariant_of-self c = rw (c.arm.ensures c.args.place.now.entity) (record {

@@ -1,0 +1,4 @@
+pub mod LineLaws
+pub mod PlainLaws
+pub mod ReplayLaws
+pub mod SizeLaws

@@ -1,2 +1,5 @@
+mod EntryLaws
 mod LiveLaws
 mod ResultLaws
+mod SlotLaws
+mod TellLaws

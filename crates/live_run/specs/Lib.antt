@@ -1,1 +1,3 @@
 pub mod LiveText
+pub mod Readable
+pub mod Tells

@@ -2,6 +2,8 @@
 //! them stands in `specs/LiveText.antt`.
 #![tactic(auto)]
 
+mod laws;
 mod live;
 
+pub use laws::texts_tell_lists;
 pub use live::live_text;

@@ -74,7 +74,8 @@ def cases_of(program, library):
     logged = Case("log", ["log"], first)
     logged.run(program, library, 0)
     names = "one_command first_command settled_from_sends carts second_version more_shards settle_of_failed_write first_command_json bulk_3".split()
-    names += [name for name in there if there[name][:1] in (["pull"], ["daemon"])][:4]
+    for word in ("pull", "daemon"):
+        names += [name for name in there if there[name][:1] == [word]][:3]
     return [known(name, there[name]) for name in names] + [
         Case("live 50 1", ["live", "50", "1"], LIVE),
         logged,
@@ -87,7 +88,7 @@ def tried(case, program, library, most):
     """How many runs ended which way, and the lines of those that ended otherwise."""
     with tempfile.NamedTemporaryFile() as count:
         case.status, case.text = case.run(program, library, 0, count.name)
-        needed = int(read(count.name))
+        needed = int.from_bytes(read(count.name), "little")
     step = max(1, -(-needed // most))
     counts, others = {"refused": 0, "whole": 0, "otherwise": 0}, []
     for number in range(1, needed + 1, step):

@@ -1,5 +1,5 @@
 -- What is answered in a lawful list fits its line: totals, balances and numbers of items are bounded.
-use Rattle.std.proofs.Common.{◌≡◌, ◌≤◌, ℕ, ◌+◌, ◌-◌, sym, ap, ◌∙◌, refl, subst, arith}
+use Rattle.std.proofs.Common.{◌≡◌, ◌<◌, ◌≤◌, ℕ, ◌+◌, ◌-◌, sym, ap, ◌∙◌, refl, subst, arith}
 use Rattle.std.specs.Prelude.{Bool, true, false, ◌==◌, ◌&&◌, ◌||◌, not, nat_lt, ◌↔◌, List, [], ◌∷◌, ◌++◌, filter, fold, length, map, if◌then◌else◌, IsTrue}
 use Rattle.std.specs.List.{list_any}
 use Rattle.std.proofs.lemmas.List.{length-map}
@@ -137,7 +137,7 @@ cart_stays items (command.AddItem x) h = by (has_item x.item items)
   where
     room : (t : Bool) → nat_lt (length items) most_items ≡ t → Stays (state.Cart false items) (if t then gives (event.ItemAdded x) (length items + 1) else no 3)
     room true q =
-        let l : length items + 1 ≤ 16 = below (length items) most_items q in
+        let l : length items < most_items = below (length items) most_items q in
         let more : length (item_among x items) ≡ length items + 1 = one_more x items in
         led (state.Cart false items) (event.ItemAdded x) (length items + 1) (omega (arith, l)) (omega (arith, l, more))
     room false q = refused (state.Cart false items) 3 (omega arith) h
@@ -184,7 +184,7 @@ decided_stays v (state.Cart false items) k h = cart_stays items k h
 
 -- A lawful list.
 
-pub SameDecision : Type 0
+abbrev pub SameDecision : Type 0
 SameDecision = (a b : Decision) → IsTrue (is_decision a b) ↔ (a ≡ b)
 
 some_in : (p : ℕ → Bool) (xs : List ℕ) → list_any p xs ≡ true → (x : ℕ) × (p x ≡ true)

@@ -1,6 +1,6 @@
 //! The entries of stores: by their types they have numbers that their lines tell. Each call looks at what it is given,
 //! and says so.
-ghost use Rattle.std.specs.Prelude.{◌≡◌, ◌<◌, ◌≤◌, map};
+ghost use Rattle.std.specs.Prelude.{ℕ, ◌<◌, ◌≤◌, map};
 ghost use Rattle.yard_model.specs.declared.incarnation.Slot.TheVariants as slot;
 ghost use Rattle.yard_model.specs.Entry.{shard_fact, coord_fact, queue_fact};
 ghost use Rattle.yard_model.specs.SlotLists.{shard_list, queue_list};

@@ -1,19 +1,17 @@
 -- Entries of bounded types make lists that are read off their text.
-use Rattle.std.proofs.Common.{◌≡◌, ◌<◌, ◌≤◌, ℕ, suc, ◌+◌, ◌^◌, sym, ap, ◌∙◌, refl, subst, arith}
+use Rattle.std.proofs.Common.{◌≡◌, ◌<◌, ℕ, suc, ◌^◌, sym, ◌∙◌, subst, arith}
 use Rattle.std.specs.Prelude.{true, nat_le, List, [], ◌∷◌, length, map, slice_index_or}
 use Rattle.std.proofs.lemmas.List.{length-map}
 use Rattle.plain_laws.proofs.Booleans.{and_both, at_most, below}
 use Rattle.yard_model.specs.declared.fact.Fact.{Fact}
 use Rattle.yard_model.specs.declared.fact.Fact.TheVariants as fact
 use Rattle.yard_model.specs.declared.event.Event.{Event}
-use Rattle.yard_model.specs.declared.event.Reply.{Reply}
 use Rattle.yard_model.specs.declared.packet.Record.{Record}
 use Rattle.yard_model.specs.declared.incarnation.Slot.{Slot}
 use Rattle.yard_model.specs.declared.incarnation.Slot.TheVariants as slot
-use Rattle.yard_model.specs.Genuine.{is_slot_of}
 use Rattle.yard_model.specs.Lawful.{own}
 use Rattle.yard_model.specs.Script.{Script}
-use Rattle.yard_model.specs.SlotLists.{SlotLists, queue_list, shard_list}
+use Rattle.yard_model.specs.SlotLists.{SlotLists, shard_list}
 use Rattle.fact_lines.specs.Readable.{FitEach, FitsEvent, FitsRecord, FitsReply}
 use Rattle.live_run.specs.Readable.{AreReadable, AreTold, IsReadableList, IsTold}
 use Rattle.live_run.specs.Sized.{AreSized, unanswered, without_reply}

@@ -1,5 +1,7 @@
 mod EntryLaws
 mod LiveLaws
+mod ReplyLaws
 mod ResultLaws
+mod SizedLaws
 mod SlotLaws
 mod TellLaws

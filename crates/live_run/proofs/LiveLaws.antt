@@ -30,6 +30,9 @@ use Rattle.trace_text.specs.Slots.{slots_text}
 use Rattle.world_sim.specs.Given.{IsGiven, is_numbered}
 use Rattle.world_sim.specs.Played.{AreSettled}
 use Rattle.live_run.specs.LiveText.{AreLive, LiveText}
+use Rattle.live_run.specs.Sized.{AreSized}
+use Rattle.live_run.proofs.ReplyLaws.{SameDecision}
+use Rattle.live_run.proofs.SizedLaws.{lists_read}
 use Rattle.foldable_laws.proofs.Foldable.{Rules, lists_fold}
 
 -- What threads leave may be settled.
@@ -83,11 +86,14 @@ live_folds c turns s is rules ok live =
     subst (λ (d : Script). is_foldable_in_all (setting c) (lists_at d.config s.places) ≡ true) (sym is) (lists_fold c lists rules ok (each_own c lists (owns_of c lists live.lawful_is).0))
 
 pub live_text : (c : Script) (turns : ℕ) (s : Shelves) (none a b : Bytes) → s.script ≡ c → AreLive c turns (lists_at c.config s.places)
-    → none ≡ [] → a ≡ none ++ slots_text (setting c) (lists_at s.script.config s.places) → b ≡ a ++ report (setting c) (lists_at s.script.config s.places) → LiveText c turns b
-live_text c turns s none a b is live empty first second =
+    → none ≡ [] → a ≡ none ++ slots_text (setting c) (lists_at s.script.config s.places) → b ≡ a ++ report (setting c) (lists_at s.script.config s.places)
+    → SameDecision → AreSized c (lists_at s.script.config s.places) → LiveText c turns b
+live_text c turns s none a b is live empty first second decisions sized =
     let lists : SlotLists = lists_at s.script.config s.places in
+    let there : AreLive c turns lists = subst (λ (d : Script). AreLive c turns (lists_at d.config s.places)) (sym is) live in
     record {
       lists = lists;
-      are_live = subst (λ (d : Script). AreLive c turns (lists_at d.config s.places)) (sym is) live;
+      are_live = there;
+      readable = lists_read c lists decisions (owns_of c lists there.lawful_is).0.shard sized;
       text_is = second ∙ ap (λ x. x ++ report (setting c) lists) (first ∙ ap (λ x. x ++ slots_text (setting c) lists) empty);
     }

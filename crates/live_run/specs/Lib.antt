@@ -1,3 +1,4 @@
 pub mod LiveText
 pub mod Readable
+pub mod Sized
 pub mod Tells

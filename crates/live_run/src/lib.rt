@@ -4,6 +4,7 @@
 
 mod laws;
 mod live;
+mod sized;
 
 pub use laws::texts_tell_lists;
 pub use live::live_text;

@@ -5,6 +5,7 @@ ghost use Rattle.yard_model.specs.Script.{is_version};
 ghost use Rattle.shard_store.specs.Stores.{lists_at};
 ghost use Rattle.live_run.specs.LiveText.{AreLive, LiveText};
 
+use crate::sized::look_at_lists;
 use behaviour_core::Behaviour;
 use behaviour_core::laws::decided_law;
 use behaviour_kinds::{Account, Cart, Counter};
@@ -21,8 +22,9 @@ use yard_model::laws::{command_law, decision_law};
 use yard_model::{Charter, Kind};
 
 /// Runs the nodes of a script, which has at most 20,000 orders, as threads, each for so many turns at most,
-/// and settles what they leave: the text of the lists of all slots and of their report. It may wait. The
-/// only error is want of memory.
+/// and settles what they leave: the text of the lists of all slots and of their report. These are the lists
+/// that a reader reads off the text, since different lists have different texts (`texts_tell_lists`). It may
+/// wait. The only error is want of memory.
 pub fn live_text<R: Threads + Wait + Sync, G: Gate + Sync>(
     rt: &R,
     alloc: Global,
@@ -61,6 +63,7 @@ fn text_of_run<R: Threads + Wait + Sync, B: Behaviour + Copy + Drop + Send + Syn
     decided_law();
     let stores = stores_of_run(rt, alloc, charter, behaviour, turns, seed, gate)?;
     charter.config();
+    look_at_lists(charter, &stores);
     let mut text = Vec::new(alloc);
     push_lists(&mut text, charter, &stores)?;
     push_report(&mut text, charter, &stores)?;

@@ -512,6 +512,10 @@ fn wanted(config: &Config, names: usize) -> u32
     ensures { result ≡ room_for config.now names }
 {
     let pairs = u32::from(config.producers) * names as u32;
-    let pairs = if pairs < MOST_PAIRS { pairs } else { MOST_PAIRS };
+    let pairs = if pairs < MOST_PAIRS {
+        pairs
+    } else {
+        MOST_PAIRS
+    };
     2 * (u32::from(config.buffer) + u32::from(config.window) + pairs) + TURN_ROOM
 }

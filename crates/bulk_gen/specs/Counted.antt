@@ -1,5 +1,5 @@
 -- What a summary keeps of the facts so far.
-use Rattle.std.specs.Prelude.{◌≡◌, ℕ, List, [], ◌∷◌, length, count_by, slice_index_or, if◌then◌else◌}
+use Rattle.std.specs.Prelude.{◌≡◌, ◌<◌, ◌+◌, ℕ, List, [], ◌∷◌, length, count_by, slice_index_or, if◌then◌else◌}
 use Rattle.std.specs.List.{list_any, flat_map, position_or_len}
 use Rattle.std.specs.List.Sorted.{IsStrictlySortedBy}
 use Rattle.std.specs.Ordering.{nat_cmp}
@@ -20,10 +20,15 @@ pub record Sums : Type 0 where
   pub rows : List (List ℕ)  -- in a row that of producer p stands at place p
   pub sum : ℕ
 
--- the names rise, and each has its row
-pub record IsTable (names : List (List ℕ)) (rows : List (List ℕ)) : Type 0 where
+-- the script's names rise, and each of them, and of the others, has its row
+pub record IsTable (names others : List (List ℕ)) (rows : List (List ℕ)) : Type 0 where
   pub sorted : IsStrictlySortedBy (slice_cmp nat_cmp) names
-  pub sized : length rows ≡ length names
+  pub sized : length rows ≡ length names + length others
+
+-- the first place of the name
+pub record IsPlace (names : List (List ℕ)) (e : List ℕ) (k : ℕ) : Type 0 where
+  pub within : k < length names
+  pub first : position_or_len (is_name e) names ≡ k
 
 -- the number of a pair, 0 where there is none
 abbrev pub number_of : Sums → ℕ → List ℕ → ℕ

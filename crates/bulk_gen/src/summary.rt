@@ -46,8 +46,7 @@ impl Summary {
         })
     }
 
-    /// One fact more. The only error is want of memory, or of room for a count, as for a confirmation to a
-    /// name that the script doesn't have; then nothing changes.
+    /// One fact more. The only error is want of memory, or of room for a count; then nothing changes.
     #[inline(always)]
     pub fn note(&mut self, fact: &Fact) -> Result<(), AllocError>
         ensures ok { OnOk result ((facts : List Fact) → IsSummary self.old facts → IsSummary self.new (facts ++ fact.now ∷ [])) }

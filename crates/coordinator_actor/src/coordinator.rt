@@ -28,17 +28,11 @@ use handoff_steps::{Regions, Round, Step};
 use membership_view::View;
 use std::alloc::{AllocError, Global};
 use std::marker::{Model, PhantomData};
+use turn_rooms::{AMPLE_ROOM, TURN_ROOM};
 use yard_model::{
     Body, Charter, Fact, Incarnation, Item, Loads, Out, Packet, ShardNo, ShardSet, Slot, Stamp,
     State,
 };
-
-/// For how many entries a turn may write there is room.
-const ROOM: u32 = 300;
-
-/// For how many there is room where it is made anew, so that many turns may write before it is so
-/// again.
-const AMPLE: u32 = 364;
 
 /// The shard coordinator of a node that holds its slot (Akka 2.6, Cluster Sharding concepts): the
 /// store of the slot, which regions leave, which shards are started, and the round of handoffs that
@@ -120,7 +114,7 @@ impl Coordinator {
         &self.store
     }
 
-    /// Makes the store's spare at least 300 entries, and room for one region more that leaves. The
+    /// Makes the store's spare at least `TURN_ROOM` entries, and room for one region more that leaves. The
     /// only error is want of memory; then its state is as before.
     #[inline(always)]
     pub fn reserve(&mut self) -> Result<(), AllocError>
@@ -142,7 +136,7 @@ impl Coordinator {
         ensures entries { result ≡ true → turn_room ≤ self.now.spare }
         ensures places { result ≡ true → 1 ≤ self.now.places }
     {
-        self.store.spare() >= ROOM && self.quitting.spare() >= 1
+        self.store.spare() >= TURN_ROOM && self.quitting.spare() >= 1
     }
 
     /// The same as `reserve`, where there isn't; with room for some turns more.
@@ -156,7 +150,7 @@ impl Coordinator {
         ensures place { OnOk result (1 ≤ self.new.places) }
     {
         self.quitting.reserve(1)?;
-        self.store.reserve(AMPLE)
+        self.store.reserve(AMPLE_ROOM)
     }
 
     /// Whose coordinator it is.

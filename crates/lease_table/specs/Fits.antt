@@ -11,6 +11,7 @@ use Rattle.yard_model.specs.declared.incarnation.Slot.TheVariants as slot
 use Rattle.yard_model.specs.Behaviour.{is_in}
 use Rattle.yard_model.specs.Genuine.{is_slot_of}
 use Rattle.yard_model.specs.Lawful.{own}
+use Rattle.yard_model.specs.Limits.{number_limit}
 use Rattle.yard_model.specs.Script.{Script, setting}
 use Rattle.yard_model.specs.Setting.{shard_of}
 use Rattle.yard_model.specs.SlotReads.{journal, position}
@@ -23,7 +24,7 @@ slot_count c = c.config.shards + c.config.producers + 1
 
 -- no incarnation has a greater number
 abbrev pub is_within : ℕ → Bool
-is_within n = nat_le n 4000000000
+is_within n = nat_le n number_limit
 
 abbrev pub is_produce : ℕ → ℕ → Order → Bool
 is_produce p n (order.Produce q m) = (q == p) && (m == n)

@@ -5,6 +5,7 @@ use Rattle.yard_model.specs.declared.event.Kind.{Kind}
 use Rattle.yard_model.specs.declared.incarnation.Incarnation.{Incarnation}
 use Rattle.yard_model.specs.Entities.{hosted}
 use Rattle.yard_model.specs.Genuine.{is_node, is_producer}
+use Rattle.yard_model.specs.Limits.{turn_room}
 use Rattle.yard_model.specs.Node.{Node}
 use Rattle.yard_model.specs.Region.{Region}
 use Rattle.yard_model.specs.Script.{Script, IsScript, setting, pairs_in}
@@ -89,8 +90,8 @@ AreSeen view office = IfSome office (λ k. IsTrue (are_viewed view k.state.entri
 pub record IsReady (v : Standing) (spare : ℕ) : Type 0 where
   pub room : 8000 + 5 * v.script.config.buffer + 5 * length (pairs_in v.script.orders) ≤ spare
   pub rooms : (s : ℕ) → (hosted v.state.entities s ≡ None → ⊥) → room_wanted v.script s ≤ slice_index_or v.rooms s 0
-  pub queues : (p : ℕ) → is_producer v.script p ≡ true → (at v.state.producers (p - 1) ≡ None → ⊥) → 300 ≤ slice_index_or v.queues (p - 1) 0
-  pub entries : IfSome v.state.coordinator (λ k. 300 ≤ v.spare)
+  pub queues : (p : ℕ) → is_producer v.script p ≡ true → (at v.state.producers (p - 1) ≡ None → ⊥) → turn_room ≤ slice_index_or v.queues (p - 1) 0
+  pub entries : IfSome v.state.coordinator (λ k. turn_room ≤ v.spare)
   pub places : IfSome v.state.coordinator (λ k. 1 ≤ v.places)
 
 -- the shard is hosted, with room for as many entries as this in its store

@@ -4,6 +4,7 @@ ghost use Rattle.yard_model.specs.declared.incarnation.Slot.TheVariants as slot;
 ghost use Rattle.yard_model.specs.declared.input.Phase.TheVariants as phase;
 ghost use Rattle.yard_model.specs.Entities.{is_in_phase};
 ghost use Rattle.yard_model.specs.Genuine.{is_brought, is_shard, is_producer, is_slot_of};
+ghost use Rattle.yard_model.specs.Limits.{turn_room};
 ghost use Rattle.yard_model.specs.Script.{IsScript, setting};
 ghost use Rattle.yard_model.specs.Words.{at};
 ghost use Rattle.actor_laws.specs.Hands.{held_list};
@@ -20,6 +21,7 @@ use shard_store::StoreRef;
 use std::alloc::{AllocError, Global};
 use std::marker::{Model, PhantomData};
 use std::snapshot::Snapshot;
+use turn_rooms::MOST_POSTED;
 use yard_model::{
     Body, Charter, EntityName, Fact, Incarnation, Out, Packet, ProducerNo, ShardNo, Slot, State,
 };
@@ -88,7 +90,7 @@ impl<B: Behaviour + Drop> Actors<B> {
         ensures items { out.new.items ≡ out.old.items }
         ensures ready { OnOk result (IsReady self.new out.new.spare) }
     {
-        let wanted = 28_000 + 5 * self.buffer as u32;
+        let wanted = MOST_POSTED + 5 * self.buffer as u32;
         out.reserve(wanted)?;
         self.entities.reserve()?;
         self.producers.reserve()?;
@@ -220,7 +222,7 @@ impl<B: Behaviour + Drop> Actors<B> {
 /// leaves. The only error is want of memory.
 fn reserve_office(office: &mut Option<Coordinator>) -> Result<(), AllocError>
     ensures same { IsSameOffice office.old office.new }
-    ensures ready { OnOk result (IfSome office.new (λ k. (300 ≤ k.spare) × (1 ≤ k.places))) }
+    ensures ready { OnOk result (IfSome office.new (λ k. (turn_room ≤ k.spare) × (1 ≤ k.places))) }
 {
     match office {
         Some(coordinator) => coordinator.reserve(),

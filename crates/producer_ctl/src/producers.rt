@@ -35,17 +35,11 @@ use crate::table::Blank;
 use durable_queue::QueueStore;
 use std::alloc::{AllocError, Global};
 use std::marker::{Model, PhantomData};
+use turn_rooms::{AMPLE_ROOM, TURN_ROOM};
 use yard_model::{
     Cause, Charter, EntityName, Fact, Incarnation, Item, Message, Out, ProducerNo, Sending,
     ShardNo, Slot,
 };
-
-/// For how many entries a turn may write to a queue that is held there is room.
-const ROOM: u32 = 300;
-
-/// For how many there is room where it is made anew, so that many turns may write before it is so
-/// again.
-const AMPLE: u32 = 364;
 
 /// Numbers that a producer is still to route.
 #[derive(Clone, Copy)]
@@ -462,7 +456,7 @@ fn is_ready(ready: bool, held: &Vec<Option<Producer>>, own: usize) -> bool
     ensures before { result ≡ true → ready ≡ true }
     ensures own { result ≡ true → IsRoomy (at held.now.items own) }
 {
-    ready && has_room_in(&held[own], ROOM)
+    ready && has_room_in(&held[own], TURN_ROOM)
 }
 
 /// Makes room in each queue that is held, where there wasn't enough in one since it was written to.
@@ -490,7 +484,7 @@ fn reserve_each(held: &mut Vec<Option<Producer>>) -> Result<(), AllocError>
     ensures ok { OnOk result ((i : ℕ) → (at held.old.items i ≡ None → ⊥) → turn_room ≤ room_of (at held.new.items i)) }
 {
     for place in 0..held.len() {
-        reserve_in(&mut held[place], AMPLE)?;
+        reserve_in(&mut held[place], AMPLE_ROOM)?;
     }
     Ok(())
 }

@@ -3,6 +3,7 @@ use Rattle.std.specs.Prelude.{◌≡◌, ℕ, ◌+◌, ◌<◌, ◌≤◌, List,
 use Rattle.std.specs.List.Sorted.{IsStrictlySortedBy}
 use Rattle.std.specs.Ordering.{nat_cmp}
 use Rattle.std.specs.Cmp.Lexicographic.{slice_cmp}
+use Rattle.yard_model.specs.Limits.{most_orders}
 use Rattle.yard_model.specs.declared.fact.Fact.TheVariants as fact
 use Rattle.yard_model.specs.declared.incarnation.Slot.TheVariants as slot
 use Rattle.yard_model.specs.declared.packet.Record.{Record}
@@ -47,4 +48,4 @@ pub record IsNext (v : Lodged) (p : Place) (m : Message) (r : Record) : Type 0 w
   pub applies : are_applicable (folded v.script.config.kind (journal p.entity (entries v.state p.entity))) r.events ≡ true
   pub number_is : r.number ≡ length (journal p.entity (entries v.state p.entity)) + 1
   pub last : last_snapshot p.entity (entries v.state p.entity) < r.number
-  pub few : m.number ≤ 200000
+  pub few : m.number ≤ most_orders

@@ -3,15 +3,16 @@ use Rattle.std.specs.Prelude.{◌≡◌, ◌≢◌, ℕ, ◌+◌, ◌*◌, ◌�
 use Rattle.std.specs.Option.{option_map}
 use Rattle.yard_model.specs.declared.charter.Config.{Config}
 use Rattle.yard_model.specs.Entities.{hosted}
+use Rattle.yard_model.specs.Limits.{turn_room}
 use Rattle.yard_model.specs.Script.{Script, setting}
 use Rattle.yard_model.specs.Setting.{names_of}
 use Rattle.yard_model.specs.Words.{at}
 use Rattle.shard_entities.specs.declared.hosting.Hosting.{Hosting}
 use Rattle.shard_entities.specs.Lodged.{Lodged, HasRoom, room_of}
 
--- of a shard with n names: a record and a snapshot for each message that is kept, stashed or pushed, and 300 entries besides
+-- of a shard with n names: a record and a snapshot for each message that is kept, stashed or pushed, and what a turn may write besides
 abbrev pub room_for : Config → ℕ → ℕ
-room_for k n = 2 * (k.buffer + k.window + min (k.producers * n) 4000) + 300
+room_for k n = 2 * (k.buffer + k.window + min (k.producers * n) 4000) + turn_room
 
 abbrev pub room_wanted : Script → ℕ → ℕ
 room_wanted c s = room_for c.config (length (names_of (setting c) s))

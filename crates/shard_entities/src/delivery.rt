@@ -6,6 +6,7 @@ ghost use Rattle.yard_model.specs.declared.packet.Body.TheVariants as body;
 ghost use Rattle.yard_model.specs.Behaviour.{folded};
 ghost use Rattle.yard_model.specs.Entities.{cell, entries, deliver, deliver_at, stash_message, start_entity, is_in_phase, write, record_of, snapshot_at, ask_more};
 ghost use Rattle.yard_model.specs.Lawful.{may_follow};
+ghost use Rattle.yard_model.specs.Limits.{number_limit};
 ghost use Rattle.yard_model.specs.Move.{told, post};
 ghost use Rattle.yard_model.specs.SlotReads.{journal, position, last_snapshot};
 ghost use Rattle.consumer_ctl.specs.declared.numbers.Seen.{Seen};
@@ -224,7 +225,7 @@ impl Shards {
 
 /// How a number compares with a position; as `see`, for any position.
 fn seen(position: u32, number: u32) -> Seen
-    requires number { number ≤ 4000000000 }
+    requires number { number ≤ number_limit }
     ensures next { (result ≡ Seen.Next) ↔ (number ≡ position + 1) }
     ensures old { (result ≡ Seen.Old) ↔ (number ≤ position) }
     ensures gap { (result ≡ Seen.Gap) ↔ (position + 1 < number) }

@@ -32,6 +32,7 @@ use shard_store::ShardStore;
 use std::alloc::{AllocError, Global};
 use std::marker::{Model, PhantomData};
 use std::snapshot::Snapshot;
+use turn_rooms::{MOST_PAIRS, TURN_ROOM};
 use yard_model::{
     Body, Charter, Command, Config, EntityName, Fact, Incarnation, Keep, Message, Packet, Phase,
     ProducerNo, ShardNo, ShardSet, Slot, Stamp, State,
@@ -511,6 +512,10 @@ fn wanted(config: &Config, names: usize) -> u32
     ensures { result ≡ room_for config.now names }
 {
     let pairs = u32::from(config.producers) * names as u32;
-    let pairs = if pairs < 4000 { pairs } else { 4000 };
-    2 * (u32::from(config.buffer) + u32::from(config.window) + pairs) + 300
+    let pairs = if pairs < MOST_PAIRS {
+        pairs
+    } else {
+        MOST_PAIRS
+    };
+    2 * (u32::from(config.buffer) + u32::from(config.window) + pairs) + TURN_ROOM
 }

@@ -6,6 +6,7 @@ ghost use Rattle.yard_model.specs.declared.input.Phase.TheVariants as phase;
 ghost use Rattle.yard_model.specs.Behaviour.{folded, is_valid};
 ghost use Rattle.yard_model.specs.Entities.{cell, entries, write, record_of, snapshot_at, ask_more};
 ghost use Rattle.yard_model.specs.Lawful.{may_follow};
+ghost use Rattle.yard_model.specs.Limits.{most_orders};
 ghost use Rattle.yard_model.specs.SlotReads.{journal, last_snapshot};
 ghost use Rattle.shard_entities.specs.Delivered.{Stands, IsDelivery, IsNext, standing_of};
 ghost use Rattle.shard_entities.specs.Lodged.{HasRoom, moved, given};
@@ -141,7 +142,7 @@ impl Shards {
         requires delivery { IsPlace self.old.script place.now }
         requires entity { message.now.entity ≡ place.now.entity }
         requires producer { message.now.producer ≤ self.old.script.config.producers }
-        requires few { message.now.number ≤ 200000 }
+        requires few { message.now.number ≤ most_orders }
         requires room { 0 < out.old.spare }
         ensures state { self.new ≡ moved self.old (ask_more message.now message.now.number self.old.state) }
         ensures out { out.new ≡ given out.old (ask_more message.now message.now.number self.old.state) }

@@ -25,16 +25,6 @@ shorter old new begins =
 pub begins_then : (old mid new : Bytes) → Begins old mid → Begins mid new → Begins old new
 begins_then old mid new first second = sym (take-take (length old) (length mid) new (shorter old mid first)) ∙ (ap (take (length old)) second ∙ first)
 
--- one piece more, of which nothing is there without memory
-pub begins_on : {T E : Type 0} (r : Result T E) (old mid new more : Bytes) → Begins old mid → Appends r mid new more → Begins old new
-begins_on (Ok x) old mid new more begins told = begins_then old mid new begins (begins_more mid new more told)
-begins_on (Err y) old mid new more begins told = begins_then old mid new begins (begins_same mid new told)
-
--- the same where some of it may be there
-pub begins_grown : {T E : Type 0} (r : Result T E) (old mid new more : Bytes) → Begins old mid → Grows r mid new more → Begins old new
-begins_grown (Ok x) old mid new more begins told = begins_then old mid new begins (begins_more mid new more told)
-begins_grown (Err y) old mid new more begins told = begins_then old mid new begins told
-
 -- a piece behind a first one
 pub grows_on : {T E : Type 0} (r : Result T E) (old mid new first more : Bytes) → mid ≡ old ++ first → Grows r mid new more → Grows r old new (first ++ more)
 grows_on (Ok x) old mid new first more is told = told ∙ (ap (λ (l : Bytes). l ++ more) is ∙ append_assoc old first more)

@@ -12,7 +12,9 @@ use yard_model::{Charter, Command, ProducerNo, Sending};
 const MOST: usize = 65_536;
 
 /// The commands of a charter's sends: those from one producer to one name stand one behind the other, in
-/// the order of their numbers. Nothing rests on that: a command that is looked up is compared.
+/// the order of their numbers. Where all sends have one command, as all pings of a daemon, it stands as often
+/// as a number asks, once for all producers and names. Nothing rests on that: a command that is looked up is
+/// compared.
 #[derive(Drop)]
 pub(crate) struct Plans {
     commands: Vec<Command>,
@@ -35,6 +37,31 @@ impl Plans {
         charter: &Charter,
         names: &NameIndex,
     ) -> Result<Plans, AllocError> {
+        if let Some(sending) = first_sending(charter) {
+            let most = most_of_all(charter, &sending.command);
+            if most > 0 {
+                return Plans::of_one(alloc, charter, &sending.command, most);
+            }
+        }
+        Plans::of_all(alloc, charter, names)
+    }
+
+    /// So many times one command, for all producers and names. The only error is want of memory.
+    fn of_one(
+        alloc: Global,
+        charter: &Charter,
+        command: &Command,
+        most: u32,
+    ) -> Result<Plans, AllocError> {
+        Ok(Plans {
+            commands: vec![in alloc; *command; most as usize]?,
+            starts: Vec::new(alloc),
+            width: charter.config().producers,
+        })
+    }
+
+    /// Each send's own command, at its place. The only error is want of memory.
+    fn of_all(alloc: Global, charter: &Charter, names: &NameIndex) -> Result<Plans, AllocError> {
         let width = charter.config().producers;
         let mut starts = vec![in alloc; 0u32; names.len().min(MOST) * width as usize]?;
         let pairs = pairs_of(alloc, charter, names)?;
@@ -90,6 +117,44 @@ fn copied(commands: &[Command], place: usize) -> Option<Command>
         Some(command) => Some(*command),
         None => None,
     }
+}
+
+/// The first send of the first producer that has one.
+fn first_sending(charter: &Charter) -> Option<Sending> {
+    for p in 0..charter.config().producers {
+        if let Some(producer) = ProducerNo::new(p + 1) {
+            if let Some(sending) = charter.sends(producer).first() {
+                return Some(*sending);
+            }
+        }
+    }
+    None
+}
+
+/// The greatest number of a send, where all have this command; else 0.
+fn most_of_all(charter: &Charter, command: &Command) -> u32 {
+    let mut most = 0u32;
+    for p in 0..charter.config().producers {
+        if let Some(producer) = ProducerNo::new(p + 1) {
+            match most_of(charter.sends(producer), command) {
+                Some(number) => most = most.max(number),
+                None => return 0,
+            }
+        }
+    }
+    most
+}
+
+/// The greatest number of these sends, where all have this command; 0 where there is none.
+fn most_of(sends: &[Sending], command: &Command) -> Option<u32> {
+    let mut most = 0u32;
+    for sending in sends {
+        if sending.command != *command {
+            return None;
+        }
+        most = most.max(sending.number);
+    }
+    Some(most)
 }
 
 /// Where producer and name of each send stand, one producer after the other. The only error is want of

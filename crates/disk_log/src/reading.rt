@@ -1,5 +1,5 @@
 //! Reading a log.
-ghost use Rattle.std.specs.Prelude.{◌≡◌, ◌≢◌, ℕ, ◌+◌, ◌-◌, ◌<◌, ◌≤◌, ◌^◌, ◌⊎◌, [], length, take, drop, true, false, IsTrue, Err, IfOk, OnOk, IfSome, IfNone, MatchOption, slice_index};
+ghost use Rattle.std.specs.Prelude.{◌≡◌, ◌≢◌, ℕ, ◌+◌, ◌-◌, ◌<◌, ◌≤◌, ◌⊎◌, [], length, take, drop, true, false, IsTrue, Err, IfOk, IfSome, IfNone, MatchOption, slice_index};
 ghost use Rattle.std.specs.Int.{w32, from_be_bytes};
 ghost use Rattle.fact_lines.specs.Entries.{IsNoEntry, IsOther};
 ghost use Rattle.disk_log.specs.Spelled.{Spells, IsDamaged, IsUnfollowed};

@@ -9,6 +9,7 @@ use Rattle.yard_model.specs.declared.incarnation.Slot.TheVariants as slot
 use Rattle.yard_model.specs.Follow.{each_follows}
 use Rattle.yard_model.specs.Genuine.{is_slot_of}
 use Rattle.yard_model.specs.Lawful.{is_held, lawful}
+use Rattle.yard_model.specs.Limits.{number_limit}
 use Rattle.yard_model.specs.Script.{Script, setting}
 use Rattle.yard_model.specs.Setting.{shards, producers}
 use Rattle.yard_model.specs.SlotLists.{SlotLists}
@@ -54,8 +55,8 @@ restored c batches = fold freed (lists_of (setting c) (entries batches)) (slots 
 
 -- an incarnation that was granted a slot, or registered, has a number within the limit
 abbrev pub is_numbered : Fact → Bool
-is_numbered (fact.Granted s n x) = nat_le x.number 4000000000
-is_numbered (fact.Registered x) = nat_le x.number 4000000000
+is_numbered (fact.Granted s n x) = nat_le x.number number_limit
+is_numbered (fact.Registered x) = nat_le x.number number_limit
 is_numbered f = true
 
 -- lists that a run may go on from: lawful, nobody holds a slot, and numbers are within the limit

@@ -1,5 +1,5 @@
 use Rattle.std.proofs.Common.{◌≡◌, ◌-◌, ℕ, length, drop, take, ap, subst, sym, arith}
-use Rattle.std.specs.Prelude.{Bool, false, true, IsTrue}
+use Rattle.std.specs.Prelude.{false, true, IsTrue}
 use Rattle.fact_lines.specs.Entries.{IsOther}
 use Rattle.disk_log.specs.Window.{Ahead, IsAhead, IsSize}
 use Rattle.disk_log.proofs.KeptLaws.{on_ok}

@@ -1,4 +1,4 @@
-use Rattle.std.proofs.Common.{◌∙◌, ◌-◌, List, [], ap, arith, drop, get_or, length, refl, sym, take}
+use Rattle.std.proofs.Common.{◌∙◌, ◌-◌, List, [], ap, arith, drop, length, refl, sym, take}
 use Rattle.std.specs.List.{list_all}
 use Rattle.yard_model.specs.declared.fact.Fact.{Fact}
 use Rattle.fact_lines.specs.Entry.{is_entry}

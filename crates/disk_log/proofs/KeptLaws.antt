@@ -1,6 +1,5 @@
 -- Batches that are kept in one list.
 use Rattle.std.proofs.Common.{◌≡◌, ℕ, zero, suc, ◌-◌, ◌<◌, ◌≤◌, ◌^◌, Bool, List, [], ◌∷◌, ◌++◌, length, take, drop, get_or, refl, sym, ◌∙◌, ap, ap₂, subst, arith, length-append, append_assoc}
-use Rattle.std.specs.Prelude.{Result, Ok, Err, IfOk}
 use Rattle.std.proofs.lemmas.List.{append-nil, drop_at, drop-append-le, get_or_default, length-drop, take_all, take-append-le}
 use Rattle.yard_model.specs.declared.fact.Fact.{Fact}
 use Rattle.disk_log.specs.Spelled.{AreBatches}
@@ -8,11 +7,6 @@ use Rattle.disk_log.specs.Window.{Ahead, Closed, IsAhead, Opened, Passed}
 use Rattle.disk_log.specs.Kept.{AreEnds, AreKept, ClosedMore, OpenedMore, ReadMore, cut}
 use Rattle.disk_log.proofs.ReadLaws.{SoFar, all_read, none_yet, one_more}
 use Rattle.disk_log.proofs.SpellLaws.{are_more}
-
--- what an answer says says something else
-pub on_ok : {X E : Type 0} {P Q : X → Type 0} (r : Result X E) → ((x : X) → P x → Q x) → IfOk r P → IfOk r Q
-on_ok (Ok x) f h = f x h
-on_ok (Err e) f h = tt
 
 pub length-cut : (from : ℕ) (ends : List ℕ) (facts : List Fact) → length (cut from ends facts) ≡ length ends
 length-cut from [] facts = refl

@@ -2,8 +2,7 @@ use Rattle.std.proofs.Common.{◌≡◌, ◌-◌, ℕ, length, drop, take, ap, s
 use Rattle.std.specs.Prelude.{false, true, IsTrue}
 use Rattle.fact_lines.specs.Entries.{IsOther}
 use Rattle.disk_log.specs.Window.{Ahead, IsAhead, IsSize}
-use Rattle.disk_log.proofs.KeptLaws.{on_ok}
-use Rattle.disk_log.proofs.ReadLaws.{batch_read, no_size, other_batch, pass_ahead}
+use Rattle.disk_log.proofs.ReadLaws.{batch_read, no_size, on_ok, other_batch, pass_ahead}
 use Rattle.disk_log.proofs.reading.read_batch.Goals as goal
 
 pub returns-in_default-clause-other : goal.returns-in_default-clause-other

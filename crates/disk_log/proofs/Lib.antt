@@ -9,3 +9,4 @@ pub mod SpellLaws
 pub mod LineLaws
 pub mod ReadLaws
 pub mod GoingLaws
+mod KeptLaws

@@ -1,6 +1,6 @@
 -- Bytes that are read ahead, and what they tell of the disk.
 use Rattle.std.proofs.Common.{◌≡◌, ◌⊎◌, inl, inr, ℕ, ◌+◌, ◌-◌, ◌<◌, ◌≤◌, ◌^◌, Bool, true, List, [], ◌∷◌, ◌++◌, length, take, drop, min, get_or, refl, sym, ◌∙◌, ap, subst, arith, length-append, append_assoc, take-append-drop, length-take-le}
-use Rattle.std.specs.Prelude.{IsTrue, Result, Ok, Err, IfOk, Option, Some, None, MatchOption}
+use Rattle.std.specs.Prelude.{IsTrue, Result, Ok, Err, IfOk}
 use Rattle.std.specs.Int.{w32, to_be_bytes, from_be_bytes}
 use Rattle.std.specs.List.{list_all}
 use Rattle.std.proofs.lemmas.Bool.{cases_lt}
@@ -20,10 +20,9 @@ use Rattle.disk_log.proofs.LineLaws.{no_entry_more}
 use Rattle.disk_log.proofs.SpellLaws.{frame_size, frame_tail, text_of_batch, length-frame}
 
 -- what an answer says says something else
-pub ok_option : {X E : Type 0} {P Q : X → Type 0} {A B : Type 0} (r : Result (Option X) E) → (A → B) → ((x : X) → P x → Q x) → IfOk r (λ o. MatchOption o A P) → IfOk r (λ o. MatchOption o B Q)
-ok_option (Ok None) none some h = none h
-ok_option (Ok (Some x)) none some h = some x h
-ok_option (Err e) none some h = tt
+pub on_ok : {X E : Type 0} {P Q : X → Type 0} (r : Result X E) → ((x : X) → P x → Q x) → IfOk r P → IfOk r Q
+on_ok (Ok x) f h = f x h
+on_ok (Err e) f h = tt
 
 pub untouched_same : (content : List ℕ) (images : Images) → IsUntouched content content images images
 untouched_same content images = record {

@@ -8,3 +8,4 @@ pub mod Replay
 pub mod Spelled
 pub mod Untold
 pub mod Window
+pub mod Kept

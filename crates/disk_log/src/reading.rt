@@ -1,11 +1,12 @@
 //! Reading a log.
-ghost use Rattle.std.specs.Prelude.{◌≡◌, ◌≢◌, ℕ, ◌+◌, ◌-◌, ◌<◌, ◌≤◌, ◌^◌, ◌⊎◌, [], length, take, drop, true, false, IsTrue, Err, IfOk, OnOk, IfSome, IfNone, MatchOption, slice_index};
+ghost use Rattle.std.specs.Prelude.{◌≡◌, ◌≢◌, ℕ, ◌+◌, ◌-◌, ◌<◌, ◌≤◌, ◌⊎◌, [], length, take, drop, true, false, IsTrue, Err, IfOk, IfSome, IfNone, MatchOption, slice_index};
 ghost use Rattle.std.specs.Int.{w32, from_be_bytes};
 ghost use Rattle.fact_lines.specs.Entries.{IsNoEntry, IsOther};
 ghost use Rattle.disk_log.specs.Spelled.{Spells, IsDamaged, IsUnfollowed};
-ghost use Rattle.disk_log.specs.Window.{IsAhead, IsUntouched, IsSize, TookFront, Passed, ReadFacts, ReadBatch, Closed, Opened, IsBadGate};
+ghost use Rattle.disk_log.specs.Window.{IsAhead, IsUntouched, IsSize, TookFront, Passed, Closed, Opened, IsBadGate};
+ghost use Rattle.disk_log.specs.Kept.{AreKept, BatchMore, ClosedMore, OpenedMore, ReadMore, cut};
 
-use crate::batches::Batches;
+use crate::batches::{Batches, note_end};
 use crate::disk::Disk;
 use crate::window::Window;
 use fact_lines::take_entry;
@@ -120,70 +121,68 @@ fn read_entry<D: Disk>(
     Ok(Some(used))
 }
 
-/// The entries of which the next `size` bytes are the lines.
+/// The entries of which the next `size` bytes are the lines, behind those before; whether these are lines of entries.
 fn read_facts<D: Disk>(
-    alloc: Global,
     disk: &mut D,
     window: &mut Window,
     size: u32,
-) -> Result<Option<Facts>, ReadLogFault>
+    line: &mut Vec<u8>,
+    facts: &mut Facts,
+) -> Result<bool, ReadLogFault>
     requires ahead { IsAhead D.tells (D.content disk.old) window.old }
     requires fits { window.old.place + size < window.old.size }
-    ensures found { IfOk result (λ found. MatchOption found
-        (IsTrue D.tells → IsOther (take size (drop window.old.place (D.content disk.old))))
-        (λ facts. ReadFacts D.tells (D.content disk.old) size window.old window.new facts)) }
+    ensures other { IfOk result (λ whole. whole ≡ false → IsTrue D.tells → IsOther (take size (drop window.old.place (D.content disk.old)))) }
+    ensures read { IfOk result (λ whole. whole ≡ true → ReadMore D.tells (D.content disk.old) size window.old window.new facts.old facts.new) }
     ensures untouched { IsUntouched (D.content disk.old) (D.content disk.new) (D.images disk.old) (D.images disk.new) }
     ensures cause { result ≡ Err ReadLogFault.Failed → D.faults disk.old < D.faults disk.new }
     ensures whole { (at : ℕ) → result ≢ Err (ReadLogFault.Damaged at) }
     ensures never_falls { D.faults disk.old ≤ D.faults disk.new }
 {
-    let mut facts = Facts::new(alloc);
-    let mut line = Vec::new(alloc);
     let mut left = size as usize;
     while left > 0 {
-        match read_entry(disk, window, left, &mut line, &mut facts)? {
+        match read_entry(disk, window, left, line, facts)? {
             Some(used) => left -= used,
-            None => return Ok(None),
+            None => return Ok(false),
         }
     }
-    Ok(Some(facts))
+    Ok(true)
 }
 
-/// The entries of the batch behind the gate at the front.
+/// The entries of the batch behind the gate at the front, behind those before; whether there is one.
 fn read_batch<D: Disk>(
-    alloc: Global,
     disk: &mut D,
     window: &mut Window,
-) -> Result<Option<Facts>, ReadLogFault>
+    line: &mut Vec<u8>,
+    facts: &mut Facts,
+) -> Result<bool, ReadLogFault>
     requires ahead { IsAhead D.tells (D.content disk.old) window.old }
     requires filled { IsTrue D.tells → (5 ≤ length window.old.bytes) ⊎ (window.old.size ≤ window.old.place + length window.old.bytes) }
     requires some { 0 < length window.old.bytes }
-    ensures found { IfOk result (λ found. MatchOption found
-        (IsTrue D.tells → IsUnfollowed (drop (window.old.place + 1) (D.content disk.old)))
-        (λ facts. ReadBatch D.tells (D.content disk.old) window.old window.new facts)) }
+    ensures other { IfOk result (λ whole. whole ≡ false → IsTrue D.tells → IsUnfollowed (drop (window.old.place + 1) (D.content disk.old))) }
+    ensures read { IfOk result (λ whole. whole ≡ true → BatchMore D.tells (D.content disk.old) window.old window.new facts.old facts.new) }
     ensures untouched { IsUntouched (D.content disk.old) (D.content disk.new) (D.images disk.old) (D.images disk.new) }
     ensures cause { result ≡ Err ReadLogFault.Failed → D.faults disk.old < D.faults disk.new }
     ensures whole { (at : ℕ) → result ≢ Err (ReadLogFault.Damaged at) }
     ensures never_falls { D.faults disk.old ≤ D.faults disk.new }
 {
     let Some(size) = text_size(window.bytes(), window.left()) else {
-        return Ok(None);
+        return Ok(false);
     };
     window.pass(HEAD);
-    read_facts(alloc, disk, window, size)
+    read_facts(disk, window, size, line, facts)
 }
 
-/// One batch more, where the gate at the front is open; whether it is.
-fn read_next<D: Disk>(
-    alloc: Global,
+/// The entries of one batch more, where the gate at the front is open; whether it is.
+fn read_gated<D: Disk>(
     disk: &mut D,
     window: &mut Window,
-    batches: &mut Batches,
+    line: &mut Vec<u8>,
+    facts: &mut Facts,
 ) -> Result<bool, ReadLogFault>
     requires ahead { IsAhead D.tells (D.content disk.old) window.old }
     requires there { window.old.place < window.old.size }
-    ensures closed { IfOk result (λ more. more ≡ false → Closed D.tells (D.content disk.old) window.old batches.old batches.new) }
-    ensures open { IfOk result (λ more. more ≡ true → Opened D.tells (D.content disk.old) window.old window.new batches.old batches.new) }
+    ensures closed { IfOk result (λ more. more ≡ false → ClosedMore D.tells (D.content disk.old) window.old facts.old facts.new) }
+    ensures open { IfOk result (λ more. more ≡ true → OpenedMore D.tells (D.content disk.old) window.old window.new facts.old facts.new) }
     ensures damaged { (at : ℕ) → result ≡ Err (ReadLogFault.Damaged at) → IsTrue D.tells →
         IsBadGate (D.content disk.old) window.old.place at }
     ensures untouched { IsUntouched (D.content disk.old) (D.content disk.new) (D.images disk.old) (D.images disk.new) }
@@ -198,10 +197,37 @@ fn read_next<D: Disk>(
     if gate == 0 {
         return Ok(false);
     }
-    let Some(facts) = read_batch(alloc, disk, window)? else {
+    if !read_batch(disk, window, line, facts)? {
         return Err(ReadLogFault::Damaged { at });
-    };
-    batches.push(facts)?;
+    }
+    Ok(true)
+}
+
+/// One batch more, where the gate at the front is open; whether it is.
+fn read_next<D: Disk>(
+    disk: &mut D,
+    window: &mut Window,
+    line: &mut Vec<u8>,
+    facts: &mut Facts,
+    ends: &mut Vec<usize>,
+) -> Result<bool, ReadLogFault>
+    requires ahead { IsAhead D.tells (D.content disk.old) window.old }
+    requires there { window.old.place < window.old.size }
+    requires kept { AreKept ends.old.items facts.old }
+    ensures kept { IfOk result (λ more. AreKept ends.new.items facts.new) }
+    ensures closed { IfOk result (λ more. more ≡ false → Closed D.tells (D.content disk.old) window.old (cut 0 ends.old.items facts.old) (cut 0 ends.new.items facts.new)) }
+    ensures open { IfOk result (λ more. more ≡ true → Opened D.tells (D.content disk.old) window.old window.new (cut 0 ends.old.items facts.old) (cut 0 ends.new.items facts.new)) }
+    ensures damaged { (at : ℕ) → result ≡ Err (ReadLogFault.Damaged at) → IsTrue D.tells →
+        IsBadGate (D.content disk.old) window.old.place at }
+    ensures untouched { IsUntouched (D.content disk.old) (D.content disk.new) (D.images disk.old) (D.images disk.new) }
+    ensures cause { result ≡ Err ReadLogFault.Failed → D.faults disk.old < D.faults disk.new }
+    ensures never_falls { D.faults disk.old ≤ D.faults disk.new }
+{
+    let more = read_gated(disk, window, line, facts)?;
+    if !more {
+        return Ok(false);
+    }
+    note_end(ends, facts.as_slice().len())?;
     Ok(true)
 }
 
@@ -216,28 +242,25 @@ fn first_of(bytes: &[u8]) -> Option<u8>
     }
 }
 
-/// Reads all batches of an image of two bytes or more, to an empty list.
-fn read_batches<D: Disk>(
-    alloc: Global,
-    disk: &mut D,
-    size: u64,
-    batches: &mut Batches,
-) -> Result<(), ReadLogFault>
+/// Reads all batches of an image of two bytes or more.
+fn read_batches<D: Disk>(alloc: Global, disk: &mut D, size: u64) -> Result<Batches, ReadLogFault>
     requires long { 1 < size }
     requires size { IsTrue D.tells → size ≡ length (D.content disk.old) }
-    requires none { batches.old ≡ [] }
-    ensures spelled { OnOk result (IsTrue D.tells → Spells (D.content disk.old) batches.new) }
+    ensures spelled { IfOk result (λ batches. IsTrue D.tells → Spells (D.content disk.old) batches) }
     ensures damaged { (at : ℕ) → result ≡ Err (ReadLogFault.Damaged at) → IsTrue D.tells → IsDamaged (D.content disk.old) at }
     ensures untouched { IsUntouched (D.content disk.old) (D.content disk.new) (D.images disk.old) (D.images disk.new) }
     ensures cause { result ≡ Err ReadLogFault.Failed → D.faults disk.old < D.faults disk.new }
     ensures never_falls { D.faults disk.old ≤ D.faults disk.new }
 {
     let mut window = Window::new(alloc, size)?;
+    let mut line = Vec::new(alloc);
+    let mut facts = Facts::new(alloc);
+    let mut ends = Vec::new(alloc);
     let mut more = true;
     while more {
-        more = read_next(alloc, disk, &mut window, batches)?;
+        more = read_next(disk, &mut window, &mut line, &mut facts, &mut ends)?;
     }
-    Ok(())
+    Ok(Batches::of(facts, ends))
 }
 
 /// Reads a log: the batches that the image spells. Nothing is written.
@@ -251,10 +274,8 @@ pub fn read_log<D: Disk>(alloc: Global, disk: &mut D) -> Result<Batches, ReadLog
     ensures never_falls { D.faults disk.old ≤ D.faults disk.new }
 {
     let size = disk.size()?;
-    let mut batches = Batches::new(alloc);
     if size <= 1 {
-        return Ok(batches);
+        return Ok(Batches::new(alloc));
     }
-    read_batches(alloc, disk, size, &mut batches)?;
-    Ok(batches)
+    read_batches(alloc, disk, size)
 }

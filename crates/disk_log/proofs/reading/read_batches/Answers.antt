@@ -1,6 +1,8 @@
-use Rattle.std.proofs.Common.{arith}
+use Rattle.std.proofs.Common.{ap, arith}
 use Rattle.std.proofs.lemmas.Result.{err_from_is_err_and}
+use Rattle.disk_log.specs.Kept.{cut}
 use Rattle.disk_log.proofs.GoingLaws.{begun_with, breaks, falls, stepped}
+use Rattle.disk_log.proofs.KeptLaws.{none_kept}
 use Rattle.disk_log.proofs.ReadLaws.{untouched_same, untouched_then}
 use Rattle.disk_log.proofs.reading.read_batches.Goals as goal
 
@@ -9,20 +11,22 @@ returns-in_err-window-clause-untouched g c = untouched_same _ _
 
 pub loop-more-preserved : goal.loop-more-preserved
 loop-more-preserved g c = record {
-  going = stepped g.D.Disk.tells (g.D.Disk.content c.args.disk.now) (g.D.Disk.content c.loop-more.disk) c.loop-more.window c.loop-more.batches c.loop-more.more c.loop-more.invariant.going c.loop-more-test.true
-      c.loop-more.invariant.untouched.bytes c.read_next.new.window c.read_next.new.batches c.in_ok-more.more c.in_ok-more.ensures.open c.in_ok-more.ensures.closed;
+  going = stepped g.D.Disk.tells (g.D.Disk.content c.args.disk.now) (g.D.Disk.content c.loop-more.disk) c.loop-more.window (cut 0 c.loop-more.ends.items c.loop-more.facts) c.loop-more.more c.loop-more.invariant.going c.loop-more-test.true
+      c.loop-more.invariant.untouched.bytes c.read_next.new.window (cut 0 c.read_next.new.ends.items c.read_next.new.facts) c.in_ok-more.more c.in_ok-more.ensures.open c.in_ok-more.ensures.closed;
+  kept = c.in_ok-more.ensures.kept;
   untouched = untouched_then _ _ _ _ _ _ c.loop-more.invariant.untouched c.read_next.ensures.untouched;
   faults = omega (arith, c.loop-more.invariant.faults, c.read_next.ensures.never_falls);
 }
 
 pub loop-more-smaller : goal.loop-more-smaller
 loop-more-smaller g c =
-    falls g.D.Disk.tells (g.D.Disk.content c.args.disk.now) (g.D.Disk.content c.loop-more.disk) c.loop-more.window c.loop-more.batches c.loop-more.more c.loop-more.invariant.going c.loop-more-test.true
-    c.loop-more.invariant.untouched.bytes c.read_next.new.window c.read_next.new.batches c.in_ok-more.more c.in_ok-more.ensures.open
+    falls g.D.Disk.tells (g.D.Disk.content c.args.disk.now) (g.D.Disk.content c.loop-more.disk) c.loop-more.window (cut 0 c.loop-more.ends.items c.loop-more.facts) c.loop-more.more c.loop-more.invariant.going c.loop-more-test.true
+    c.loop-more.invariant.untouched.bytes c.read_next.new.window (cut 0 c.read_next.new.ends.items c.read_next.new.facts) c.in_ok-more.more c.in_ok-more.ensures.open
 
 pub loop-more-init : goal.loop-more-init
 loop-more-init g c = record {
-  going = begun_with g.D.Disk.tells (g.D.Disk.content c.args.disk.now) c.args.size c.in_ok-window.window c.args.batches.now c.requires.long c.requires.size c.in_ok-window.ensures c.requires.none;
+  going = begun_with g.D.Disk.tells (g.D.Disk.content c.args.disk.now) c.args.size c.in_ok-window.window _ c.requires.long c.requires.size c.in_ok-window.ensures (ap (λ es. cut 0 es c.new-facts.result) c.new-ends.ensures.items);
+  kept = none_kept _ _ c.new-ends.ensures.items c.new-facts.ensures;
   untouched = untouched_same _ _;
   faults = omega arith;
 }
@@ -32,5 +36,5 @@ returns-in_err-more-clause-damaged g c at is told =
     let p = err_from_is_err_and c.from_residual-in_err-more.result c.from_residual-in_err-more.ensures.1 in
     let one = p.1 in
     let two = p.2 in
-    breaks g.D.Disk.tells (g.D.Disk.content c.args.disk.now) (g.D.Disk.content c.loop-more.disk) c.loop-more.window c.loop-more.batches c.loop-more.more c.loop-more.invariant.going c.loop-more-test.true
+    breaks g.D.Disk.tells (g.D.Disk.content c.args.disk.now) (g.D.Disk.content c.loop-more.disk) c.loop-more.window (cut 0 c.loop-more.ends.items c.loop-more.facts) c.loop-more.more c.loop-more.invariant.going c.loop-more-test.true
     c.loop-more.invariant.untouched.bytes at told (omega (arith, c.requires.long, c.requires.size told)) (c.in_err-more.ensures.damaged at (cc) told)

@@ -84,7 +84,7 @@ all_rests c n tells end content images le rests told image now =
 
 -- The whole text.
 
-abbrev end_of : Script → Bytes
+abbrev pub end_of : Script → Bytes
 end_of c = report (played c wire_limit).world.set (played c wire_limit).world.lists
 
 text_by : (c : Script) (e : LogError) (s t : Sunk) → e ≢ fault.There → Fails (trace_text c) e s t → Fails (replay_text c) e s t

@@ -4,8 +4,7 @@ use Rattle.std.proofs.lemmas.Result.{err_from_is_err_and}
 use Rattle.yard_io.proofs.ToldLemmas.{front_whole}
 use Rattle.yard_model.specs.Replay.{replay_text}
 use Rattle.yard_model.specs.Script.{Script}
-use Rattle.yard_model.specs.Text.{report}
-use Rattle.yard_model.specs.World.{played, trace_of, wire_limit}
+use Rattle.yard_model.specs.World.{trace_of}
 use Rattle.disk_log.specs.Images.{LeavesOnly}
 use Rattle.disk_log.specs.Spelled.{SpellsPrefix}
 use Rattle.disk_log.proofs.Moments.{leaves_then}
@@ -15,9 +14,10 @@ use Rattle.logged_lines.proofs.TellLaws.{ends_all_logged, ends_empty, fresh_leav
 use Rattle.world_sim.specs.Played.{Played}
 use Rattle.run_parts.specs.declared.course.Course.{Course}
 use Rattle.run_parts.specs.Stops.{course}
+use Rattle.run_parts.specs.Writing.{Sunk}
 use Rattle.run_parts.proofs.WritingLaws.{took_both, took_same, front_both, front_same, none_taken}
 use Rattle.replay_run.specs.Replays.{IsDone, trace_text}
-use Rattle.replay_run.proofs.LogLaws.{text_wrote, write_no_disk, write_no_there}
+use Rattle.replay_run.proofs.LogLaws.{end_of, text_wrote, write_no_disk, write_no_there}
 use Rattle.replay_run.proofs.log.logged.Goals as goal
 
 pub write_end-requires : goal.write_end-requires
@@ -27,18 +27,19 @@ pub returns-in_err-world-clause-any_moment : goal.returns-in_err-world-clause-an
 returns-in_err-world-clause-any_moment g c told only = fresh_leaves (batches_of c.args.charter) (g.D.Disk.images c.args.disk.now) (g.met.D.Disk.timed c.args.disk.now) only
 
 pub returns-in_err-world-clause-at_exit : goal.returns-in_err-world-clause-at_exit
-returns-in_err-world-clause-at_exit g c told fresh = ends_empty c.args.charter _ _ (g.D.Disk.images c.args.disk.now) refl (fresh_prefix (batches_of c.args.charter) (g.D.Disk.images c.args.disk.now) fresh.only)
+returns-in_err-world-clause-at_exit g c told fresh = ends_empty c.args.charter (g.K.Sink.taken c.args.sink.now) (g.K.Sink.taken c.args.sink.now) (g.D.Disk.images c.args.disk.now) refl (fresh_prefix (batches_of c.args.charter) (g.D.Disk.images c.args.disk.now) fresh.only)
 
 pub returns-in_err-batch-clause-any_moment : goal.returns-in_err-batch-clause-any_moment
 returns-in_err-batch-clause-any_moment g c told only = fresh_leaves (batches_of c.args.charter) (g.D.Disk.images c.args.disk.now) (g.met.D.Disk.timed c.args.disk.now) only
 
 pub returns-in_err-batch-clause-at_exit : goal.returns-in_err-batch-clause-at_exit
-returns-in_err-batch-clause-at_exit g c told fresh = ends_empty c.args.charter _ _ (g.D.Disk.images c.args.disk.now) refl (fresh_prefix (batches_of c.args.charter) (g.D.Disk.images c.args.disk.now) fresh.only)
+returns-in_err-batch-clause-at_exit g c told fresh = ends_empty c.args.charter (g.K.Sink.taken c.args.sink.now) (g.K.Sink.taken c.args.sink.now) (g.D.Disk.images c.args.disk.now) refl (fresh_prefix (batches_of c.args.charter) (g.D.Disk.images c.args.disk.now) fresh.only)
 
 pub returns-in_err-log-clause-wrote : goal.returns-in_err-log-clause-wrote
 returns-in_err-log-clause-wrote g c =
+    let s0 : Sunk = record { taken = g.K.Sink.taken c.args.sink.now; flushed = g.K.Sink.flushed c.args.sink.now; faults = g.K.Sink.faults c.args.sink.now } in
     let p = err_from_is_err_and c.from_residual-in_err-log.result c.from_residual-in_err-log.ensures.1 in
-    make_wrote _ _ _ c.from_residual-in_err-log.result (p.1 ∙ ap Err p.2)
+    make_wrote (replay_text c.args.charter) _ s0 c.from_residual-in_err-log.result (p.1 ∙ ap Err p.2)
 
 pub returns-in_err-log-clause-any_moment : goal.returns-in_err-log-clause-any_moment
 returns-in_err-log-clause-any_moment g c told only =
@@ -46,7 +47,7 @@ returns-in_err-log-clause-any_moment g c told only =
 
 pub returns-in_err-log-clause-at_exit : goal.returns-in_err-log-clause-at_exit
 returns-in_err-log-clause-at_exit g c told fresh =
-    ends_empty c.args.charter _ _ (g.D.Disk.images c.make.new.disk) refl
+    ends_empty c.args.charter (g.K.Sink.taken c.args.sink.now) (g.K.Sink.taken c.args.sink.now) (g.D.Disk.images c.make.new.disk) refl
     (made_prefix (batches_of c.args.charter) (g.D.Disk.images c.args.disk.now) (g.D.Disk.images c.make.new.disk) (g.met.D.Disk.timed c.make.new.disk) (c.make.ensures.any_moment fresh.only))
 
 pub returns-in_err-log-clause-there : goal.returns-in_err-log-clause-there
@@ -61,12 +62,14 @@ returns-in_err-log-clause-disk_cause g c is =
 
 pub returns-in_err-play-clause-wrote : goal.returns-in_err-play-clause-wrote
 returns-in_err-play-clause-wrote g c =
+    let s0 : Sunk = record { taken = g.K.Sink.taken c.args.sink.now; flushed = g.K.Sink.flushed c.args.sink.now; faults = g.K.Sink.faults c.args.sink.now } in
+    let s1 : Sunk = record { taken = g.K.Sink.taken c.play.new.sink; flushed = g.K.Sink.flushed c.play.new.sink; faults = g.K.Sink.faults c.play.new.sink } in
     let p = err_from_is_err_and c.from_residual-in_err-play.result c.from_residual-in_err-play.ensures.1 in
     let script : c.in_ok-world.world.script ≡ c.args.charter = ap (λ (w : Played). w.script) c.in_ok-world.ensures in
     subst (λ (s : Script). WritesLog (replay_text s) c.from_residual-in_err-play.result
     (record { taken = g.K.Sink.taken c.args.sink.now; flushed = g.K.Sink.flushed c.args.sink.now; faults = g.K.Sink.faults c.args.sink.now })
     (record { taken = g.K.Sink.taken c.play.new.sink; flushed = g.K.Sink.flushed c.play.new.sink; faults = g.K.Sink.faults c.play.new.sink })) script
-    (text_wrote c.in_ok-world.world.script _ _ _ c.from_residual-in_err-play.result (p.1 ∙ ap Err p.2) c.in_err-play.ensures.never_there c.in_err-play.ensures.wrote)
+    (text_wrote c.in_ok-world.world.script _ s0 s1 c.from_residual-in_err-play.result (p.1 ∙ ap Err p.2) c.in_err-play.ensures.never_there c.in_err-play.ensures.wrote)
 
 pub returns-in_err-play-clause-any_moment : goal.returns-in_err-play-clause-any_moment
 returns-in_err-play-clause-any_moment g c told only =
@@ -82,12 +85,15 @@ returns-in_err-play-clause-at_exit g c told fresh =
 
 pub returns-in_err-write_end-clause-wrote : goal.returns-in_err-write_end-clause-wrote
 returns-in_err-write_end-clause-wrote g c =
+    let s0 : Sunk = record { taken = g.K.Sink.taken c.args.sink.now; flushed = g.K.Sink.flushed c.args.sink.now; faults = g.K.Sink.faults c.args.sink.now } in
+    let s1 : Sunk = record { taken = g.K.Sink.taken c.play.new.sink; flushed = g.K.Sink.flushed c.play.new.sink; faults = g.K.Sink.faults c.play.new.sink } in
+    let s2 : Sunk = record { taken = g.K.Sink.taken c.write_end.new.sink; flushed = g.K.Sink.flushed c.write_end.new.sink; faults = g.K.Sink.faults c.write_end.new.sink } in
     let p = err_from_is_err_and c.from_residual-in_err-write_end.result c.from_residual-in_err-write_end.ensures.1 in
     let script : c.in_ok-world.world.script ≡ c.args.charter = ap (λ (w : Played). w.script) c.in_ok-world.ensures in
     let trace : trace_text c.in_ok-world.world.script ≡ trace_text c.args.charter = ap trace_text script in
-    let end = ap (λ (s : Script). report (played s wire_limit).world.set (played s wire_limit).world.lists) (c.in_ok-play.ensures.done.script_is ∙ script) in
-    write_wrote (replay_text c.args.charter) _ _ _ c.from_residual-in_err-write_end.result (p.1 ∙ ap Err p.2)
-    (front_both _ _ _ _ _ _ (took_same _ _ _ _ trace c.in_ok-play.ensures.wrote) (front_same _ _ _ _ _ end c.in_err-write_end.ensures))
+    let end : end_of c.play.new.world.script ≡ end_of c.args.charter = ap end_of (c.in_ok-play.ensures.done.script_is ∙ script) in
+    write_wrote (replay_text c.args.charter) _ s0 s2 c.from_residual-in_err-write_end.result (p.1 ∙ ap Err p.2)
+    (front_both (trace_text c.args.charter) (end_of c.args.charter) _ s0 s1 s2 (took_same (trace_text c.in_ok-world.world.script) (trace_text c.args.charter) s0 s1 trace c.in_ok-play.ensures.wrote) (front_same (end_of c.play.new.world.script) (end_of c.args.charter) _ s1 s2 end c.in_err-write_end.ensures))
 
 pub returns-in_err-write_end-clause-any_moment : goal.returns-in_err-write_end-clause-any_moment
 returns-in_err-write_end-clause-any_moment g c told only =
@@ -98,20 +104,26 @@ returns-in_err-write_end-clause-any_moment g c told only =
 
 pub returns-in_err-write_end-clause-at_exit : goal.returns-in_err-write_end-clause-at_exit
 returns-in_err-write_end-clause-at_exit g c told fresh =
+    let s0 : Sunk = record { taken = g.K.Sink.taken c.args.sink.now; flushed = g.K.Sink.flushed c.args.sink.now; faults = g.K.Sink.faults c.args.sink.now } in
+    let s1 : Sunk = record { taken = g.K.Sink.taken c.play.new.sink; flushed = g.K.Sink.flushed c.play.new.sink; faults = g.K.Sink.faults c.play.new.sink } in
+    let s2 : Sunk = record { taken = g.K.Sink.taken c.write_end.new.sink; flushed = g.K.Sink.flushed c.write_end.new.sink; faults = g.K.Sink.faults c.write_end.new.sink } in
     let script : c.in_ok-world.world.script ≡ c.args.charter = ap (λ (w : Played). w.script) c.in_ok-world.ensures in
     let trace : trace_text c.in_ok-world.world.script ≡ trace_text c.args.charter = ap trace_text script in
-    let end = ap (λ (s : Script). report (played s wire_limit).world.set (played s wire_limit).world.lists) (c.in_ok-play.ensures.done.script_is ∙ script) in
+    let end : end_of c.play.new.world.script ≡ end_of c.args.charter = ap end_of (c.in_ok-play.ensures.done.script_is ∙ script) in
     let all : (image : List ℕ) → (g.D.Disk.images c.play.new.disk).now image → SpellsPrefix (batches_of c.args.charter) (length (batches_of c.args.charter)) image =
     subst (λ (s : Script). (image : List ℕ) → (g.D.Disk.images c.play.new.disk).now image → SpellsPrefix (batches_of s) (length (batches_of s)) image) script (c.in_ok-play.ensures.all told) in
     ends_all_logged c.args.charter (g.K.Sink.taken c.args.sink.now) (g.K.Sink.taken c.write_end.new.sink) (g.D.Disk.images c.play.new.disk)
-    (front_both _ _ _ _ _ _ (took_same _ _ _ _ trace c.in_ok-play.ensures.wrote) (front_same _ _ _ _ _ end c.in_err-write_end.ensures)).front all
+    (front_both (trace_text c.args.charter) (end_of c.args.charter) _ s0 s1 s2 (took_same (trace_text c.in_ok-world.world.script) (trace_text c.args.charter) s0 s1 trace c.in_ok-play.ensures.wrote) (front_same (end_of c.play.new.world.script) (end_of c.args.charter) _ s1 s2 end c.in_err-write_end.ensures)).front all
 
 pub returns-clause-wrote : goal.returns-clause-wrote
 returns-clause-wrote g c =
+    let s0 : Sunk = record { taken = g.K.Sink.taken c.args.sink.now; flushed = g.K.Sink.flushed c.args.sink.now; faults = g.K.Sink.faults c.args.sink.now } in
+    let s1 : Sunk = record { taken = g.K.Sink.taken c.play.new.sink; flushed = g.K.Sink.flushed c.play.new.sink; faults = g.K.Sink.faults c.play.new.sink } in
+    let s2 : Sunk = record { taken = g.K.Sink.taken c.write_end.new.sink; flushed = g.K.Sink.flushed c.write_end.new.sink; faults = g.K.Sink.faults c.write_end.new.sink } in
     let script : c.in_ok-world.world.script ≡ c.args.charter = ap (λ (w : Played). w.script) c.in_ok-world.ensures in
     let trace : trace_text c.in_ok-world.world.script ≡ trace_text c.args.charter = ap trace_text script in
-    let end = ap (λ (s : Script). report (played s wire_limit).world.set (played s wire_limit).world.lists) (c.in_ok-play.ensures.done.script_is ∙ script) in
-    (took_both _ _ _ _ _ (took_same _ _ _ _ trace c.in_ok-play.ensures.wrote) (took_same _ _ _ _ end c.in_ok-write_end.ensures))
+    let end : end_of c.play.new.world.script ≡ end_of c.args.charter = ap end_of (c.in_ok-play.ensures.done.script_is ∙ script) in
+    (took_both (trace_text c.args.charter) (end_of c.args.charter) s0 s1 s2 (took_same (trace_text c.in_ok-world.world.script) (trace_text c.args.charter) s0 s1 trace c.in_ok-play.ensures.wrote) (took_same (end_of c.play.new.world.script) (end_of c.args.charter) s1 s2 end c.in_ok-write_end.ensures))
 
 pub returns-clause-any_moment : goal.returns-clause-any_moment
 returns-clause-any_moment g c told only =
@@ -122,13 +134,16 @@ returns-clause-any_moment g c told only =
 
 pub returns-clause-at_exit : goal.returns-clause-at_exit
 returns-clause-at_exit g c told fresh =
+    let s0 : Sunk = record { taken = g.K.Sink.taken c.args.sink.now; flushed = g.K.Sink.flushed c.args.sink.now; faults = g.K.Sink.faults c.args.sink.now } in
+    let s1 : Sunk = record { taken = g.K.Sink.taken c.play.new.sink; flushed = g.K.Sink.flushed c.play.new.sink; faults = g.K.Sink.faults c.play.new.sink } in
+    let s2 : Sunk = record { taken = g.K.Sink.taken c.write_end.new.sink; flushed = g.K.Sink.flushed c.write_end.new.sink; faults = g.K.Sink.faults c.write_end.new.sink } in
     let script : c.in_ok-world.world.script ≡ c.args.charter = ap (λ (w : Played). w.script) c.in_ok-world.ensures in
     let trace : trace_text c.in_ok-world.world.script ≡ trace_text c.args.charter = ap trace_text script in
-    let end = ap (λ (s : Script). report (played s wire_limit).world.set (played s wire_limit).world.lists) (c.in_ok-play.ensures.done.script_is ∙ script) in
+    let end : end_of c.play.new.world.script ≡ end_of c.args.charter = ap end_of (c.in_ok-play.ensures.done.script_is ∙ script) in
     let all : (image : List ℕ) → (g.D.Disk.images c.play.new.disk).now image → SpellsPrefix (batches_of c.args.charter) (length (batches_of c.args.charter)) image =
     subst (λ (s : Script). (image : List ℕ) → (g.D.Disk.images c.play.new.disk).now image → SpellsPrefix (batches_of s) (length (batches_of s)) image) script (c.in_ok-play.ensures.all told) in
     ends_all_logged c.args.charter (g.K.Sink.taken c.args.sink.now) (g.K.Sink.taken c.write_end.new.sink) (g.D.Disk.images c.play.new.disk)
-    (front_whole _ _ (replay_text c.args.charter) (took_both _ _ _ _ _ (took_same _ _ _ _ trace c.in_ok-play.ensures.wrote) (took_same _ _ _ _ end c.in_ok-write_end.ensures)).taken_is) all
+    (front_whole (g.K.Sink.taken c.args.sink.now) (g.K.Sink.taken c.write_end.new.sink) (replay_text c.args.charter) (took_both (trace_text c.args.charter) (end_of c.args.charter) s0 s1 s2 (took_same (trace_text c.in_ok-world.world.script) (trace_text c.args.charter) s0 s1 trace c.in_ok-play.ensures.wrote) (took_same (end_of c.play.new.world.script) (end_of c.args.charter) s1 s2 end c.in_ok-write_end.ensures)).taken_is) all
 
 pub returns-clause-stop : goal.returns-clause-stop
 returns-clause-stop g c =
@@ -136,8 +151,9 @@ returns-clause-stop g c =
 
 pub returns-in_err-batch-clause-wrote : goal.returns-in_err-batch-clause-wrote
 returns-in_err-batch-clause-wrote g c =
+    let s0 : Sunk = record { taken = g.K.Sink.taken c.args.sink.now; flushed = g.K.Sink.flushed c.args.sink.now; faults = g.K.Sink.faults c.args.sink.now } in
     let p = err_from_is_err_and c.from_residual-in_err-batch.result c.from_residual-in_err-batch.ensures.1 in
-    rw (p.1, p.2) (none_taken _ _)
+    rw (p.1, p.2) (none_taken (replay_text c.args.charter) s0)
 
 pub returns-in_err-write_end-clause-there : goal.returns-in_err-write_end-clause-there
 returns-in_err-write_end-clause-there g c is told =

@@ -12,7 +12,7 @@ use Rattle.yard_model.specs.declared.incarnation.Slot.TheVariants as slot
 use Rattle.yard_model.specs.declared.input.Input.{Input}
 use Rattle.yard_model.specs.declared.input.Input.TheVariants as input
 use Rattle.yard_model.specs.Behaviour.{is_in, is_of_kind}
-use Rattle.yard_model.specs.Genuine.{is_brought, is_producer}
+use Rattle.yard_model.specs.Genuine.{is_producer}
 use Rattle.yard_model.specs.Node.{Node}
 use Rattle.yard_model.specs.Script.{Script, IsScript, is_name, is_order, brought, names_in}
 use Rattle.yard_model.specs.Workers.{orders}
@@ -21,7 +21,7 @@ use Rattle.play_laws.proofs.Orders.{names_are}
 use Rattle.shard_lease.specs.Meaning.{Meaning}
 use Rattle.lease_table.specs.Fits.{admits, is_let, is_produce}
 use Rattle.worker_orders.specs.Waiting.{IsDue}
-use Rattle.node_runner.specs.Ordered.{input_of, IsGiven, IfPassivate, DuesAreGiven}
+use Rattle.node_runner.specs.Ordered.{input_of, IsGiven, DuesAreGiven}
 
 -- the line of an order
 pub record HasLine (ls : List Line) (o : Order) : Type 0 where
@@ -80,8 +80,3 @@ module _ (c : Script) (n : ℕ) (m : Meaning) (st : Node) (script : IsScript c) 
 
 pub dues_are_given : DuesAreGiven
 dues_are_given c n m st o i script node due e = given c n m st script node o i due e
-
--- who wants to be stopped is of the script
-pub given_brought : (c : Script) (vouches : List ℕ → ℕ → ℕ → Bool) (st : Node) (i : Input) → MayTake c vouches st i → IfPassivate i (λ e. is_brought c e ≡ true)
-given_brought c vouches st (input.Passivate e) may = may
-given_brought c vouches st i may = tt

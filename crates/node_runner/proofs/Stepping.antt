@@ -3,7 +3,7 @@ use Rattle.std.proofs.Common.{◌≡◌, ℕ, ◌+◌, ◌-◌, ◌≤◌, inl, 
 use Rattle.std.specs.Prelude.{Bool, count_by, Option, None, Some, is_some, Result, Ok, Err, IfOk}
 use Rattle.atomic_table.specs.Seated.{TableId}
 use Rattle.plain_laws.proofs.Booleans.{true_is_not_false}
-use Rattle.plain_laws.proofs.Lists.{none_is_not_some, some_is}
+use Rattle.plain_laws.proofs.Lists.{none_is_not_some}
 use Rattle.yard_model.specs.declared.charter.Order.{Order}
 use Rattle.yard_model.specs.declared.charter.Order.TheVariants as order
 use Rattle.yard_model.specs.declared.incarnation.Slot.TheVariants as slot
@@ -27,7 +27,7 @@ use Rattle.live_laws.specs.Live.{is_send, is_produce_of, IsRun, SawQueued}
 use Rattle.live_laws.specs.Live as live
 use Rattle.live_laws.proofs.Runs.{steady_run}
 use Rattle.node_runner.specs.Ordered.{input_of}
-use Rattle.node_runner.specs.Progress.{Progress, Progressed, AreQueuesShown, is_passivation, GoesOn, Takes, SawAll, is_rest, queued_seen}
+use Rattle.node_runner.specs.Progress.{Progress, Progressed, AreQueuesShown, GoesOn, Takes, SawAll, is_rest, queued_seen}
 use Rattle.node_runner.specs.Rested.{Rested, ArePublished, SeesOn, means}
 use Rattle.node_runner.proofs.Queueing.{IsNext, next_is, down_more, up_more, still_more, own_input, turned_on, order_on, queued_on}
 
@@ -126,17 +126,6 @@ none_takes c n o p v none = still_takes c n o p v (λ q. no_send q o none) (λ q
 
     no_produce : (q : ℕ) (o : Order) → input_of o ≡ None → is_produce_of q o ≡ false
     no_produce q (order.Produce r m) h = absurd (none_is_not_some (input.Produce r) (sym h))
-    no_produce q o h = refl
-
-pub passive_takes : (c : Script) (n : ℕ) (o : Order) (i : Input) (p : Pass) (v : Standing) → input_of o ≡ Some i → is_passivation i ≡ true → Takes c n o p (Some v) p (Some v)
-passive_takes c n o i p v is passive = still_takes c n o p v (λ q. no_send q o is) (λ q. no_produce q o is)
-  where
-    no_send : (q : ℕ) (o : Order) → input_of o ≡ Some i → is_send q o ≡ false
-    no_send q (order.Send r e k) h = absurd (true_is_not_false (sym passive ∙ ap is_passivation (sym (some_is (input.Send r) i h))))
-    no_send q o h = refl
-
-    no_produce : (q : ℕ) (o : Order) → input_of o ≡ Some i → is_produce_of q o ≡ false
-    no_produce q (order.Produce r m) h = absurd (true_is_not_false (sym passive ∙ ap is_passivation (sym (some_is (input.Produce r) i h))))
     no_produce q o h = refl
 
 -- a turn of the node once it has made room

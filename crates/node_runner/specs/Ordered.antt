@@ -34,7 +34,3 @@ pub record IsGiven (c : Script) (n : ℕ) (m : Meaning) (st : Node) (i : Input) 
 -- each order that is due to the worker of node n may be given to its node
 abbrev pub DuesAreGiven : Type 0
 DuesAreGiven = (c : Script) (n : ℕ) (m : Meaning) (st : Node) (o : Order) (i : Input) → IsScript c → is_in 1 c.config.nodes n ≡ true → IsDue c n o → input_of o ≡ Some i → IsGiven c n m st i
-
-abbrev pub IfPassivate : Input → (List ℕ → Type 0) → Type 0
-IfPassivate (input.Passivate e) P = P e
-IfPassivate i P = Unit {0}

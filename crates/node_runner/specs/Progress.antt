@@ -59,11 +59,6 @@ Takes c n o p node r after = (turns : ℕ) (left : List Order) → Progressed c 
 abbrev pub SawAll : Script → ℕ → ℕ → Pass → Type 0
 SawAll c turns n p = (q : ℕ) → is_producer c q ≡ true → is_steady c turns q n ≡ true → SawQueued c p.view q
 
--- an order that changes nothing of a producer
-abbrev pub is_passivation : Input → Bool
-is_passivation (input.Passivate e) = true
-is_passivation i = false
-
 abbrev pub is_rest : Input → Bool
 is_rest (input.Rest q) = true
 is_rest i = false

@@ -17,16 +17,20 @@ use lease_table::{LeasePass, LeaseTable};
 use post_box::{BoxPass, PostBox};
 use std::alloc::{AllocError, Global};
 use std::sync::Wait;
+use std::thread;
 use yard_model::{Charter, NodeNo, Packet};
 
 /// The pass of a worker at the boxes, its draws, the parcels that it is to post after the next turn, which boxes were
-/// full when it looked last, and how many packets it let go because it couldn't show what they need.
+/// full when it looked last, whether its own was empty then, whether the one that it counted last handed back what it
+/// had to post, and how many packets it let go because it couldn't show what they need.
 #[derive(Drop)]
 pub struct Mail<J: Run> {
     pub(crate) pass: BoxPass<Parcel<J>>,
     pub(crate) draws: Draws,
     held: Vec<Parcel<J>>,
     full: [bool; 16],
+    was_empty: bool,
+    is_blocked: bool,
     pub(crate) unshown: u64,
 }
 
@@ -41,6 +45,8 @@ impl<J: Run> Mail<J> {
             draws,
             held: Vec::new(alloc),
             full: [false; 16],
+            was_empty: false,
+            is_blocked: false,
             unshown: 0,
         }
     }
@@ -60,17 +66,69 @@ impl<J: Run> Mail<J> {
         self.draws.next()
     }
 
-    /// The oldest parcel of the worker's own box, if there is one. It may wait.
+    /// The oldest parcel of the worker's own box, if there is one. A box that was empty is counted first, which costs
+    /// less than to take of it. It may wait.
+    #[inline(always)]
     pub fn take<R: Wait>(&mut self, rt: &R, boxes: &PostBox<Parcel<J>>) -> Option<Parcel<J>>
         requires belongs { self.old.pass.tables ≡ boxes.now.tables }
         ensures kept { IsSameHolder self.old.pass self.new.pass }
     {
-        let own = self.pass.node();
-        boxes.take(rt, &mut self.pass, own)
+        if self.was_empty && self.is_empty(rt, boxes) {
+            return None;
+        }
+        self.take_next(rt, boxes)
     }
 
-    /// Posts what is held, in the order in which it was kept back. It may wait.
+    /// Whether no parcel lies in the worker's own box, at a step of this call. It may wait.
+    fn is_empty<R: Wait>(&mut self, rt: &R, boxes: &PostBox<Parcel<J>>) -> bool
+        requires belongs { self.old.pass.tables ≡ boxes.now.tables }
+        ensures kept { IsSameHolder self.old.pass self.new.pass }
+    {
+        let own = self.pass.node();
+        boxes.count(rt, &mut self.pass, own) == 0
+    }
+
+    /// The oldest parcel of the worker's own box, if there is one; whether there was is kept. It may wait.
+    #[inline(never)]
+    fn take_next<R: Wait>(&mut self, rt: &R, boxes: &PostBox<Parcel<J>>) -> Option<Parcel<J>>
+        requires belongs { self.old.pass.tables ≡ boxes.now.tables }
+        ensures kept { IsSameHolder self.old.pass self.new.pass }
+    {
+        let own = self.pass.node();
+        let parcel = boxes.take(rt, &mut self.pass, own);
+        self.was_empty = parcel.is_none();
+        parcel
+    }
+
+    /// Where a box handed back what was to be posted, other threads may go first, so that its node empties it.
+    #[inline(always)]
+    fn make_way(&mut self)
+        ensures { self.new.pass ≡ self.old.pass }
+    {
+        if self.is_blocked {
+            self.is_blocked = false;
+            thread::yield_now();
+        }
+    }
+
+    /// Posts what is held, in the order in which it was kept back. Other threads may go first, where a box was full. It
+    /// may wait.
+    #[inline(always)]
     pub fn release<R: Wait>(&mut self, rt: &R, boxes: &PostBox<Parcel<J>>)
+        requires belongs { self.old.pass.tables ≡ boxes.now.tables }
+        requires nodes { length boxes.now.tables ≡ J.script.config.nodes }
+        ensures kept { IsSameHolder self.old.pass self.new.pass }
+    {
+        self.make_way();
+        if self.held.is_empty() {
+            return;
+        }
+        self.release_held(rt, boxes);
+    }
+
+    /// The same where something may be held.
+    #[inline(never)]
+    fn release_held<R: Wait>(&mut self, rt: &R, boxes: &PostBox<Parcel<J>>)
         requires belongs { self.old.pass.tables ≡ boxes.now.tables }
         requires nodes { length boxes.now.tables ≡ J.script.config.nodes }
         ensures kept { IsSameHolder self.old.pass self.new.pass }
@@ -96,6 +154,7 @@ impl<J: Run> Mail<J> {
         let count = boxes.count(rt, &mut self.pass, to);
         let is_full = is_all(count, boxes.capacity());
         self.full[place] = is_full;
+        self.is_blocked = is_full;
         is_full
     }
 

@@ -43,7 +43,29 @@ pub fn member<B: Behaviour + Drop>(
 
 /// Where the node came up, or went, it enters the roster, or leaves it, and the views are posted. It may
 /// wait. The only error is want of memory.
+#[inline(always)]
 pub fn tell_roster<J: Run, R: Wait>(
+    rt: &R,
+    boxes: &PostBox<Parcel<J>>,
+    roster: &Mutex<Roster<J>>,
+    mail: &mut Mail<J>,
+    before: Option<Incarnation>,
+    after: Option<Incarnation>,
+) -> Result<(), AllocError>
+    requires belongs { mail.old.pass.tables ≡ boxes.now.tables }
+    requires nodes { length boxes.now.tables ≡ J.script.config.nodes }
+    requires member { IfSome after (λ x. is_member J.script x ≡ true) }
+    ensures kept { IsSameHolder mail.old.pass mail.new.pass }
+{
+    if before.is_some() == after.is_some() {
+        return Ok(());
+    }
+    tell_change(rt, boxes, roster, mail, before, after)
+}
+
+/// The same where the node may have come up, or gone.
+#[inline(never)]
+fn tell_change<J: Run, R: Wait>(
     rt: &R,
     boxes: &PostBox<Parcel<J>>,
     roster: &Mutex<Roster<J>>,

@@ -2,15 +2,15 @@
 ghost use Rattle.std.specs.Prelude.{◌≡◌, ℕ, true, false, [], Some, None, IfOk, IfSome, OnOk};
 ghost use Rattle.yard_model.specs.declared.charter.Order.{Order};
 ghost use Rattle.yard_model.specs.Behaviour.{is_in};
-ghost use Rattle.yard_model.specs.Genuine.{is_brought, is_genuine_packet};
+ghost use Rattle.yard_model.specs.Genuine.{is_genuine_packet};
 ghost use Rattle.yard_model.specs.Script.{is_version};
 ghost use Rattle.yard_model.specs.Workers.{is_up};
 ghost use Rattle.lease_table.specs.Belongs.{id_of, charter_of};
 ghost use Rattle.lease_table.specs.Fits.{is_within};
 ghost use Rattle.lease_table.specs.Leasing.{Idle};
 ghost use Rattle.worker_orders.specs.Waiting.{IsDue};
-ghost use Rattle.node_runner.specs.Ordered.{input_of, IsGiven, IfPassivate};
-ghost use Rattle.node_runner.specs.Progress.{StandsAt, GoesOn, Takes, Progressed, SawAll, is_passivation, is_rest};
+ghost use Rattle.node_runner.specs.Ordered.{input_of, IsGiven};
+ghost use Rattle.node_runner.specs.Progress.{StandsAt, GoesOn, Takes, Progressed, SawAll, is_rest};
 ghost use Rattle.node_runner.specs.Posts.{KeepsTray};
 ghost use Rattle.node_runner.specs.Rested.{Rested, ArePublished, SeesOn, means};
 ghost use Rattle.node_runner.specs.Parcels.{is_shown};
@@ -43,22 +43,22 @@ pub fn give<B: Behaviour + Drop>(
     me: NodeNo,
     pass: LeasePass,
     node: UpNode<B>,
-    input: Input,
+    input: &Input,
     tray: &mut Tray,
 ) -> Result<Place<B>, AllocError>
     requires charter { charter.now ≡ charter_of table.now }
     requires rested { Rested (id_of table.now) (charter_of table.now) me pass node }
     requires published { ArePublished (charter_of table.now) pass node.state }
-    requires given { IsGiven (charter_of table.now) me (means me pass) node.state input }
+    requires given { IsGiven (charter_of table.now) me (means me pass) node.state input.now }
     ensures stands { IfOk result (λ r. StandsAt (id_of table.now) (charter_of table.now) me r.pass r.node) }
-    ensures goes_on { IfOk result (λ r. is_rest input ≡ false → GoesOn (charter_of table.now) me pass (Some node) r.pass r.node) }
-    ensures takes { IfOk result (λ r. (o : Order) → input_of o ≡ Some input → Takes (charter_of table.now) me o pass (Some node) r.pass r.node) }
+    ensures goes_on { IfOk result (λ r. is_rest input.now ≡ false → GoesOn (charter_of table.now) me pass (Some node) r.pass r.node) }
+    ensures takes { IfOk result (λ r. (o : Order) → input_of o ≡ Some input.now → Takes (charter_of table.now) me o pass (Some node) r.pass r.node) }
     ensures posts { OnOk result (KeepsTray (charter_of table.now) tray.old tray.new) }
 {
     let mut node = node;
     node.stands();
     node.reserve(&mut tray.out)?;
-    let mut pass = take_turn(table, pass, me, &mut node, charter, &input, &mut tray.out);
+    let mut pass = take_turn(table, pass, me, &mut node, charter, input, &mut tray.out);
     publish_told(
         table,
         &mut pass,
@@ -106,7 +106,8 @@ pub fn take_packet<B: Behaviour + Drop>(
             node: Some(node),
         });
     }
-    give(table, charter, me, pass, node, Input::Packet(*packet), tray)
+    let input = Input::Packet(*packet);
+    give(table, charter, me, pass, node, &input, tray)
 }
 
 /// A packet to the node was let go: one more, if it is for this incarnation.
@@ -217,7 +218,7 @@ fn up_order<B: Behaviour + Drop>(
 }
 
 /// An order that is no `crash` where the node is up.
-#[tactic(auto, using(crate::proofs::Stepping::none_takes, crate::proofs::Stepping::passive_takes))]
+#[tactic(auto, using(crate::proofs::Stepping::none_takes))]
 fn act<B: Behaviour + Drop>(
     table: &LeaseTable,
     charter: &Charter,
@@ -244,24 +245,7 @@ fn act<B: Behaviour + Drop>(
     };
     charter.config();
     dues_are_given();
-    if !is_acting(&node, &input) {
-        return Ok(Place {
-            pass,
-            node: Some(node),
-        });
-    }
-    give(table, charter, me, pass, node, input, tray)
-}
-
-/// Whether the input has something to do: a passivation only where its entity is active.
-fn is_acting<B: Behaviour + Drop>(node: &UpNode<B>, input: &Input) -> bool
-    requires { IfPassivate input.now (λ e. is_brought node.now.script e ≡ true) }
-    ensures { result ≡ false → is_passivation input.now ≡ true }
-{
-    match input {
-        Input::Passivate(entity) => node.is_active(entity),
-        _ => true,
-    }
+    give(table, charter, me, pass, node, &input, tray)
 }
 
 /// The node, which is up, goes. The only error is want of memory.

@@ -1,5 +1,5 @@
 //! What a turn told is published: the list of each slot of which it told an entry.
-ghost use Rattle.std.specs.Prelude.{◌≡◌, true, [], ◌∷◌, Some, IfSome, OnOk};
+ghost use Rattle.std.specs.Prelude.{◌≡◌, true, [], ◌∷◌, ◌++◌, Some, IfSome, OnOk};
 ghost use Rattle.std.specs.List.{list_all};
 ghost use Rattle.yard_model.specs.declared.out.Item.TheVariants as item;
 ghost use Rattle.yard_model.specs.Genuine.{is_slot_of, is_genuine_packet};
@@ -19,6 +19,7 @@ use behaviour_core::Behaviour;
 use lease_table::{LeasePass, LeaseTable};
 use shard_store::StoreRef;
 use std::alloc::AllocError;
+use std::slice;
 use yard_model::{Charter, Fact, Item, NodeNo, Out, Packet, Slot};
 
 /// The list of each slot of which an entry is in `out` is published, where the node holds the slot; the
@@ -73,10 +74,17 @@ fn publish_item<B: Behaviour + Drop>(
             Ok(())
         }
         Item::Post(packet) => {
-            posts.push(*packet)?;
+            push_copy(posts, packet)?;
             Ok(())
         }
     }
+}
+
+/// A packet goes behind the others, and is copied to its place at once. The only error is want of memory.
+fn push_copy(posts: &mut Vec<Packet>, packet: &Packet) -> Result<(), AllocError>
+    ensures { OnOk result (posts.new.items ≡ posts.old.items ++ packet.now ∷ []) }
+{
+    posts.extend_from_slice(slice::from_ref(packet))
 }
 
 /// Publishes the list of the slot of which the fact is an entry, if it is one.

@@ -1,9 +1,7 @@
 //! A node that is up, on the heap, so that a worker passes it on without moving it.
 ghost use Rattle.std.specs.Prelude.{◌≡◌, true, IfOk, OnOk, Some, None, IfSome, MatchOption};
 ghost use Rattle.yard_model.specs.declared.incarnation.Slot.TheVariants as slot;
-ghost use Rattle.yard_model.specs.declared.input.Phase.TheVariants as phase;
-ghost use Rattle.yard_model.specs.Entities.{is_in_phase};
-ghost use Rattle.yard_model.specs.Genuine.{is_brought, is_slot_of};
+ghost use Rattle.yard_model.specs.Genuine.{is_slot_of};
 ghost use Rattle.yard_model.specs.Node.{turn};
 ghost use Rattle.yard_model.specs.World.{all_sends};
 ghost use Rattle.actor_laws.specs.Hands.{held_list};
@@ -21,7 +19,7 @@ use shard_lease::Leases;
 use shard_store::StoreRef;
 use std::alloc::{AllocError, Global};
 use std::marker::Model;
-use yard_model::{Charter, EntityName, Incarnation, Input, Out, Slot};
+use yard_model::{Charter, Incarnation, Input, Out, Slot};
 
 /// A node that is up. It stands on the heap: who passes it on moves a pointer.
 #[derive(Drop)]
@@ -103,14 +101,6 @@ impl<B: Behaviour + Drop> UpNode<B> {
     {
         let UpNode { node } = self;
         Box::into_inner(node).crash(leases, out);
-    }
-
-    /// Whether an entity, which the script brings, is active here.
-    pub fn is_active(&self, entity: &EntityName) -> bool
-        requires { is_brought self.now.script entity.now ≡ true }
-        ensures { result ≡ is_in_phase phase.Active self.now.state.entities entity.now }
-    {
-        self.node.is_active(entity)
     }
 
     /// The store of a slot of the script; None exactly where the node doesn't hold it.

@@ -221,7 +221,7 @@ fn wake<J: Run, B: Behaviour + Drop>(
     ensures posts { OnOk result (KeepsTray (charter_of table.now) tray.old tray.new) }
 {
     let Some(parcel) = parcel else {
-        return give(table, charter, me, pass, node, Input::Tick, tray);
+        return give(table, charter, me, pass, node, &Input::Tick, tray);
     };
     let (packet, note) = parcel.into_parts();
     take_packet(table, charter, me, pass, node, &packet, note, unshown, tray)

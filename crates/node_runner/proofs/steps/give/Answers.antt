@@ -17,7 +17,7 @@ publish_told-requires-clause-shown g c =
     let y : Script = charter_of c.args.table.now in
     let u : Standing = c.reserve.new.self in
     let sound : IsSoundNode y u.state = subst (IsSoundNode y) (sym c.reserve.ensures.state) (subst (λ (x : Script). IsSoundNode x c.args.node.state) c.requires.rested.script c.stands.ensures.sound) in
-    turned_but (id_of c.args.table.now) y (λ lists. turn (all_sends y) lists c.args.input u.state) c.args.me c.args.pass c.take_turn-pass.result u c.take_turn-pass.new.node c.reserve.new.out.items c.take_turn-pass.new.out.items
+    turned_but (id_of c.args.table.now) y (λ lists. turn (all_sends y) lists c.args.input.now u.state) c.args.me c.args.pass c.take_turn-pass.result u c.take_turn-pass.new.node c.reserve.new.out.items c.take_turn-pass.new.out.items
     (rested_same (id_of c.args.table.now) y c.args.me c.args.pass c.args.node u c.reserve.ensures.script c.reserve.ensures.state c.requires.rested) sound
     (subst (λ (st : Node). ArePublished y c.args.pass st) (sym c.reserve.ensures.state) c.requires.published) c.take_turn-pass.ensures.rested c.take_turn-pass.ensures.turned
 
@@ -26,9 +26,9 @@ returns-clause-goes_on g c = λ quiet.
     let y : Script = charter_of c.args.table.now in
     let u : Standing = c.reserve.new.self in
     let w : Standing = c.take_turn-pass.new.node in
-    room_goes_on (id_of c.args.table.now) y c.args.me c.args.input c.args.pass c.publish_told.new.pass c.args.node u w c.reserve.new.out.items c.take_turn-pass.new.out.items c.reserve.ensures.state
+    room_goes_on (id_of c.args.table.now) y c.args.me c.args.input.now c.args.pass c.publish_told.new.pass c.args.node u w c.reserve.new.out.items c.take_turn-pass.new.out.items c.reserve.ensures.state
     c.requires.rested c.stands.ensures.sound (of_shown y c.args.pass c.args.node.state c.requires.published) c.requires.given.may c.in_ok-publish_told.ensures.rested c.in_ok-publish_told.ensures.published
-    (turned_on y (λ lists. turn (all_sends y) lists c.args.input u.state) c.args.me c.args.pass c.take_turn-pass.result c.publish_told.new.pass u.state w.state c.reserve.new.out.items c.take_turn-pass.new.out.items
+    (turned_on y (λ lists. turn (all_sends y) lists c.args.input.now u.state) c.args.me c.args.pass c.take_turn-pass.result c.publish_told.new.pass u.state w.state c.reserve.new.out.items c.take_turn-pass.new.out.items
     (ap (λ (st : Node). st.who.node) c.reserve.ensures.state ∙ c.requires.rested.who) c.take_turn-pass.ensures.turned c.in_ok-publish_told.ensures.sees c.in_ok-publish_told.ensures.rested.rests) quiet
 
 pub returns-clause-takes : goal.returns-clause-takes
@@ -36,9 +36,9 @@ returns-clause-takes g c = λ o is.
     let y : Script = charter_of c.args.table.now in
     let u : Standing = c.reserve.new.self in
     let w : Standing = c.take_turn-pass.new.node in
-    room_takes (id_of c.args.table.now) y c.args.me c.args.input o c.args.pass c.publish_told.new.pass c.args.node u w c.reserve.new.out.items c.take_turn-pass.new.out.items c.reserve.ensures.state
+    room_takes (id_of c.args.table.now) y c.args.me c.args.input.now o c.args.pass c.publish_told.new.pass c.args.node u w c.reserve.new.out.items c.take_turn-pass.new.out.items c.reserve.ensures.state
     c.requires.rested c.stands.ensures.sound (of_shown y c.args.pass c.args.node.state c.requires.published) c.requires.given.may c.in_ok-publish_told.ensures.rested c.in_ok-publish_told.ensures.published
-    (turned_on y (λ lists. turn (all_sends y) lists c.args.input u.state) c.args.me c.args.pass c.take_turn-pass.result c.publish_told.new.pass u.state w.state c.reserve.new.out.items c.take_turn-pass.new.out.items
+    (turned_on y (λ lists. turn (all_sends y) lists c.args.input.now u.state) c.args.me c.args.pass c.take_turn-pass.result c.publish_told.new.pass u.state w.state c.reserve.new.out.items c.take_turn-pass.new.out.items
     (ap (λ (st : Node). st.who.node) c.reserve.ensures.state ∙ c.requires.rested.who) c.take_turn-pass.ensures.turned c.in_ok-publish_told.ensures.sees c.in_ok-publish_told.ensures.rested.rests) is
 
 pub returns-clause-posts : goal.returns-clause-posts

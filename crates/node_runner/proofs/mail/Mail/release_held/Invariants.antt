@@ -1,6 +1,6 @@
 use Rattle.node_runner.specs.Mailed.{IsSameHolder}
 use Rattle.std.specs.Vec.{vec_len}
-use Rattle.node_runner.proofs.mail.Mail.release.Given as goal
+use Rattle.node_runner.proofs.mail.Mail.release_held.Given as goal
 
 abbrev pub invariant-loop-parcel : goal.invariant-loop-parcel
 invariant-loop-parcel g l = IsSameHolder l.fn.self.pass l.self.pass

@@ -65,6 +65,7 @@ answers_behind means had mid has head script first limit a h k b =
       input_is = input_of had has bytes told;
       script = b.script;
       spelled = ap (reading mode.Replay) script_is ∙ b.spelled;
+      some = b.some;
       answer_is = answer_is;
       means = subst (Means b.script (trace_in input)) answer_is (means b.script (trace_in input) b.some);
     }
@@ -103,6 +104,7 @@ answers_alone means had mid head a h k b =
       input_is = input_of had mid head (head_told had mid head 4194311 h);
       script = b.script;
       spelled = ap (reading mode.Replay) (ap script_in whole ∙ k.script_is) ∙ b.spelled;
+      some = b.some;
       answer_is = answer_is;
       means = subst (Means b.script (trace_in (head ++ left_of mid))) answer_is (means b.script (trace_in (head ++ left_of mid)) b.some);
     }

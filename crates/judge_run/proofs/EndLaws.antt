@@ -1,7 +1,7 @@
 -- How a run ends.
-use Rattle.std.proofs.Common.{◌≡◌, ◌<◌, ◌≤◌, ℕ, ◌+◌, sym, subst, ap, ap₂, ◌∙◌, refl, arith, length-take-le, inl, inr}
-use Rattle.std.specs.Prelude.{Bool, true, false, nat_lt, List, [], ◌∷◌, ◌++◌, length, take, drop, Option, Some, None, IfSome, Result, Ok, Err, IfErr, IfOk}
-use Rattle.std.proofs.lemmas.List.{append-nil, append_assoc, drop_all, take_all, take-append-drop}
+use Rattle.std.proofs.Common.{◌≡◌, ◌<◌, ◌≤◌, ℕ, sym, subst, ap, ◌∙◌, refl, arith, length-take-le}
+use Rattle.std.specs.Prelude.{Bool, true, false, nat_lt, List, [], ◌++◌, length, take, drop, Option, Some, None, IfSome, Result, Ok, Err, IfErr, IfOk}
+use Rattle.std.proofs.lemmas.List.{append-nil, append_assoc, drop_all, take-append-drop}
 use Rattle.plain_laws.proofs.Booleans.{below, not_below}
 use Rattle.plain_laws.proofs.Lists.{none_is_not_some, some_is}
 use Rattle.yard_io.specs.Told.{without_first}
@@ -14,7 +14,7 @@ use Rattle.script_text.proofs.Steps.{reading_long}
 use Rattle.verdict_laws.specs.declared.answer.Answer.{Answer}
 use Rattle.verdict_laws.specs.Meaning.{Means, VerdictMeans}
 use Rattle.verdict_laws.specs.Verdict.{verdict}
-use Rattle.judge_text.specs.Reads.{IsJudged, ahead, left_of}
+use Rattle.judge_text.specs.Reads.{ahead, left_of}
 use Rattle.judge_text.proofs.ReadLaws.{ahead_both}
 use Rattle.judge_run.specs.declared.status.Status.{Status}
 use Rattle.judge_run.specs.declared.status.Status.TheVariants as status

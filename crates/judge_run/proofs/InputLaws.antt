@@ -1,5 +1,5 @@
 -- A script, a line `trace`, and a trace.
-use Rattle.std.proofs.Common.{◌≡◌, ◌<◌, ◌≤◌, ℕ, ◌+◌, ◌-◌, sym, subst, ap, ap₂, ◌∙◌, refl, arith, length-append, true≢false}
+use Rattle.std.proofs.Common.{◌≡◌, ◌≤◌, ℕ, ◌+◌, ◌-◌, sym, subst, ap, ap₂, ◌∙◌, refl, arith, length-append, true≢false}
 use Rattle.std.specs.Prelude.{Bool, true, false, not, List, [], ◌∷◌, ◌++◌, length, take, codes, None, if◌then◌else◌}
 use Rattle.std.specs.List.{list_all, position}
 use Rattle.std.proofs.lemmas.List.{append-nil, append_assoc}

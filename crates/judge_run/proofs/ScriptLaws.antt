@@ -1,11 +1,11 @@
 -- A script that is read has no line `trace`.
-use Rattle.std.proofs.Common.{◌≡◌, ℕ, ◌+◌, sym, subst, ap, ap₂, ◌∙◌, refl, true≢false}
+use Rattle.std.proofs.Common.{◌≡◌, ℕ, ◌+◌, sym, ap, ap₂, ◌∙◌, refl, true≢false}
 use Rattle.std.specs.Prelude.{Bool, true, false, ◌&&◌, ◌||◌, not, cond, List, [], ◌∷◌, ◌++◌, codes, Option, Some, None, Result, Ok, Err, if◌then◌else◌}
 use Rattle.std.specs.List.{list_all, list_any, onto_first, slice_split}
 use Rattle.std.specs.Str.Lines.{lines, lines_of_parts, strip_carriage_return}
 use Rattle.plain_laws.proofs.Booleans.{and_both, both, same_name, same_number}
 use Rattle.yard_model.specs.Script.{Script, is_name}
-use Rattle.script_text.specs.Reading.{Reading, Spelled, Refused, first_line, going_on, is_too_long, line_read, lines_read, next_line, plain, reading}
+use Rattle.script_text.specs.Reading.{Spelled, Refused, first_line, going_on, is_too_long, line_read, lines_read, next_line, plain, reading}
 use Rattle.script_text.specs.Orders.{order_of, verb_of}
 use Rattle.script_text.specs.Words.{words}
 use Rattle.script_text.specs.declared.fault.Mode.TheVariants as mode
@@ -33,12 +33,13 @@ refused_spelled n w c e = cc
 
 line_refused : (so : Option Script) (n : ℕ) (ls : List (List ℕ)) (c : Script) → list_any is_trace ls ≡ true → lines_read mode.Replay so n ls ≡ Spelled c → ⊥
 line_refused so n [] c h e = true≢false (sym h)
-line_refused so n (l ∷ ls) c h e = by (is_trace l) refl (line_read mode.Replay so n l) refl h e
+line_refused so n (l ∷ ls) c h e = by (is_trace l) refl (line_read mode.Replay so n l) refl (λ more. line_refused more (n + 1) ls c) h e
   where
-    by : (t : Bool) → is_trace l ≡ t → (r : Result (Option Script) Why) → line_read mode.Replay so n l ≡ r → (t || list_any is_trace ls) ≡ true → going_on n r (λ more. lines_read mode.Replay more (n + 1) ls) ≡ Spelled c → ⊥
-    by t is (Err w) q k f = refused_spelled n w c f
-    by false is (Ok more) q k f = line_refused more (n + 1) ls c k f
-    by true is (Ok more) q k f =
+    by : (t : Bool) → is_trace l ≡ t → (r : Result (Option Script) Why) → line_read mode.Replay so n l ≡ r → ((more : Option Script) → list_any is_trace ls ≡ true → lines_read mode.Replay more (n + 1) ls ≡ Spelled c → ⊥)
+        → (t || list_any is_trace ls) ≡ true → going_on n r (λ more. lines_read mode.Replay more (n + 1) ls) ≡ Spelled c → ⊥
+    by t is (Err w) q later k f = refused_spelled n w c f
+    by false is (Ok more) q later k f = later more k f
+    by true is (Ok more) q later k f =
         let s = no_order so n in
         ok_err more s.why (sym q ∙ (ap (line_read mode.Replay so n) (same_name l (codes "trace") is) ∙ s.is))
       where
@@ -83,7 +84,7 @@ same_lines (b ∷ bs) = by (is_lf b) refl (lines_of bs) (slice_split is_lf bs) (
     by t e ls [] h s = absurd (no_part s.part s.others s.split)
     by true e ls (q ∷ qs) h s = ap₂ (λ (x : ℕ) (more : List (List ℕ)). (x ∷ []) ∷ more) (same_number b 10 e) h
     by false e ls ([] ∷ []) h s = ap (before_first b) h
-    by false e ls ((a ∷ as) ∷ []) h s = ap (before_first b) h
+    by false e ls ((a ∷ more) ∷ []) h s = ap (before_first b) h
     by false e ls (p ∷ q ∷ qs) h s = ap (before_first b) h
 
 -- no line end stands in a part
@@ -135,11 +136,11 @@ between_among (p ∷ q ∷ ps) k h = by (is_between (p ++ 10 ∷ [])) refl h (be
 
 none_between : (ls : List (List ℕ)) → list_any is_between ls ≡ false → list_all (λ l. not (is_between l)) ls ≡ true
 none_between [] h = refl
-none_between (l ∷ ls) h = by (is_between l) refl h
+none_between (l ∷ ls) h = by (is_between l) h (none_between ls)
   where
-    by : (t : Bool) → is_between l ≡ t → (t || list_any is_between ls) ≡ false → (not t && list_all (λ l. not (is_between l)) ls) ≡ true
-    by true e f = absurd (true≢false f)
-    by false e f = none_between ls f
+    by : (t : Bool) → (t || list_any is_between ls) ≡ false → (list_any is_between ls ≡ false → list_all (λ l. not (is_between l)) ls ≡ true) → (not t && list_all (λ l. not (is_between l)) ls) ≡ true
+    by true f more = absurd (true≢false f)
+    by false f more = more f
 
 spelled_lines : (bytes : List ℕ) (c : Script) → reading mode.Replay bytes ≡ Spelled c → lines_read mode.Replay None 1 (lines bytes) ≡ Spelled c
 unfolding reading

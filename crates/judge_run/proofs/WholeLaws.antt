@@ -1,6 +1,6 @@
 -- Of a script, the line between and the text of a trace.
 use Rattle.std.proofs.Common.{◌≡◌, ◌<◌, ℕ, sym, subst, ap, ap₂, ◌∙◌, inl, inr}
-use Rattle.std.specs.Prelude.{true, ◌⊎◌, List, Option, Some, IfSome}
+use Rattle.std.specs.Prelude.{true, ◌⊎◌, List, Option, IfSome}
 use Rattle.yard_model.specs.Script.{Script}
 use Rattle.script_text.specs.Reading.{Reading, Spelled, reading}
 use Rattle.script_text.specs.declared.fault.Mode.TheVariants as mode
@@ -8,7 +8,7 @@ use Rattle.judge_laws.specs.declared.breach.Breach.{Breach}
 use Rattle.judge_laws.specs.declared.breach.Breach.TheVariants as breach
 use Rattle.verdict_laws.specs.declared.answer.Answer.{Answer}
 use Rattle.verdict_laws.specs.declared.answer.Answer.TheVariants as answer
-use Rattle.verdict_laws.specs.Meaning.{Means, MeantIsAnswered}
+use Rattle.verdict_laws.specs.Meaning.{MeantIsAnswered}
 use Rattle.verdict_laws.specs.Verdict.{verdict}
 use Rattle.judge_run.specs.declared.status.Status.{Status}
 use Rattle.judge_run.specs.declared.status.Status.TheVariants as status

@@ -1,10 +1,9 @@
 -- How a run of the judge may end, and what each end says.
-use Rattle.std.specs.Prelude.{◌≡◌, ◌<◌, ◌≤◌, ◌⊎◌, ℕ, true, List, [], ◌++◌, Option, Some, None, IfSome}
+use Rattle.std.specs.Prelude.{◌≡◌, ◌<◌, ◌≤◌, ◌⊎◌, ℕ, true, List, [], ◌++◌, Option, Some, IfSome}
 use Rattle.yard_io.specs.Told.{followed_by, count_of, TakesFront}
 use Rattle.yard_io.specs.declared.transfer.ReadError.{ReadError}
 use Rattle.yard_io.specs.declared.transfer.ReadError.TheVariants as read_error
 use Rattle.yard_model.specs.Script.{Script}
-use Rattle.yard_model.specs.Text.{Bytes}
 use Rattle.script_text.specs.Reading.{Reading, Spelled, Refused, reading}
 use Rattle.script_text.specs.declared.fault.Mode.TheVariants as mode
 use Rattle.script_text.specs.declared.fault.Why.{Why}

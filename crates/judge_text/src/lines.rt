@@ -72,11 +72,7 @@ pub(crate) fn take_line(
 }
 
 /// The same of a line that isn't passed over.
-fn take_read(
-    judge: &mut Judge,
-    room: &mut Vec<u8>,
-    line: &[u8],
-) -> Result<Step, AllocError>
+fn take_read(judge: &mut Judge, room: &mut Vec<u8>, line: &[u8]) -> Result<Step, AllocError>
     ensures ok { IfOk result (λ step. Goes judge.old (read_step judge.old.script judge.old.trace (read_line line.now)) step judge.new) }
     ensures err { OnErr result (judge.new ≡ judge.old) }
 {

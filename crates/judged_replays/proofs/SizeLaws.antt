@@ -1,6 +1,6 @@
 -- The lines of facts whose names are names: each is one line, and not too long.
 use Rattle.std.proofs.Common.{◌≡◌, ◌<◌, ◌≤◌, ℕ, zero, suc, ◌+◌, ◌/◌, ◌%◌, sym, ap, ◌∙◌, refl, arith}
-use Rattle.std.specs.Prelude.{Bool, true, false, ◌==◌, ◌&&◌, nat_le, nat_lt, not, cond, List, [], ◌∷◌, ◌++◌, length, map, codes, decimal, if◌then◌else◌}
+use Rattle.std.specs.Prelude.{Bool, true, false, ◌==◌, nat_le, nat_lt, not, cond, List, [], ◌∷◌, ◌++◌, length, map, codes, decimal}
 use Rattle.std.specs.List.{join_with_byte, list_all}
 use Rattle.std.specs.Fmt.{digits, digits_onto, digit_glyph}
 use Rattle.std.proofs.lemmas.List.{length-append}
@@ -10,8 +10,6 @@ use Rattle.yard_model.specs.declared.fact.Fact.{Fact}
 use Rattle.yard_model.specs.declared.fact.Fact.TheVariants as fact
 use Rattle.yard_model.specs.declared.packet.Body.{Body}
 use Rattle.yard_model.specs.declared.packet.Body.TheVariants as body
-use Rattle.yard_model.specs.declared.packet.Message.{Message}
-use Rattle.yard_model.specs.declared.packet.Record.{Record}
 use Rattle.yard_model.specs.declared.event.Command.{Command}
 use Rattle.yard_model.specs.declared.event.Command.TheVariants as command
 use Rattle.yard_model.specs.declared.event.Event.{Event}
@@ -31,9 +29,9 @@ use Rattle.yard_model.specs.declared.incarnation.Slot.TheVariants as slots
 use Rattle.yard_model.specs.declared.incarnation.Stamp.{Stamp}
 use Rattle.yard_model.specs.Behaviour.{is_in}
 use Rattle.yard_model.specs.Name.{is_name_byte}
-use Rattle.yard_model.specs.Text.{body_words, cause_text, command_text, event_text, events_text, fact_line, fact_words, incarnation_text, item_text, items_text, keep_text, message_words, record_words, reply_text, slot_text, stamp_text, state_text, words}
+use Rattle.yard_model.specs.Text.{body_words, cause_text, command_text, event_text, events_text, fact_line, fact_words, incarnation_text, item_text, items_text, keep_text, reply_text, slot_text, stamp_text, state_text, words}
 use Rattle.fact_lines.specs.Readable.{IsEntity}
-use Rattle.state_lines.specs.Told.{FitsState, IsTold}
+use Rattle.state_lines.specs.Told.{FitsState}
 use Rattle.verdict_laws.specs.Lines.{is_lf, is_long}
 use Rattle.judged_replays.specs.Replayed.{FitsBody, IsHeard}
 

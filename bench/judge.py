@@ -15,7 +15,7 @@ import sys
 
 # What a line must be to be read: each kind of fact by its first word, with the ranges of its numbers.
 
-BYTE, SHORT, LONG, WIDE = 2**8 - 1, 2**16 - 1, 2**32 - 1, 10**18 - 1
+BYTE, SHORT, LONG, WIDE, FULL = 2**8 - 1, 2**16 - 1, 2**32 - 1, 10**18 - 1, 2**64 - 1
 NODES, PRODUCERS, SHARDS = (1, 16), (1, 32), (0, 127)
 
 
@@ -29,6 +29,9 @@ SLOT = rf"(?P<slot>shard:{number('shard')}|queue:{number('queue')}|coordinator)"
 COMMAND = rf"(?P<command>(?:add|deposit|withdraw|adjust) {number()} {number()}|(?:add|deposit|withdraw|remove) {number()}|read|create|balance|close|checkout)"
 EVENT = rf"(?:(?:added|adjusted) {number()} {number()}|(?:deposited|withdrawn) {number()} memo {number()}|(?:added|deposited|withdrawn|removed) {number()}|created|closed|checkedout)"
 REPLY = rf"(?P<reply>ok {number('ok')}|no {number('no')})"
+ITEM = rf"{number()}:{number()}"
+# A counter; an account; a cart. A memo of 0 isn't printed.
+STATE = rf"(?P<state>{number('total')}|none|closed|open {number('balance')}(?: memo {number('memo')})?|(?:open|out) (?P<items>-|{ITEM}(?:,{ITEM}){{0,15}}))"
 
 FORMS = {
     "granted": rf"granted {SLOT} {number('epoch')} {X}",
@@ -44,6 +47,7 @@ FORMS = {
     "queued": rf"queued {number('p')} {E} {number('n')} {COMMAND}",
     "confirmed": rf"confirmed {number('p')} {E} {number('n')}",
     "start": rf"start {X} {E}",
+    "active": rf"active {X} {E} {number('records')} {STATE}",
     "stop": rf"stop {X} {E}",
     "writefailed": rf"writefailed {X} {E}",
     "gone": rf"gone {X}",
@@ -51,8 +55,7 @@ FORMS = {
     "reshard": rf"reshard {number('byte')} {number('epoch')}",
 }
 FORMS = {word: re.compile(form) for word, form in FORMS.items()}
-RANGES = {"node": NODES, "p": PRODUCERS, "queue": PRODUCERS, "shard": SHARDS, "byte": (0, BYTE), "no": (0, BYTE), "ok": (0, WIDE)}
-ACTIVE = re.compile(r"active (?P<node>[0-9]+)\.(?P<start>[0-9]+) (?P<e>[A-Za-z0-9_-]+)")
+RANGES = {"node": NODES, "p": PRODUCERS, "queue": PRODUCERS, "shard": SHARDS, "byte": (0, BYTE), "no": (0, BYTE), "ok": (0, WIDE), "memo": (1, SHORT), "total": (0, FULL), "balance": (0, FULL)}
 # The most bytes of a line that is looked at, its LF among them.
 MOST_BYTES = 4096
 # (amounts have 32 bits, all other numbers of commands and events 16)
@@ -83,13 +86,14 @@ def fact_of(line):
         return None
     it = {key: value for key, value in found.groupdict().items() if value is not None}
     for key, value in it.items():
-        if value.isdigit() and key not in ("x", "e"):
+        if value.isdigit() and key not in ("x", "e", "state"):
             low, high = RANGES.get(key, (0, LONG))
             if not low <= int(value) <= high:
                 return None
             it[key] = int(value)
     texts = [it[key] for key in ("command",) if key in it] + [event for event in it.get("events", "-").split(", ") if event != "-"]
-    return {"word": word, **it} if all(map(fits, texts)) else None
+    items = re.findall("[0-9]+", it.get("items", ""))
+    return {"word": word, **it} if all(map(fits, texts)) and all(int(number) <= SHORT for number in items) else None
 
 
 # What a script says.
@@ -287,14 +291,11 @@ class Judge:
             return NO_FACT
         if is_quiet(line):
             return None
-        if line.startswith("active "):
-            broken, word = self.active(line), "active"
-        else:
-            fact = fact_of(line[:-1]) if line.endswith("\n") else None
-            if fact is None:
-                return NO_FACT
-            word = fact.pop("word")
-            broken = getattr(self, word)(**fact)
+        fact = fact_of(line[:-1]) if line.endswith("\n") else None
+        if fact is None:
+            return NO_FACT
+        word = fact.pop("word")
+        broken = getattr(self, word)(**fact)
         if broken is None:
             self.facts += 1
             self.entries += word in ENTRIES
@@ -322,13 +323,9 @@ class Judge:
     def gone(self, x, **_):
         self.live = {e: y for e, y in self.live.items() if y != x}
 
-    def active(self, line):
-        found = ACTIVE.match(line)
-        if not found or not 1 <= int(found["node"]) <= 16 or int(found["start"]) > LONG or len(found["e"]) > 32:
-            return NO_FACT
-        journal = self.journal(found["e"])
-        x = f"{int(found['node'])}.{int(found['start'])}"
-        return None if line == f"active {x} {found['e']} {journal.length} {state_text(self.script.kind, journal.state)}\n" else OTHER_STATE
+    def active(self, e, records, state, **_):
+        journal = self.journal(e)
+        return None if (records, state) == (journal.length, state_text(self.script.kind, journal.state)) else OTHER_STATE
 
     def upgrade(self, byte):
         self.version = byte

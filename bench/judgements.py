@@ -187,9 +187,16 @@ HOSTILE = [
     "wrote c1 1 epoch 1 by 1:1 add 5 / added 5 / ok 1000000000000000000\n", "wrote c1 1 epoch 1 by 1:1 add 5 / added 5,added 5 / ok 5\n",
     "wrote c1 1 epoch 1 by 1:1 add 5 / added 5, added 5, added 5, added 5, added 5 / ok 5\n", "wrote c1 1 epoch 1 by 1:1 add 5 / added 5 / no 256\n", "got" + " 1" * 2_046 + " \n",
     "got" + " 1" * 2_047, "a" * 1_500 + "\n", "active \n", "active 1.1\n", "active 17.1 c1 0 0\n", "active 0.1 c1 0 0\n", "active 1.1 " + "a" * 33 + " 0 0\n", "active x",
+    "active 1.1 c1\n", "active 1.1 c1 0\n", "active 01.1 c1 0 0\n", "active 1.1 c1 00 0\n", "active 1.1 c1 0 00\n", "active 1.1 c1 0 0 \n", "active 1.1 c1 0 0 0\n",
+    "active 1.1 c1 0 -1\n", "active 1.1 c1 0 a\n", "active 1.1 c1 4294967296 0\n", "active 1.1 c1 0 18446744073709551616\n", "active 1.1 c1 0 none 0\n",
+    "active 1.1 c1 0 open\n", "active 1.1 c1 0 open 18446744073709551616\n", "active 1.1 c1 0 open 5 memo 0\n", "active 1.1 c1 0 open 5 memo 65536\n",
+    "active 1.1 c1 0 open 5 memo\n", "active 1.1 c1 0 open 1:2,\n", "active 1.1 c1 0 open 1:65536\n", "active 1.1 c1 0 open 1:2 memo 1\n", "active 1.1 c1 0 open --\n",
+    "active 1.1 c1 0 out 5\n", "active 1.1 c1 0 out " + ",".join(["1:1"] * 17) + "\n",
     # what can be read, and breaks the trace
     "granted shard:0 4294967295 1.4294967295\n", "granted shard:127 1 1.1\n", "granted queue:32 1 1.1\n", "granted shard:0 1 16.1\n", "start 1.1 " + "a" * 32 + "\n",
-    "queued 32 c1 1 add 65535\n", "active 1.1 c1\n", "active 01.1 c1 0 0\n", "active 1.1 c1 00 0\n", "active 1.1 c1 0 0 \n",
+    "queued 32 c1 1 add 65535\n", "active 1.1 c1 4294967295 0\n", "active 16.4294967295 c1 0 18446744073709551615\n", "active 1.1 c1 0 none\n", "active 1.1 c1 0 closed\n",
+    "active 1.1 c1 0 open 0\n", "active 1.1 c1 0 open 18446744073709551615 memo 65535\n", "active 1.1 c1 0 open -\n", "active 1.1 c1 0 out 65535:65535,2:3,2:0\n",
+    "active 1.1 c1 0 open " + ",".join(["1:1"] * 16) + "\n",
     "active 1.1 nobody 0 1\n", "active 1.1 nobody 0 0\n", "wrote c1 1 epoch 1 by 1:1 add 5 / added 5, added 5, added 5, added 5 / ok 999999999999999999\n",
     # a life that ends where none began; any version
     "gone 16.4294967295\nstop 1.1 nobody\nwritefailed 2.1 c1\nupgrade 0\nupgrade 255\n",

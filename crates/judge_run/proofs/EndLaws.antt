@@ -1,7 +1,7 @@
 -- How a run ends.
-use Rattle.std.proofs.Common.{◌≡◌, ◌<◌, ◌≤◌, ℕ, ◌+◌, sym, subst, ap, ap₂, ◌∙◌, refl, arith, length-take-le, inl, inr}
-use Rattle.std.specs.Prelude.{Bool, true, false, nat_lt, List, [], ◌∷◌, ◌++◌, length, take, drop, Option, Some, None, IfSome, Result, Ok, Err, IfErr, IfOk}
-use Rattle.std.proofs.lemmas.List.{append-nil, append_assoc, drop_all, take_all, take-append-drop}
+use Rattle.std.proofs.Common.{◌≡◌, ◌<◌, ◌≤◌, ℕ, sym, subst, ap, ◌∙◌, refl, arith, length-take-le}
+use Rattle.std.specs.Prelude.{Bool, true, false, nat_lt, List, [], ◌++◌, length, take, drop, Option, Some, None, IfSome, Result, Ok, Err, IfErr, IfOk}
+use Rattle.std.proofs.lemmas.List.{append-nil, append_assoc, drop_all, take-append-drop}
 use Rattle.plain_laws.proofs.Booleans.{below, not_below}
 use Rattle.plain_laws.proofs.Lists.{none_is_not_some, some_is}
 use Rattle.yard_io.specs.Told.{without_first}
@@ -14,7 +14,7 @@ use Rattle.script_text.proofs.Steps.{reading_long}
 use Rattle.verdict_laws.specs.declared.answer.Answer.{Answer}
 use Rattle.verdict_laws.specs.Meaning.{Means, VerdictMeans}
 use Rattle.verdict_laws.specs.Verdict.{verdict}
-use Rattle.judge_text.specs.Reads.{IsJudged, ahead, left_of}
+use Rattle.judge_text.specs.Reads.{ahead, left_of}
 use Rattle.judge_text.proofs.ReadLaws.{ahead_both}
 use Rattle.judge_run.specs.declared.status.Status.{Status}
 use Rattle.judge_run.specs.declared.status.Status.TheVariants as status
@@ -65,6 +65,7 @@ answers_behind means had mid has head script first limit a h k b =
       input_is = input_of had has bytes told;
       script = b.script;
       spelled = ap (reading mode.Replay) script_is ∙ b.spelled;
+      some = b.some;
       answer_is = answer_is;
       means = subst (Means b.script (trace_in input)) answer_is (means b.script (trace_in input) b.some);
     }
@@ -103,6 +104,7 @@ answers_alone means had mid head a h k b =
       input_is = input_of had mid head (head_told had mid head 4194311 h);
       script = b.script;
       spelled = ap (reading mode.Replay) (ap script_in whole ∙ k.script_is) ∙ b.spelled;
+      some = b.some;
       answer_is = answer_is;
       means = subst (Means b.script (trace_in (head ++ left_of mid))) answer_is (means b.script (trace_in (head ++ left_of mid)) b.some);
     }

@@ -1,14 +1,14 @@
 -- A script, a line `trace`, and a trace.
-use Rattle.std.proofs.Common.{◌≡◌, ◌<◌, ◌≤◌, ℕ, ◌+◌, ◌-◌, sym, subst, ap, ap₂, ◌∙◌, refl, arith, length-append}
-use Rattle.std.specs.Prelude.{Bool, true, false, List, [], ◌∷◌, ◌++◌, length, take, codes, Option, Some, None, if◌then◌else◌}
-use Rattle.std.specs.List.{position}
+use Rattle.std.proofs.Common.{◌≡◌, ◌≤◌, ℕ, ◌+◌, ◌-◌, sym, subst, ap, ap₂, ◌∙◌, refl, arith, length-append, true≢false}
+use Rattle.std.specs.Prelude.{Bool, true, false, not, List, [], ◌∷◌, ◌++◌, length, take, codes, None, if◌then◌else◌}
+use Rattle.std.specs.List.{list_all, position}
 use Rattle.std.proofs.lemmas.List.{append-nil, append_assoc}
 use Rattle.std.proofs.Math.Seq.{take-append_seam}
-use Rattle.plain_laws.proofs.Booleans.{same_name}
+use Rattle.plain_laws.proofs.Booleans.{and_both, of_not, same_name}
 use Rattle.verdict_laws.specs.Lines.{before_first, is_lf, lines_of}
 use Rattle.verdict_laws.proofs.CutLaws.{Begins, begins, last_line}
 use Rattle.judge_text.specs.Steps.{Cuts}
-use Rattle.judge_run.specs.Input.{IsCut, IsUncut, before_it, behind_it, is_between, joined, script_in, trace_in}
+use Rattle.judge_run.specs.Input.{IsCut, IsUncut, before_it, behind_it, ends_line, is_between, is_whole, joined, put_together, script_in, trace_in}
 
 joined_before : (b : ℕ) (ls : List (List ℕ)) → joined (before_first b ls) ≡ b ∷ joined ls
 joined_before b [] = refl
@@ -110,3 +110,59 @@ uncut input rest p none = record {
       subst (λ t. length input ≤ length t + 6) (sym (p.script_is more))
       (omega (arith, ap length p.input_is, length-append p.passed rest, length-append p.passed (before_it (lines_of (rest ++ more))), open_longer rest more none));
 }
+
+-- Put together, and cut apart again.
+
+record HasLine (ls : List (List ℕ)) : Type 0 where
+  line : List ℕ
+  behind : List (List ℕ)
+  split : ls ≡ line ∷ behind
+
+some_lines : (b : ℕ) (bs : List ℕ) → HasLine (lines_of (b ∷ bs))
+some_lines b bs = by (is_lf b) (lines_of bs)
+  where
+    by : (t : Bool) (ls : List (List ℕ)) → HasLine (if t then (b ∷ []) ∷ ls else before_first b ls)
+    by true ls = record { line = b ∷ []; behind = ls; split = refl }
+    by false [] = record { line = b ∷ []; behind = []; split = refl }
+    by false (l ∷ ls) = record { line = b ∷ l; behind = ls; split = refl }
+
+-- behind whole lines
+lines_joined : (xs more : List ℕ) → ends_line xs ≡ true → lines_of (xs ++ more) ≡ lines_of xs ++ lines_of more
+lines_joined [] more h = refl
+lines_joined (b ∷ []) more h = by (is_lf b) h
+  where
+    by : (t : Bool) → t ≡ true → (if t then (b ∷ []) ∷ lines_of more else before_first b (lines_of more)) ≡ (if t then (b ∷ []) ∷ [] else before_first b []) ++ lines_of more
+    by true e = refl
+    by false e = absurd (true≢false (sym e))
+lines_joined (b ∷ d ∷ bs) more h = by (is_lf b) (lines_of ((d ∷ bs) ++ more)) (lines_of (d ∷ bs)) (lines_joined (d ∷ bs) more h) (some_lines d bs)
+  where
+    by : (t : Bool) (all first : List (List ℕ)) → all ≡ first ++ lines_of more → HasLine first → (if t then (b ∷ []) ∷ all else before_first b all) ≡ (if t then (b ∷ []) ∷ first else before_first b first) ++ lines_of more
+    by true all first e s = ap (λ ls. (b ∷ []) ∷ ls) e
+    by false all first e s = ap (before_first b) (e ∙ ap (λ ls. ls ++ lines_of more) s.split) ∙ ap (λ ls. before_first b ls ++ lines_of more) (sym s.split)
+
+none_before : (ls ms : List (List ℕ)) → list_all (λ l. not (is_between l)) ls ≡ true → before_it (ls ++ ms) ≡ joined ls ++ before_it ms
+none_before [] ms h = refl
+none_before (l ∷ ls) ms h =
+    let k = and_both (not (is_between l)) (list_all (λ l. not (is_between l)) ls) h in
+    ap (λ b. if b then [] else l ++ before_it (ls ++ ms)) (of_not (is_between l) k.0) ∙ (ap (λ t. l ++ t) (none_before ls ms k.1) ∙ sym (append_assoc l (joined ls) (before_it ms)))
+
+none_behind : (ls ms : List (List ℕ)) → list_all (λ l. not (is_between l)) ls ≡ true → behind_it (ls ++ ms) ≡ behind_it ms
+none_behind [] ms h = refl
+none_behind (l ∷ ls) ms h =
+    let k = and_both (not (is_between l)) (list_all (λ l. not (is_between l)) ls) h in
+    ap (λ b. if b then joined (ls ++ ms) else behind_it (ls ++ ms)) (of_not (is_between l) k.0) ∙ none_behind ls ms k.1
+
+lines_together : (script trace : List ℕ) → is_whole script ≡ true → lines_of (put_together script trace) ≡ lines_of script ++ codes "trace\n" ∷ lines_of trace
+lines_together script trace h = lines_joined script (codes "trace\n" ++ trace) (and_both (ends_line script) (list_all (λ l. not (is_between l)) (lines_of script)) h).0
+
+pub script_apart : (script trace : List ℕ) → is_whole script ≡ true → script_in (put_together script trace) ≡ script
+script_apart script trace h =
+    ap before_it (lines_together script trace h)
+    ∙ (none_before (lines_of script) (codes "trace\n" ∷ lines_of trace) (and_both (ends_line script) (list_all (λ l. not (is_between l)) (lines_of script)) h).1
+    ∙ (append-nil (joined (lines_of script)) ∙ joined_lines script))
+
+pub trace_apart : (script trace : List ℕ) → is_whole script ≡ true → trace_in (put_together script trace) ≡ trace
+trace_apart script trace h =
+    ap behind_it (lines_together script trace h)
+    ∙ (none_behind (lines_of script) (codes "trace\n" ∷ lines_of trace) (and_both (ends_line script) (list_all (λ l. not (is_between l)) (lines_of script)) h).1
+    ∙ joined_lines trace)

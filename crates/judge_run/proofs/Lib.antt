@@ -1,2 +1,4 @@
 pub mod EndLaws
 pub mod InputLaws
+pub mod ScriptLaws
+pub mod WholeLaws

@@ -1,10 +1,9 @@
 -- How a run of the judge may end, and what each end says.
-use Rattle.std.specs.Prelude.{◌≡◌, ◌<◌, ◌≤◌, ◌⊎◌, ℕ, List, [], ◌++◌, Option, Some, None, IfSome}
+use Rattle.std.specs.Prelude.{◌≡◌, ◌<◌, ◌≤◌, ◌⊎◌, ℕ, true, List, [], ◌++◌, Option, Some, IfSome}
 use Rattle.yard_io.specs.Told.{followed_by, count_of, TakesFront}
 use Rattle.yard_io.specs.declared.transfer.ReadError.{ReadError}
 use Rattle.yard_io.specs.declared.transfer.ReadError.TheVariants as read_error
 use Rattle.yard_model.specs.Script.{Script}
-use Rattle.yard_model.specs.Text.{Bytes}
 use Rattle.script_text.specs.Reading.{Reading, Spelled, Refused, reading}
 use Rattle.script_text.specs.declared.fault.Mode.TheVariants as mode
 use Rattle.script_text.specs.declared.fault.Why.{Why}
@@ -17,7 +16,7 @@ use Rattle.verdict_laws.specs.Meaning.{Means}
 use Rattle.verdict_laws.specs.Verdict.{verdict}
 use Rattle.judge_run.specs.declared.status.Status.{Status}
 use Rattle.judge_run.specs.declared.status.Status.TheVariants as status
-use Rattle.judge_run.specs.Input.{script_in, trace_in}
+use Rattle.judge_run.specs.Input.{ends_line, put_together, script_in, trace_in}
 use Rattle.judge_run.specs.Texts.{answer_text}
 
 -- the exit status of the program
@@ -56,6 +55,7 @@ pub record Answers (had has : Option (List ℕ)) (a : Answer) : Type 0 where
   pub input_is : IsInput had has input
   pub script : Script
   pub spelled : reading mode.Replay (script_in input) ≡ Spelled script
+  pub some : 0 < script.config.shards
   pub answer_is : verdict script (trace_in input) ≡ a
   pub means : Means script (trace_in input) a
 
@@ -118,6 +118,18 @@ IsAnswer (Refused line why) trace s = (s ≡ status.Refused line why) ⊎ (s ≡
 
 abbrev pub IsComplete : Option (List ℕ) → Status → Type 0
 IsComplete told s = IfSome told (λ xs. IsAnswer (reading mode.Replay (script_in xs)) (trace_in xs) s)
+
+-- exactly the text of this answer was written and flushed
+pub record Says (a : Answer) (s : Status) (before after : Taken) : Type 0 where
+  pub status_is : s ≡ status_of a
+  pub written : after.bytes ≡ followed_by before.bytes (answer_text a)
+  pub flushed : after.flushed ≡ count_of after.bytes
+
+-- Of whole lines that spell a script, the line between and any text, exactly what is so of that text is written, or there
+-- is no memory.
+abbrev pub JudgesWhole : Option (List ℕ) → Status → Taken → Taken → Type 0
+JudgesWhole told s before after =
+    (script text : List ℕ) (c : Script) (a : Answer) → told ≡ Some (put_together script text) → ends_line script ≡ true → reading mode.Replay script ≡ Spelled c → Means c text a → Says a s before after ⊎ (s ≡ status.OutOfMemory)
 
 -- The two halves of a run.
 

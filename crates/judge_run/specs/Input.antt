@@ -1,7 +1,8 @@
 -- A script, a line `trace`, and a trace.
-use Rattle.std.specs.Prelude.{◌≡◌, ℕ, ◌+◌, ◌≤◌, Bool, true, false, List, [], ◌∷◌, ◌++◌, length, codes, if◌then◌else◌}
+use Rattle.std.specs.Prelude.{◌≡◌, ℕ, ◌+◌, ◌≤◌, Bool, true, ◌&&◌, not, List, [], ◌∷◌, ◌++◌, length, codes, if◌then◌else◌}
+use Rattle.std.specs.List.{list_all}
 use Rattle.yard_model.specs.Script.{is_name}
-use Rattle.verdict_laws.specs.Lines.{lines_of}
+use Rattle.verdict_laws.specs.Lines.{is_lf, lines_of}
 
 -- the line between them
 abbrev pub is_between : List ℕ → Bool
@@ -28,6 +29,23 @@ script_in input = before_it (lines_of input)
 -- empty where there is no such line
 abbrev pub trace_in : List ℕ → List ℕ
 trace_in input = behind_it (lines_of input)
+
+-- Put together: a script, the line between, and a trace.
+
+-- the text is empty, or ends with a line's end
+abbrev pub ends_line : List ℕ → Bool
+ends_line [] = true
+ends_line (b ∷ []) = is_lf b
+ends_line (b ∷ d ∷ bs) = ends_line (d ∷ bs)
+
+-- whole lines, none of which is the one between
+abbrev pub is_whole : List ℕ → Bool
+is_whole script = ends_line script && list_all (λ l. not (is_between l)) (lines_of script)
+
+abbrev pub put_together : List ℕ → List ℕ → List ℕ
+put_together script trace = script ++ (codes "trace\n" ++ trace)
+
+-- Cut apart.
 
 -- the line stands between these, whatever comes
 pub record IsCut (input script trace : List ℕ) : Type 0 where

@@ -2,8 +2,8 @@
 ghost use Rattle.std.specs.Prelude.{◌≡◌, ◌<◌, ◌≤◌, IfErr, IfOk, OnErr, OnOk};
 ghost use Rattle.yard_io.specs.Told.{TakesFront, count_of, followed_by};
 ghost use Rattle.script_text.specs.Reading.{Refused, Spelled, reading};
-ghost use Rattle.verdict_laws.specs.Meaning.{BrokenIsAnswered, SafeIsAnswered, UnreadIsAnswered};
-ghost use Rattle.judge_run.specs.Ends.{Alone, Answers, Began, Behind, IfAnswered, IfReadFault, IfRefused, IfUnwritten, IfWriteFault, IsComplete, IsEarly, IsScriptEnd, Refuses, Tells, Wrote, status_without};
+ghost use Rattle.verdict_laws.specs.Meaning.{BrokenIsAnswered, MeantIsAnswered, SafeIsAnswered, UnreadIsAnswered, VerdictMeans};
+ghost use Rattle.judge_run.specs.Ends.{Alone, Answers, Began, Behind, IfAnswered, IfReadFault, IfRefused, IfUnwritten, IfWriteFault, IsComplete, IsEarly, IsScriptEnd, JudgesWhole, Refuses, Tells, Wrote, status_without};
 
 use crate::input::cut;
 use crate::status::{Status, status_of};
@@ -12,7 +12,8 @@ use judge_text::judge_rest;
 use script_text::{Mode, ScriptFault, read_script};
 use std::alloc::Global;
 use verdict_laws::{
-    Answer, Counts, broken_is_answered, safe_is_answered, unread_is_answered, verdict_means,
+    Answer, Counts, broken_is_answered, meant_is_answered, safe_is_answered, unread_is_answered,
+    verdict_means,
 };
 use yard_io::{Failed, ReadError, Sink, Source, read_up_to, write_all, writes_add_up};
 use yard_model::Charter;
@@ -40,16 +41,45 @@ pub fn judge<S: Source, K: Sink>(alloc: Global, source: &mut S, sink: &mut K) ->
     ensures unwritten { IfUnwritten result ((K.taken sink.new ≡ K.taken sink.old) × (K.flushed sink.new ≡ K.flushed sink.old)) }
     // Where no fault rose, the input is answered, or there is no memory.
     ensures complete { S.faults source.new ≡ S.faults source.old → K.faults sink.new ≡ K.faults sink.old → IsComplete (S.left source.old) result }
+    // From end to end: of a script, the line `trace` and the text of a trace, where no fault rose, exactly what is so of
+    // that trace was written, or there is no memory.
+    ensures whole { S.faults source.new ≡ S.faults source.old → K.faults sink.new ≡ K.faults sink.old
+        → JudgesWhole (S.left source.old) result
+        (record { bytes = K.taken sink.old; flushed = K.flushed sink.old })
+        (record { bytes = K.taken sink.new; flushed = K.flushed sink.new }) }
     ensures source_faults { S.faults source.old ≤ S.faults source.new }
     ensures sink_faults { K.faults sink.old ≤ K.faults sink.new }
-    // What tells a safe trace is answered as safe, and as nothing else.
+    // What an answer says is so, and what is so is answered.
+    ensures verdict_means { VerdictMeans }
+    ensures meant_is_answered { MeantIsAnswered }
     ensures safe_is_answered { SafeIsAnswered }
     ensures broken_is_answered { BrokenIsAnswered }
     ensures unread_is_answered { UnreadIsAnswered }
 {
+    verdict_means();
+    meant_is_answered();
     safe_is_answered();
     broken_is_answered();
     unread_is_answered();
+    judge_input(alloc, source, sink)
+}
+
+/// The same, but for what follows of laws.
+fn judge_input<S: Source, K: Sink>(alloc: Global, source: &mut S, sink: &mut K) -> Status
+    ensures answered { IfAnswered result (Wrote (S.left source.old) (S.left source.new) result
+        (record { bytes = K.taken sink.old; flushed = K.flushed sink.old })
+        (record { bytes = K.taken sink.new; flushed = K.flushed sink.new })) }
+    ensures refused { IfRefused result (λ line why. Refuses (S.left source.old) (S.left source.new) line why) }
+    ensures read_fault { IfReadFault result (S.faults source.old < S.faults source.new) }
+    ensures write_fault { IfWriteFault result (K.faults sink.old < K.faults sink.new) }
+    ensures write_fault_front { IfWriteFault result (Began (S.left source.old) (S.left source.new)
+        (record { bytes = K.taken sink.old; flushed = K.flushed sink.old })
+        (record { bytes = K.taken sink.new; flushed = K.flushed sink.new })) }
+    ensures unwritten { IfUnwritten result ((K.taken sink.new ≡ K.taken sink.old) × (K.flushed sink.new ≡ K.flushed sink.old)) }
+    ensures complete { S.faults source.new ≡ S.faults source.old → K.faults sink.new ≡ K.faults sink.old → IsComplete (S.left source.old) result }
+    ensures source_faults { S.faults source.old ≤ S.faults source.new }
+    ensures sink_faults { K.faults sink.old ≤ K.faults sink.new }
+{
     match answer_of(alloc, source) {
         Ok(answer) => tell(alloc, answer, sink),
         Err(status) => status,

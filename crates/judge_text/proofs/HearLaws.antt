@@ -8,8 +8,8 @@ use Rattle.verdict_laws.specs.declared.answer.Answer.{Answer}
 use Rattle.verdict_laws.specs.declared.answer.Answer.TheVariants as answer
 use Rattle.verdict_laws.specs.declared.answer.Step.{Step}
 use Rattle.verdict_laws.specs.declared.answer.Step.TheVariants as step
-use Rattle.verdict_laws.specs.Lines.{active_behind, is_end, is_lf, is_quiet, lines_of, most_of_line}
-use Rattle.verdict_laws.specs.Verdict.{answered, counts_of, judged_from, loud_step, next, step_of}
+use Rattle.verdict_laws.specs.Lines.{is_end, is_lf, is_quiet, lines_of, most_of_line, read_line}
+use Rattle.verdict_laws.specs.Verdict.{answered, counts_of, judged_from, next, read_step, step_of}
 use Rattle.verdict_laws.proofs.CutLaws.{Begins, begins, cut_at, last_line, rest_is}
 use Rattle.verdict_laws.proofs.MeaningLaws.{goes_on}
 use Rattle.judge_text.specs.Hears.{HearsLine, Told, answer_of, answer_to, stops_at}
@@ -71,7 +71,7 @@ not_end l h = by (is_end l) refl
 long_line : (h : Told) (l : List ℕ) (ls : List (List ℕ)) → most_of_line < length l → answer_to h (l ∷ ls) ≡ answer.NoFact (next h.lines)
 long_line h l ls k =
     goes_on h.script h.trace h.lines l ls step.NoFact (not_end l k)
-    (ap (λ b. if b then step.NoFact else (if is_quiet l then step.Quiet else loud_step h.script h.trace l (active_behind l))) (is_below most_of_line (length l) k))
+    (ap (λ b. if b then step.NoFact else (if is_quiet l then step.Quiet else read_step h.script h.trace (read_line l))) (is_below most_of_line (length l) k))
 
 pub too_long : (old now : Told) (bytes rest : List ℕ) (n : ℕ) → GoesSo old bytes now rest → position is_lf rest ≡ None → most_of_line < length rest → n ≡ next now.lines → (more : List ℕ) → answer_of old (bytes ++ more) ≡ answer.NoFact n
 too_long old now bytes rest n g none long is = λ more.

@@ -9,7 +9,8 @@ use Rattle.yard_model.specs.declared.fact.Fact.TheVariants as fact
 use Rattle.yard_model.specs.Text.{fact_line, fact_words, words}
 use Rattle.judge_laws.specs.Broken.{is_loud, loud}
 use Rattle.verdict_laws.specs.Lines.{before_first, is_lf, is_quiet, lines_of}
-use Rattle.verdict_laws.specs.Meaning.{AreTold, IsTold, Tell}
+use Rattle.state_lines.specs.Told.{AreTold, IsTold}
+use Rattle.verdict_laws.specs.Meaning.{Tell}
 use Rattle.judged_replays.specs.Replayed.{AreHeard, IsHeard}
 use Rattle.judged_replays.proofs.PlainLaws.{AreOfReplay, is_of_replay}
 use Rattle.judged_replays.proofs.SizeLaws.{is_one, is_short, line_small}
@@ -67,7 +68,6 @@ lines_tell (f ∷ fs) h r =
 
 -- what safety says something of may be told
 heard_told : (f : Fact) → IsHeard f → is_loud f ≡ true → IsTold f
-heard_told (fact.Active x e m st) h l = (h.0, h.1)
 heard_told (fact.At n) h l = absurd (true≢false (sym l))
 heard_told fact.Nothing h l = absurd (true≢false (sym l))
 heard_told fact.WireFull h l = absurd (true≢false (sym l))

@@ -1,6 +1,6 @@
 -- The lines of facts whose names are names: each is one line, and not too long.
 use Rattle.std.proofs.Common.{◌≡◌, ◌<◌, ◌≤◌, ℕ, zero, suc, ◌+◌, ◌/◌, ◌%◌, sym, ap, ◌∙◌, refl, arith}
-use Rattle.std.specs.Prelude.{Bool, true, false, ◌==◌, ◌&&◌, nat_le, nat_lt, not, cond, List, [], ◌∷◌, ◌++◌, length, map, codes, decimal, if◌then◌else◌}
+use Rattle.std.specs.Prelude.{Bool, true, false, ◌==◌, nat_le, nat_lt, not, cond, List, [], ◌∷◌, ◌++◌, length, map, codes, decimal}
 use Rattle.std.specs.List.{join_with_byte, list_all}
 use Rattle.std.specs.Fmt.{digits, digits_onto, digit_glyph}
 use Rattle.std.proofs.lemmas.List.{length-append}
@@ -10,8 +10,6 @@ use Rattle.yard_model.specs.declared.fact.Fact.{Fact}
 use Rattle.yard_model.specs.declared.fact.Fact.TheVariants as fact
 use Rattle.yard_model.specs.declared.packet.Body.{Body}
 use Rattle.yard_model.specs.declared.packet.Body.TheVariants as body
-use Rattle.yard_model.specs.declared.packet.Message.{Message}
-use Rattle.yard_model.specs.declared.packet.Record.{Record}
 use Rattle.yard_model.specs.declared.event.Command.{Command}
 use Rattle.yard_model.specs.declared.event.Command.TheVariants as command
 use Rattle.yard_model.specs.declared.event.Event.{Event}
@@ -31,10 +29,11 @@ use Rattle.yard_model.specs.declared.incarnation.Slot.TheVariants as slots
 use Rattle.yard_model.specs.declared.incarnation.Stamp.{Stamp}
 use Rattle.yard_model.specs.Behaviour.{is_in}
 use Rattle.yard_model.specs.Name.{is_name_byte}
-use Rattle.yard_model.specs.Text.{body_words, cause_text, command_text, event_text, events_text, fact_line, fact_words, incarnation_text, item_text, items_text, keep_text, message_words, record_words, reply_text, slot_text, stamp_text, state_text, words}
-use Rattle.fact_lines.specs.Readable.{IsEntity, IsReadable}
+use Rattle.yard_model.specs.Text.{body_words, cause_text, command_text, event_text, events_text, fact_line, fact_words, incarnation_text, item_text, items_text, keep_text, reply_text, slot_text, stamp_text, state_text, words}
+use Rattle.fact_lines.specs.Readable.{IsEntity}
+use Rattle.state_lines.specs.Told.{FitsState}
 use Rattle.verdict_laws.specs.Lines.{is_lf, is_long}
-use Rattle.judged_replays.specs.Replayed.{FitsBody, FitsState, IsHeard}
+use Rattle.judged_replays.specs.Replayed.{FitsBody, IsHeard}
 
 -- no line ends within these bytes
 abbrev pub is_one : List ℕ → Bool
@@ -238,7 +237,7 @@ state_small (state.Counter n) h = wide 64 2200 (decimal n) (omega arith) (number
 state_small state.NoAccount h = (refl, omega arith)
 state_small (state.Open b m) h = open_small b m (m == 0)
 state_small state.Closed h = (refl, omega arith)
-state_small (state.Cart out xs) h = cart_small out xs h
+state_small (state.Cart out xs) h = cart_small out xs h.0
 
 -- Packets.
 
@@ -289,7 +288,7 @@ line_small (fact.Kept x m) h = fit 4095 (20 ∷ 129 ∷ 64 ∷ 32 ∷ 64 ∷ [])
 line_small (fact.Dropped x m) h = fit 4095 (20 ∷ 129 ∷ 64 ∷ 32 ∷ 64 ∷ []) (fact_words (fact.Dropped x m)) ((refl, omega arith), ((who x), ((number m.producer), ((name m.entity h), ((number m.number), tt))))) (omega arith)
 line_small (fact.Stashed x m) h = fit 4095 (20 ∷ 129 ∷ 64 ∷ 32 ∷ 64 ∷ []) (fact_words (fact.Stashed x m)) ((refl, omega arith), ((who x), ((number m.producer), ((name m.entity h), ((number m.number), tt))))) (omega arith)
 line_small (fact.Start x e) h = fit 4095 (20 ∷ 129 ∷ 32 ∷ []) (fact_words (fact.Start x e)) ((refl, omega arith), ((who x), ((name e h.1), tt))) (omega arith)
-line_small (fact.Active x e n st) h = fit 4095 (20 ∷ 129 ∷ 32 ∷ 64 ∷ 2200 ∷ []) (fact_words (fact.Active x e n st)) ((refl, omega arith), ((who x), ((name e h.1), ((number n), ((state_small st h.2), tt))))) (omega arith)
+line_small (fact.Active x e n st) h = fit 4095 (20 ∷ 129 ∷ 32 ∷ 64 ∷ 2200 ∷ []) (fact_words (fact.Active x e n st)) ((refl, omega arith), ((who x), ((name e h.1), ((number n), ((state_small st h.3), tt))))) (omega arith)
 line_small (fact.Stop x e) h = fit 4095 (20 ∷ 129 ∷ 32 ∷ []) (fact_words (fact.Stop x e)) ((refl, omega arith), ((who x), ((name e h.1), tt))) (omega arith)
 line_small (fact.WriteFailed x e) h = fit 4095 (20 ∷ 129 ∷ 32 ∷ []) (fact_words (fact.WriteFailed x e)) ((refl, omega arith), ((who x), ((name e h.1), tt))) (omega arith)
 line_small (fact.Armed e k) h = fit 4095 (20 ∷ 32 ∷ 20 ∷ []) (fact_words (fact.Armed e k)) ((refl, omega arith), ((name e h), ((keep_small k), tt))) (omega arith)

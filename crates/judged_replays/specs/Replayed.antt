@@ -8,12 +8,11 @@ use Rattle.yard_model.specs.declared.fact.Fact.{Fact}
 use Rattle.yard_model.specs.declared.fact.Fact.TheVariants as fact
 use Rattle.yard_model.specs.declared.packet.Body.{Body}
 use Rattle.yard_model.specs.declared.packet.Body.TheVariants as body
-use Rattle.yard_model.specs.declared.state.State.{State}
-use Rattle.yard_model.specs.declared.state.State.TheVariants as state
 use Rattle.yard_model.specs.Replay.{replay_within}
 use Rattle.yard_model.specs.Script.{Script, IsScript}
 use Rattle.yard_model.specs.World.{played}
-use Rattle.fact_lines.specs.Readable.{FitsIncarnation, IsEntity, IsReadable}
+use Rattle.fact_lines.specs.Readable.{IsEntity}
+use Rattle.state_lines.specs.Told.{IsTold}
 use Rattle.judge_laws.specs.Broken.{loud}
 use Rattle.verdict_laws.specs.declared.answer.Answer.TheVariants as answer
 use Rattle.verdict_laws.specs.Verdict.{counts_of, verdict}
@@ -39,11 +38,6 @@ FitsBody (body.Resend p e n) = IsEntity e
 FitsBody (body.Ack p e n) = IsEntity e
 FitsBody b = Unit {0}
 
--- at most 16 items
-abbrev pub FitsState : State → Type 0
-FitsState (state.Cart out items) = length items ≤ 16
-FitsState st = Unit {0}
-
 -- the names in a fact are names; and where safety says something of the fact, its numbers fit
 abbrev pub IsHeard : Fact → Type 0
 IsHeard (fact.At n) = Unit {0}
@@ -63,8 +57,7 @@ IsHeard (fact.Dropped x m) = IsEntity m.entity
 IsHeard (fact.Stashed x m) = IsEntity m.entity
 IsHeard (fact.Armed e k) = IsEntity e
 IsHeard (fact.Waits p e k) = IsEntity e
-IsHeard (fact.Active x e m st) = FitsIncarnation x × IsEntity e × FitsState st
-IsHeard f = IsReadable f
+IsHeard f = IsTold f
 
 abbrev pub AreHeard : List Fact → Type 0
 AreHeard [] = Unit {0}

@@ -1,7 +1,6 @@
 //! The judge of a trace.
 ghost use Rattle.std.specs.Prelude.{◌≡◌, ◌<◌, true, false, [], length, IfOk, OnErr};
 ghost use Rattle.yard_model.specs.declared.fact.Fact.TheVariants as fact;
-ghost use Rattle.yard_model.specs.Behaviour.{folded};
 ghost use Rattle.yard_model.specs.Era.{upgrade_step};
 ghost use Rattle.yard_model.specs.Safe.{is_journal_state, safe, shard_list_of};
 ghost use Rattle.yard_model.specs.SlotReads.{holder, journal};
@@ -135,19 +134,6 @@ impl Judge {
         match self.slots.holder(&slot) {
             Some(other) => *who == other,
             None => false,
-        }
-    }
-
-    /// The fact that the entity is active at this incarnation, with what stands of it.
-    pub fn active(&self, who: &Incarnation, entity: &EntityName) -> Fact
-        ensures { result ≡ fact.Active who.now entity.now (length (journal entity.now (shard_list_of self.now.script entity.now self.now.trace))) (folded self.now.script.config.kind (journal entity.now (shard_list_of self.now.script entity.now self.now.trace))) }
-    {
-        let standing = self.slots.standing(entity);
-        Fact::Active {
-            who: *who,
-            entity: *entity,
-            records: standing.records,
-            state: standing.state,
         }
     }
 

@@ -1,5 +1,4 @@
 pub mod CutLaws
 pub mod LineLaws
 pub mod MeaningLaws
-pub mod RangeLaws
 pub mod StepLaws

@@ -1,11 +1,9 @@
 -- The lines of a trace's text.
-use Rattle.std.specs.Prelude.{ℕ, Bool, false, ◌==◌, ◌||◌, nat_lt, List, [], ◌∷◌, ◌++◌, length, codes, Option, Some, None, if◌then◌else◌}
+use Rattle.std.specs.Prelude.{ℕ, Bool, false, ◌==◌, ◌||◌, nat_lt, List, [], ◌∷◌, length, codes, Option, Some, None, if◌then◌else◌}
 use Rattle.yard_model.specs.declared.fact.Fact.{Fact}
-use Rattle.yard_model.specs.declared.fact.Fact.TheVariants as fact
-use Rattle.yard_model.specs.declared.incarnation.Incarnation.{Incarnation}
 use Rattle.yard_model.specs.Script.{is_name}
 use Rattle.yard_model.specs.Text.{fact_line}
-use Rattle.fact_lines.specs.Reads.{fact_at, text_at}
+use Rattle.state_lines.specs.States.{told_at}
 
 abbrev pub is_lf : ℕ → Bool
 is_lf b = b == 10
@@ -56,23 +54,10 @@ is_quiet l = is_remark l || is_quiet_word (first_word l)
 abbrev pub is_end : List ℕ → Bool
 is_end l = is_name l (codes "report\n")
 
--- the fact of a line, but for that of an active entity
+-- the fact of a line, where it is what the line spells: that whose line it is
 abbrev pub read_as : List ℕ → Option Fact → Option Fact
 read_as l None = None
 read_as l (Some f) = if is_name (fact_line f) l then Some f else None
 
 abbrev pub read_line : List ℕ → Option Fact
-read_line l = read_as l (fact_at l)
-
--- who starts which entity, if that is the fact
-abbrev pub named_in : Option Fact → Option (Incarnation × List ℕ)
-named_in (Some (fact.Start x e)) = Some (x, e)
-named_in o = None
-
--- who and which entity stand at the front of these bytes
-abbrev pub named_at : List ℕ → Option (Incarnation × List ℕ)
-named_at rest = named_in (fact_at (codes "start " ++ rest))
-
--- what stands behind the word `active`, if the line begins so
-abbrev pub active_behind : List ℕ → Option (List ℕ)
-active_behind l = text_at (codes "active ") l
+read_line l = read_as l (told_at l)

@@ -1,31 +1,18 @@
 -- What an answer says, and which texts are answered so.
-use Rattle.std.specs.Prelude.{◌≡◌, ℕ, ◌+◌, ◌<◌, ◌⊎◌, min, true, false, List, [], ◌∷◌, ◌++◌, length, Option, Some, None}
+use Rattle.std.specs.Prelude.{◌≡◌, ℕ, ◌+◌, ◌<◌, ◌⊎◌, min, true, false, List, [], ◌∷◌, ◌++◌, length, Some}
 use Rattle.yard_model.specs.declared.fact.Fact.{Fact}
-use Rattle.yard_model.specs.declared.fact.Fact.TheVariants as fact
-use Rattle.yard_model.specs.declared.incarnation.Incarnation.{Incarnation}
-use Rattle.yard_model.specs.declared.state.State.{State}
 use Rattle.yard_model.specs.Safe.{safe}
 use Rattle.yard_model.specs.Script.{Script}
 use Rattle.yard_model.specs.Text.{fact_line}
-use Rattle.fact_lines.specs.Readable.{FitsIncarnation, IsEntity, IsReadable}
+use Rattle.state_lines.specs.Told.{AreTold, IsTold}
 use Rattle.judge_laws.specs.declared.breach.Breach.{Breach}
-use Rattle.judge_laws.specs.declared.breach.Breach.TheVariants as breach
 use Rattle.judge_laws.specs.Breached.{breach_of}
 use Rattle.judge_laws.specs.Judged.{is_plain, is_reshard}
 use Rattle.verdict_laws.specs.declared.answer.Answer.{Answer}
 use Rattle.verdict_laws.specs.declared.answer.Answer.TheVariants as answer
 use Rattle.verdict_laws.specs.declared.answer.Counts.{Counts}
-use Rattle.verdict_laws.specs.Lines.{active_behind, is_end, is_long, is_quiet, lines_of, named_at}
+use Rattle.verdict_laws.specs.Lines.{is_end, is_long, is_quiet, lines_of}
 use Rattle.verdict_laws.specs.Verdict.{counts_of, most, verdict}
-
--- facts that a line may tell: those that are read, and that an entity is active
-abbrev pub IsTold : Fact → Type 0
-IsTold (fact.Active x e m st) = FitsIncarnation x × IsEntity e
-IsTold f = IsReadable f
-
-abbrev pub AreTold : List Fact → Type 0
-AreTold [] = Unit {0}
-AreTold (f ∷ fs) = IsTold f × AreTold fs
 
 -- the line of a fact
 pub record IsLine (l : List ℕ) (f : Fact) : Type 0 where
@@ -64,52 +51,51 @@ pub record TellsUpTo (text : List ℕ) (trace : List Fact) (n : ℕ) (line : Lis
   pub number : n ≡ min (length lines + 1) most
   pub goes_on : is_end line ≡ false
 
--- Why a line ends a trace's safety.
+-- What an answer says.
 
--- it is of a fact with which the trace isn't safe, or which isn't judged
+-- a safe trace of facts that are read, in one number of shards
+pub record HasTrace (c : Script) (trace : List Fact) : Type 0 where
+  pub told : AreTold trace
+  pub plain : is_plain trace ≡ true
+  pub is_safe : safe c trace ≡ true
+
+-- a line that is of no fact: too long, or neither that of a fact that is read nor passed over
+pub record IsOther (line : List ℕ) : Type 0 where
+  pub loud : is_quiet line ≡ false
+  pub no_fact : (f : Fact) → IsTold f → line ≡ fact_line f → ⊥
+
+abbrev pub IsNoFact : List ℕ → Type 0
+IsNoFact line = (is_long line ≡ true) ⊎ IsOther line
+
+-- a line of a fact for which the trace isn't safe any more, or which isn't judged; and this is the first test that fails
 pub record Breaks (c : Script) (trace : List Fact) (line : List ℕ) (why : Breach) : Type 0 where
   pub it : Fact
+  pub told : IsTold it
   pub line_is : IsLine line it
   pub why_is : breach_of c trace it ≡ Some why
   pub with_it : is_reshard it ≡ false → safe c (trace ++ it ∷ []) ≡ false
 
--- who and which entity it says is active
-abbrev pub active_in : Option (List ℕ) → Option (Incarnation × List ℕ)
-active_in None = None
-active_in (Some rest) = named_at rest
-
--- it says that an entity is active, and whatever fact it is of, the trace isn't safe with that
-pub record IsOtherState (c : Script) (trace : List Fact) (line : List ℕ) (why : Breach) : Type 0 where
-  pub why_is : why ≡ breach.OtherState
-  pub who : Incarnation
-  pub entity : List ℕ
-  pub active : active_in (active_behind line) ≡ Some (who, entity)
-  pub with_it : (x : Incarnation) (e : List ℕ) (m : ℕ) (st : State) → IsTold (fact.Active x e m st) → line ≡ fact_line (fact.Active x e m st) → safe c (trace ++ fact.Active x e m st ∷ []) ≡ false
-
--- it is of no fact
-abbrev pub IsNoFact : List ℕ → Type 0
-IsNoFact line = (is_long line ≡ true) ⊎ ((f : Fact) → IsTold f → line ≡ fact_line f → ⊥)
-
--- What an answer says.
-
+-- the text tells a safe trace, of which these are the counts
 pub record IsSafe (c : Script) (text : List ℕ) (n : Counts) : Type 0 where
   pub trace : List Fact
   pub tells : Tells text trace
-  pub is_safe : safe c trace ≡ true
+  pub has : HasTrace c trace
   pub counts : n ≡ counts_of trace
 
+-- its first lines tell a safe trace, which the next line breaks
 pub record IsBroken (c : Script) (text : List ℕ) (n : ℕ) (why : Breach) : Type 0 where
   pub trace : List Fact
   pub line : List ℕ
   pub tells : TellsUpTo text trace n line
-  pub is_safe : safe c trace ≡ true
-  pub breaks : Breaks c trace line why ⊎ IsOtherState c trace line why
+  pub has : HasTrace c trace
+  pub breaks : Breaks c trace line why
 
+-- its first lines tell a safe trace, and the next line is of no fact
 pub record IsUnread (c : Script) (text : List ℕ) (n : ℕ) : Type 0 where
   pub trace : List Fact
   pub line : List ℕ
   pub tells : TellsUpTo text trace n line
-  pub is_safe : safe c trace ≡ true
+  pub has : HasTrace c trace
   pub no_fact : IsNoFact line
 
 abbrev pub Means : Script → List ℕ → Answer → Type 0
@@ -117,39 +103,34 @@ Means c text (answer.Safe n) = IsSafe c text n
 Means c text (answer.Broken n why) = IsBroken c text n why
 Means c text (answer.NoFact n) = IsUnread c text n
 
+-- each text is answered by what is so of it, and by nothing else
 abbrev pub VerdictMeans : Type 0
 VerdictMeans = (c : Script) (text : List ℕ) → 0 < c.config.shards → Means c text (verdict c text)
 
--- Which texts are answered so: of facts that are read, in one number of shards.
+abbrev pub MeantIsAnswered : Type 0
+MeantIsAnswered = (c : Script) (text : List ℕ) (a : Answer) → 0 < c.config.shards → Means c text a → verdict c text ≡ a
 
--- a safe trace
-pub record HasTrace (c : Script) (trace : List Fact) : Type 0 where
-  pub told : AreTold trace
-  pub plain : is_plain trace ≡ true
-  pub is_safe : safe c trace ≡ true
+-- The same by kinds of answers, for those who have a trace.
 
 abbrev pub SafeIsAnswered : Type 0
 SafeIsAnswered = (c : Script) (text : List ℕ) (trace : List Fact) → 0 < c.config.shards → HasTrace c trace → Tells text trace → verdict c text ≡ answer.Safe (counts_of trace)
 
--- the next line is of a fact, and whatever fact it is of, the trace isn't safe with that
+-- the next line is of a fact with which the trace isn't safe
 pub record IsUnsafe (c : Script) (trace : List Fact) (line : List ℕ) : Type 0 where
   pub it : Fact
   pub told : IsTold it
   pub line_is : IsLine line it
-  pub with_it : (f : Fact) → IsTold f → line ≡ fact_line f → (is_reshard f ≡ false) × (safe c (trace ++ f ∷ []) ≡ false)
+  pub plain : is_reshard it ≡ false
+  pub with_it : safe c (trace ++ it ∷ []) ≡ false
 
-pub record IsAnsweredBroken (c : Script) (text : List ℕ) (n : ℕ) : Type 0 where
+-- it is answered by its line, and by the first test that this fact fails
+pub record IsAnsweredBroken (c : Script) (text : List ℕ) (trace : List Fact) (it : Fact) (n : ℕ) : Type 0 where
   pub why : Breach
+  pub why_is : breach_of c trace it ≡ Some why
   pub answer_is : verdict c text ≡ answer.Broken n why
 
 abbrev pub BrokenIsAnswered : Type 0
-BrokenIsAnswered = (c : Script) (text : List ℕ) (trace : List Fact) (n : ℕ) (line : List ℕ) → 0 < c.config.shards → HasTrace c trace → TellsUpTo text trace n line → IsUnsafe c trace line → IsAnsweredBroken c text n
-
--- the next line is of no fact that may be told, isn't passed over, and doesn't say that an entity is active
-pub record IsOther (line : List ℕ) : Type 0 where
-  pub loud : is_quiet line ≡ false
-  pub not_active : active_in (active_behind line) ≡ None
-  pub no_fact : (f : Fact) → IsTold f → line ≡ fact_line f → ⊥
+BrokenIsAnswered = (c : Script) (text : List ℕ) (trace : List Fact) (n : ℕ) (line : List ℕ) → 0 < c.config.shards → HasTrace c trace → TellsUpTo text trace n line → (u : IsUnsafe c trace line) → IsAnsweredBroken c text trace u.it n
 
 abbrev pub UnreadIsAnswered : Type 0
-UnreadIsAnswered = (c : Script) (text : List ℕ) (trace : List Fact) (n : ℕ) (line : List ℕ) → 0 < c.config.shards → HasTrace c trace → TellsUpTo text trace n line → (is_long line ≡ true) ⊎ IsOther line → verdict c text ≡ answer.NoFact n
+UnreadIsAnswered = (c : Script) (text : List ℕ) (trace : List Fact) (n : ℕ) (line : List ℕ) → 0 < c.config.shards → HasTrace c trace → TellsUpTo text trace n line → IsNoFact line → verdict c text ≡ answer.NoFact n

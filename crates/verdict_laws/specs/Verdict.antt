@@ -1,22 +1,16 @@
 -- What is answered of a trace's text.
-use Rattle.std.specs.Prelude.{ℕ, ◌+◌, min, Bool, true, false, List, [], ◌∷◌, ◌++◌, length, fold, Option, Some, None, if◌then◌else◌}
+use Rattle.std.specs.Prelude.{ℕ, ◌+◌, min, Bool, true, false, List, [], ◌∷◌, ◌++◌, fold, Option, Some, None, if◌then◌else◌}
 use Rattle.yard_model.specs.declared.fact.Fact.{Fact}
 use Rattle.yard_model.specs.declared.fact.Fact.TheVariants as fact
-use Rattle.yard_model.specs.declared.incarnation.Incarnation.{Incarnation}
-use Rattle.yard_model.specs.Behaviour.{folded}
-use Rattle.yard_model.specs.Safe.{shard_list_of}
-use Rattle.yard_model.specs.Script.{Script, is_name}
-use Rattle.yard_model.specs.SlotReads.{journal}
-use Rattle.yard_model.specs.Text.{fact_line}
+use Rattle.yard_model.specs.Script.{Script}
 use Rattle.judge_laws.specs.declared.breach.Breach.{Breach}
-use Rattle.judge_laws.specs.declared.breach.Breach.TheVariants as breach
 use Rattle.judge_laws.specs.Breached.{breach_of}
 use Rattle.verdict_laws.specs.declared.answer.Answer.{Answer}
 use Rattle.verdict_laws.specs.declared.answer.Answer.TheVariants as answer
 use Rattle.verdict_laws.specs.declared.answer.Counts.{Counts}
 use Rattle.verdict_laws.specs.declared.answer.Step.{Step}
 use Rattle.verdict_laws.specs.declared.answer.Step.TheVariants as step
-use Rattle.verdict_laws.specs.Lines.{active_behind, is_end, is_long, is_quiet, lines_of, named_at, read_line}
+use Rattle.verdict_laws.specs.Lines.{is_end, is_long, is_quiet, lines_of, read_line}
 
 -- the greatest count
 abbrev pub most : ℕ
@@ -32,29 +26,13 @@ abbrev pub seen_step : Fact → Option Breach → Step
 seen_step f None = step.Heard f
 seen_step f (Some why) = step.Broken why
 
--- the fact that the entity is active there, with what its journal says
-abbrev pub active_of : Script → List Fact → Incarnation → List ℕ → Fact
-active_of c before x e =
-    fact.Active x e (length (journal e (shard_list_of c e before))) (folded c.config.kind (journal e (shard_list_of c e before)))
-
-abbrev pub same_active : Script → List Fact → List ℕ → Fact → Step
-same_active c before l f = if is_name (fact_line f) l then seen_step f (breach_of c before f) else step.Broken breach.OtherState
-
-abbrev pub active_step : Script → List Fact → List ℕ → Option (Incarnation × List ℕ) → Step
-active_step c before l None = step.NoFact
-active_step c before l (Some x) = same_active c before l (active_of c before x.0 x.1)
-
 abbrev pub read_step : Script → List Fact → Option Fact → Step
 read_step c before None = step.NoFact
 read_step c before (Some f) = seen_step f (breach_of c before f)
 
-abbrev pub loud_step : Script → List Fact → List ℕ → Option (List ℕ) → Step
-loud_step c before l None = read_step c before (read_line l)
-loud_step c before l (Some rest) = active_step c before l (named_at rest)
-
 -- what a line comes to behind these facts
 abbrev pub step_of : Script → List Fact → List ℕ → Step
-step_of c before l = if is_long l then step.NoFact else (if is_quiet l then step.Quiet else loud_step c before l (active_behind l))
+step_of c before l = if is_long l then step.NoFact else (if is_quiet l then step.Quiet else read_step c before (read_line l))
 
 -- Counts.
 

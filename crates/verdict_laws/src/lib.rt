@@ -2,38 +2,34 @@
 //! a function that does nothing, whose contract is the law.
 #![tactic(auto)]
 
-ghost use Rattle.verdict_laws.specs.Meaning.{BrokenIsAnswered, SafeIsAnswered, UnreadIsAnswered, VerdictMeans};
+ghost use Rattle.verdict_laws.specs.Meaning.{BrokenIsAnswered, MeantIsAnswered, SafeIsAnswered, UnreadIsAnswered, VerdictMeans};
 
 mod answer;
 
 pub use answer::{Answer, Counts, Step};
-use yard_model::laws::state_law;
 
 /// What an answer says: of a trace that is safe up to its end, or up to a line with which it isn't, or up to a line
 /// that is that of no fact.
 pub fn verdict_means()
     ensures { VerdictMeans }
-{
-    state_law();
-}
+{}
+
+/// And what an answer says is so answered: each text has one answer, which is what is so of it.
+pub fn meant_is_answered()
+    ensures { MeantIsAnswered }
+{}
 
 /// A text that tells a safe trace, in one number of shards, is answered as safe.
 pub fn safe_is_answered()
     ensures { SafeIsAnswered }
-{
-    state_law();
-}
+{}
 
 /// One whose first lines tell a safe trace, which isn't safe with the next line, is answered by that line.
 pub fn broken_is_answered()
     ensures { BrokenIsAnswered }
-{
-    state_law();
-}
+{}
 
 /// One whose first lines tell a safe trace, and whose next line is that of no fact, is answered by that line.
 pub fn unread_is_answered()
     ensures { UnreadIsAnswered }
-{
-    state_law();
-}
+{}

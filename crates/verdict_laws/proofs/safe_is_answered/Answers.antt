@@ -2,4 +2,4 @@ use Rattle.verdict_laws.proofs.MeaningLaws as laws
 use Rattle.verdict_laws.proofs.safe_is_answered.Goals as goal
 
 pub returns : goal.returns
-returns c = laws.safe_is_answered c.state_law.ensures
+returns c = laws.safe_is_answered

@@ -2,4 +2,4 @@ use Rattle.verdict_laws.proofs.MeaningLaws as laws
 use Rattle.verdict_laws.proofs.verdict_means.Goals as goal
 
 pub returns : goal.returns
-returns c = laws.verdict_means c.state_law.ensures
+returns c = laws.verdict_means

@@ -1,4 +1,4 @@
-use Rattle.std.proofs.Common.{◌≡◌, ◌∙◌, ap, subst, rules}
+use Rattle.std.proofs.Common.{◌≡◌, subst, rules}
 use Rattle.std.specs.Prelude.{List, ℕ}
 use Rattle.script_text.specs.Reading.{Refused, reading}
 use Rattle.script_text.specs.declared.fault.Mode.TheVariants as mode

@@ -1,17 +1,24 @@
 -- What is read is in range.
-use Rattle.std.proofs.Common.{◌≡◌, ◌≤◌, ℕ, ◌+◌, subst, refl, arith}
+use Rattle.std.proofs.Common.{◌≡◌, ◌≤◌, ℕ, suc, zero, ◌+◌, subst, refl, arith}
 use Rattle.std.specs.Prelude.{Bool, true, false, ◌&&◌, nat_lt, nat_le, List, [], ◌∷◌, ◌++◌, length, codes, Option, Some, None, if◌then◌else◌}
 use Rattle.std.proofs.lemmas.List.{length-append}
 use Rattle.plain_laws.proofs.Booleans.{at_most, below}
 use Rattle.yard_model.specs.declared.fact.Fact.{Fact}
+use Rattle.yard_model.specs.declared.fact.Fact.TheVariants as fact
 use Rattle.yard_model.specs.declared.incarnation.Incarnation.{Incarnation}
 use Rattle.yard_model.specs.declared.incarnation.Slot.TheVariants as slot
 use Rattle.yard_model.specs.declared.event.Command.TheVariants as command
 use Rattle.yard_model.specs.declared.event.Event.{Event}
 use Rattle.yard_model.specs.declared.event.Event.TheVariants as event
+use Rattle.yard_model.specs.declared.state.CartItem.{CartItem}
+use Rattle.yard_model.specs.declared.state.State.{State}
+use Rattle.yard_model.specs.declared.state.State.TheVariants as state
 use Rattle.fact_lines.specs.Readable.{FitEach, FitsCommand, FitsEvent, FitsIncarnation, FitsItem, FitsProducer, FitsReply, FitsSlot, IsEntity, IsReadable}
 use Rattle.fact_lines.specs.Reads as reads
 use Rattle.fact_lines.specs.Reads.{Read, byte, long, short, wide}
+use Rattle.state_lines.specs.States as states
+use Rattle.state_lines.specs.States.{full}
+use Rattle.state_lines.specs.Told.{FitItems, FitsState, IsTold}
 
 -- the type of what a reader gives
 abbrev type_of : {A : Type 0} → Read A → Type 0
@@ -30,7 +37,7 @@ abbrev Pair : Type 0
 Pair = type_of (reads.pair_at [])
 
 -- what was read, if anything, is so
-abbrev pub Gives : {A : Type 0} → (A → Type 0) → Option A → Type 0
+abbrev Gives : {A : Type 0} → (A → Type 0) → Option A → Type 0
 Gives P None = Unit {0}
 Gives P (Some x) = P x
 
@@ -356,9 +363,93 @@ fact_in line =
     (or_gives IsReadable (reads.coordinator_fact line) _ (coordinator_in line)
     (or_gives IsReadable (reads.node_fact line) _ (node_in line) (script_in line)))))
 
--- what is read as a fact is one that its line is read as
-pub read_fits : (line : List ℕ) (f : Fact) → reads.fact_at line ≡ Some f → IsReadable f
-read_fits line f h = by (reads.fact_at line) h (fact_in line)
+-- States, and facts with them.
+
+item_at_in : (line : List ℕ) → Reads FitsItem (states.item_at line)
+item_at_in line =
+    then_gives (Front (λ n. n ≤ short)) (Front FitsItem) (reads.number_at short line) _ (number_in short line)
+    (λ a h. then_gives (Front (λ n. n ≤ short)) (Front FitsItem) (reads.numbered (codes ":") short a.1) _ (numbered_in (codes ":") short a.1) (λ b j. (h, j)))
+
+-- so many items, each in range
+abbrev FewItems : ℕ → List CartItem → Type 0
+FewItems n xs = (length xs ≤ n) × FitItems xs
+
+items_more : (xs : List CartItem) (x : CartItem) → FitItems xs → FitsItem x → FitItems (xs ++ x ∷ [])
+items_more [] x h k = (k, tt)
+items_more (y ∷ ys) x h k = (h.0, items_more ys x h.1 k)
+
+item_more_in : (n : ℕ) (done : List CartItem × List ℕ) → FewItems n done.0 → FewItems (n + 1) (states.item_more done).0
+item_more_in n done h = by (reads.and_then (reads.text_at (codes ",") done.1) states.item_at) (behind_gives (Front FitsItem) (reads.text_at (codes ",") done.1) states.item_at item_at_in)
+  where
+    by : (o : Read CartItem) → Reads FitsItem o → FewItems (n + 1) (states.item_after done o).0
+    by None k = (omega (arith, h.0), h.1)
+    by (Some x) k = (omega (arith, h.0, length-append done.0 (x.0 ∷ [])), items_more done.0 x.0 h.1 k)
+
+items_on_in : (k n : ℕ) (done : List CartItem × List ℕ) → FewItems n done.0 → FewItems (n + k) (states.items_on k done).0
+items_on_in zero n done h = (omega (arith, h.0), h.1)
+items_on_in (suc k) n done h = let r = items_on_in k (n + 1) (states.item_more done) (item_more_in n done h) in (omega (arith, r.0), r.1)
+
+items_in : (line : List ℕ) → Reads (FewItems 16) (states.items_at line)
+items_in line =
+    or_gives (Front (FewItems 16)) _ _
+    (then_gives (Front FitsItem) (Front (FewItems 16)) (states.item_at line) _ (item_at_in line) (λ x h. items_on_in 15 1 (x.0 ∷ [], x.1) (omega arith, (h, tt))))
+    (named_gives (FewItems 16) (codes "-") [] line (omega arith, tt))
+
+counter_in : (line : List ℕ) → Reads FitsState (states.counter_at line)
+counter_in line = then_gives (Front (λ n. n ≤ full)) (Front FitsState) (reads.number_at full line) _ (number_in full line) (λ n h. h)
+
+cart_in : (text : List ℕ) (out : Bool) (line : List ℕ) → Reads FitsState (states.cart_behind text out line)
+cart_in text out line =
+    behind_gives (Front FitsState) (reads.text_at text line) _
+    (λ r. then_gives (Front (FewItems 16)) (Front FitsState) (states.items_at r) _ (items_in r) (λ xs h. h))
+
+open_in : (line : List ℕ) → Reads FitsState (states.open_at line)
+open_in line =
+    then_gives (Front (λ n. n ≤ full)) (Front FitsState) (reads.numbered (codes "open ") full line) _ (numbered_in (codes "open ") full line)
+    (λ b h. or_gives (Front FitsState) _ _
+    (then_gives (Front (λ n. n ≤ short)) (Front FitsState) (reads.numbered (codes " memo ") short b.1) _ (numbered_in (codes " memo ") short b.1) (λ m j. (h, j)))
+    (h, omega arith))
+
+account_in : (line : List ℕ) → Reads FitsState (states.account_at line)
+account_in line =
+    or_gives (Front FitsState) (states.open_at line) _ (open_in line)
+    (or_gives (Front FitsState) _ _ (named_gives FitsState (codes "none") state.NoAccount line tt) (named_gives FitsState (codes "closed") state.Closed line tt))
+
+state_in : (line : List ℕ) → Reads FitsState (states.state_at line)
+state_in line =
+    or_gives (Front FitsState) (states.counter_at line) _ (counter_in line)
+    (or_gives (Front FitsState) _ _ (cart_in (codes "open ") false line)
+    (or_gives (Front FitsState) _ _ (cart_in (codes "out ") true line) (account_in line)))
+
+abbrev FitsStanding : ℕ × State → Type 0
+FitsStanding s = (s.0 ≤ long) × FitsState s.1
+
+standing_in : (line : List ℕ) → Reads FitsStanding (states.standing_at line)
+standing_in line =
+    then_gives (Front (λ n. n ≤ long)) (Front FitsStanding) (reads.numbered (codes " ") long line) _ (numbered_in (codes " ") long line)
+    (λ n h. behind_gives (Front FitsStanding) (reads.text_at (codes " ") n.1) _
+    (λ r. then_gives (Front FitsState) (Front FitsStanding) (states.state_at r) _ (state_in r) (λ s j. (h, j))))
+
+active_in : (line : List ℕ) → Gives IsTold (states.active_at line)
+active_in line =
+    then_gives (Front FitsIncarnation) IsTold (reads.who_behind (codes "active ") line) _ (who_in (codes "active ") line)
+    (λ x h. then_gives (Front IsEntity) IsTold (reads.entity_behind (codes " ") x.1) _ (name_in (codes " ") x.1)
+    (λ e i. then_gives (Front FitsStanding) IsTold (states.standing_at e.1) _ (standing_in e.1) (λ s j. (h, i, j.0, j.1))))
+
+told_of : (f : Fact) → IsReadable f → IsTold f
+told_of (fact.Active x e m st) k = absurd k
+told_of f k = k
+
+told_in : (line : List ℕ) → Gives IsTold (states.told_at line)
+told_in line = or_gives IsTold (states.active_at line) _ (active_in line) (by (reads.fact_at line) (fact_in line))
+  where
+    by : (o : Option Fact) → Gives IsReadable o → Gives IsTold o
+    by None k = tt
+    by (Some f) k = told_of f k
+
+-- what is read is a fact that may be told
+pub read_is_told : (line : List ℕ) (f : Fact) → states.told_at line ≡ Some f → IsTold f
+read_is_told line f h = by (states.told_at line) h (told_in line)
   where
     same : (g : Fact) → Some g ≡ Some f → g ≡ f
     same g e = cc
@@ -366,6 +457,6 @@ read_fits line f h = by (reads.fact_at line) h (fact_in line)
     none_some : None ≡ Some f → ⊥
     none_some e = cc
 
-    by : (o : Option Fact) → o ≡ Some f → Gives IsReadable o → IsReadable f
+    by : (o : Option Fact) → o ≡ Some f → Gives IsTold o → IsTold f
     by None e k = absurd (none_some e)
-    by (Some g) e k = subst IsReadable (same g e) k
+    by (Some g) e k = subst IsTold (same g e) k

@@ -1,6 +1,6 @@
 use Rattle.std.proofs.Common.{◌≡◌, ◌≤◌, drop, length}
 use Rattle.fact_lines.specs.Reads.{text_at}
-use Rattle.judge_text.proofs.lines.behind.Given as goal
+use Rattle.state_lines.proofs.basics.text.Given as goal
 
 abbrev pub invariant-loop-i : goal.invariant-loop-i
 invariant-loop-i l = record {

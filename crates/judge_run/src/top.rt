@@ -41,8 +41,8 @@ pub fn judge<S: Source, K: Sink>(alloc: Global, source: &mut S, sink: &mut K) ->
     ensures unwritten { IfUnwritten result ((K.taken sink.new ≡ K.taken sink.old) × (K.flushed sink.new ≡ K.flushed sink.old)) }
     // Where no fault rose, the input is answered, or there is no memory.
     ensures complete { S.faults source.new ≡ S.faults source.old → K.faults sink.new ≡ K.faults sink.old → IsComplete (S.left source.old) result }
-    // From end to end: of a script, the line `trace` and the text of a trace, where no fault rose, exactly what is so of
-    // that trace was written, or there is no memory.
+    // From end to end: of a script, the line `trace` and any text, where no fault rose, exactly what is so of that text
+    // was written, or there is no memory.
     ensures whole { S.faults source.new ≡ S.faults source.old → K.faults sink.new ≡ K.faults sink.old
         → JudgesWhole (S.left source.old) result
         (record { bytes = K.taken sink.old; flushed = K.flushed sink.old })

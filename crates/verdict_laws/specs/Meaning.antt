@@ -59,11 +59,12 @@ pub record HasTrace (c : Script) (trace : List Fact) : Type 0 where
   pub plain : is_plain trace ≡ true
   pub is_safe : safe c trace ≡ true
 
--- a line that is of no fact: too long, or neither that of a fact that is read nor passed over
+-- a line that is neither that of a fact that is read nor passed over
 pub record IsOther (line : List ℕ) : Type 0 where
   pub loud : is_quiet line ≡ false
   pub no_fact : (f : Fact) → IsTold f → line ≡ fact_line f → ⊥
 
+-- a line of no fact: such a one, or one that is too long
 abbrev pub IsNoFact : List ℕ → Type 0
 IsNoFact line = (is_long line ≡ true) ⊎ IsOther line
 
@@ -103,10 +104,11 @@ Means c text (answer.Safe n) = IsSafe c text n
 Means c text (answer.Broken n why) = IsBroken c text n why
 Means c text (answer.NoFact n) = IsUnread c text n
 
--- each text is answered by what is so of it, and by nothing else
+-- each text is answered by what is so of it
 abbrev pub VerdictMeans : Type 0
 VerdictMeans = (c : Script) (text : List ℕ) → 0 < c.config.shards → Means c text (verdict c text)
 
+-- and what is so of it is what it is answered by
 abbrev pub MeantIsAnswered : Type 0
 MeantIsAnswered = (c : Script) (text : List ℕ) (a : Answer) → 0 < c.config.shards → Means c text a → verdict c text ≡ a
 

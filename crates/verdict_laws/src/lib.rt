@@ -14,7 +14,7 @@ pub fn verdict_means()
     ensures { VerdictMeans }
 {}
 
-/// And what an answer says is so answered: each text has one answer, which is what is so of it.
+/// And what is so of a text is what it is answered by.
 pub fn meant_is_answered()
     ensures { MeantIsAnswered }
 {}

@@ -1,5 +1,5 @@
-use Rattle.std.proofs.Common.{◌≡◌, ◌∷◌, ◌++◌, ◌+◌, ◌==◌, [], List, ℕ, cond, drop, filter, slice_index_or, sym, ap, subst, ◌∙◌}
-use Rattle.std.proofs.lemmas.List.{append-nil, get_or_default}
+use Rattle.std.proofs.Common.{◌≡◌, ◌∷◌, ◌++◌, ◌+◌, ◌==◌, [], List, ℕ, arith, cond, drop, filter, length, slice_index_or, sym, ap, subst, ◌∙◌}
+use Rattle.std.proofs.lemmas.List.{append-nil, get_or_default, length-map}
 use Rattle.yard_model.specs.Shard.{shard}
 use Rattle.shard_store.proofs.NamesLaws.{picked_next}
 use Rattle.shard_store.proofs.names.picked.Goals.{then-eq+in_ok-push, else-eq}
@@ -21,3 +21,6 @@ loop-at-preserved c = elim c.if-eq.branch [
       ∙ (sym (append-nil c.loop-at.picked.items)
       ∙ ap (λ b. c.loop-at.picked.items ++ cond b (slice_index_or c.args.names.now c.loop-at.at [] ∷ []) []) (sym w.if-eq.false)))
 ]
+
+pub bounds-shards-at : goal.bounds-shards-at
+bounds-shards-at c = omega (arith, ap length c.requires, length-map c.args.names.now (shard c.args.count))

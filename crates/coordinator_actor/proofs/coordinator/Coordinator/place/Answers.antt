@@ -1,6 +1,8 @@
 use Rattle.handoff_steps.specs.Places.{moving}
 use Rattle.std.proofs.Common.{ap, ◌∙◌}
-use Rattle.yard_model.specs.Coordinator.{is_moving}
+use Rattle.yard_model.specs.declared.fact.Fact.TheVariants as fact
+use Rattle.yard_model.specs.Coordinator.{coordinator_after, is_moving}
+use Rattle.yard_model.specs.Move.{told}
 use Rattle.coordinator_actor.specs.Held.{Held}
 use Rattle.coordinator_actor.proofs.HeldLaws.{placed_held}
 use Rattle.coordinator_actor.proofs.coordinator.Coordinator.place.Goals as goal
@@ -10,3 +12,17 @@ invariant_of-self c =
     let old = c.self.inside in
     rw c.allocated.ensures.script (rw c.allocated.ensures.entries (rw c.set.ensures
     (placed_held old.store.script old.who old.store.entries old.started (moving old.round) old.round.stamp c.args.s c.args.r.now (ap (λ (h : Held). is_moving h.state c.args.s) c.self.view_is ∙ c.requires.still) c.self.invariant)))
+
+pub returns-clause-state : goal.returns-clause-state
+returns-clause-state c =
+    rw c.allocated.ensures.script (rw c.allocated.ensures.entries (rw c.set.ensures
+    (ap (λ (h : Held). coordinator_after h.state (told (fact.Allocated c.args.s c.args.r.now))) c.self.view_is)))
+
+pub returns-clause-script : goal.returns-clause-script
+returns-clause-script c = c.allocated.ensures.script ∙ ap (λ (h : Held). h.script) c.self.view_is
+
+pub returns-clause-entries : goal.returns-clause-entries
+returns-clause-entries c = c.allocated.ensures.spare ∙ ap (λ (h : Held). h.spare) c.self.view_is
+
+pub returns-clause-places : goal.returns-clause-places
+returns-clause-places c = ap (λ (h : Held). h.places) c.self.view_is

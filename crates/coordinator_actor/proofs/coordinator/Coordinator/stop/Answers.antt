@@ -1,4 +1,4 @@
-use Rattle.std.proofs.Common.{◌≡◌, ap, sym, subst, ◌∙◌, refl}
+use Rattle.std.proofs.Common.{◌≡◌, ap, sym, subst, ◌∙◌, refl, true≢false}
 use Rattle.std.specs.Prelude.{true, false}
 use Rattle.yard_model.specs.declared.fact.Fact.TheVariants as fact
 use Rattle.yard_model.specs.declared.incarnation.Stamp.{Stamp}
@@ -65,3 +65,33 @@ returns-in-Done-clause-state c =
     done_taken (takes_stop old.round c.args.s c.args.given.now c.args.from.now) c.args.given.now c.args.from.now c.stopped.result c.stopped.ensures.ignored (sym c.in-Done.is) in
     λ yes. rw c.deallocated.ensures.script (rw c.deallocated.ensures.entries (rw c.set.ensures (rw (c.stopped.ensures.moving taken) (rw (ap (λ (w : Handoffs). w.stamp) (c.stopped.ensures.place taken))
     (ap (λ (h : Held). coordinator_after h.state (told (fact.Deallocated c.args.s))) c.self.view_is)))))
+
+pub returns-in-Done-clause-ignored : goal.returns-in-Done-clause-ignored
+returns-in-Done-clause-ignored c = λ no. absurd (true≢false no)
+
+pub returns-in-Done-clause-script : goal.returns-in-Done-clause-script
+returns-in-Done-clause-script c = c.deallocated.ensures.script ∙ ap (λ (h : Held). h.script) c.self.view_is
+
+pub returns-in-Done-clause-kept : goal.returns-in-Done-clause-kept
+returns-in-Done-clause-kept c = λ no. absurd (true≢false no)
+
+pub returns-in-Done-clause-entries : goal.returns-in-Done-clause-entries
+returns-in-Done-clause-entries c = λ yes. c.deallocated.ensures.spare ∙ ap (λ (h : Held). h.spare) c.self.view_is
+
+pub returns-in-Done-clause-places : goal.returns-in-Done-clause-places
+returns-in-Done-clause-places c = ap (λ (h : Held). h.places) c.self.view_is
+
+pub returns-in_default-clause-state : goal.returns-in_default-clause-state
+returns-in_default-clause-state c = λ yes. absurd (true≢false (sym yes))
+
+pub returns-in_default-clause-script : goal.returns-in_default-clause-script
+returns-in_default-clause-script c = ap (λ (h : Held). h.script) c.self.view_is
+
+pub returns-in_default-clause-kept : goal.returns-in_default-clause-kept
+returns-in_default-clause-kept c = λ no. ap (λ (h : Held). h.spare) c.self.view_is
+
+pub returns-in_default-clause-entries : goal.returns-in_default-clause-entries
+returns-in_default-clause-entries c = λ yes. absurd (true≢false (sym yes))
+
+pub returns-in_default-clause-places : goal.returns-in_default-clause-places
+returns-in_default-clause-places c = ap (λ (h : Held). h.places) c.self.view_is

@@ -1,6 +1,6 @@
 //! `live`: from a script to the lists that nodes on threads of their own leave once they are settled, and
 //! the report of these lists.
-ghost use Rattle.std.specs.Prelude.{◌≡◌, ◌≤◌, true, length, IfOk};
+ghost use Rattle.std.specs.Prelude.{◌≡◌, ◌≤◌, [], true, length, IfOk};
 ghost use Rattle.yard_model.specs.Script.{is_version};
 ghost use Rattle.shard_store.specs.Stores.{lists_at};
 ghost use Rattle.live_run.specs.LiveText.{AreLive, LiveText};
@@ -20,6 +20,9 @@ use world_sim::settle_stores;
 use yard_io::Gate;
 use yard_model::laws::{command_law, decision_law};
 use yard_model::{Charter, Kind};
+
+/// How many bytes of text an order mostly brings, with some to spare.
+const EACH: usize = 200;
 
 /// Runs the nodes of a script, which has at most 20,000 orders, as threads, each for so many turns at most,
 /// and settles what they leave: the text of the lists of all slots and of their report. These are the lists
@@ -64,10 +67,20 @@ fn text_of_run<R: Threads + Wait + Sync, B: Behaviour + Copy + Drop + Send + Syn
     let stores = stores_of_run(rt, alloc, charter, behaviour, turns, seed, gate)?;
     charter.config();
     look_at_lists(charter, &stores);
-    let mut text = Vec::new(alloc);
+    let mut text = new_text(alloc, charter)?;
     push_lists(&mut text, charter, &stores)?;
     push_report(&mut text, charter, &stores)?;
     Ok(text)
+}
+
+/// A text with no byte yet, made for as many as its lines mostly take, so that it seldom moves. Memory that isn't
+/// written to isn't touched. The only error is want of memory.
+fn new_text(alloc: Global, charter: &Charter) -> Result<Vec<u8>, AllocError>
+    requires { length charter.now.orders ≤ 20000 }
+    ensures { IfOk result (λ text. text.items ≡ []) }
+{
+    let orders = charter.orders().len();
+    Vec::with_capacity(alloc, orders * EACH)
 }
 
 /// The stores that a run of nodes leaves, whose entities behave so, settled. It may wait. The only error

@@ -20,9 +20,16 @@ use std::sync::Wait;
 use std::thread;
 use yard_model::{Charter, NodeNo, Packet};
 
+/// How often a worker lets other threads go first before it takes it that nothing is answered now.
+const LOOKS: u32 = 8;
+
+/// How often it waits so in vain before it takes another parcel.
+const PATIENCE: u8 = 16;
+
 /// The pass of a worker at the boxes, its draws, the parcels that it is to post after the next turn, which boxes were
 /// full when it looked last, whether its own was empty then, whether the one that it counted last handed back what it
-/// had to post, and how many packets it let go because it couldn't show what they need.
+/// had to post, whether it posted something after the last turn, how often it may still wait for an answer, and how
+/// many packets it let go because it couldn't show what they need.
 #[derive(Drop)]
 pub struct Mail<J: Run> {
     pub(crate) pass: BoxPass<Parcel<J>>,
@@ -31,6 +38,8 @@ pub struct Mail<J: Run> {
     full: [bool; 16],
     was_empty: bool,
     is_blocked: bool,
+    has_asked: bool,
+    patience: u8,
     pub(crate) unshown: u64,
 }
 
@@ -47,6 +56,8 @@ impl<J: Run> Mail<J> {
             full: [false; 16],
             was_empty: false,
             is_blocked: false,
+            has_asked: false,
+            patience: PATIENCE,
             unshown: 0,
         }
     }
@@ -73,10 +84,33 @@ impl<J: Run> Mail<J> {
         requires belongs { self.old.pass.tables ≡ boxes.now.tables }
         ensures kept { IsSameHolder self.old.pass self.new.pass }
     {
+        if self.has_asked {
+            self.await_answer(rt, boxes);
+        }
         if self.was_empty && self.is_empty(rt, boxes) {
             return None;
         }
         self.take_next(rt, boxes)
+    }
+
+    /// After a turn in which something was posted, and while the worker's own box is empty, other threads go first a few
+    /// times, so that they answer before they are asked again. Who waits in vain too often waits no more. It may wait.
+    #[inline(never)]
+    fn await_answer<R: Wait>(&mut self, rt: &R, boxes: &PostBox<Parcel<J>>)
+        requires belongs { self.old.pass.tables ≡ boxes.now.tables }
+        ensures kept { IsSameHolder self.old.pass self.new.pass }
+    {
+        self.has_asked = false;
+        if self.patience == 0 {
+            return;
+        }
+        self.patience -= 1;
+        for _ in 0..LOOKS {
+            if !self.is_empty(rt, boxes) {
+                return;
+            }
+            thread::yield_now();
+        }
     }
 
     /// Whether no parcel lies in the worker's own box, at a step of this call. It may wait.
@@ -97,6 +131,9 @@ impl<J: Run> Mail<J> {
         let own = self.pass.node();
         let parcel = boxes.take(rt, &mut self.pass, own);
         self.was_empty = parcel.is_none();
+        if !self.was_empty {
+            self.patience = PATIENCE;
+        }
         parcel
     }
 
@@ -167,6 +204,7 @@ impl<J: Run> Mail<J> {
         requires plain { is_confirming packet.now.body ≡ false }
         ensures kept { IsSameHolder self.old.pass self.new.pass }
     {
+        self.has_asked = true;
         let to = node_to::<J>(packet);
         if !self.hands_back(rt, boxes, to) {
             post_one(
@@ -271,6 +309,7 @@ impl<J: Run> Mail<J> {
             self.held.push(parcel)?;
             return Ok(pass);
         }
+        self.has_asked = true;
         post_one(rt, boxes, &mut self.pass, &mut self.full, parcel);
         if matches!(fate, Fate::Twice) {
             let (pass, again) = parcel_of::<J, B>(table, pass, me, node, charter, packet);

@@ -31,9 +31,12 @@ use yard_model::{
 /// How many entries a store takes with no memory while it isn't leased.
 pub(crate) const SPARE: u32 = 100;
 
-/// For how many a shard's list is made at first, so that it seldom moves; of its memory none is
-/// touched before it is written to.
+/// For how many a shard's list is made at first, beside what its part of the orders may bring, so that it
+/// seldom moves; of its memory none is touched before it is written to.
 const FIRST: u32 = 500;
+
+/// How many orders at most are a shard's part.
+const MOST: usize = 100_000;
 
 /// The store of each slot of a charter: the shards, the coordinator, the queues. Each one that isn't
 /// leased takes a hundred entries with no memory taken; seen as the charter's script and the stores
@@ -224,8 +227,25 @@ fn new_shard(
         unreachable!()
     };
     let mut store = ShardStore::with_table(alloc, charter, table, shard)?;
-    store.reserve(FIRST)?;
+    store.reserve(first_room(charter))?;
     Ok(Store::Shard(store))
+}
+
+/// For how many entries a shard's list is made at first: twice as many as each shard has of the orders where
+/// all have the same number, and some more.
+fn first_room(charter: &Charter) -> u32
+    ensures { 100 ≤ result }
+{
+    let shards = charter.config().shards as usize;
+    let each = charter.orders().len() / shards;
+    FIRST + 2 * at_most(each) as u32
+}
+
+/// So many orders, but no more than 100,000.
+fn at_most(orders: usize) -> usize
+    ensures { result ≤ 100000 }
+{
+    if orders < MOST { orders } else { MOST }
 }
 
 /// The empty store of the coordinator. The only error is want of memory.

@@ -8,6 +8,6 @@ push_report-requires g c =
 
 pub returns : goal.returns
 returns g c =
-    live_text c.args.charter.now c.args.turns c.in_ok-stores.stores c.new-text.result.items c.push_lists.new.text.items c.push_report.new.text.items
-    c.in_ok-stores.ensures.script c.in_ok-stores.ensures.live c.new-text.ensures.items c.in_ok-push_lists.ensures c.in_ok-push_report.ensures
+    live_text c.args.charter.now c.args.turns c.in_ok-stores.stores c.in_ok-text.text.items c.push_lists.new.text.items c.push_report.new.text.items
+    c.in_ok-stores.ensures.script c.in_ok-stores.ensures.live c.in_ok-text.ensures c.in_ok-push_lists.ensures c.in_ok-push_report.ensures
     c.decision_law.ensures c.look_at_lists.ensures

@@ -76,7 +76,7 @@ pub(crate) fn hash_of(cells: &[u8; 32]) -> usize
 fn folded(hash: u64) -> usize
     ensures { result < 4294967296 }
 {
-    let number = (hash >> 32) as u32 ^ (hash >> 48) as u32;
+    let number = (hash >> 32) as u32 ^ (hash >> 52) as u32;
     number as usize
 }
 

@@ -2,25 +2,40 @@
 
 use std::io;
 use std::io::{Read, Write};
+use std::process::Abort;
 use std::test::Fail;
 use yard_io::{
-    MemSink, MemSource, ReadError, Sink, StdSink, StdSource, WholeSource, read_up_to, write_all,
+    MemSink, MemSource, ReadError, Sink, Source, StdSink, StdSource, WholeSource, read_up_to,
+    write_all,
 };
 
+/// Reads up to so many bytes, which are to be these.
+fn expect_read<S: Source>(
+    rt: &(impl Abort + AllocGlobal),
+    source: &mut S,
+    most: usize,
+    wanted: &[u8],
+) -> Result<(), Fail> {
+    let bytes = read_up_to(rt.alloc(), source, most)?;
+    assert_eq!(rt; bytes.as_slice(), wanted);
+    Ok(())
+}
+
 #[test]
-fn memory_is_read_and_written(rt: HostRuntime) -> Result<(), Fail> {
-    let alloc = rt.alloc();
-    let mut source = MemSource::new(alloc, b"abcde", &[4])?;
-    assert_eq!(rt;
-        read_up_to(alloc, &mut source, 3)?.as_slice(),
-        b"abc".as_slice()
-    );
-    let mut whole = WholeSource::new(alloc, b"abcde")?;
-    assert_eq!(rt;
-        read_up_to(alloc, &mut whole, 9)?.as_slice(),
-        b"abcde".as_slice()
-    );
-    let mut sink = MemSink::new(alloc, &[3])?;
+fn memory_is_read(rt: HostRuntime) -> Result<(), Fail> {
+    let mut source = MemSource::new(rt.alloc(), b"abcde", &[4])?;
+    expect_read(&rt, &mut source, 3, b"abc")
+}
+
+#[test]
+fn memory_is_read_as_a_whole(rt: HostRuntime) -> Result<(), Fail> {
+    let mut source = WholeSource::new(rt.alloc(), b"abcde")?;
+    expect_read(&rt, &mut source, 9, b"abcde")
+}
+
+#[test]
+fn memory_is_written(rt: HostRuntime) -> Result<(), Fail> {
+    let mut sink = MemSink::new(rt.alloc(), &[3])?;
     assert!(rt; write_all(&mut sink, b"cd").is_ok());
     assert!(rt; sink.flush().is_ok());
     assert!(rt; write_all(&mut sink, b"ef").is_err());
@@ -94,15 +109,10 @@ impl Read for Torn {
 #[test]
 fn a_reader_that_fails_is_counted(rt: HostRuntime) -> Result<(), Fail> {
     let mut source = StdSource::new(Torn { calls: 0 });
-    assert_eq!(rt;
-        read_up_to(rt.alloc(), &mut source, 4).err(),
-        Some(ReadError::Failed)
-    );
+    let failed = read_up_to(rt.alloc(), &mut source, 4).err();
+    assert_eq!(rt; failed, Some(ReadError::Failed));
     assert_eq!(rt; source.faults(), 1);
-    assert_eq!(rt;
-        read_up_to(rt.alloc(), &mut source, 4)?.as_slice(),
-        b"xxxx".as_slice()
-    );
+    expect_read(&rt, &mut source, 4, b"xxxx")?;
     assert_eq!(rt; source.faults(), 1);
     Ok(())
 }

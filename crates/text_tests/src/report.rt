@@ -1,8 +1,11 @@
 //! The report as JSON, of a counter that was told to add 5: as a value, and spelled at once.
-ghost use Rattle.std.specs.Prelude.{◌≡◌, IfOk, codes};
+ghost use Rattle.std.specs.Prelude.{◌≡◌, IfOk, IsTrue, codes};
 ghost use Rattle.text_tests.specs.Sample.{sample_list, sample_script};
+ghost use Rattle.trace_text.specs.Foldable.{is_foldable_in_all};
+ghost use Rattle.yard_model.specs.Script.{setting};
 
 use std::alloc::Global;
+use std::process::Abort;
 use std::test::Fail;
 use trace_text::{push_json, report_value};
 use yard_model::{
@@ -109,17 +112,39 @@ fn sample_lists(alloc: Global) -> Result<TwoLists, Fail>
     Ok(TwoLists { shard, queue })
 }
 
-#[test]
-#[tactic(auto, using(crate::proofs::SampleLaws::sample_foldable))]
-fn a_counter_is_printed_as_json(rt: HostRuntime) -> Result<(), Fail> {
-    let alloc = rt.alloc();
-    let charter = sample_charter(alloc)?;
-    let lists = sample_lists(alloc)?;
-    let json = report_value(alloc, &charter, &lists)?.to_string(alloc)?;
+/// The report as a value prints as it is to be.
+fn expect_value(
+    rt: &(impl Abort + AllocGlobal),
+    charter: &Charter,
+    lists: &TwoLists,
+) -> Result<(), Fail>
+    requires { IsTrue (is_foldable_in_all (setting charter.now) (⟦<TwoLists as Lists>⟧.lists lists.now)) }
+{
+    let json = report_value(rt.alloc(), charter, lists)?.to_string(rt.alloc())?;
     assert_eq!(rt; json.as_str(), JSON);
-    let mut text = Vec::new(alloc);
-    push_json(&mut text, &charter, &lists)?;
+    Ok(())
+}
+
+/// The report that is spelled at once is the same, as a line.
+fn expect_text(
+    rt: &(impl Abort + AllocGlobal),
+    charter: &Charter,
+    lists: &TwoLists,
+) -> Result<(), Fail>
+    requires { IsTrue (is_foldable_in_all (setting charter.now) (⟦<TwoLists as Lists>⟧.lists lists.now)) }
+{
+    let mut text = Vec::new(rt.alloc());
+    push_json(&mut text, charter, lists)?;
     assert_eq!(rt; text.pop(), Some(b'\n'));
     assert_eq!(rt; text.as_slice(), JSON.as_bytes());
     Ok(())
+}
+
+#[test]
+#[tactic(auto, using(crate::proofs::SampleLaws::sample_foldable))]
+fn a_counter_is_printed_as_json(rt: HostRuntime) -> Result<(), Fail> {
+    let charter = sample_charter(rt.alloc())?;
+    let lists = sample_lists(rt.alloc())?;
+    expect_value(&rt, &charter, &lists)?;
+    expect_text(&rt, &charter, &lists)
 }

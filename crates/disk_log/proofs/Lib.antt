@@ -10,3 +10,4 @@ pub mod LineLaws
 pub mod ReadLaws
 pub mod GoingLaws
 mod KeptLaws
+mod GateLaws

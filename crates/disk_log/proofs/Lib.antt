@@ -11,3 +11,4 @@ pub mod ReadLaws
 pub mod GoingLaws
 mod KeptLaws
 mod GateLaws
+mod WriteLaws

@@ -1,5 +1,5 @@
 use Rattle.std.proofs.Common.{length}
-use Rattle.disk_log.proofs.Moments.{synced_too, torn_leaves}
+use Rattle.disk_log.proofs.WriteLaws.{synced_too, torn_leaves}
 use Rattle.disk_log.proofs.log.write_through.Goals as goal
 
 pub returns-in_err-write_at-clause-any_moment : goal.returns-in_err-write_at-clause-any_moment

@@ -10,3 +10,5 @@ pub mod LineLaws
 pub mod ReadLaws
 pub mod GoingLaws
 mod KeptLaws
+mod GateLaws
+mod WriteLaws

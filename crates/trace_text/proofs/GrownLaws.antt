@@ -1,7 +1,9 @@
 -- What is left of a text that grows piece by piece.
-use Rattle.std.proofs.Common.{◌≡◌, ℕ, ◌≤◌, List, [], ◌∷◌, ◌++◌, length, take, refl, sym, ap, ◌∙◌, subst, arith, append_assoc}
-use Rattle.std.specs.Prelude.{Result, Ok, Err, is_ok, min, if◌then◌else◌}
-use Rattle.std.proofs.lemmas.List.{length-take, take_at, take-take}
+use Rattle.std.proofs.Common.{◌≡◌, ℕ, ◌≤◌, ◌<◌, ◌+◌, List, [], ◌∷◌, ◌++◌, length, take, drop, true≢false, refl, sym, ap, ◌∙◌, subst, arith, append_assoc, append-nil}
+use Rattle.std.specs.Prelude.{Result, Ok, Err, IsErr, is_ok, map, min, if◌then◌else◌, slice_index_or}
+use Rattle.std.specs.List.{flat_map}
+use Rattle.std.proofs.lemmas.Grind.{flat_map-append}
+use Rattle.std.proofs.lemmas.List.{drop_all, drop_more, length-take, take_at, take_more, take-take}
 use Rattle.yard_model.specs.Text.{Bytes}
 use Rattle.trace_text.specs.Grown.{Appends, Begins, Grows}
 
@@ -44,3 +46,54 @@ pub cut_back : {T E : Type 0} (r s : Result T E) (n : ℕ) (old mid new more : B
     → new ≡ (if is_ok r then mid else take n mid) → Appends s old new more
 cut_back {T} {E} r s n old mid new more same long grown cut =
     subst (λ (x : Result T E). Appends x old new more) (sym same) (cut_at r old mid new more grown (subst (λ (k : ℕ). new ≡ (if is_ok r then mid else take k mid)) long cut))
+
+-- nothing is left to come
+pub grows_done : {A : Type 0} (text rest whole : List A) → rest ≡ [] → text ++ rest ≡ whole → text ≡ whole
+grows_done text rest whole none told = sym (append-nil text) ∙ (ap (λ l. text ++ l) (sym none) ∙ told)
+
+-- on an error the text is still in front
+pub grows_err : {T E : Type 0} (r : Result T E) (old new more : Bytes) → IsErr r → Begins old new → Grows r old new more
+grows_err (Ok x) old new more failed begins = absurd (true≢false (sym failed))
+grows_err (Err y) old new more failed begins = begins
+
+-- a loop that appends the text of each item: the next one, the end, and what is left on an error
+pub each_next : {A : Type 0} (show : A → Bytes) (xs : List A) (i : ℕ) (x : A) (old new whole : Bytes) → i < length xs → x ≡ slice_index_or xs i x → new ≡ old ++ show x
+    → old ++ flat_map show (drop i xs) ≡ whole → new ++ flat_map show (drop (i + 1) xs) ≡ whole
+each_next show xs i x old new whole h is more told =
+    ap (λ (l : Bytes). l ++ flat_map show (drop (i + 1) xs)) more
+    ∙ (append_assoc old (show x) (flat_map show (drop (i + 1) xs))
+    ∙ (sym (ap (λ l. old ++ flat_map show l) (drop_more xs i x h ∙ ap (λ y. y ∷ drop (i + 1) xs) (sym is))) ∙ told))
+
+pub each_done : {A : Type 0} (show : A → Bytes) (xs : List A) (i : ℕ) (text whole : Bytes) → length xs ≤ i → text ++ flat_map show (drop i xs) ≡ whole → text ≡ whole
+each_done show xs i text whole h told = grows_done text (flat_map show (drop i xs)) whole (ap (λ l. flat_map show l) (drop_all i xs h)) told
+
+pub each_err : {T E : Type 0} (r : Result T E) (old mid new more : Bytes) → IsErr r → Begins old mid → new ≡ mid → Grows r old new more
+each_err r old mid new more failed begins same = grows_err r old new more failed (begins_then old mid new begins (begins_same mid new same))
+
+-- the same of what is seen of each item
+pub each_seen_next : {A B : Type 0} (of : A → B) (show : B → Bytes) (xs : List A) (i : ℕ) (x : A) (old new whole : Bytes) → i < length xs → x ≡ slice_index_or xs i x → new ≡ old ++ show (of x)
+    → old ++ flat_map show (map of (drop i xs)) ≡ whole → new ++ flat_map show (map of (drop (i + 1) xs)) ≡ whole
+each_seen_next of show xs i x old new whole h is more told =
+    ap (λ (l : Bytes). l ++ flat_map show (map of (drop (i + 1) xs))) more
+    ∙ (append_assoc old (show (of x)) (flat_map show (map of (drop (i + 1) xs)))
+    ∙ (sym (ap (λ l. old ++ flat_map show (map of l)) (drop_more xs i x h ∙ ap (λ y. y ∷ drop (i + 1) xs) (sym is))) ∙ told))
+
+pub each_seen_done : {A B : Type 0} (of : A → B) (show : B → Bytes) (xs : List A) (i : ℕ) (text whole : Bytes) → length xs ≤ i → text ++ flat_map show (map of (drop i xs)) ≡ whole → text ≡ whole
+each_seen_done of show xs i text whole h told = grows_done text (flat_map show (map of (drop i xs))) whole (ap (λ l. flat_map show (map of l)) (drop_all i xs h)) told
+
+-- one text more, behind those of the items before it
+pub each_taken : {A : Type 0} (show : A → Bytes) (xs : List A) (i : ℕ) (x : A) (text waits first new : Bytes) → i < length xs → x ≡ slice_index_or xs i x → new ≡ text ++ (waits ++ show x)
+    → text ++ waits ≡ first ++ flat_map show (take i xs) → new ≡ first ++ flat_map show (take (i + 1) xs)
+each_taken show xs i x text waits first new h is more told =
+    let last : flat_map show (take (i + 1) xs) ≡ flat_map show (take i xs) ++ show x =
+    ap (λ l. flat_map show l) (take_more xs i x h)
+    ∙ (flat_map-append show (take i xs) (slice_index_or xs i x ∷ [])
+    ∙ (ap (λ l. flat_map show (take i xs) ++ l) (append-nil (show (slice_index_or xs i x))) ∙ ap (λ y. flat_map show (take i xs) ++ show y) (sym is))) in
+    more
+    ∙ (sym (append_assoc text waits (show x))
+    ∙ (ap (λ l. l ++ show x) told ∙ (append_assoc first (flat_map show (take i xs)) (show x) ∙ ap (λ l. first ++ l) (sym last))))
+
+-- the last piece
+pub appends_last : {T E : Type 0} (r : Result T E) (old mid new more whole : Bytes) → Begins old mid → mid ++ more ≡ old ++ whole → Appends r mid new more → Grows r old new whole
+appends_last (Ok x) old mid new more whole begins is told = told ∙ is
+appends_last (Err y) old mid new more whole begins is told = begins_then old mid new begins (begins_same mid new told)

@@ -9,6 +9,7 @@ pub mod RowLaws
 pub mod TallyLaws
 pub mod AsciiLaws
 pub mod JsonLaws
+pub mod JsonValues
 pub mod SlotLaws
 pub mod ShardLaws
 pub mod PartLaws

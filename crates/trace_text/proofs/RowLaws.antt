@@ -1,8 +1,8 @@
 -- Lists side by side, and numbers in a row.
-use Rattle.std.proofs.Common.{◌≡◌, ℕ, zero, suc, ◌<◌, ◌+◌, ◌-◌, List, [], ◌∷◌, ◌++◌, length, drop, sym, ap, ◌∙◌, refl, subst, arith}
+use Rattle.std.proofs.Common.{◌≡◌, ℕ, zero, suc, ◌<◌, ◌≤◌, ◌+◌, ◌-◌, List, [], ◌∷◌, ◌++◌, length, drop, sym, ap, ◌∙◌, refl, subst, arith, append-nil}
 use Rattle.std.specs.Prelude.{Bool, true, false, ◌==◌, ◌&&◌, cond, IsTrue, map, filter, slice_index_or}
 use Rattle.std.specs.List.{flat_map, list_all}
-use Rattle.std.proofs.lemmas.List.{drop_more, append_assoc, get_or-map, length-map}
+use Rattle.std.proofs.lemmas.List.{drop_all, drop_more, append_assoc, get_or-map, length-map}
 use Rattle.std.proofs.lemmas.Bool.Decides.{nat_tests}
 use Rattle.yard_model.specs.declared.packet.Record.{Record}
 use Rattle.yard_model.specs.declared.fact.Fact.{Fact}
@@ -148,3 +148,15 @@ tallies_are show p list all names kept same is = ap (rows (show p) names) is ∙
 -- four parts, one behind the other
 pub four_parts : (start r f q e one two three : Bytes) → one ≡ start ++ r → two ≡ one ++ f → three ≡ two ++ q → three ++ e ≡ start ++ (r ++ f ++ q ++ e)
 four_parts start r f q e one two three first second third = rw (third, second, first) (simp append_assoc)
+
+-- one more of what each comes to, and the end of them
+pub map_next : {A B : Type 0} (show : A → B) (xs : List A) (i : ℕ) (d : A) (y : B) (old new whole : List B) → i < length xs → new ≡ old ++ y ∷ [] → y ≡ show (slice_index_or xs i d)
+    → old ++ map show (drop i xs) ≡ whole → new ++ map show (drop (i + 1) xs) ≡ whole
+map_next show xs i d y old new whole h is seen told =
+    ap (λ (l : List _). l ++ map show (drop (i + 1) xs)) is
+    ∙ (append_assoc old (y ∷ []) (map show (drop (i + 1) xs))
+    ∙ (ap (λ z. old ++ z ∷ map show (drop (i + 1) xs)) seen
+    ∙ (sym (ap (λ l. old ++ map show l) (drop_more xs i d h)) ∙ told)))
+
+pub map_done : {A B : Type 0} (show : A → B) (xs : List A) (i : ℕ) (text whole : List B) → length xs ≤ i → text ++ map show (drop i xs) ≡ whole → text ≡ whole
+map_done show xs i text whole h told = sym (append-nil text) ∙ (sym (ap (λ l. text ++ map show l) (drop_all i xs h)) ∙ told)

@@ -2,6 +2,7 @@ pub mod Behind
 pub mod Foldable
 pub mod Grown
 pub mod Json
+pub mod JsonMembers
 pub mod JsonText
 pub mod Parts
 pub mod Places

@@ -1,19 +1,20 @@
 //! The report as JSON: each entity and each pair as a value.
 ghost use Rattle.trace_text.specs.Places.{lent};
-ghost use Rattle.std.specs.Prelude.{◌≡◌, IfOk, IsTrue, map};
+ghost use Rattle.std.specs.Prelude.{◌≡◌, ◌∷◌, [], IfOk, IsTrue, OnOk, map};
 ghost use Rattle.std.specs.Str.{IsUtf8};
 ghost use Rattle.serde_json.specs.Data.{string};
-ghost use Rattle.serde_json.specs.View.{view};
+ghost use Rattle.serde_json.specs.View.{members_view, view};
 ghost use Rattle.yard_model.specs.Behaviour.{empty_state};
 ghost use Rattle.yard_model.specs.Text.{command_text, event_text, reply_text, state_text};
 ghost use Rattle.trace_text.specs.Foldable.{are_foldable};
-ghost use Rattle.trace_text.specs.Json.{list_json, events_json, record_json, entity_value, pair_value, whole_json};
+ghost use Rattle.trace_text.specs.Json.{list_json, number_json, events_json, record_json, entity_value, pair_value, whole_json};
+ghost use Rattle.trace_text.specs.JsonMembers.{with_told, with_answered, with_named, with_shown, with_pair};
 
 use crate::entities::state_after;
 use crate::queues::Tally;
 use crate::report_rows::ReportRows;
 use crate::values::{push_command, push_event, push_reply, push_state};
-use serde_json::{Value, json};
+use serde_json::{Map, Value, json, put};
 use std::alloc::{AllocError, Global};
 use yard_model::{
     Charter, Command, EntityName, Event, Kind, ProducerNo, Record, Reply, ShardNo, State,
@@ -85,17 +86,46 @@ fn events_value(alloc: Global, events: &[Event]) -> Result<Value, AllocError>
 fn record_value(alloc: Global, written: &Record) -> Result<Value, AllocError>
     ensures { IfOk result (λ v. view v ≡ record_json written.now) }
 {
+    let mut map = Map::new(alloc);
+    put_told(&mut map, alloc, written)?;
+    put_answered(&mut map, alloc, written)?;
+    Ok(Value::Object(map))
+}
+
+/// Whose command it answers, the command and its epoch, as members more.
+fn put_told(map: &mut Map<String, Value>, alloc: Global, written: &Record) -> Result<(), AllocError>
+    ensures { OnOk result (members_view map.new.entries ≡ with_told written.now (members_view map.old.entries)) }
+{
+    let by = by_value(alloc, written)?;
+    put(map, alloc, "by", by)?;
     let command = command_value(alloc, &written.command)?;
+    put(map, alloc, "command", command)?;
+    put(map, alloc, "epoch", Value::from(written.epoch))
+}
+
+/// What its command led to, its number and its reply, as members more.
+fn put_answered(
+    map: &mut Map<String, Value>,
+    alloc: Global,
+    written: &Record,
+) -> Result<(), AllocError>
+    ensures { OnOk result (members_view map.new.entries ≡ with_answered written.now (members_view map.old.entries)) }
+{
     let events = events_value(alloc, written.events.as_slice())?;
+    put(map, alloc, "events", events)?;
+    put(map, alloc, "number", Value::from(written.number))?;
     let reply = reply_value(alloc, &written.reply)?;
-    json!(in alloc; {
-        "by": [written.producer.get(), written.place],
-        "command": command,
-        "epoch": written.epoch,
-        "events": events,
-        "number": written.number,
-        "reply": reply
-    })
+    put(map, alloc, "reply", reply)
+}
+
+/// Whose command it answers.
+fn by_value(alloc: Global, written: &Record) -> Result<Value, AllocError>
+    ensures { IfOk result (λ v. view v ≡ list_json (number_json written.now.producer ∷ number_json written.now.place ∷ [])) }
+{
+    let mut list = Vec::new(alloc);
+    list.push(Value::from(written.producer.get()))?;
+    list.push(Value::from(written.place))?;
+    Ok(Value::Array(list))
 }
 
 /// A journal.
@@ -120,10 +150,41 @@ fn entity_value(
     requires { IsTrue (are_foldable (empty_state kind) (lent records.now)) }
     ensures { IfOk result (λ v. view v ≡ entity_value kind s name.now (lent records.now)) }
 {
+    let mut map = Map::new(alloc);
+    put_named(&mut map, alloc, name, records)?;
+    put_shown(&mut map, alloc, kind, s, records)?;
+    Ok(Value::Object(map))
+}
+
+/// A name and a journal, as members more.
+fn put_named(
+    map: &mut Map<String, Value>,
+    alloc: Global,
+    name: &EntityName,
+    records: &[&Record],
+) -> Result<(), AllocError>
+    ensures { OnOk result (members_view map.new.entries ≡ with_named name.now (lent records.now) (members_view map.old.entries)) }
+{
     let entity = name_value(alloc, name)?;
+    put(map, alloc, "name", entity)?;
     let journal = records_value(alloc, records)?;
+    put(map, alloc, "records", journal)
+}
+
+/// A shard and the state that a journal leads to, as members more.
+fn put_shown(
+    map: &mut Map<String, Value>,
+    alloc: Global,
+    kind: Kind,
+    s: ShardNo,
+    records: &[&Record],
+) -> Result<(), AllocError>
+    requires { IsTrue (are_foldable (empty_state kind) (lent records.now)) }
+    ensures { OnOk result (members_view map.new.entries ≡ with_shown kind s (lent records.now) (members_view map.old.entries)) }
+{
+    put(map, alloc, "shard", Value::from(s.get()))?;
     let state = state_value(alloc, &state_after(kind, records))?;
-    json!(in alloc; {"name": entity, "records": journal, "shard": s.get(), "state": state})
+    put(map, alloc, "state", state)
 }
 
 /// A pair with its counts.
@@ -135,13 +196,26 @@ pub(crate) fn pair_value(
 ) -> Result<Value, AllocError>
     ensures { IfOk result (λ v. view v ≡ pair_value p name.now tally.now.queued tally.now.confirmed) }
 {
+    let mut map = Map::new(alloc);
+    put_pair(&mut map, alloc, p, name, tally)?;
+    Ok(Value::Object(map))
+}
+
+/// A pair and its counts, as members more.
+fn put_pair(
+    map: &mut Map<String, Value>,
+    alloc: Global,
+    p: ProducerNo,
+    name: &EntityName,
+    tally: &Tally,
+) -> Result<(), AllocError>
+    ensures { OnOk result (members_view map.new.entries ≡ with_pair p name.now tally.now.queued tally.now.confirmed (members_view map.old.entries)) }
+{
+    put(map, alloc, "confirmed", Value::from(tally.confirmed))?;
     let entity = name_value(alloc, name)?;
-    json!(in alloc; {
-        "confirmed": tally.confirmed,
-        "entity": entity,
-        "producer": p.get(),
-        "queued": tally.queued
-    })
+    put(map, alloc, "entity", entity)?;
+    put(map, alloc, "producer", Value::from(p.get()))?;
+    put(map, alloc, "queued", Value::from(tally.queued))
 }
 
 /// The report of these entities and pairs.

@@ -8,6 +8,7 @@ mod DeliverLaws
 mod PlacesLaws
 mod OrderLaws
 mod TakenLaws
+mod StoreLaws
 mod HostLaws
 mod FoldLaws
 mod WayLaws

@@ -1,8 +1,25 @@
-use Rattle.std.proofs.Common.{refl}
-use Rattle.shard_entities.proofs.EntryLaws.{entry_forgotten, entry_only, entry_moved}
+use Rattle.std.proofs.Common.{refl, ◌≡◌, true}
+use Rattle.yard_model.specs.SlotReads.{is_remembered}
+use Rattle.shard_entities.proofs.EntryLaws.{entry_forgotten, entry_only, entry_moved, store_names}
 use Rattle.shard_entities.proofs.LodgedLaws.{placed}
 use Rattle.shard_entities.proofs.ReadyLaws.{touches}
+use Rattle.shard_entities.proofs.StoreLaws.{store_place, store_room, store_held, store_reads}
 use Rattle.shard_entities.proofs.shards.Shards.tell_forgotten.Goals as goal
+
+pub write_forgotten-requires-clause-place : goal.write_forgotten-requires-clause-place
+write_forgotten-requires-clause-place c = store_place c.self.invariant.kept.lodged c.self.view_is c.requires.place c.get.ensures.value c.index_mut.ensures.value c.requires.there.hosted_is
+
+pub write_forgotten-requires-clause-spare : goal.write_forgotten-requires-clause-spare
+write_forgotten-requires-clause-spare c = store_room c.self.invariant.kept.lodged c.self.view_is c.requires.place c.get.ensures.value c.index_mut.ensures.value c.requires.there.hosted_is c.requires.there
+
+pub write_forgotten-requires-clause-leased : goal.write_forgotten-requires-clause-leased
+write_forgotten-requires-clause-leased c = store_held c.self.invariant.kept.lodged c.self.view_is c.requires.place c.get.ensures.value c.index_mut.ensures.value c.requires.there.hosted_is
+
+pub write_forgotten-requires-clause-known : goal.write_forgotten-requires-clause-known
+write_forgotten-requires-clause-known c = store_reads (λ l. is_remembered c.args.place.now.entity l ≡ true) c.self.invariant.kept.lodged c.self.view_is c.requires.place c.get.ensures.value c.index_mut.ensures.value c.requires.there.hosted_is c.requires.known
+
+pub write_forgotten-requires-clause-name : goal.write_forgotten-requires-clause-name
+write_forgotten-requires-clause-name c = store_names c.self.invariant.kept.lodged c.self.view_is c.requires.place c.get.ensures.value c.index_mut.ensures.value c.requires.there.hosted_is
 
 pub invariant_of-self : goal.invariant_of-self
 invariant_of-self c = record {

@@ -46,6 +46,12 @@ ups_count y w s = ap length s.seen_is.ups_are ∙ s.stands_is.sound.ups_there
 pub node_within : (n nodes : ℕ) → is_in 1 nodes n ≡ true → (1 ≤ n) × (n ≤ nodes)
 node_within n nodes e = let p : (nat_le 1 n ≡ true) × (nat_le n nodes ≡ true) = and_both (nat_le 1 n) (nat_le n nodes) e in (at_most 1 n p.0, at_most n nodes p.1)
 
+pub firm_inside : (y : Yard) (w : World) (n : ℕ) → IsFirm y w → is_in 1 y.script.config.nodes n ≡ true → n ≤ length y.nodes
+firm_inside y w n s h =
+    let l : length y.nodes ≡ y.script.config.nodes = nodes_count y w s in
+    let most : n ≤ y.script.config.nodes = (node_within n y.script.config.nodes h).1 in
+    omega (arith, l, most)
+
 -- Coming up.
 
 -- the script admits the version in force

@@ -141,6 +141,63 @@ fn end<B: Behaviour + Drop>(node: Node<B>, book: &mut LeaseBook, mail: &mut Mail
     node.crash(book, mail.out());
 }
 
+/// A node's end, for which there is room: which incarnation it was.
+fn end_roomy<B: Behaviour + Drop>(
+    node: Node<B>,
+    book: &mut LeaseBook,
+    mail: &mut Mail,
+) -> Incarnation
+    requires ready { IsReady node mail.old.spare }
+    requires rests { Rests (meaning_of book.old) node.script node.state }
+    ensures who { result ≡ node.state.who }
+    ensures ended { Ends book.old book.new mail.old mail.new node }
+{
+    let who = node.who();
+    end(node, book, mail);
+    who
+}
+
+/// A node's end, where this answers whether room was made: which incarnation it was.
+fn end_after<B: Behaviour + Drop>(
+    room: Result<(), AllocError>,
+    node: Node<B>,
+    book: &mut LeaseBook,
+    mail: &mut Mail,
+) -> Result<Incarnation, AllocError>
+    requires ready { OnOk room (IsReady node mail.old.spare) }
+    requires rests { Rests (meaning_of book.old) node.script node.state }
+    ensures { IfOk result (λ who. (who ≡ node.state.who) × Ends book.old book.new mail.old mail.new node) }
+{
+    match room {
+        Ok(()) => Ok(end_roomy(node, book, mail)),
+        Err(error) => Err(error),
+    }
+}
+
+/// A node's end: which incarnation it was. The only error is want of memory.
+fn end_one<B: Behaviour + Drop>(
+    node: Node<B>,
+    book: &mut LeaseBook,
+    mail: &mut Mail,
+) -> Result<Incarnation, AllocError>
+    requires { Rests (meaning_of book.old) node.script node.state }
+    ensures { IfOk result (λ who. (who ≡ node.state.who) × Ends book.old book.new mail.old mail.new node) }
+{
+    let mut node = node;
+    let room = make_room(mail, &mut node);
+    end_after(room, node, book, mail)
+}
+
+/// What stands at the place of this number is taken out of the table.
+fn take_at<B: Behaviour + Drop>(nodes: &mut Vec<Option<Node<B>>>, n: NodeNo) -> Option<Node<B>>
+    requires { n ≤ length nodes.old.items }
+    ensures node { result ≡ at nodes.old.items (n - 1) }
+    ensures nodes { nodes.new.items ≡ slice_set nodes.old.items (n - 1) None }
+{
+    let place = n.get() as usize - 1;
+    nodes[place].take()
+}
+
 /// The node of this number, which is up, is gone, and what it held is freed: which incarnation it
 /// was. The only error is want of memory.
 pub(crate) fn end_at<B: Behaviour + Drop>(
@@ -154,13 +211,8 @@ pub(crate) fn end_at<B: Behaviour + Drop>(
     ensures nodes { nodes.new.items ≡ slice_set nodes.old.items (n - 1) None }
     ensures ended { IfOk result (λ who. IsSomeAnd (at nodes.old.items (n - 1)) (λ v. (who ≡ v.state.who) × Ends book.old book.new mail.old mail.new v)) }
 {
-    let place = n.get() as usize - 1;
-    let Some(node) = nodes[place].take() else {
-        unreachable!()
-    };
-    let mut node = node;
-    make_room(mail, &mut node)?;
-    let who = node.who();
-    end(node, book, mail);
-    Ok(who)
+    match take_at(nodes, n) {
+        Some(node) => end_one(node, book, mail),
+        None => unreachable!(),
+    }
 }

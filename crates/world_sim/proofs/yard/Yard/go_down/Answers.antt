@@ -1,13 +1,24 @@
 use Rattle.std.proofs.Common.{◌-◌, ap, sym, ◌∙◌, subst, refl}
 use Rattle.std.specs.Prelude.{is_none}
+use Rattle.yard_model.specs.Behaviour.{is_in}
 use Rattle.yard_model.specs.Words.{at}
 use Rattle.yard_model.specs.World.{go_down}
 use Rattle.world_sim.specs.Yard.{Yard, IsFirm}
 use Rattle.world_sim.proofs.DownLaws.{may_end, down_none, down_told}
 use Rattle.world_sim.proofs.SeenLaws.{all_told_is}
 use Rattle.world_sim.proofs.StepLaws.{cut_none, step_err, step_seen}
-use Rattle.world_sim.proofs.UpLaws.{node_within, yard_is}
+use Rattle.world_sim.proofs.UpLaws.{node_within, firm_inside, yard_is}
 use Rattle.world_sim.proofs.yard.Yard.go_down.Goals as goal
+
+pub is_down-requires : goal.is_down-requires
+is_down-requires g c =
+    let w = c.requires.world.0 in
+    firm_inside _ w c.args.n (subst (λ v. IsFirm v w) (sym c.self.view_is) c.requires.world.1) (ap (λ (v : Yard). is_in 1 v.script.config.nodes c.args.n) c.self.view_is ∙ c.requires.node)
+
+pub end_at-requires-clause-there : goal.end_at-requires-clause-there
+end_at-requires-clause-there g c =
+    let w = c.requires.world.0 in
+    firm_inside _ w c.args.n (subst (λ v. IsFirm v w) (sym c.self.view_is) c.requires.world.1) (ap (λ (v : Yard). is_in 1 v.script.config.nodes c.args.n) c.self.view_is ∙ c.requires.node)
 
 pub end_at-requires-clause-up : goal.end_at-requires-clause-up
 end_at-requires-clause-up g c =

@@ -6,9 +6,9 @@ ghost use Rattle.shard_store.specs.Stores.{lists_at};
 ghost use Rattle.live_run.specs.LiveText.{AreLive, LiveText};
 
 use crate::sized::look_at_lists;
+use behaviour_by_kind::ByKind;
 use behaviour_core::Behaviour;
 use behaviour_core::laws::decided_law;
-use behaviour_kinds::{Account, Cart, Counter};
 use live_laws::worked_goes_on;
 use node_runner::run_live;
 use shard_store::Stores;
@@ -18,8 +18,8 @@ use std::thread::Threads;
 use trace_text::{push_lists, push_report};
 use world_sim::settle_stores;
 use yard_io::Gate;
+use yard_model::Charter;
 use yard_model::laws::{command_law, decision_law};
-use yard_model::{Charter, Kind};
 
 /// How many bytes of text an order mostly brings, with some to spare.
 const EACH: usize = 200;
@@ -39,11 +39,8 @@ pub fn live_text<R: Threads + Wait + Sync, G: Gate + Sync>(
     requires { length charter.now.orders ≤ 20000 }
     ensures { IfOk result (λ text. LiveText charter.now turns text.items) }
 {
-    match charter.config().kind {
-        Kind::Counter => text_of_run(rt, alloc, charter, Counter::new(), turns, seed, gate),
-        Kind::Account => text_of_run(rt, alloc, charter, Account::new(), turns, seed, gate),
-        Kind::Cart => text_of_run(rt, alloc, charter, Cart::new(), turns, seed, gate),
-    }
+    let behaviour = ByKind::new(charter.config().kind);
+    text_of_run(rt, alloc, charter, behaviour, turns, seed, gate)
 }
 
 /// The text of a run of nodes whose entities behave so. It may wait. The only error is want of memory.

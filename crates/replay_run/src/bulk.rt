@@ -9,14 +9,14 @@ ghost use Rattle.run_parts.specs.Writing.{Writes};
 
 use crate::following::follow;
 use crate::replay::is_safe;
-use behaviour_kinds::Counter;
+use behaviour_by_kind::ByKind;
 use bulk_gen::{Summary, push_summary};
 use run_parts::{Course, WriteError, write_part};
 use std::alloc::{AllocError, Global};
 use trace_notes::{Notes, Told};
 use world_sim::World;
 use yard_io::Sink;
-use yard_model::{Charter, Fact, Packet};
+use yard_model::{Charter, Fact, Kind, Packet};
 
 /// Plays the script of a number, and writes the summary of its trace, once that is through. The line
 /// with which the trace stops, where it does. Nothing is flushed.
@@ -79,7 +79,7 @@ fn summary_of(
     ensures text { IfOk result (λ r. r.0.items ≡ summary number (trace_of charter.now)) }
     ensures stop { IfOk result (λ r. r.1 ≡ stop_in (trace_of charter.now)) }
 {
-    let mut world = World::new(alloc, charter, Counter::new())?;
+    let mut world = World::new(alloc, charter, ByKind::new(Kind::Counter))?;
     let summary = Summary::new(alloc, charter)?;
     let mut facts = Told::new(Counts {
         course: Course::start(),

@@ -11,7 +11,7 @@ ghost use Rattle.run_parts.specs.Stops.{stop_in};
 ghost use Rattle.run_parts.specs.Writing.{Writes};
 
 use crate::following::follow;
-use behaviour_kinds::Counter;
+use behaviour_by_kind::ByKind;
 use daemon_process::laws::{drawn_is_text, expanded_is_script, safe_is_single, written_is_live};
 use daemon_process::{DaemonLines, expand};
 use play_laws::play::trace_is_safe;
@@ -22,7 +22,7 @@ use std::alloc::{AllocError, Global};
 use trace_notes::{Notes, Told};
 use world_sim::World;
 use yard_io::Sink;
-use yard_model::{Charter, Fact, Packet};
+use yard_model::{Charter, Fact, Kind, Packet};
 
 /// Plays a script of pings, and writes which instances each of its lines moves, once it is through. The
 /// line with which the trace stops, where it does. Nothing is flushed.
@@ -107,7 +107,7 @@ fn text_of_daemon(
     daemon_holds(charter, count);
     drawn_is_text();
     let full = expand(alloc, charter, count)?;
-    let mut world = World::new(alloc, &full, Counter::new())?;
+    let mut world = World::new(alloc, &full, ByKind::new(Kind::Counter))?;
     let mut facts = Told::new(Daemon {
         course: Course::start(),
         lines: DaemonLines::new(alloc)?,

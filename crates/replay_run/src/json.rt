@@ -8,15 +8,15 @@ ghost use Rattle.run_parts.specs.Writing.{Writes};
 
 use crate::following::follow;
 use crate::replay::{is_safe, stores_of};
+use behaviour_by_kind::ByKind;
 use behaviour_core::Behaviour;
-use behaviour_kinds::{Account, Cart, Counter};
 use run_parts::{Course, WriteError, write_part};
 use std::alloc::{AllocError, Global};
 use trace_notes::Told;
 use trace_text::push_json;
 use world_sim::World;
 use yard_io::Sink;
-use yard_model::{Charter, Kind};
+use yard_model::Charter;
 
 /// Plays a script, and writes its report as JSON, once the trace is through. The line with which the
 /// trace stops, where it does. Nothing is flushed.
@@ -32,12 +32,8 @@ pub fn write_json<K: Sink>(
     ensures safe { IsTrue (safe charter (trace_of charter)) }
 {
     is_safe(&charter);
-    let kind = charter.config().kind;
-    let (text, stop) = match kind {
-        Kind::Counter => json_of(alloc, charter, Counter::new())?,
-        Kind::Account => json_of(alloc, charter, Account::new())?,
-        Kind::Cart => json_of(alloc, charter, Cart::new())?,
-    };
+    let behaviour = ByKind::new(charter.config().kind);
+    let (text, stop) = json_of(alloc, charter, behaviour)?;
     write_part(sink, text.as_slice())?;
     Ok(stop)
 }

@@ -20,8 +20,8 @@ ghost use Rattle.replay_run.specs.Replays.{IsDone, IsNext, IsOn, trace_text};
 
 use crate::following::play_next;
 use crate::replay::{stores_of, write_report};
+use behaviour_by_kind::ByKind;
 use behaviour_core::Behaviour;
-use behaviour_kinds::{Account, Cart, Counter};
 use disk_log::{Batch, Disk, Log};
 use logged_lines::{LogError, tell_order};
 use run_parts::{Course, WriteError, course_after};
@@ -31,7 +31,7 @@ use trace_text::Sheet;
 use world_sim::World;
 use world_sim::laws::made_law;
 use yard_io::Sink;
-use yard_model::{Charter, Facts, Kind, Line};
+use yard_model::{Charter, Facts, Line};
 
 /// Plays a script, and writes its trace and its report. What each order does to the slots' lists is on the disk, as one
 /// batch, before a line of it is written. The line with which the trace stops, where it does. Nothing is flushed.
@@ -60,12 +60,8 @@ pub fn write_log<K: Sink, D: Disk>(
     ensures disk_faults { D.faults disk.old ≤ D.faults disk.new }
 {
     charter.config();
-    let kind = charter.config().kind;
-    match kind {
-        Kind::Counter => logged(alloc, charter, Counter::new(), sink, disk),
-        Kind::Account => logged(alloc, charter, Account::new(), sink, disk),
-        Kind::Cart => logged(alloc, charter, Cart::new(), sink, disk),
-    }
+    let behaviour = ByKind::new(charter.config().kind);
+    logged(alloc, charter, behaviour, sink, disk)
 }
 
 /// What is at hand while a trace is logged and written: the facts of one order, room for their batch and their lines,

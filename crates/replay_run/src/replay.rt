@@ -18,9 +18,9 @@ ghost use Rattle.run_parts.specs.Stops.{start, course, course_step, stop_in};
 ghost use Rattle.run_parts.specs.Writing.{Writes};
 
 use crate::following::play_next;
+use behaviour_by_kind::ByKind;
 use behaviour_core::Behaviour;
 use behaviour_core::laws::decided_law;
-use behaviour_kinds::{Account, Cart, Counter};
 use play_laws::play::{replay_is_safe, trace_is_safe};
 use run_parts::{Course, WriteError, course_after, write_part};
 use settle_laws::worlds::settle_line_settles;
@@ -32,7 +32,7 @@ use world_sim::World;
 use world_sim::laws::made_law;
 use yard_io::Sink;
 use yard_model::laws::{command_law, decision_law};
-use yard_model::{Charter, Facts, Kind, Line, Lists};
+use yard_model::{Charter, Facts, Line, Lists};
 
 /// Plays a script, and writes its trace and its report: the lines of each order before the next is
 /// played. The line with which the trace stops, where it does. Nothing is flushed.
@@ -53,12 +53,8 @@ pub fn write_replay<K: Sink>(
     replay_is_safe();
     charter.config();
     settle_line_settles();
-    let kind = charter.config().kind;
-    match kind {
-        Kind::Counter => replayed(alloc, charter, Counter::new(), sink),
-        Kind::Account => replayed(alloc, charter, Account::new(), sink),
-        Kind::Cart => replayed(alloc, charter, Cart::new(), sink),
-    }
+    let behaviour = ByKind::new(charter.config().kind);
+    replayed(alloc, charter, behaviour, sink)
 }
 
 /// The trace of a script is safe.

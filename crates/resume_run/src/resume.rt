@@ -12,9 +12,9 @@ ghost use Rattle.log_resume.specs.Restored.{IsForeign, MayGoOn, are_taken, entri
 ghost use Rattle.resume_run.specs.ResumeText.{GoneOn, IsForeignLog, ResumeText, Resumes};
 
 use crate::fault::ResumeError;
+use behaviour_by_kind::ByKind;
 use behaviour_core::Behaviour;
 use behaviour_core::laws::decided_law;
-use behaviour_kinds::{Account, Cart, Counter};
 use disk_log::{Batches, Disk, one_reading, read_log};
 use fact_lines::{entries_are_readable, texts_tell};
 use log_resume::{ResumeFault, stores_of};
@@ -22,8 +22,8 @@ use shard_store::Stores;
 use std::alloc::{AllocError, Global};
 use trace_text::{push_lists, push_report};
 use world_sim::settle_stores;
+use yard_model::Charter;
 use yard_model::laws::{command_law, decision_law};
-use yard_model::{Charter, Kind};
 
 /// Reads the log on a disk, and gives the text of what a run of the script, which has at most 20,000 orders, goes on
 /// to: the report of the log's lists, then the lists of all slots once they are settled, and their report. Nothing is
@@ -83,11 +83,8 @@ fn text_of_stores(alloc: Global, charter: &Charter, stores: Stores) -> Result<Ve
     requires go_on { MayGoOn charter.now (lists_at charter.now.config stores.places) }
     ensures { IfOk result (λ text. GoneOn charter.now (lists_at charter.now.config stores.places) text.items) }
 {
-    match charter.config().kind {
-        Kind::Counter => text_by(alloc, charter, Counter::new(), stores),
-        Kind::Account => text_by(alloc, charter, Account::new(), stores),
-        Kind::Cart => text_by(alloc, charter, Cart::new(), stores),
-    }
+    let behaviour = ByKind::new(charter.config().kind);
+    text_by(alloc, charter, behaviour, stores)
 }
 
 /// The same, of entities that behave so.

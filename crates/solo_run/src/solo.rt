@@ -7,11 +7,11 @@ ghost use Rattle.solo_run.specs.Sound.{IsSound, solo_journal};
 use crate::engine::Engine;
 use crate::played::Played;
 use crate::sound::journals_are_sound;
+use behaviour_by_kind::ByKind;
 use behaviour_core::Behaviour;
-use behaviour_kinds::{Account, Cart, Counter};
 use std::alloc::{AllocError, Global};
 use trace_text::push_report;
-use yard_model::{Charter, Kind};
+use yard_model::Charter;
 
 /// The text that `solo` writes for this script. The only error is want of memory.
 pub fn solo_report(alloc: Global, charter: &Charter) -> Result<Vec<u8>, AllocError>
@@ -41,11 +41,8 @@ fn engine_after(alloc: Global, charter: &Charter) -> Result<Engine, AllocError>
     ensures config { IfOk result (λ e. e.config ≡ charter.now.config) }
     ensures lists { IfOk result (λ e. lists_of e.config (facts_of e.lists.items) ≡ (solo charter.now).lists) }
 {
-    match charter.config().kind {
-        Kind::Counter => played(alloc, charter, &Counter::new()),
-        Kind::Account => played(alloc, charter, &Account::new()),
-        Kind::Cart => played(alloc, charter, &Cart::new()),
-    }
+    let behaviour = ByKind::new(charter.config().kind);
+    played(alloc, charter, &behaviour)
 }
 
 /// The engine after all orders of the script.

@@ -32,46 +32,42 @@ use Rattle.world_sim.proofs.EndLaws.{kept_is, number_is, none_kept}
 use Rattle.world_sim.proofs.RestsLaws.{IsInHand, hand_is, held_by}
 use Rattle.world_sim.proofs.UpLaws.{firm_of, node_kept, node_within, nodes_count}
 
--- One place after the other.
+-- One place after the other, from the end on.
 
-pub found_none : (s : Sought) (nodes : List (Option Standing)) → IsFound s nodes 0 None
-found_none s nodes = λ k less. absurd (never k less)
+-- none of the nodes from this place on has it
+abbrev pub NoneFrom : Sought → List (Option Standing) → ℕ → Type 0
+NoneFrom s nodes place = (k : ℕ) → place ≤ k → k < length nodes → is_it s (at nodes k) ≡ false
+
+pub none_yet : (s : Sought) (nodes : List (Option Standing)) (place : ℕ) → length nodes ≤ place → NoneFrom s nodes place
+none_yet s nodes place h = λ k from less. absurd (never k from less)
   where
-    never : (k : ℕ) → k < 0 → ⊥
-    never k h = omega (arith, h)
+    never : (k : ℕ) → place ≤ k → k < length nodes → ⊥
+    never k from less = omega (arith, h, from, less)
 
--- one that has it is the last so far
-pub found_here : (s : Sought) (nodes : List (Option Standing)) (place n : ℕ) → n ≡ place + 1 → is_it s (at nodes place) ≡ true → IsFound s nodes (place + 1) (Some n)
-found_here s nodes place n e h = record {
+-- one that has it, behind which none has
+found_here : (s : Sought) (nodes : List (Option Standing)) (place n : ℕ) → n ≡ place + 1 → place < length nodes → is_it s (at nodes place) ≡ true → NoneFrom s nodes (place + 1) → IsFound s nodes (length nodes) (Some n)
+found_here s nodes place n e less h none = record {
   some = omega (arith, e);
-  inside = omega (arith, e);
+  inside = omega (arith, e, less);
   is = let back : n - 1 ≡ place = omega (arith, e) in ap (λ k. is_it s (at nodes k)) back ∙ h;
-  none_later = λ k from less. absurd (never k from less);
+  none_later = λ k from less. none k (subst (λ m. m ≤ k) e from) less;
 }
-  where
-    never : (k : ℕ) → n ≤ k → k < place + 1 → ⊥
-    never k from less = omega (arith, e, from, less)
 
 -- by the number that its place makes
-pub found_number : (s : Sought) (nodes : List (Option Standing)) (place : ℕ) (r : Option ℕ) → (IsSome r ↔ ((0 < place + 1) × (place + 1 ≤ 16))) → IfSome r (λ n. n ≡ place + 1) → length nodes ≤ 16 → place < length nodes → is_it s (at nodes place) ≡ true → IsFound s nodes (place + 1) r
-found_number s nodes place None valid value few less h = absurd (true_is_not_false (sym (valid.1 (omega arith, omega (arith, few, less)))))
-found_number s nodes place (Some n) valid value few less h = found_here s nodes place n value h
+pub found_number : (s : Sought) (nodes : List (Option Standing)) (place : ℕ) (r : Option ℕ) → (IsSome r ↔ ((0 < place + 1) × (place + 1 ≤ 16))) → IfSome r (λ n. n ≡ place + 1) → length nodes ≤ 16 → place < length nodes → is_it s (at nodes place) ≡ true → NoneFrom s nodes (place + 1) → IsFound s nodes (length nodes) r
+found_number s nodes place None valid value few less h none = absurd (true_is_not_false (sym (valid.1 (omega arith, omega (arith, few, less)))))
+found_number s nodes place (Some n) valid value few less h none = found_here s nodes place n value less h none
 
--- one that hasn't leaves what was found
-pub found_before : (s : Sought) (nodes : List (Option Standing)) (place : ℕ) (found : Option ℕ) → IsFound s nodes place found → is_it s (at nodes place) ≡ false → IsFound s nodes (place + 1) found
-found_before s nodes place None f h = λ k less. by_place (is_it s (at nodes k) ≡ false) k place (λ e. ap (λ j. is_it s (at nodes j)) e ∙ h) (λ other. f k (lower k less other))
+-- one that hasn't, before others that haven't
+pub none_here : (s : Sought) (nodes : List (Option Standing)) (place : ℕ) → is_it s (at nodes place) ≡ false → NoneFrom s nodes (place + 1) → NoneFrom s nodes place
+none_here s nodes place h none = λ k from less. by_place (is_it s (at nodes k) ≡ false) k place (λ e. ap (λ j. is_it s (at nodes j)) e ∙ h) (λ other. none k (above k from other) less)
   where
-    lower : (k : ℕ) → k < place + 1 → (k ≡ place → ⊥) → k < place
-    lower k less other = grind arith
-found_before s nodes place (Some n) f h = record {
-  some = f.some;
-  inside = let i : n ≤ place = f.inside in omega (arith, i);
-  is = f.is;
-  none_later = λ k from less. by_place (is_it s (at nodes k) ≡ false) k place (λ e. ap (λ j. is_it s (at nodes j)) e ∙ h) (λ other. f.none_later k from (lower k less other));
-}
-  where
-    lower : (k : ℕ) → k < place + 1 → (k ≡ place → ⊥) → k < place
-    lower k less other = grind arith
+    above : (k : ℕ) → place ≤ k → (k ≡ place → ⊥) → place + 1 ≤ k
+    above k from other = grind arith
+
+-- none of them has it
+pub none_found : (s : Sought) (nodes : List (Option Standing)) (place : ℕ) → place ≡ 0 → NoneFrom s nodes place → IsFound s nodes (length nodes) None
+none_found s nodes place e none = λ k less. none k (omega (arith, e)) less
 
 -- The nodes of a sound world can be asked.
 

@@ -34,7 +34,14 @@ AreMarked marks base reached = (i : ℕ) → base ≤ i → i < reached → slic
 abbrev pub run_end : ℕ → ℕ → ℕ → ℕ
 run_end base reached from = if nat_lt from base then from else max from reached
 
--- how a mail is kept: beside the wire, how many were posted, and a run of numbers that were all delivered
+-- the packets of a wire, as a mail with nothing to tell
+abbrev pub posts_in : Posted → Mails
+posts_in w = record { packets = w.packets; fresh = fresh_of w.marked; items = []; spare = 0; full = false }
+
+abbrev pub nothing_posted : Mails
+nothing_posted = record { packets = []; fresh = []; items = []; spare = 0; full = false }
+
+-- how the packets are kept: beside the wire, how many were posted, and a run of numbers that were all delivered
 pub record IsMail (wire : Posted) (count base reached : ℕ) : Type 0 where
   pub wire_is : IsWire wire
   pub count_is : count ≡ length wire.packets

@@ -25,12 +25,26 @@ impl<B: Behaviour + Copy + Drop> Yard<B> {
         requires { (w : World) × IsSoundTo (Delivers number) self.old w }
         ensures { Stepped (IsSoundTo (Delivers number)) 0 (deliver number) result self.old self.new facts.old facts.new }
     {
+        let mut packet = no_packet();
+        self.deliver_over(number, &mut packet, facts)
+    }
+
+    /// The packet of this number, which is written over another, is delivered, where one was posted. Where
+    /// many are delivered one packet is made for all of them.
+    fn deliver_over<N: Notes>(
+        &mut self,
+        number: u32,
+        packet: &mut Packet,
+        facts: &mut Told<N>,
+    ) -> Result<(), AllocError>
+        requires { (w : World) × IsSoundTo (Delivers number) self.old w }
+        ensures { Stepped (IsSoundTo (Delivers number)) 0 (deliver number) result self.old self.new facts.old facts.new }
+    {
         if !self.mail.has(number) {
             return facts.push(Fact::Nothing);
         }
-        let mut packet = no_packet();
-        self.mail.write(number, &mut packet);
-        self.deliver_packet(number, &packet, facts)
+        self.mail.write(number, packet);
+        self.deliver_packet(number, packet, facts)
     }
 
     /// This packet, of this number, is delivered.
@@ -95,11 +109,12 @@ impl<B: Behaviour + Copy + Drop> Yard<B> {
         ensures { Stepped (IsSoundTo (Drains from n)) 0 (drain from n) result self.old self.new facts.old facts.new }
     {
         standing_is_kept();
+        let mut packet = no_packet();
         for _ in 0..n {
             let Some(number) = self.mail.next_after(from) else {
                 return Ok(());
             };
-            self.deliver(number, facts)?;
+            self.deliver_over(number, &mut packet, facts)?;
             if self.mail.is_full() {
                 return Ok(());
             }

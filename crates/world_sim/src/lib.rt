@@ -13,6 +13,7 @@ mod members;
 mod numbers;
 mod orders;
 mod places;
+mod posts;
 mod produces;
 mod queues;
 mod runs;

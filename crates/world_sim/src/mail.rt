@@ -11,35 +11,27 @@ ghost use Rattle.world_sim.specs.Mail.{Heads, ToldSome, facts_of, is_past, posts
 ghost use Rattle.world_sim.specs.Lending.{LendsOut, with_items};
 ghost use Rattle.world_sim.specs.Told.{all_told};
 
-use crate::runs::{after_run, reach};
+use crate::posts::Posts;
 use std::alloc::{AllocError, Global};
 use std::marker::Model;
-use std::mem;
 use trace_notes::{Notes, Told};
-use wire_packet::{Wire, WireFault};
 use yard_model::{Charter, Fact, Item, Out, Packet};
 
 /// The packets of a world, numbered from 1, which of them were never delivered, and what a turn
 /// made and isn't told yet. At most 1,000,000 are posted.
 #[derive(Drop)]
 pub struct Mail {
-    wire: Wire,
-    count: u32,
+    posts: Posts,
     out: Out,
     full: bool,
-    base: u32,
-    reached: u32,
-    alloc: Global,
 }
 
 impl Model for Mail {
-    ghost use Rattle.world_sim.specs.Mail.{IsMail, Mails, fresh_of};
+    ghost use Rattle.world_sim.specs.Mail.{Mails};
 
     ghost Value = { Mails };
 
-    ghost view = { λ m. record { packets = m.wire.packets; fresh = fresh_of m.wire.marked; items = m.out.items; spare = m.out.spare; full = m.full } };
-
-    ghost invariant = { λ m. IsMail m.wire m.count m.base m.reached };
+    ghost view = { λ m. record { packets = m.posts.packets; fresh = m.posts.fresh; items = m.out.items; spare = m.out.spare; full = m.full } };
 }
 
 impl Mail {
@@ -51,15 +43,11 @@ impl Mail {
         ensures spare { IfOk result (λ m. m.spare ≡ 0) }
         ensures full { IfOk result (λ m. m.full ≡ false) }
     {
-        let wire = Wire::new(alloc, charter)?;
+        let posts = Posts::new(alloc, charter)?;
         Ok(Mail {
-            wire,
-            count: 0,
+            posts,
             out: Out::new(alloc),
             full: false,
-            base: 0,
-            reached: 0,
-            alloc,
         })
     }
 
@@ -102,7 +90,7 @@ impl Mail {
         ensures len { result ≡ length self.now.packets }
         ensures fits { length self.now.packets ≤ wire_limit }
     {
-        self.count
+        self.posts.len()
     }
 
     /// Whether a post was past the limit.
@@ -117,7 +105,7 @@ impl Mail {
         ensures packet { result ≡ packet_at self.now.packets number }
         ensures there { IsSome result ↔ ((0 < number) × (number ≤ length self.now.packets)) }
     {
-        self.wire.get(number)
+        self.posts.packet(number)
     }
 
     /// Whether a packet of this number was posted.
@@ -125,7 +113,7 @@ impl Mail {
         ensures there { (result ≡ true) ↔ ((0 < number) × (number ≤ length self.now.packets)) }
         ensures packet { (result ≡ false) ↔ (packet_at self.now.packets number ≡ None) }
     {
-        number > 0 && number <= self.count
+        self.posts.has(number)
     }
 
     /// The packet of this number, which was posted, is written over another: so it isn't copied.
@@ -134,11 +122,10 @@ impl Mail {
         requires there { number ≤ length self.now.packets }
         ensures { packet_at self.now.packets number ≡ Some packet.new }
     {
-        self.wire.write(number, packet)
+        self.posts.write(number, packet)
     }
 
     /// The packet of this number, which was posted, is delivered.
-    #[tactic(auto, using(crate::proofs::FreshLaws::marked_one))]
     pub fn got(&mut self, number: u32)
         requires above { 0 < number }
         requires there { number ≤ length self.old.packets }
@@ -148,8 +135,7 @@ impl Mail {
         ensures spare { self.new.spare ≡ self.old.spare }
         ensures full { self.new.full ≡ self.old.full }
     {
-        self.wire.mark(number);
-        self.reached = reach(&self.wire, self.count, self.reached, number);
+        self.posts.got(number);
     }
 
     /// Sets where the next searches begin. A search for a number above `from`, or above a later number,
@@ -158,8 +144,7 @@ impl Mail {
         requires { from ≤ length self.old.packets }
         ensures { self.new ≡ self.old }
     {
-        self.base = from;
-        self.reached = from;
+        self.posts.begin_after(from);
     }
 
     /// The lowest number above `from` whose packet was never delivered; None where there is none.
@@ -168,8 +153,7 @@ impl Mail {
         requires { from < number_limit }
         ensures { MatchOption result (filter (nat_lt from) self.now.fresh ≡ []) (λ k. Heads k (filter (nat_lt from) self.now.fresh)) }
     {
-        let start = after_run(self.base, self.reached, from);
-        self.wire.next_fresh(start + 1)
+        self.posts.next_after(from)
     }
 
     /// Whether some packet above `from` was never delivered.
@@ -182,11 +166,10 @@ impl Mail {
     }
 
     /// Whether some packet was never delivered.
-    #[tactic(auto, using(crate::proofs::FreshLaws::any_fresh))]
     pub fn has_fresh(&self) -> bool
         ensures { result ≡ not (is_empty self.now.fresh) }
     {
-        self.wire.next_fresh(1).is_some()
+        self.posts.has_fresh()
     }
 
     /// Tells all items, oldest first. A fact is told as it is. A post gets the next number, and is
@@ -222,81 +205,13 @@ impl Mail {
         Ok(())
     }
 
-    /// Tells all items, and answers whether some post was past the limit.
+    /// Tells all items, each where it stands, and answers whether some post was past the limit.
     fn tell_all<N: Notes>(&mut self, facts: &mut Told<N>) -> Result<bool, AllocError>
         ensures facts { OnOk result (facts.new ≡ facts.old ++ numbered wire_limit (length self.old.packets) self.old.items) }
         ensures ok { OnOk result (self.new ≡ all_told wire_limit self.old) }
         ensures past { IfOk result (λ past. past ≡ is_past wire_limit (length self.old.packets) self.old.items) }
         ensures told { OnErr result (ToldSome facts.old facts.new (numbered wire_limit (length self.old.packets) self.old.items)) }
     {
-        if self.out.first().is_none() {
-            return Ok(false);
-        }
-        let mut out = mem::replace(&mut self.out, Out::new(self.alloc));
-        let past = self.tell_each(&mut out, facts)?;
-        self.out = out;
-        Ok(past)
-    }
-
-    /// Tells the items of this list, oldest first, each where it stands, and answers whether some post was
-    /// past the limit; none is left in the list.
-    fn tell_each<N: Notes>(
-        &mut self,
-        out: &mut Out,
-        facts: &mut Told<N>,
-    ) -> Result<bool, AllocError>
-        ensures facts { OnOk result (facts.new ≡ facts.old ++ numbered wire_limit (length self.old.packets) out.old.items) }
-        ensures ok { OnOk result (with_items self.new out.new ≡ all_told wire_limit (with_items self.old out.old)) }
-        ensures past { IfOk result (λ past. past ≡ is_past wire_limit (length self.old.packets) out.old.items) }
-        ensures told { OnErr result (ToldSome facts.old facts.new (numbered wire_limit (length self.old.packets) out.old.items)) }
-    {
-        let mut past = false;
-        while let Some(item) = out.first() {
-            let _posted = self.len();
-            let over = self.tell_item(item, facts)?;
-            out.drop_first();
-            past = past || over;
-        }
-        let _posted = self.len();
-        Ok(past)
-    }
-
-    /// Tells an item, and answers whether it is a post past the limit.
-    fn tell_item<N: Notes>(&mut self, item: &Item, facts: &mut Told<N>) -> Result<bool, AllocError>
-        requires { length self.old.packets ≤ wire_limit }
-        ensures facts { OnOk result (facts.new ≡ facts.old ++ numbered wire_limit (length self.old.packets) (item.now ∷ [])) }
-        ensures ok { OnOk result (self.new ≡ with_posts self.old (posts_of wire_limit (length self.old.packets) (item.now ∷ []))) }
-        ensures past { IfOk result (λ past. past ≡ is_past wire_limit (length self.old.packets) (item.now ∷ [])) }
-        ensures err { OnErr result (facts.new ≡ facts.old) }
-    {
-        match item {
-            Item::Fact(fact) => {
-                facts.push_copy(fact)?;
-                Ok(false)
-            }
-            Item::Post(packet) => self.tell_post(packet, facts),
-        }
-    }
-
-    /// Posts a packet and tells it, and answers whether it is past the limit.
-    fn tell_post<N: Notes>(
-        &mut self,
-        packet: &Packet,
-        facts: &mut Told<N>,
-    ) -> Result<bool, AllocError>
-        ensures facts { OnOk result (facts.new ≡ facts.old ++ numbered wire_limit (length self.old.packets) (item.Post packet.now ∷ [])) }
-        ensures ok { OnOk result (self.new ≡ with_posts self.old (posts_of wire_limit (length self.old.packets) (item.Post packet.now ∷ []))) }
-        ensures past { IfOk result (λ past. past ≡ is_past wire_limit (length self.old.packets) (item.Post packet.now ∷ [])) }
-        ensures err { OnErr result (facts.new ≡ facts.old) }
-    {
-        match self.wire.post(packet) {
-            Ok(number) => {
-                self.count = number;
-                facts.push_sent(number, packet)?;
-                Ok(false)
-            }
-            Err(WireFault::Full) => Ok(true),
-            Err(WireFault::OutOfMemory) => Err(AllocError),
-        }
+        self.posts.tell_each(&mut self.out, facts)
     }
 }

@@ -12,8 +12,9 @@ pub(crate) fn after_run(base: u32, reached: u32, from: u32) -> u32
     if from < base { from } else { from.max(reached) }
 }
 
-/// How far the numbers that were delivered reach, once this one was.
-pub(crate) fn reach(wire: &Wire, count: u32, reached: u32, number: u32) -> u32
+/// How far the numbers that were delivered reach, once this one was, where searches begin above `from`. It
+/// isn't followed where they begin at the front: there the wire passes over what was delivered by itself.
+pub(crate) fn reach(wire: &Wire, count: u32, from: u32, reached: u32, number: u32) -> u32
     requires same { length wire.now.marked ≡ count }
     requires few { count ≤ 1000000 }
     requires within { reached ≤ count }
@@ -22,6 +23,9 @@ pub(crate) fn reach(wire: &Wire, count: u32, reached: u32, number: u32) -> u32
     ensures within { result ≤ count }
     ensures marked { (base : ℕ) → AreMarked wire.now.marked base reached → AreMarked wire.now.marked base result }
 {
+    if from == 0 {
+        return reached;
+    }
     if number == reached + 1 {
         end_of_run(wire, count, number)
     } else {

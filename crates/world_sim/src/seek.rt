@@ -19,6 +19,7 @@ pub(crate) enum Sought {
 }
 
 /// Whether the node has it.
+#[inline(always)]
 fn has_it<B: Behaviour + Drop>(node: &Node<B>, sought: &Sought) -> bool
     requires { MaySeek node.now.script sought.now }
     ensures { result ≡ is_sought sought.now node.now.state }
@@ -31,6 +32,7 @@ fn has_it<B: Behaviour + Drop>(node: &Node<B>, sought: &Sought) -> bool
 }
 
 /// Whether the node at a place is up and has it.
+#[inline(always)]
 fn is_at<B: Behaviour + Drop>(nodes: &Vec<Option<Node<B>>>, place: usize, sought: &Sought) -> bool
     requires place { place < length nodes.now.items }
     requires may { IfSome (at nodes.now.items place) (λ v. MaySeek v.script sought.now) }
@@ -42,27 +44,9 @@ fn is_at<B: Behaviour + Drop>(nodes: &Vec<Option<Node<B>>>, place: usize, sought
     }
 }
 
-/// The node at a place, where it is up and has it; else the one found so far.
-fn or_later<B: Behaviour + Drop>(
-    nodes: &Vec<Option<Node<B>>>,
-    place: usize,
-    sought: &Sought,
-    found: Option<NodeNo>,
-) -> Option<NodeNo>
-    requires few { length nodes.now.items ≤ 16 }
-    requires place { place < length nodes.now.items }
-    requires may { IfSome (at nodes.now.items place) (λ v. MaySeek v.script sought.now) }
-    requires found { IsFound sought.now nodes.now.items place found }
-    ensures { IsFound sought.now nodes.now.items (place + 1) result }
-{
-    if is_at(nodes, place, sought) {
-        NodeNo::new(place as u8 + 1)
-    } else {
-        found
-    }
-}
-
-/// The last node that is up and has it.
+/// The last node that is up and has it: the first that is found from the end on. What is sought is known
+/// where this is called, so that each caller has the one test that it asks.
+#[inline(always)]
 pub(crate) fn seek<B: Behaviour + Drop>(
     nodes: &Vec<Option<Node<B>>>,
     sought: &Sought,
@@ -71,9 +55,12 @@ pub(crate) fn seek<B: Behaviour + Drop>(
     requires may { (k : ℕ) → IfSome (at nodes.now.items k) (λ v. MaySeek v.script sought.now) }
     ensures { IsFound sought.now nodes.now.items (length nodes.now.items) result }
 {
-    let mut found = None;
-    for place in 0..nodes.len() {
-        found = or_later(nodes, place, sought, found);
+    let count = nodes.len();
+    for later in 0..count {
+        let place = count - 1 - later;
+        if is_at(nodes, place, sought) {
+            return NodeNo::new(place as u8 + 1);
+        }
     }
-    found
+    None
 }

@@ -1,6 +1,6 @@
-use Rattle.std.proofs.Common.{◌≤◌, length}
-use Rattle.world_sim.specs.Found.{IsFound}
+use Rattle.std.proofs.Common.{◌-◌, ◌≤◌, length}
+use Rattle.world_sim.proofs.SeekLaws.{NoneFrom}
 use Rattle.world_sim.proofs.seek.seek.Given as goal
 
-abbrev pub invariant-loop-place : goal.invariant-loop-place
-invariant-loop-place g l = (IsFound l.sought l.nodes.items l.place l.found) × (l.place ≤ length l.nodes.items)
+abbrev pub invariant-loop-later : goal.invariant-loop-later
+invariant-loop-later g l = NoneFrom l.sought l.nodes.items (length l.nodes.items - l.later) × (l.later ≤ length l.nodes.items)

@@ -3,7 +3,7 @@ use Rattle.std.specs.Prelude.{Some, None}
 use Rattle.wire_packet.specs.Wire.{packet_at}
 use Rattle.world_sim.specs.Yard.{Yard, Delivers}
 use Rattle.world_sim.proofs.DeliveryLaws.{deliver_stepped, nothing_stepped, deliver_as, weak_to}
-use Rattle.world_sim.proofs.yard.Yard.deliver.Goals as goal
+use Rattle.world_sim.proofs.yard.Yard.deliver_over.Goals as goal
 
 pub returns-then-not-has : goal.returns-then-not-has
 returns-then-not-has g c =

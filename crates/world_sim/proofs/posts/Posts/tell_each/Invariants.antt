@@ -3,7 +3,7 @@ use Rattle.yard_model.specs.World.{numbered, wire_limit}
 use Rattle.world_sim.specs.Lending.{with_items}
 use Rattle.world_sim.specs.Mail.{is_past}
 use Rattle.world_sim.specs.Told.{ToldTo, all_told}
-use Rattle.world_sim.proofs.mail.Mail.tell_each.Given as goal
+use Rattle.world_sim.proofs.posts.Posts.tell_each.Given as goal
 
 abbrev pub invariant-loop-item : goal.invariant-loop-item
 invariant-loop-item g l = record {

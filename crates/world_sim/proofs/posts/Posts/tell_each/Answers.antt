@@ -3,7 +3,7 @@ use Rattle.yard_model.specs.World.{wire_limit, numbered}
 use Rattle.world_sim.specs.Lending.{with_items}
 use Rattle.world_sim.specs.Mail.{is_past}
 use Rattle.world_sim.proofs.ToldLaws.{told_kept, rest_kept, past_kept, first_of, posts_with}
-use Rattle.world_sim.proofs.mail.Mail.tell_each.Goals as goal
+use Rattle.world_sim.proofs.posts.Posts.tell_each.Goals as goal
 
 pub loop-item-preserved-then-past : goal.loop-item-preserved-then-past
 loop-item-preserved-then-past g c =

@@ -1,7 +1,7 @@
 use Rattle.std.proofs.Common.{◌≡◌, [], filter, nat_lt, subst, MatchOption}
 use Rattle.world_sim.specs.Mail.{Heads, Mails}
 use Rattle.world_sim.proofs.RunLaws.{next_by}
-use Rattle.world_sim.proofs.mail.Mail.next_after.Goals as goal
+use Rattle.world_sim.proofs.posts.Posts.next_after.Goals as goal
 
 pub returns : goal.returns
 returns c =

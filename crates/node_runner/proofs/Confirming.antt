@@ -20,13 +20,23 @@ use Rattle.node_runner.specs.declared.offer.Confirmed.{Confirmed}
 use Rattle.node_runner.specs.Parcels.{is_shown, is_confirming}
 use Rattle.node_runner.specs.Rested.{ArePublished, means}
 use Rattle.node_runner.specs.Shown.{confirmed_of, IsRecordedIn}
-use Rattle.plain_laws.proofs.Booleans.{and_both, both, number_itself}
+use Rattle.plain_laws.proofs.Booleans.{and_both, both, number_itself, true_is_not_false}
 use Rattle.plain_laws.proofs.Lists.{some_is, none_is_not_some}
 
 pub plain_of : (b : Body) → confirmed_of b ≡ None → is_confirming b ≡ false
 plain_of (body.Ack p e n) h = absurd (none_is_not_some (record { producer = p; entity = e; number = n }) (sym h))
 plain_of (body.Request p e n u) h = absurd (none_is_not_some (record { producer = p; entity = e; number = n }) (sym h))
 plain_of b h = refl
+
+-- of a packet that confirms nothing nothing is to be shown
+pub plain_shown : (c : Script) (b : Body) (seer : Option Pass) → is_confirming b ≡ false → is_shown c b seer ≡ true
+plain_shown c (body.Ack p e n) seer h = absurd (true_is_not_false h)
+plain_shown c (body.Request p e n u) seer h = absurd (true_is_not_false h)
+plain_shown c b seer h = refl
+
+-- so it is of one that confirms no record
+pub none_shown : (c : Script) (b : Body) (seer : Option Pass) → confirmed_of b ≡ None → is_shown c b seer ≡ true
+none_shown c b seer h = plain_shown c b seer (plain_of b h)
 
 -- what it confirms is of a name that the script brings
 pub brought_of : (c : Script) (b : Body) (r : Confirmed) → is_genuine_body c b ≡ true → confirmed_of b ≡ Some r → is_brought c r.entity ≡ true

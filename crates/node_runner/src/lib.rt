@@ -26,7 +26,7 @@ pub use leases::NodeLeases;
 pub use mail::Mail;
 pub use offer::{Confirmed, handed};
 pub use parcel::{Parcel, Run, confirms, is_within_limit};
-pub use record::parcel_of;
+pub use record::note_of;
 pub use roster::{Roster, Views, enter, leave};
 pub use run::{Job, Outcome, run_counted, run_live};
 pub use steps::{Place, finish, give, take_order, take_packet};

@@ -1,19 +1,19 @@
 //! How a worker posts and takes.
-ghost use Rattle.std.specs.Prelude.{◌≡◌, ◌≤◌, true, false, length, IfOk};
+ghost use Rattle.std.specs.Prelude.{◌≡◌, ◌≤◌, true, false, length, Some, IfOk, IfSome};
 ghost use Rattle.yard_model.specs.Genuine.{is_genuine_packet};
 ghost use Rattle.lease_table.specs.Belongs.{id_of, charter_of};
 ghost use Rattle.rand_pcg.specs.Pcg.{pcg32};
 ghost use Rattle.post_box.specs.Holding.{WasHolding};
 ghost use Rattle.node_runner.specs.Rested.{Rested, ArePublished};
-ghost use Rattle.node_runner.specs.Parcels.{is_confirming, is_within_packet};
+ghost use Rattle.node_runner.specs.Parcels.{is_confirming, is_shown, is_within_packet};
 ghost use Rattle.node_runner.specs.Mailed.{IsSameHolder};
 
 use crate::draws::{Draws, Fate};
 use crate::parcel::{Parcel, Run, is_within_limit};
-use crate::record::parcel_of;
+use crate::record::note_of;
 use crate::up_node::UpNode;
 use behaviour_core::Behaviour;
-use lease_table::{LeasePass, LeaseTable};
+use lease_table::{LeasePass, LeaseTable, Note};
 use post_box::{BoxPass, PostBox};
 use std::alloc::{AllocError, Global};
 use std::sync::Wait;
@@ -114,6 +114,7 @@ impl<J: Run> Mail<J> {
     }
 
     /// Whether no parcel lies in the worker's own box, at a step of this call. It may wait.
+    #[inline(always)]
     fn is_empty<R: Wait>(&mut self, rt: &R, boxes: &PostBox<Parcel<J>>) -> bool
         requires belongs { self.old.pass.tables ≡ boxes.now.tables }
         ensures kept { IsSameHolder self.old.pass self.new.pass }
@@ -178,6 +179,7 @@ impl<J: Run> Mail<J> {
 
     /// Whether the box of a node hands back what is posted to it: it was full when it was looked at last, and is full
     /// at a step of this call. It may wait.
+    #[inline(always)]
     fn hands_back<R: Wait>(&mut self, rt: &R, boxes: &PostBox<Parcel<J>>, to: NodeNo) -> bool
         requires belongs { self.old.pass.tables ≡ boxes.now.tables }
         requires to { to ≤ length boxes.now.tables }
@@ -195,7 +197,62 @@ impl<J: Run> Mail<J> {
         is_full
     }
 
+    /// Posts a packet, with a note that has seen the record where it confirms something; where the box hands it back, it
+    /// is lost, and the box is full. It may wait.
+    #[inline(never)]
+    fn post_with<R: Wait>(
+        &mut self,
+        rt: &R,
+        boxes: &PostBox<Parcel<J>>,
+        packet: &Packet,
+        note: Option<Note>,
+    )
+        requires belongs { self.old.pass.tables ≡ boxes.now.tables }
+        requires nodes { length boxes.now.tables ≡ J.script.config.nodes }
+        requires genuine { is_genuine_packet J.script packet.now ≡ true }
+        requires within { is_within_packet packet.now ≡ true }
+        requires note { IfSome note (λ w. w.table ≡ J.table) }
+        requires shown { is_shown J.script packet.now.body note ≡ true }
+        ensures kept { IsSameHolder self.old.pass self.new.pass }
+    {
+        let to = node_to::<J>(packet);
+        let place = to.get() as usize - 1;
+        self.full[place] = boxes
+            .post(rt, &mut self.pass, to, Parcel::new(*packet, note))
+            .is_err();
+    }
+
+    /// Keeps a packet back, with a note that has seen the record where it confirms something: it is posted after the next
+    /// turn. The only error is want of memory.
+    #[inline(never)]
+    fn keep_back(&mut self, packet: &Packet, note: Option<Note>) -> Result<(), AllocError>
+        requires genuine { is_genuine_packet J.script packet.now ≡ true }
+        requires within { is_within_packet packet.now ≡ true }
+        requires note { IfSome note (λ w. w.table ≡ J.table) }
+        requires shown { is_shown J.script packet.now.body note ≡ true }
+        ensures pass { self.new.pass ≡ self.old.pass }
+    {
+        self.held.push(Parcel::new(*packet, note))?;
+        Ok(())
+    }
+
+    /// Posts a packet that confirms nothing twice. It may wait.
+    #[inline(never)]
+    fn post_twice<R: Wait>(&mut self, rt: &R, boxes: &PostBox<Parcel<J>>, packet: &Packet)
+        requires belongs { self.old.pass.tables ≡ boxes.now.tables }
+        requires nodes { length boxes.now.tables ≡ J.script.config.nodes }
+        requires genuine { is_genuine_packet J.script packet.now ≡ true }
+        requires within { is_within_packet packet.now ≡ true }
+        requires plain { is_confirming packet.now.body ≡ false }
+        ensures kept { IsSameHolder self.old.pass self.new.pass }
+    {
+        self.post_plain(rt, boxes, packet);
+        self.post_plain(rt, boxes, packet);
+    }
+
     /// Posts a packet that confirms nothing; where the box hands it back, it is lost. It may wait.
+    #[inline(always)]
+    #[tactic(auto, using(crate::proofs::Confirming::plain_shown))]
     fn post_plain<R: Wait>(&mut self, rt: &R, boxes: &PostBox<Parcel<J>>, packet: &Packet)
         requires belongs { self.old.pass.tables ≡ boxes.now.tables }
         requires nodes { length boxes.now.tables ≡ J.script.config.nodes }
@@ -207,18 +264,13 @@ impl<J: Run> Mail<J> {
         self.has_asked = true;
         let to = node_to::<J>(packet);
         if !self.hands_back(rt, boxes, to) {
-            post_one(
-                rt,
-                boxes,
-                &mut self.pass,
-                &mut self.full,
-                Parcel::plain(*packet),
-            );
+            self.post_with(rt, boxes, packet, None);
         }
     }
 
     /// The same as `send_plain`, where an incarnation in the packet may have a number above 4,000,000,000: then it is
     /// let go. It may wait. The only error is want of memory.
+    #[inline(always)]
     pub(crate) fn send_other<R: Wait>(
         &mut self,
         rt: &R,
@@ -241,6 +293,8 @@ impl<J: Run> Mail<J> {
 
     /// Draws what becomes of a packet that confirms nothing, as a view, and posts it so. It may wait. The
     /// only error is want of memory.
+    #[inline(always)]
+    #[tactic(auto, using(crate::proofs::Confirming::plain_shown))]
     pub fn send_plain<R: Wait>(
         &mut self,
         rt: &R,
@@ -256,19 +310,36 @@ impl<J: Run> Mail<J> {
     {
         match self.draws.fate() {
             Fate::Lost => Ok(()),
-            Fate::Later => {
-                self.held.push(Parcel::plain(*packet))?;
-                Ok(())
-            }
+            Fate::Later => self.keep_back(packet, None),
             Fate::Once => {
                 self.post_plain(rt, boxes, packet);
                 Ok(())
             }
             Fate::Twice => {
-                self.post_plain(rt, boxes, packet);
-                self.post_plain(rt, boxes, packet);
+                self.post_twice(rt, boxes, packet);
                 Ok(())
             }
+        }
+    }
+
+    /// Posts a packet with a note, if there is one. It may wait.
+    fn post_if<R: Wait>(
+        &mut self,
+        rt: &R,
+        boxes: &PostBox<Parcel<J>>,
+        packet: &Packet,
+        note: Option<Note>,
+    )
+        requires belongs { self.old.pass.tables ≡ boxes.now.tables }
+        requires nodes { length boxes.now.tables ≡ J.script.config.nodes }
+        requires genuine { is_genuine_packet J.script packet.now ≡ true }
+        requires within { IfSome note (λ _. is_within_packet packet.now ≡ true) }
+        requires note { IfSome note (λ w. w.table ≡ J.table) }
+        requires shown { IfSome note (λ w. is_shown J.script packet.now.body (Some w) ≡ true) }
+        ensures kept { IsSameHolder self.old.pass self.new.pass }
+    {
+        if let Some(note) = note {
+            self.post_with(rt, boxes, packet, Some(note));
         }
     }
 
@@ -300,20 +371,20 @@ impl<J: Run> Mail<J> {
         if matches!(fate, Fate::Lost) {
             return Ok(pass);
         }
-        let (pass, parcel) = parcel_of::<J, B>(table, pass, me, node, charter, packet);
-        let Some(parcel) = parcel else {
+        let (pass, note) = note_of::<J, B>(table, pass, me, node, charter, packet);
+        let Some(note) = note else {
             self.let_go(1);
             return Ok(pass);
         };
         if matches!(fate, Fate::Later) {
-            self.held.push(parcel)?;
+            self.keep_back(packet, Some(note))?;
             return Ok(pass);
         }
         self.has_asked = true;
-        post_one(rt, boxes, &mut self.pass, &mut self.full, parcel);
+        self.post_with(rt, boxes, packet, Some(note));
         if matches!(fate, Fate::Twice) {
-            let (pass, again) = parcel_of::<J, B>(table, pass, me, node, charter, packet);
-            post_if(rt, boxes, &mut self.pass, &mut self.full, again);
+            let (pass, again) = note_of::<J, B>(table, pass, me, node, charter, packet);
+            self.post_if(rt, boxes, packet, again);
             return Ok(pass);
         }
         Ok(pass)
@@ -335,23 +406,6 @@ fn post_one<J: Run, R: Wait>(
     let to = parcel.to();
     let place = to.get() as usize - 1;
     full[place] = boxes.post(rt, pass, to, parcel).is_err();
-}
-
-/// Posts a parcel, if there is one.
-fn post_if<J: Run, R: Wait>(
-    rt: &R,
-    boxes: &PostBox<Parcel<J>>,
-    pass: &mut BoxPass<Parcel<J>>,
-    full: &mut [bool; 16],
-    parcel: Option<Parcel<J>>,
-)
-    requires belongs { pass.old.tables ≡ boxes.now.tables }
-    requires nodes { length boxes.now.tables ≡ J.script.config.nodes }
-    ensures kept { IsSameHolder pass.old pass.new }
-{
-    if let Some(parcel) = parcel {
-        post_one(rt, boxes, pass, full, parcel);
-    }
 }
 
 /// Whether a box has no room beside so many parcels.

@@ -1,4 +1,4 @@
-//! What a worker makes of a packet that its node posted. Where a record that it confirms can't be
+//! What a worker shows of a packet that its node posted. Where a record that it confirms can't be
 //! shown, the packet is lost.
 ghost use Rattle.std.specs.Prelude.{◌≡◌, true, false, IfSome, Some, IsTrue};
 ghost use Rattle.yard_model.specs.declared.incarnation.Slot.TheVariants as slot;
@@ -9,43 +9,49 @@ ghost use Rattle.shard_store.specs.Stores.{slot_of_ref, script_of_ref, entries_o
 ghost use Rattle.lease_table.specs.Belongs.{id_of, charter_of};
 ghost use Rattle.lease_table.specs.Fits.{recorded, home_of};
 ghost use Rattle.node_runner.specs.Rested.{Rested, ArePublished};
-ghost use Rattle.node_runner.specs.Parcels.{is_within_packet};
+ghost use Rattle.node_runner.specs.Parcels.{is_shown, is_within_packet};
 ghost use Rattle.node_runner.specs.Shown.{confirmed_of, IsRecordedIn};
 
 use crate::offer::{Confirmed, confirmed_of};
-use crate::parcel::{Parcel, Run, is_within_limit};
+use crate::parcel::{Run, is_within_limit};
 use crate::up_node::UpNode;
 use behaviour_core::Behaviour;
-use lease_table::{LeasePass, LeaseTable};
+use lease_table::{LeasePass, LeaseTable, Note};
 use shard_extract::shard_of;
 use shard_store::{ShardStore, StoreRef};
 use yard_model::{Charter, EntityName, NodeNo, Packet, ShardNo, Slot};
 
-/// The parcel of a packet that the node posted in a turn, after which what it holds was published; for a
-/// packet that confirms a record, with a note of the pass, which has seen it. None where an incarnation
-/// in it has a number above 4,000,000,000, or where the node hosts no shard with that record.
-pub fn parcel_of<J: Run, B: Behaviour + Drop>(
+/// A note of the pass for a packet that the node posted in a turn, after which what it holds was published: where the
+/// packet confirms a record, it has seen that. None where an incarnation in the packet has a number above
+/// 4,000,000,000, or where the node hosts no shard with that record.
+pub fn note_of<J: Run, B: Behaviour + Drop>(
     table: &LeaseTable,
     pass: LeasePass,
     me: NodeNo,
     node: &UpNode<B>,
     charter: &Charter,
     packet: &Packet,
-) -> (LeasePass, Option<Parcel<J>>)
+) -> (LeasePass, Option<Note>)
     requires run { (J.script ≡ charter_of table.now) × (J.table ≡ id_of table.now) }
     requires charter { charter.now ≡ charter_of table.now }
     requires rested { Rested (id_of table.now) (charter_of table.now) me pass node.now }
     requires published { ArePublished (charter_of table.now) pass node.now.state }
     requires genuine { is_genuine_packet (charter_of table.now) packet.now ≡ true }
     ensures pass { result.0 ≡ pass }
+    ensures belongs { IfSome result.1 (λ w. w.table ≡ J.table) }
+    ensures within { IfSome result.1 (λ _. is_within_packet packet.now ≡ true) }
+    ensures shown { IfSome result.1 (λ w. is_shown J.script packet.now.body (Some w) ≡ true) }
 {
     let _ = me;
     if !is_within_limit(packet) {
         return (pass, None);
     }
     match confirmed_of(&packet.body) {
-        None => (pass, Some(Parcel::plain(*packet))),
-        Some(confirmed) => with_note(table, pass, node, charter, packet, &confirmed),
+        None => {
+            let (pass, note) = table.note(pass);
+            (pass, Some(note))
+        }
+        Some(confirmed) => with_note::<J, B>(table, pass, node, charter, packet, &confirmed),
     }
 }
 
@@ -57,23 +63,24 @@ fn with_note<J: Run, B: Behaviour + Drop>(
     charter: &Charter,
     packet: &Packet,
     confirmed: &Confirmed,
-) -> (LeasePass, Option<Parcel<J>>)
+) -> (LeasePass, Option<Note>)
     requires run { (J.script ≡ charter_of table.now) × (J.table ≡ id_of table.now) }
     requires charter { charter.now ≡ charter_of table.now }
     requires script { node.now.script ≡ charter_of table.now }
     requires table { pass.table ≡ id_of table.now }
     requires published { ArePublished (charter_of table.now) pass node.now.state }
     requires genuine { is_genuine_packet (charter_of table.now) packet.now ≡ true }
-    requires within { is_within_packet packet.now ≡ true }
     requires confirms { confirmed_of packet.now.body ≡ Some confirmed.now }
     ensures pass { result.0 ≡ pass }
+    ensures belongs { IfSome result.1 (λ w. w.table ≡ J.table) }
+    ensures shown { IfSome result.1 (λ w. is_shown J.script packet.now.body (Some w) ≡ true) }
 {
     let shard = home(charter, &confirmed.entity);
     if !is_recorded(node, shard, confirmed) {
         return (pass, None);
     }
     let (pass, note) = table.note(pass);
-    (pass, Some(Parcel::new(*packet, Some(note))))
+    (pass, Some(note))
 }
 
 /// The shard of a name.

@@ -81,6 +81,7 @@ fn publish_item<B: Behaviour + Drop>(
 }
 
 /// A packet goes behind the others, and is copied to its place at once. The only error is want of memory.
+#[inline(always)]
 fn push_copy(posts: &mut Vec<Packet>, packet: &Packet) -> Result<(), AllocError>
     ensures { OnOk result (posts.new.items ≡ posts.old.items ++ packet.now ∷ []) }
 {
@@ -170,6 +171,7 @@ fn is_in_script(slot: &Slot, charter: &Charter) -> bool
 }
 
 /// The slot of which the fact is an entry, if it is one.
+#[inline(always)]
 fn slot_of(fact: &Fact, charter: &Charter) -> Option<Slot>
     ensures { result ≡ slot_of (setting charter.now) fact.now }
 {

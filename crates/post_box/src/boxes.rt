@@ -40,6 +40,7 @@ impl<P> PostBox<P> {
 
     /// Posts a parcel to a node's box. It is handed back only where that box was full at a step of this
     /// call. It may wait, and takes no memory.
+    #[inline(always)]
     pub fn post<R: Wait>(
         &self,
         rt: &R,
@@ -58,6 +59,7 @@ impl<P> PostBox<P> {
     }
 
     /// How many parcels lay in a node's box at a step of this call. It may wait, and takes no memory.
+    #[inline(always)]
     pub fn count<R: Wait>(&self, rt: &R, pass: &mut BoxPass<P>, to: NodeNo) -> usize
         requires belongs { pass.old.tables ≡ self.now.tables }
         requires to { to ≤ length self.now.tables }
@@ -72,6 +74,7 @@ impl<P> PostBox<P> {
 
     /// Takes the oldest parcel of the pass's own box. None only where it was empty at a step of this call.
     /// It may wait, and takes no memory.
+    #[inline(always)]
     pub fn take<R: Wait>(&self, rt: &R, pass: &mut BoxPass<P>, at: NodeNo) -> Option<P>
         requires belongs { pass.old.tables ≡ self.now.tables }
         requires own { at ≡ pass.old.node }

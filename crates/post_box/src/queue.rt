@@ -127,6 +127,7 @@ pub(crate) fn next_sender<P>(queue: &Queue<P>, pass: &mut QueuePass<P>) -> Queue
 }
 
 /// It comes back only where the queue was full at a step of this call.
+#[inline(always)]
 pub(crate) fn push<P, R: Wait>(
     rt: &R,
     queue: &Queue<P>,
@@ -146,6 +147,7 @@ pub(crate) fn push<P, R: Wait>(
 }
 
 /// None only where the queue was empty at a step of this call.
+#[inline(always)]
 pub(crate) fn pop<P, R: Wait>(rt: &R, queue: &Queue<P>, pass: &mut QueuePass<P>) -> Option<P>
     requires queue { IsPassOf queue.now pass.old }
     requires takes { view pass.old ≡ taker (view pass.old).next (view pass.old).taken }
@@ -159,6 +161,7 @@ pub(crate) fn pop<P, R: Wait>(rt: &R, queue: &Queue<P>, pass: &mut QueuePass<P>)
 }
 
 /// How many parcels lay in the queue at a step of this call. It may wait.
+#[inline(always)]
 pub(crate) fn count<P, R: Wait>(rt: &R, queue: &Queue<P>, pass: &mut QueuePass<P>) -> usize
     requires queue { IsPassOf queue.now pass.old }
     ensures queue { IsSamePass pass.old pass.new }

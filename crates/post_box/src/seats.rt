@@ -27,6 +27,7 @@ pub(crate) fn next_at<P>(
 
 /// A parcel is posted by the pass at a place. It comes back only where the queue was full at a step of
 /// this call.
+#[inline(always)]
 pub(crate) fn push_at<P, R: Wait>(
     rt: &R,
     queue: &Queue<P>,
@@ -43,6 +44,7 @@ pub(crate) fn push_at<P, R: Wait>(
 }
 
 /// How many parcels lay in the queue of the pass at a place, at a step of this call. It may wait.
+#[inline(always)]
 pub(crate) fn count_at<P, R: Wait>(
     rt: &R,
     queue: &Queue<P>,

@@ -33,10 +33,10 @@ pub fn push_fact(text: &mut Vec<u8>, fact: &Fact) -> Result<(), AllocError>
 }
 
 /// How many cells the lines of several facts are spelled into before they are appended.
-const SHEET: usize = 2048;
+pub(crate) const SHEET: usize = 2048;
 
 /// The longest line that is spelled.
-const LONGEST: usize = 512;
+pub(crate) const LONGEST: usize = 512;
 
 /// Appends the lines of these facts. The only error is want of memory, and then the text stays as it
 /// was.
@@ -473,6 +473,54 @@ fn put_queued(
     let at = put_with_pair(cells, at, b"queued ", p, entity, number);
     let at = put(cells, at, b' ');
     put_command(cells, at, command)
+}
+
+/// The line of a record that was written.
+pub(crate) fn put_wrote_line(
+    cells: &mut [u8],
+    at: usize,
+    entity: &EntityName,
+    written: &Record,
+) -> usize
+    requires { at + 301 ≤ length cells.old }
+    ensures items { take result cells.new ≡ take at cells.old ++ fact_line (Fact.Wrote entity.now written.now) }
+    ensures end { result ≤ at + 301 }
+{
+    let at = put_wrote(cells, at, entity, written);
+    put_end(cells, at)
+}
+
+/// The line of a command that was queued.
+pub(crate) fn put_queued_line(
+    cells: &mut [u8],
+    at: usize,
+    p: ProducerNo,
+    entity: &EntityName,
+    number: u32,
+    command: &Command,
+) -> usize
+    requires { at + 85 ≤ length cells.old }
+    ensures items { take result cells.new ≡ take at cells.old ++ fact_line (Fact.Queued p entity.now number command.now) }
+    ensures end { result ≤ at + 85 }
+{
+    let at = put_queued(cells, at, p, entity, number, command);
+    put_end(cells, at)
+}
+
+/// The line of a number that was confirmed.
+pub(crate) fn put_confirmed_line(
+    cells: &mut [u8],
+    at: usize,
+    p: ProducerNo,
+    entity: &EntityName,
+    number: u32,
+) -> usize
+    requires { at + 57 ≤ length cells.old }
+    ensures items { take result cells.new ≡ take at cells.old ++ fact_line (Fact.Confirmed p entity.now number) }
+    ensures end { result ≤ at + 57 }
+{
+    let at = put_with_pair(cells, at, b"confirmed ", p, entity, number);
+    put_end(cells, at)
 }
 
 fn put_reshard(cells: &mut [u8], at: usize, shards: u8, epoch: u32) -> usize

@@ -9,6 +9,7 @@ mod basics;
 mod bodies;
 mod entities;
 mod entries;
+mod entry_lines;
 mod facts;
 mod journals;
 mod json_rows;

@@ -9,8 +9,9 @@ ghost use Rattle.trace_text.specs.Grown.{Appends, Grows};
 ghost use Rattle.trace_text.specs.Slots.{shards_lists, queues_lists, slots_text};
 
 use crate::basics::all_or_none;
-use crate::entries::{coord_fact, queue_fact, shard_fact};
-use crate::facts::push_fact;
+use crate::entries::coord_fact;
+use crate::entry_lines::{push_queue_entry, push_shard_entry};
+use crate::facts::{SHEET, push_fact};
 use crate::number::put_wide;
 use crate::room::{push_cells, put, put_word};
 use crate::values::put_slot;
@@ -84,10 +85,12 @@ fn push_shard_list(text: &mut Vec<u8>, s: ShardNo, list: &[ShardEntry]) -> Resul
 fn push_shard_entries(text: &mut Vec<u8>, s: ShardNo, list: &[ShardEntry]) -> Result<(), AllocError>
     ensures { Grows result text.old.items text.new.items (flat_map (λ e. fact_line (shard_fact s e)) list.now) }
 {
+    let mut cells = [0; SHEET];
+    let mut at = 0;
     for entry in list {
-        push_fact(text, &shard_fact(s, entry))?;
+        at = push_shard_entry(text, &mut cells, at, s, entry)?;
     }
-    Ok(())
+    push_cells(text, &cells, at)
 }
 
 /// The coordinator's list.
@@ -153,10 +156,12 @@ fn push_queue_entries(
 ) -> Result<(), AllocError>
     ensures { Grows result text.old.items text.new.items (flat_map (λ e. fact_line (queue_fact p e)) list.now) }
 {
+    let mut cells = [0; SHEET];
+    let mut at = 0;
     for entry in list {
-        push_fact(text, &queue_fact(p, entry))?;
+        at = push_queue_entry(text, &mut cells, at, p, entry)?;
     }
-    Ok(())
+    push_cells(text, &cells, at)
 }
 
 /// A slot with the length of its list.

@@ -74,6 +74,7 @@ impl<'c> Orders<'c> {
     }
 
     /// Goes past a line; its order where that is the worker's.
+    #[inline(always)]
     fn take_line(&mut self) -> Option<Order>
         requires { 0 < self.old.lines }
         ensures script { (self.new.script ≡ self.old.script) × (self.new.node ≡ self.old.node) }
@@ -81,11 +82,11 @@ impl<'c> Orders<'c> {
         ensures orders { MatchOption result (self.old.orders ≡ self.new.orders) (λ o. self.old.orders ≡ o ∷ self.new.orders) }
         ensures due { IfSome result (IsDue self.old.script self.old.node) }
     {
-        let order = self.charter.orders()[self.at].order;
-        let is_mine = is_mine(&self.mine, &order, self.node);
-        note(&mut self.mine, &order, self.node);
+        let order = &self.charter.orders()[self.at].order;
+        let is_mine = is_mine(&self.mine, order, self.node);
+        note(&mut self.mine, order, self.node);
         self.at += 1;
-        if is_mine { Some(order) } else { None }
+        if is_mine { Some(*order) } else { None }
     }
 }
 

@@ -11,8 +11,8 @@ use Rattle.node_runner.specs.Parcels.{is_shown}
 use Rattle.node_runner.proofs.Confirming.{seen_of, shown_of}
 use Rattle.node_runner.proofs.record.with_note.Goals as goal
 
-pub new-requires-clause-shown : goal.new-requires-clause-shown
-new-requires-clause-shown g c =
+pub returns-clause-shown : goal.returns-clause-shown
+returns-clause-shown g c =
     let y : Script = charter_of c.args.table.now in
     let r : Confirmed = c.args.confirmed.now in
     let home : c.home-shard.result ≡ home_of y r.entity = c.home-shard.ensures.home ∙ ap (λ (z : Script). home_of z r.entity) c.requires.charter in

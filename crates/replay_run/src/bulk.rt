@@ -1,22 +1,21 @@
 //! `bulk`: a run of the script of a number, and its summary.
-ghost use Rattle.std.specs.Prelude.{◌≡◌, IfOk, IsTrue};
+ghost use Rattle.std.specs.Prelude.{◌≡◌, [], IfOk, IsTrue};
 ghost use Rattle.yard_model.specs.Safe.{safe};
 ghost use Rattle.yard_model.specs.World.{trace_of};
 ghost use Rattle.bulk_gen.specs.Bulk.{bulk_script};
+ghost use Rattle.bulk_gen.specs.Counted.{IsSummary};
 ghost use Rattle.bulk_gen.specs.SummaryText.{summary};
-ghost use Rattle.run_parts.specs.Stops.{stop_in};
+ghost use Rattle.run_parts.specs.Stops.{course, stop_in};
 ghost use Rattle.run_parts.specs.Writing.{Writes};
 
-use crate::following::follow;
+use crate::following::tell_trace;
 use crate::replay::is_safe;
-use behaviour_by_kind::ByKind;
 use bulk_gen::{Summary, push_summary};
 use run_parts::{Course, WriteError, write_part};
 use std::alloc::{AllocError, Global};
 use trace_notes::{Notes, Told};
-use world_sim::World;
 use yard_io::Sink;
-use yard_model::{Charter, Fact, Kind, Packet};
+use yard_model::{Charter, Fact, Packet};
 
 /// Plays the script of a number, and writes the summary of its trace, once that is through. The line
 /// with which the trace stops, where it does. Nothing is flushed.
@@ -79,13 +78,36 @@ fn summary_of(
     ensures text { IfOk result (λ r. r.0.items ≡ summary number (trace_of charter.now)) }
     ensures stop { IfOk result (λ r. r.1 ≡ stop_in (trace_of charter.now)) }
 {
-    let mut world = World::new(alloc, charter, ByKind::new(Kind::Counter))?;
+    let counts = no_counts(alloc, charter)?;
+    let mut facts = Told::new(counts);
+    tell_trace(alloc, charter, &mut facts)?;
+    counted_text(alloc, charter, number, &facts)
+}
+
+/// Nothing is counted yet. The only error is want of memory.
+fn no_counts(alloc: Global, charter: &Charter) -> Result<Counts, AllocError>
+    ensures { IfOk result (λ counts. (counts.course ≡ course []) × IsSummary counts.summary []) }
+{
     let summary = Summary::new(alloc, charter)?;
-    let mut facts = Told::new(Counts {
+    Ok(Counts {
         course: Course::start(),
         summary,
-    });
-    follow(&mut world, &mut facts)?;
+    })
+}
+
+/// The summary of what was counted of the trace, and the line with which that stops, where it does. The only
+/// error is want of memory.
+fn counted_text(
+    alloc: Global,
+    charter: &Charter,
+    number: u32,
+    facts: &Told<Counts>,
+) -> Result<(Vec<u8>, Option<u32>), AllocError>
+    requires script { charter.now ≡ bulk_script number }
+    requires trace { facts.now ≡ trace_of charter.now }
+    ensures text { IfOk result (λ r. r.0.items ≡ summary number (trace_of charter.now)) }
+    ensures stop { IfOk result (λ r. r.1 ≡ stop_in (trace_of charter.now)) }
+{
     let counts = facts.notes();
     let mut text = Vec::new(alloc);
     push_summary(&mut text, charter, number, &counts.summary)?;

@@ -1,17 +1,17 @@
 //! `daemon`: instances that pings keep running, and which of them each line moves.
-ghost use Rattle.std.specs.Prelude.{◌≡◌, ◌≤◌, IfOk, IsTrue, length};
+ghost use Rattle.std.specs.Prelude.{◌≡◌, ◌≤◌, [], IfOk, IsTrue, length};
 ghost use Rattle.yard_model.specs.declared.event.Kind.TheVariants as kind;
 ghost use Rattle.yard_model.specs.Behaviour.{is_in};
 ghost use Rattle.yard_model.specs.World.{trace_of};
 ghost use Rattle.daemon_process.specs.Daemon.{expanded};
 ghost use Rattle.daemon_process.specs.DaemonText.{daemon_text};
+ghost use Rattle.daemon_process.specs.Lines.{IsDrawnOf};
 ghost use Rattle.script_text.specs.Fit.{IsPinged};
 ghost use Rattle.replay_run.specs.Daemons.{DaemonHolds};
-ghost use Rattle.run_parts.specs.Stops.{stop_in};
+ghost use Rattle.run_parts.specs.Stops.{course, stop_in};
 ghost use Rattle.run_parts.specs.Writing.{Writes};
 
-use crate::following::follow;
-use behaviour_by_kind::ByKind;
+use crate::following::tell_trace;
 use daemon_process::laws::{drawn_is_text, expanded_is_script, safe_is_single, written_is_live};
 use daemon_process::{DaemonLines, expand};
 use play_laws::play::trace_is_safe;
@@ -20,9 +20,8 @@ use run_parts::{Course, WriteError, write_part};
 use settle_laws::worlds::settle_line_settles;
 use std::alloc::{AllocError, Global};
 use trace_notes::{Notes, Told};
-use world_sim::World;
 use yard_io::Sink;
-use yard_model::{Charter, Fact, Kind, Packet};
+use yard_model::{Charter, Fact, Packet};
 
 /// Plays a script of pings, and writes which instances each of its lines moves, once it is through. The
 /// line with which the trace stops, where it does. Nothing is flushed.
@@ -104,15 +103,41 @@ fn text_of_daemon(
     ensures text { IfOk result (λ r. r.0.items ≡ daemon_text count charter.now) }
     ensures stop { IfOk result (λ r. r.1 ≡ stop_in (trace_of (expanded count charter.now))) }
 {
+    let full = expand(alloc, charter, count)?;
+    let daemon = nothing_drawn(alloc)?;
+    let mut facts = Told::new(daemon);
+    tell_trace(alloc, &full, &mut facts)?;
+    drawn_text(alloc, charter, count, &facts)
+}
+
+/// Nothing is drawn yet. The only error is want of memory.
+fn nothing_drawn(alloc: Global) -> Result<Daemon, AllocError>
+    ensures { IfOk result (λ daemon. (daemon.course ≡ course []) × IsDrawnOf (length daemon.lines.watch.here) daemon.lines []) }
+{
+    let lines = DaemonLines::new(alloc)?;
+    Ok(Daemon {
+        course: Course::start(),
+        lines,
+    })
+}
+
+/// The text that was drawn of the trace, and the line with which that stops, where it does. The only error
+/// is want of memory.
+fn drawn_text(
+    alloc: Global,
+    charter: &Charter,
+    count: u8,
+    facts: &Told<Daemon>,
+) -> Result<(Vec<u8>, Option<u32>), AllocError>
+    requires count { count ≤ 100 }
+    requires fit { IsPinged charter.now }
+    requires few { length charter.now.orders ≤ 20000 }
+    requires trace { facts.now ≡ trace_of (expanded count charter.now) }
+    ensures text { IfOk result (λ r. r.0.items ≡ daemon_text count charter.now) }
+    ensures stop { IfOk result (λ r. r.1 ≡ stop_in (trace_of (expanded count charter.now))) }
+{
     daemon_holds(charter, count);
     drawn_is_text();
-    let full = expand(alloc, charter, count)?;
-    let mut world = World::new(alloc, &full, ByKind::new(Kind::Counter))?;
-    let mut facts = Told::new(Daemon {
-        course: Course::start(),
-        lines: DaemonLines::new(alloc)?,
-    });
-    follow(&mut world, &mut facts)?;
     let daemon = facts.notes();
     let mut text = Vec::new(alloc);
     daemon.lines.push_whole(&mut text, count)?;

@@ -4,12 +4,30 @@ ghost use Rattle.yard_model.specs.World.{trace_of};
 ghost use Rattle.world_sim.specs.Played.{next_of};
 ghost use Rattle.replay_run.specs.Replays.{IsOn, IsDone, IsNext};
 
+use behaviour_by_kind::ByKind;
 use behaviour_core::Behaviour;
-use std::alloc::AllocError;
+use std::alloc::{AllocError, Global};
 use trace_notes::{Notes, Told};
 use world_sim::laws::made_law;
 use world_sim::{StepFault, World};
-use yard_model::Line;
+use yard_model::{Charter, Line};
+
+/// Plays a script in a world of its own, and tells its facts. The only error is want of memory.
+///
+/// A function that owns a world is proved in a time that grows with what else it owns: so nothing else is
+/// made here.
+pub(crate) fn tell_trace<N: Notes>(
+    alloc: Global,
+    charter: &Charter,
+    facts: &mut Told<N>,
+) -> Result<(), AllocError>
+    requires { facts.old ≡ [] }
+    ensures { OnOk result (facts.new ≡ trace_of charter.now) }
+{
+    let behaviour = ByKind::new(charter.config().kind);
+    let mut world = World::new(alloc, charter, behaviour)?;
+    follow(&mut world, facts)
+}
 
 /// Plays all orders of the script, or up to the one with which its trace stops, and tells their facts.
 /// The only error is want of memory.

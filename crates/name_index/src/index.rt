@@ -9,6 +9,7 @@ ghost use Rattle.yard_model.specs.Words.{is_empty};
 
 use std::alloc::{AllocError, Global};
 use std::marker::Model;
+use yard_model::laws::name_law;
 use yard_model::{Charter, EntityName, NameList};
 
 /// Names in the order of their bytes, each once; seen as their list.
@@ -96,6 +97,46 @@ impl NameIndex {
             Some(place) => place,
             None => unreachable!(),
         }
+    }
+
+    /// The place of a name, which may stand at `hint`, where it is looked for first; None exactly where it isn't
+    /// among them.
+    #[inline(always)]
+    pub fn find_near(&self, name: &EntityName, hint: usize) -> Option<usize>
+        ensures { MatchOption result (list_any (is_name name.now) self.now ≡ false) (λ k. (k < length self.now) × (slice_index_or self.now k [] ≡ name.now)) }
+    {
+        if stands_at(self.as_slice(), hint, name) {
+            Some(hint)
+        } else {
+            self.find(name)
+        }
+    }
+
+    /// The place of a name that is among them, which may stand at `hint`, where it is looked for first.
+    #[inline(always)]
+    pub fn place_near(&self, name: &EntityName, hint: usize) -> usize
+        requires { list_any (is_name name.now) self.now ≡ true }
+        ensures within { result < length self.now }
+        ensures it { slice_index_or self.now result [] ≡ name.now }
+    {
+        if stands_at(self.as_slice(), hint, name) {
+            hint
+        } else {
+            self.place(name)
+        }
+    }
+}
+
+/// Whether a name stands at this place.
+#[inline(always)]
+fn stands_at(names: &[EntityName], place: usize, name: &EntityName) -> bool
+    ensures within { result ≡ true → place < length names.now }
+    ensures it { result ≡ true → slice_index_or names.now place [] ≡ name.now }
+{
+    name_law();
+    match names.get(place) {
+        Some(other) => *other == *name,
+        None => false,
     }
 }
 

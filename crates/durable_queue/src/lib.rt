@@ -3,6 +3,7 @@
 #![tactic(auto)]
 
 mod counts;
+mod hints;
 mod names;
 mod plans;
 mod store;

@@ -56,6 +56,16 @@ impl Names {
         self.list.find(entity)
     }
 
+    /// The place of a name that is among them, which may stand at `hint`.
+    #[inline(always)]
+    pub(crate) fn place_near(&self, entity: &EntityName, hint: usize) -> usize
+        requires { list_any (is_name entity.now) self.now ≡ true }
+        ensures within { result < length self.now }
+        ensures place { result ≡ place_of self.now entity.now }
+    {
+        self.list.place_near(entity, hint)
+    }
+
     /// The place of a name that is among them.
     pub(crate) fn place(&self, entity: &EntityName) -> usize
         requires { list_any (is_name entity.now) self.now ≡ true }

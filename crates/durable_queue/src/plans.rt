@@ -4,46 +4,67 @@ ghost use Rattle.std.specs.List.{list_any};
 ghost use Rattle.yard_model.specs.Script.{is_name};
 ghost use Rattle.durable_queue.specs.Kept.{planned, place_of, ArePlans, AreNamed};
 
+use crate::hints::{hint_at, rooms_of};
 use crate::names::Names;
 use std::alloc::{AllocError, Global};
 use yard_model::{Command, EntityName, Sending};
 
-/// The commands of these sends. The only error is want of memory.
+/// The commands of these sends, of which each may go to the name at its hint. The only error is want of
+/// memory.
 pub(crate) fn plans_of(
     alloc: Global,
     names: &Names,
     sends: &[Sending],
+    hints: &[u16],
 ) -> Result<Vec<Vec<Command>>, AllocError>
     requires { AreNamed names.now sends.now }
     ensures sized { IfOk result (λ plans. length plans.items ≡ length names.now) }
     ensures plans { IfOk result (λ plans. ArePlans names.now (map (λ v. v.items) plans.items) sends.now) }
 {
-    let mut plans = no_plans(alloc, names.len())?;
+    let mut plans = blank_plans(alloc, names.len(), hints)?;
+    let mut place: usize = 0;
     for sending in sends {
-        add(&mut plans, names, sending)?;
+        add(&mut plans, names, sending, hint_at(hints, place))?;
+        place = place.wrapping_add(1);
     }
     Ok(plans)
 }
 
-/// So many empty plans. The only error is want of memory.
-fn no_plans(alloc: Global, count: usize) -> Result<Vec<Vec<Command>>, AllocError>
+/// So many empty plans, each with room for as many commands as have its hint. The only error is want of
+/// memory.
+fn blank_plans(alloc: Global, count: usize, hints: &[u16]) -> Result<Vec<Vec<Command>>, AllocError>
     ensures { IfOk result (λ plans. map (λ v. v.items) plans.items ≡ replicate count []) }
 {
-    let mut plans = Vec::with_capacity(alloc, count)?;
-    for _ in 0..count {
-        plans.push(Vec::new(alloc))?;
+    let rooms = rooms_of(alloc, count, hints)?;
+    no_plans(alloc, rooms.as_slice())
+}
+
+/// An empty plan for each of these rooms. The only error is want of memory.
+fn no_plans(alloc: Global, rooms: &[u32]) -> Result<Vec<Vec<Command>>, AllocError>
+    ensures { IfOk result (λ plans. map (λ v. v.items) plans.items ≡ replicate (length rooms.now) []) }
+{
+    let mut plans = Vec::with_capacity(alloc, rooms.len())?;
+    for room in rooms {
+        let plan = Vec::with_capacity(alloc, *room as usize)?;
+        plans.push(plan)?;
     }
     Ok(plans)
 }
 
-/// The command of a send, behind the others to its name. The only error is want of memory.
-fn add(plans: &mut Vec<Vec<Command>>, names: &Names, sending: &Sending) -> Result<(), AllocError>
+/// The command of a send, behind the others to its name, which may stand at `hint`. The only error is want
+/// of memory.
+fn add(
+    plans: &mut Vec<Vec<Command>>,
+    names: &Names,
+    sending: &Sending,
+    hint: usize,
+) -> Result<(), AllocError>
     requires sized { length plans.old.items ≡ length names.now }
     requires named { list_any (is_name sending.now.entity) names.now ≡ true }
     ensures sized { length plans.new.items ≡ length plans.old.items }
     ensures plan { OnOk result (map (λ v. v.items) plans.new.items ≡ slice_set (map (λ v. v.items) plans.old.items) (place_of names.now sending.now.entity) (planned names.now (map (λ v. v.items) plans.old.items) sending.now.entity ++ sending.now.command ∷ [])) }
 {
-    let place = names.place(&sending.entity);
+    let place = names.place_near(&sending.entity, hint);
     plans[place].push(sending.command)?;
     Ok(())
 }

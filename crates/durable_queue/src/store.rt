@@ -10,6 +10,7 @@ ghost use Rattle.yard_model.specs.SlotReads as reads;
 ghost use Rattle.durable_queue.specs.Queue.{name_at};
 
 use crate::counts::{copy_of, count_at, count_of, put_at, zeros_of};
+use crate::hints::{hint_at, hints_of};
 use crate::names::Names;
 use crate::plans::{command_at, command_to, plans_of};
 use std::alloc::{AllocError, Global};
@@ -33,6 +34,7 @@ pub struct QueueStore {
     producer: ProducerNo,
     entries: Vec<QueueEntry>,
     names: Names,
+    hints: Vec<u16>,
     plans: Vec<Vec<Command>>,
     queued: Vec<u32>,
     confirmed: Vec<u32>,
@@ -70,9 +72,27 @@ impl QueueStore {
         ensures entries { IfOk result (λ q. q.entries ≡ []) }
         ensures spare { IfOk result (λ q. q.spare ≡ 0) }
     {
+        QueueStore::with_hints(alloc, charter, producer, &[])
+    }
+
+    /// The same, where the place of the name to which each of the producer's sends goes may be the one among
+    /// these. The only error is want of memory.
+    pub fn with_hints(
+        alloc: Global,
+        charter: &Charter,
+        producer: ProducerNo,
+        hints: &[u16],
+    ) -> Result<QueueStore, AllocError>
+        requires producer { is_producer charter.now producer ≡ true }
+        ensures script { IfOk result (λ q. q.script ≡ charter.now) }
+        ensures producer { IfOk result (λ q. q.producer ≡ producer) }
+        ensures entries { IfOk result (λ q. q.entries ≡ []) }
+        ensures spare { IfOk result (λ q. q.spare ≡ 0) }
+    {
         let sends = charter.sends(producer);
         let names = Names::new(alloc, charter)?;
-        let plans = plans_of(alloc, &names, sends)?;
+        let hints = hints_of(alloc, &names, sends, hints)?;
+        let plans = plans_of(alloc, &names, sends, hints.as_slice())?;
         let queued = zeros_of(alloc, names.len())?;
         let confirmed = zeros_of(alloc, names.len())?;
         let entries = Vec::with_capacity(alloc, room_for(sends.len()))?;
@@ -81,6 +101,7 @@ impl QueueStore {
             producer,
             entries,
             names,
+            hints,
             plans,
             queued,
             confirmed,
@@ -127,6 +148,12 @@ impl QueueStore {
         ensures { result ≡ is_held self.now.entries }
     {
         self.leased
+    }
+
+    /// Where the name of a send of the producer may stand among the script's, by the send's place from 0.
+    /// Nothing is said of it: the name that stands there is to be compared.
+    pub fn hint(&self, place: usize) -> usize {
+        hint_at(self.hints.as_slice(), place)
     }
 
     /// How many commands are queued in all.
@@ -242,7 +269,8 @@ impl QueueStore {
     {
         let sends = charter.sends(self.producer);
         let names = Names::new(alloc, charter)?;
-        let plans = plans_of(alloc, &names, sends)?;
+        let hints = hints_of(alloc, &names, sends, self.hints.as_slice())?;
+        let plans = plans_of(alloc, &names, sends, hints.as_slice())?;
         let queued = copy_of(alloc, self.queued.as_slice())?;
         let confirmed = copy_of(alloc, self.confirmed.as_slice())?;
         let entries = entries_of(alloc, sends.len(), self.entries.as_slice())?;
@@ -251,6 +279,7 @@ impl QueueStore {
             producer: self.producer,
             entries,
             names,
+            hints,
             plans,
             queued,
             confirmed,

@@ -29,6 +29,6 @@ invariant_of-result c =
     let same : d ≡ with_shards d.config.shards q.script.value = c.requires ∙ ap (λ v. with_shards d.config.shards v.script) (sym c.self.view_is) in
     subst (λ (s : Script). IsKept s p c.in_ok-entries.entries.items names commands c.in_ok-queued.queued.items c.in_ok-confirmed.confirmed.items q.total q.epoch q.leased 0 (vec_capacity c.in_ok-entries.entries)) (sym c.of.ensures)
     (kept_again q.script.value d p q.entries.items c.in_ok-entries.entries.items q.names names (map seen q.plans.items) commands q.queued.items c.in_ok-queued.queued.items q.confirmed.items c.in_ok-confirmed.confirmed.items
-    q.total q.epoch q.leased q.free (vec_capacity q.entries) (vec_capacity c.in_ok-entries.entries) c.self.invariant same (c.in_ok-entries.ensures ∙ c.as_slice-3.ensures.value) (c.in_ok-queued.ensures ∙ c.as_slice.ensures.value)
-    (c.in_ok-confirmed.ensures ∙ c.as_slice-2.ensures.value) (omega (arith, c.in_ok-entries.entries.ok.0, c.in_ok-entries.entries.ok.1))
+    q.total q.epoch q.leased q.free (vec_capacity q.entries) (vec_capacity c.in_ok-entries.entries) c.self.invariant same (c.in_ok-entries.ensures ∙ c.as_slice-5.ensures.value) (c.in_ok-queued.ensures ∙ c.as_slice-3.ensures.value)
+    (c.in_ok-confirmed.ensures ∙ c.as_slice-4.ensures.value) (omega (arith, c.in_ok-entries.entries.ok.0, c.in_ok-entries.entries.ok.1))
     (record { are = c.in_ok-names.ensures.names; sorted = c.in_ok-names.ensures.sorted }) named (length-map c.in_ok-plans.plans.items seen ∙ c.in_ok-plans.ensures.sized) plans)

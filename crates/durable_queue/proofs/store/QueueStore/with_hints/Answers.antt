@@ -7,7 +7,7 @@ use Rattle.std.specs.Vec.{vec_capacity}
 use Rattle.durable_queue.specs.Kept.{AreNamed, ArePlans, IsKept}
 use Rattle.durable_queue.proofs.NamedLaws.{sends_named}
 use Rattle.durable_queue.proofs.KeptLaws.{kept_none}
-use Rattle.durable_queue.proofs.store.QueueStore.new.Goals as goal
+use Rattle.durable_queue.proofs.store.QueueStore.with_hints.Goals as goal
 
 pub plans_of-requires : goal.plans_of-requires
 plans_of-requires c =

@@ -19,7 +19,7 @@ use crate::hosting::{
 };
 use crate::place::Place;
 use crate::restless::note;
-use crate::shards::Shards;
+use crate::shards::{Shards, touch};
 use consumer_ctl::Stash;
 use yard_model::{
     Body, EntityName, Fact, Incarnation, Item, Keep, Message, Out, Packet, Phase, ProducerNo,
@@ -210,9 +210,14 @@ impl Shards {
         ensures out { out.new ≡ given out.old (told (fact.Wrote place.now.entity entry.now) ∷ []) }
     {
         self.cells.set_state(place.at, state);
-        let touched = self.touched.with(place.shard);
-        self.touched = touched;
-        write_record(&mut self.hosted[place.shard.get() as usize], place, entry);
+        let spare = write_record(&mut self.hosted[place.shard.get() as usize], place, entry);
+        touch(
+            &mut self.touched,
+            place.shard,
+            spare,
+            &self.places,
+            &self.config,
+        );
         push(out, Item::Fact(Fact::Wrote(place.entity, *entry)));
     }
 

@@ -378,12 +378,12 @@ impl Shards {
 
     /// What its journal leads to, of one that takes commands.
     #[inline(always)]
-    pub(crate) fn state(&self, place: &Place) -> State
+    pub(crate) fn state(&self, place: &Place) -> &State
         requires place { IsPlace self.now.script place.now }
         requires active { (cell self.now.state place.now.entity).phase ≡ phase.Active }
         requires there { HasRoom self.now place.now.shard 0 }
-        ensures value { result ≡ folded self.now.script.config.kind (journal place.now.entity (entries self.now.state place.now.entity)) }
-        ensures valid { IsTrue (is_valid self.now.script.config.kind result) }
+        ensures value { result.now ≡ folded self.now.script.config.kind (journal place.now.entity (entries self.now.state place.now.entity)) }
+        ensures valid { IsTrue (is_valid self.now.script.config.kind result.now) }
     {
         self.cells.state(place.at)
     }

@@ -1,18 +1,19 @@
 -- An entry is written to the list of a hosted shard.
 use Rattle.std.proofs.Common.{◌≡◌, ◌≢◌, ℕ, ◌-◌, ◌<◌, List, [], ◌∷◌, ◌++◌, length, map, sym, ap, subst, ◌∙◌, refl, true, false, get_or-set_same, get_or-set_other}
-use Rattle.std.specs.Prelude.{Bool, ◌==◌, Option, None, Some, IfSome, slice_set, slice_index_or}
+use Rattle.std.specs.Prelude.{Bool, ◌==◌, fold, Option, None, Some, IfSome, slice_set, slice_index_or}
 use Rattle.std.specs.Option.{option_map}
 use Rattle.std.proofs.lemmas.List.{map-set, length-set, get_or-map, get_or_default}
 use Rattle.std.proofs.lemmas.List.Sums.{fold-append}
 use Rattle.std.proofs.Math.Seq.{map-set_same}
 use Rattle.yard_model.specs.declared.charter.Config.{Config}
+use Rattle.yard_model.specs.declared.event.Event.{Event}
 use Rattle.yard_model.specs.declared.fact.Fact.{Fact}
 use Rattle.yard_model.specs.declared.fact.Fact.TheVariants as fact
 use Rattle.yard_model.specs.declared.incarnation.Incarnation.{Incarnation}
 use Rattle.yard_model.specs.declared.input.Phase.TheVariants as phase
 use Rattle.yard_model.specs.declared.packet.Record.{Record}
 use Rattle.yard_model.specs.declared.state.State.{State}
-use Rattle.yard_model.specs.Behaviour.{folded, is_valid}
+use Rattle.yard_model.specs.Behaviour.{folded, is_valid, empty_state, apply, after_record, are_applicable}
 use Rattle.yard_model.specs.Entities.{Hosted, Cell, cell, entries, entries_in, hosted, is_running_in, entity_of, hosted_step, cells_by}
 use Rattle.yard_model.specs.Genuine.{is_brought}
 use Rattle.yard_model.specs.Lawful.{is_of_shard}
@@ -24,6 +25,7 @@ use Rattle.yard_model.specs.SlotReads.{holder, holder_step, journal, journal_ste
 use Rattle.yard_model.specs.Words.{at}
 use Rattle.plain_laws.proofs.Booleans.{both, number_itself}
 use Rattle.plain_laws.proofs.Names.{name_itself}
+use Rattle.behaviour_core.specs.Laws.{valid_after_all}
 use Rattle.shard_store.specs.Shelf.{Shelf}
 use Rattle.shard_store.specs.Shelved.{name_at}
 use Rattle.shard_entities.specs.Celled.{Celled}
@@ -204,6 +206,51 @@ wrote_cell r {c} {version} {who} {config} {places} {cells} {items} {running} {v}
         own : (old : List Record) → journal_step p.entity old (fact.Wrote p.entity r) ≡ old ++ r ∷ []
         own old = rw (name_itself p.entity) refl
 
+-- where it is hosted, there is one
+store_there : {c : Script} {version : ℕ} {who : Incarnation} {config : Config} {places : Script} {cells : List Celled} {items : List (Option Hosting)} {running : ℕ} {v : Lodged} {p : Place} {i : ℕ} {o : Option Hosting}
+    → IsLodged c version who config places cells items running → lodged c version who items cells ≡ v → IsPlace v.script p → i ≡ p.shard → o ≡ slice_index_or items i o → (hosted v.state p.shard ≡ None → ⊥) → o ≡ None → ⊥
+store_there {c} {version} {who} {config} {places} {cells} {items} {running} {v} {p} {i} {o} t seen is same read there none =
+    let inside : p.shard < length items = subst (λ n. p.shard < n) (sym t.shards_there) (placed t seen is).shard_in in
+    there (subst (λ (v : Lodged). hosted v.state p.shard ≡ None) seen (get_or-map (option_map hosted_of) items p.shard None None inside ∙ ap (option_map hosted_of) (host_at t seen is same read ∙ none)))
+
+-- what the state of one that takes commands is
+pub record IsLed (v : Lodged) (p : Place) (st : State) : Type 0 where
+  pub state_is : st ≡ folded v.script.config.kind (journal p.entity (entries v.state p.entity))
+  pub valid : is_valid v.script.config.kind st ≡ true
+
+pub state_led : {c : Script} {version : ℕ} {who : Incarnation} {config : Config} {places : Script} {cells : List Celled} {items : List (Option Hosting)} {running : ℕ} {v : Lodged} {p : Place} {was : Celled}
+    → IsLodged c version who config places cells items running → lodged c version who items cells ≡ v → IsPlace v.script p → was ≡ slice_index_or cells p.at was → (hosted v.state p.shard ≡ None → ⊥) → (cell v.state p.entity).phase ≡ phase.Active → IsLed v p was.state
+state_led {c} {version} {who} {config} {places} {cells} {items} {running} {v} {p} {was} t seen is cell_read there active =
+    by (at items p.shard) (entries_at t seen is refl read) (store_there t seen is refl read there) (cell_is t seen is cell_read)
+  where
+    read : at items p.shard ≡ slice_index_or items p.shard (at items p.shard)
+    read = get_or_default items p.shard None (at items p.shard) (subst (λ n. p.shard < n) (sym t.shards_there) (placed t seen is).shard_in)
+
+    takes : was.cell.phase ≡ phase.Active
+    takes = ap (λ (x : Cell). x.phase) (sym (cell_at t seen is cell_read)) ∙ active
+
+    script : c ≡ v.script
+    script = ap (λ (v : Lodged). v.script) seen
+
+    by : (a : Option Hosting) → entries v.state p.entity ≡ entries_in (option_map hosted_of a) → (a ≡ None → ⊥) → IsCell c p.entity a was → IsLed v p was.state
+    by None list some k = absurd (some refl)
+    by (Some h) list some k = record {
+      state_is = (k.folds takes).state_is ∙ (ap (λ l. folded c.config.kind (journal p.entity l)) (sym list) ∙ ap (λ (s : Script). folded s.config.kind (journal p.entity (entries v.state p.entity))) script);
+      valid = subst (λ (s : Script). is_valid s.config.kind was.state ≡ true) script (k.folds takes).valid;
+    }
+
+-- and after a record whose events apply
+pub record IsNextLed (v : Lodged) (p : Place) (r : Record) (st : State) : Type 0 where
+  pub state_is : st ≡ folded v.script.config.kind (journal p.entity (entries v.state p.entity) ++ r ∷ [])
+  pub valid : is_valid v.script.config.kind st ≡ true
+
+pub applied_led : (r : Record) {v : Lodged} {p : Place} {st : State} {es : List Event} → IsLed v p st → es ≡ r.events → are_applicable (folded v.script.config.kind (journal p.entity (entries v.state p.entity))) r.events ≡ true → IsNextLed v p r (fold apply st es)
+applied_led r {v} {p} {st} {es} led same applies =
+    subst (λ l. IsNextLed v p r (fold apply st l)) (sym same) record {
+      state_is = ap (λ (s : State). fold apply s r.events) led.state_is ∙ sym (fold-append after_record (empty_state v.script.config.kind) (journal p.entity (entries v.state p.entity)) (r ∷ []));
+      valid = valid_after_all v.script.config.kind st r.events led.valid (subst (λ (s : State). are_applicable s r.events ≡ true) (sym led.state_is) applies);
+    }
+
 -- the value with an entry more
 pub entry_moved : (new_cells : List Celled) {c : Script} {version : ℕ} {who : Incarnation} {config : Config} {places : Script} {cells : List Celled} {items : List (Option Hosting)} {running : ℕ} {v : Lodged} {p : Place} {i : ℕ} {o new : Option Hosting} {f : Fact} → IsEntry p.entity f
     → IsLodged c version who config places cells items running → lodged c version who items cells ≡ v → IsPlace v.script p → map cell_of new_cells ≡ map cell_of cells → i ≡ p.shard → o ≡ slice_index_or items i o → new ≡ option_map (entered f) o
@@ -268,13 +315,6 @@ entry_only {c} {version} {who} {config} {places} {cells} {items} {running} {v} {
     entry_stands entry t seen is (put_same c cells p.at was inside cell_read) same read step (own_goes_on f none (own_cell t seen is cell_read same read))
 
 -- What a snapshot asks of the store of the shard at a place.
-
--- where it is hosted, there is one
-store_there : {c : Script} {version : ℕ} {who : Incarnation} {config : Config} {places : Script} {cells : List Celled} {items : List (Option Hosting)} {running : ℕ} {v : Lodged} {p : Place} {i : ℕ} {o : Option Hosting}
-    → IsLodged c version who config places cells items running → lodged c version who items cells ≡ v → IsPlace v.script p → i ≡ p.shard → o ≡ slice_index_or items i o → (hosted v.state p.shard ≡ None → ⊥) → o ≡ None → ⊥
-store_there {c} {version} {who} {config} {places} {cells} {items} {running} {v} {p} {i} {o} t seen is same read there none =
-    let inside : p.shard < length items = subst (λ n. p.shard < n) (sym t.shards_there) (placed t seen is).shard_in in
-    there (subst (λ (v : Lodged). hosted v.state p.shard ≡ None) seen (get_or-map (option_map hosted_of) items p.shard None None inside ∙ ap (option_map hosted_of) (host_at t seen is same read ∙ none)))
 
 -- the name is one of its shard
 pub store_names : {c : Script} {version : ℕ} {who : Incarnation} {config : Config} {places : Script} {cells : List Celled} {items : List (Option Hosting)} {running : ℕ} {v : Lodged} {p : Place} {i : ℕ} {o : Option Hosting}

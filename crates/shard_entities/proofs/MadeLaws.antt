@@ -1,18 +1,20 @@
 -- Cells that are made where they are first spoken of.
 use Rattle.std.proofs.Common.{◌≡◌, ◌≢◌, ℕ, zero, suc, ◌+◌, ◌*◌, ◌<◌, ◌≤◌, List, [], ◌∷◌, ◌++◌, length, replicate, sym, ap, subst, ◌∙◌, refl, arith, length-append, get_or-set_same, get_or-set_other}
-use Rattle.std.specs.Prelude.{Bool, true, false, ◌==◌, slice_set, slice_index_or, if◌then◌else◌}
+use Rattle.std.specs.Prelude.{Bool, true, false, ◌==◌, fold, slice_set, slice_index_or, if◌then◌else◌}
 use Rattle.std.proofs.Math.Seq.{get_or-append_seam}
 use Rattle.std.proofs.lemmas.List.{length-set, length-replicate, set-get_or, get_or_append_left, get_or_default, get_or-replicate, same_lists}
 use Rattle.plain_laws.proofs.Booleans.{get_replicate}
 use Rattle.yard_model.specs.declared.fact.Fact.TheVariants as fact
 use Rattle.yard_model.specs.declared.incarnation.Incarnation.{Incarnation}
+use Rattle.yard_model.specs.declared.event.Event.{Event}
 use Rattle.yard_model.specs.declared.packet.Message.{Message}
 use Rattle.yard_model.specs.declared.state.State.{State}
+use Rattle.yard_model.specs.Behaviour.{apply}
 use Rattle.yard_model.specs.Move.{Move, told}
 use Rattle.envelope_pool.specs.Keyed.{Keyed}
 use Rattle.shard_entities.specs.Celled.{Celled, celled, celled_after, celled_at, all_stashing, AreStashed, all_made, unmade, AreMade, IsSlot}
 use Rattle.shard_entities.proofs.LodgedLaws.{Keeps, is_same, is_other}
-use Rattle.shard_entities.proofs.StashLaws.{inside_cells, kept_stashed, one_moved, state_put, active_put, clear_put}
+use Rattle.shard_entities.proofs.StashLaws.{inside_cells, kept_stashed, one_moved, seen_at, state_put, active_put, clear_put}
 
 -- The list of all.
 
@@ -197,6 +199,20 @@ pub state_made : (w : ℕ) (cells : List Celled) (stashes : List (List Message))
     → was ≡ slice_index_or made k was → now ≡ record { cell = was.cell; state = st; window = was.window } → all_stashing w (all_made slots (slice_set made k now)) stashes ≡ slice_set v i (record { cell = (celled_at v i).cell; state = st; window = (celled_at v i).window })
 state_made w cells stashes {slots} {made} {v} {room} {i} {k} {was} {now} {st} seen inside same m s read step =
     ap (λ l. all_stashing w l stashes) (put_made now m s) ∙ state_put w (all_made slots made) stashes (ap (λ l. all_stashing w l stashes) same ∙ seen) inside (read_made s read) step
+
+-- the state that is seen at a place
+pub state_seen : (w : ℕ) (cells : List Celled) (stashes : List (List Message)) {slots : List ℕ} {made : List Celled} {v : List Celled} {i k : ℕ} {was : Celled} → all_stashing w cells stashes ≡ v → i < length v → all_made slots made ≡ cells → IsSlot slots made i k → was ≡ slice_index_or made k was
+    → (celled_at v i).state ≡ was.state
+state_seen w cells stashes {slots} {made} {v} {i} {k} {was} seen inside same s read =
+    ap (λ (x : Celled). x.state) (seen_at w (all_made slots made) stashes (ap (λ l. all_stashing w l stashes) same ∙ seen) inside (read_made s read))
+
+-- it goes on with events
+pub applied_made : (w : ℕ) (cells : List Celled) (stashes : List (List Message)) (es : List Event) {slots : List ℕ} {made : List Celled} {v : List Celled} {room i k : ℕ} {was now : Celled} → all_stashing w cells stashes ≡ v → i < length v → all_made slots made ≡ cells → AreMade slots made room → IsSlot slots made i k
+    → was ≡ slice_index_or made k was → now ≡ record { cell = was.cell; state = fold apply was.state es; window = was.window }
+    → all_stashing w (all_made slots (slice_set made k now)) stashes ≡ slice_set v i (record { cell = (celled_at v i).cell; state = fold apply (celled_at v i).state es; window = (celled_at v i).window })
+applied_made w cells stashes es {slots} {made} {v} {room} {i} {k} {was} {now} seen inside same m s read step =
+    state_made w cells stashes seen inside same m s read step
+    ∙ ap (λ (st : State). slice_set v i (record { cell = (celled_at v i).cell; state = fold apply st es; window = (celled_at v i).window })) (sym (state_seen w cells stashes seen inside same s read))
 
 pub active_made : (w : ℕ) (cells : List Celled) (stashes : List (List Message)) {new : List (List Message)} {slots : List ℕ} {made : List Celled} {v : List Celled} {room i k : ℕ} {was now : Celled} {st : State} (x : Incarnation) (e : List ℕ) (n : ℕ) (t : State) → all_stashing w cells stashes ≡ v → i < length v → i < length stashes
     → all_made slots made ≡ cells → AreMade slots made room → IsSlot slots made i k → was ≡ slice_index_or made k was → now ≡ record { cell = (celled_after was (told (fact.Active x e n t))).cell; state = st; window = was.window } → new ≡ slice_set stashes i []

@@ -47,6 +47,28 @@ touches {c} {touched} {new} {items} {s} {i} o k lt same it others = record {
     ready_at t out true e = absurd (true≢false (sym it ∙ (ap (has new) (sym (is_same t s e)) ∙ out)))
     ready_at t out false e = subst (IsReady c t) (sym (get_or-set_other items i t o None (λ at_it. is_other t s e (at_it ∙ same)))) (k.each t (sym (others t (is_other t s e)) ∙ out))
 
+-- another hosting stands there, and the shard is touched where that one isn't ready
+pub touched_where : {c : Script} {touched new n : ℕ} {items : List (Option Hosting)} {s i : ℕ} (o : Option Hosting) → AreReady c touched items → s < c.config.shards → i ≡ s → i < length items → n ≡ room_of o
+    → (has new s ≡ false → room_wanted c s ≤ n) → ((t : ℕ) → t ≢ s → has new t ≡ has touched t) → AreReady c new (slice_set items i o)
+touched_where {c} {touched} {new} {n} {items} {s} {i} o k lt same inside room ready others = record {
+  within = λ t there. within_at t there (t == s) refl;
+  each = λ t out. ready_at t out (t == s) refl;
+}
+  where
+    within_at : (t : ℕ) → has new t ≡ true → (b : Bool) → (t == s) ≡ b → t < c.config.shards
+    within_at t there true e = subst (λ n. n < c.config.shards) (sym (is_same t s e)) lt
+    within_at t there false e = k.within t (sym (others t (is_other t s e)) ∙ there)
+
+    it_ready : has new s ≡ false → IsReady c s o
+    it_ready out = λ there. subst (λ m. room_wanted c s ≤ m) room (ready out)
+
+    ready_at : (t : ℕ) → has new t ≡ false → (b : Bool) → (t == s) ≡ b → IsReady c t (at (slice_set items i o) t)
+    ready_at t out true e =
+        let here : t ≡ s = is_same t s e in
+        subst (λ m. IsReady c m (at (slice_set items i o) m)) (sym here)
+        (subst (IsReady c s) (sym (ap (at (slice_set items i o)) (sym same) ∙ get_or-set_same items i o None inside)) (it_ready (ap (has new) (sym here) ∙ out)))
+    ready_at t out false e = subst (IsReady c t) (sym (get_or-set_other items i t o None (λ at_it. is_other t s e (at_it ∙ same)))) (k.each t (sym (others t (is_other t s e)) ∙ out))
+
 -- another hosting stands there, as ready as the one before
 put_ready : {c : Script} {touched : ℕ} {items : List (Option Hosting)} {i : ℕ} (o new : Option Hosting) → AreReady c touched items → i < length items → o ≡ slice_index_or items i o → ((s : ℕ) → IsReady c s o → IsReady c s new) → AreReady c touched (slice_set items i new)
 put_ready {c} {touched} {items} {i} o new k inside read goes = record {
@@ -158,6 +180,9 @@ none_touched touched s empty = ap (λ n. has n s) empty ∙ ap (λ b. b == 1) (b
 -- of the script that the places are of
 pub ready_of : {c d : Script} {touched : ℕ} {items : List (Option Hosting)} → c ≡ d → AreReady c touched items → AreReady d touched items
 ready_of {c} {d} {touched} {items} same k = subst (λ (x : Script). AreReady x touched items) same k
+
+pub wanted_of : {c d : Script} (touched s : ℕ) {n : ℕ} → d ≡ c → (has touched s ≡ false → room_wanted d s ≤ n) → has touched s ≡ false → room_wanted c s ≤ n
+wanted_of {c} {d} touched s {n} same ready out = subst (λ (x : Script). room_wanted x s ≤ n) same (ready out)
 
 pub shard_inside : {c : Script} {version : ℕ} {who : Incarnation} {config : Config} {places : Script} {cells : List Celled} {items : List (Option Hosting)} {running : ℕ} {v : Lodged} {s i : ℕ} → IsLodged c version who config places cells items running → lodged c version who items cells ≡ v → s < v.script.config.shards → i ≡ s → i < length items
 shard_inside {c} {version} {who} {config} {places} {cells} {items} {running} {v} {s} {i} k seen lt same = subst (λ n. n < length items) (sym same) (subst (λ n. s < n) (sym k.shards_there) (shard_below cells items seen lt))

@@ -1,15 +1,17 @@
 //! Where the entity of one name stands.
-ghost use Rattle.std.specs.Prelude.{◌≡◌, ◌≤◌, ℕ, ◌-◌, ◌<◌, List, length, slice_index_or, IfOk};
+ghost use Rattle.std.specs.Prelude.{◌≡◌, ◌≤◌, ℕ, ◌-◌, ◌<◌, List, length, fold, slice_index_or, IfOk, IsTrue};
 ghost use Rattle.yard_model.specs.declared.fact.Fact.TheVariants as fact;
 ghost use Rattle.yard_model.specs.declared.packet.Body.TheVariants as body;
 ghost use Rattle.yard_model.specs.declared.incarnation.Incarnation.{Incarnation};
 ghost use Rattle.yard_model.specs.declared.input.Phase.TheVariants as phase;
 ghost use Rattle.yard_model.specs.declared.state.State.{State};
+ghost use Rattle.yard_model.specs.Behaviour.{is_valid, are_applicable, apply};
 ghost use Rattle.yard_model.specs.Move.{told, post, passivates};
 ghost use Rattle.shard_entities.specs.Celled.{celled, celled_after};
 
+use behaviour_core::{Behaviour, apply_all};
 use std::marker::{Model, PhantomData};
-use yard_model::{Command, Keep, Message, Phase, ProducerNo, State};
+use yard_model::{Command, Event, Keep, Message, Phase, ProducerNo, State};
 
 /// How many producers there can be.
 const PRODUCERS: usize = 32;
@@ -90,18 +92,20 @@ impl Cell {
 
     /// What its journal leads to, while it takes commands.
     #[inline(always)]
-    pub(crate) fn state(&self) -> State
-        ensures { result ≡ self.now.state }
+    pub(crate) fn state(&self) -> &State
+        ensures { result.now ≡ self.now.state }
     {
-        self.state
+        &self.state
     }
 
-    /// Its journal leads to this from now on.
+    /// Its journal goes on with these events, which are applicable one after the other.
     #[inline(always)]
-    pub(crate) fn set_state(&mut self, state: &State)
-        ensures { self.new ≡ record self.old { state = state.now } }
+    pub(crate) fn apply<B: Behaviour>(&mut self, behaviour: &B, events: &[Event])
+        requires valid { IsTrue (is_valid (B.kind_of behaviour.now) self.old.state) }
+        requires events { IsTrue (are_applicable self.old.state events.now) }
+        ensures { self.new ≡ record self.old { state = fold apply self.old.state events.now } }
     {
-        self.state = *state;
+        apply_all(behaviour, &mut self.state, events);
     }
 
     /// Up to which number a producer was asked.

@@ -1,20 +1,22 @@
 //! The cells of a node's entities, and what is stashed for each.
-ghost use Rattle.std.specs.Prelude.{◌≡◌, ℕ, ◌+◌, ◌-◌, ◌*◌, ◌^◌, ◌<◌, ◌≤◌, ◌↔◌, List, [], ◌∷◌, ◌++◌, length, drop, replicate, slice_set, slice_index_or, IfOk, MatchOption, IsNone, IfSome, IfNone, vec_capacity};
+ghost use Rattle.std.specs.Prelude.{◌≡◌, ℕ, ◌+◌, ◌-◌, ◌*◌, ◌^◌, ◌<◌, ◌≤◌, ◌↔◌, List, [], ◌∷◌, ◌++◌, length, fold, drop, replicate, slice_set, slice_index_or, IfOk, MatchOption, IsNone, IfSome, IfNone, IsTrue, vec_capacity};
 ghost use Rattle.yard_model.specs.declared.fact.Fact.TheVariants as fact;
 ghost use Rattle.yard_model.specs.declared.packet.Body.TheVariants as body;
 ghost use Rattle.yard_model.specs.declared.incarnation.Incarnation.{Incarnation};
 ghost use Rattle.yard_model.specs.declared.input.Phase.TheVariants as phase;
 ghost use Rattle.yard_model.specs.declared.state.State.{State};
+ghost use Rattle.yard_model.specs.Behaviour.{is_valid, are_applicable, apply};
 ghost use Rattle.yard_model.specs.Move.{told, post, passivates};
 ghost use Rattle.envelope_pool.specs.Keyed.{list_of};
 ghost use Rattle.shard_entities.specs.Celled.{celled, celled_after, celled_at, all_made, AreMade, IsSlot};
 
 use crate::cell::Cell;
+use behaviour_core::Behaviour;
 use consumer_ctl::Stash;
 use envelope_pool::Pool;
 use std::alloc::{AllocError, Global};
 use std::marker::{Model, PhantomData};
-use yard_model::{Command, Keep, Message, Phase, ProducerNo, State};
+use yard_model::{Command, Event, Keep, Message, Phase, ProducerNo, State};
 
 /// Where the entity of each name stands, by the place of the name, and what is stashed for it. A cell
 /// is made where its entity is first spoken of; till then it is seen as the first one, which stays as
@@ -94,21 +96,23 @@ impl Cells {
 
     /// What its journal leads to, while it takes commands.
     #[inline(always)]
-    pub(crate) fn state(&self, at: usize) -> State
+    pub(crate) fn state(&self, at: usize) -> &State
         requires { at < length self.now }
-        ensures { result ≡ (celled_at self.now at).state }
+        ensures { result.now ≡ (celled_at self.now at).state }
     {
         cell_in(&self.slots, &self.made, at).state()
     }
 
-    /// Its journal leads to this from now on.
+    /// Its journal goes on with these events, which are applicable one after the other.
     #[inline(always)]
-    pub(crate) fn set_state(&mut self, at: usize, state: &State)
-        requires { at < length self.old }
-        ensures { self.new ≡ slice_set self.old at (record (celled_at self.old at) { state = state.now }) }
+    pub(crate) fn apply<B: Behaviour>(&mut self, at: usize, behaviour: &B, events: &[Event])
+        requires there { at < length self.old }
+        requires valid { IsTrue (is_valid (B.kind_of behaviour.now) (celled_at self.old at).state) }
+        requires events { IsTrue (are_applicable (celled_at self.old at).state events.now) }
+        ensures { self.new ≡ slice_set self.old at (record (celled_at self.old at) { state = fold apply (celled_at self.old at).state events.now }) }
     {
         let slot = made_at(&mut self.slots, &mut self.made, at);
-        self.made[slot].set_state(state);
+        self.made[slot].apply(behaviour, events);
     }
 
     /// How many messages are stashed for it.

@@ -44,15 +44,20 @@ pub(crate) fn set_ending(hosting: &mut Option<Hosting>, ending: &Ending)
     }
 }
 
-/// A record is written to the store of a hosted shard.
-pub(crate) fn write_record(hosting: &mut Option<Hosting>, place: &Place, entry: &Record)
+/// A record is written to the store of a hosted shard; how many entries more take no memory then.
+#[inline(always)]
+pub(crate) fn write_record(hosting: &mut Option<Hosting>, place: &Place, entry: &Record) -> u32
     requires place { WithStore hosting.old (λ s. IsThere s place.now.inner place.now.entity) }
     requires spare { WithStore hosting.old (λ s. 0 < s.spare) }
     requires next { WithStore hosting.old (λ s. IsTrue (may s (fact.Wrote place.now.entity entry.now))) }
-    ensures { hosting.new ≡ option_map (entered (fact.Wrote place.now.entity entry.now)) hosting.old }
+    ensures entry { hosting.new ≡ option_map (entered (fact.Wrote place.now.entity entry.now)) hosting.old }
+    ensures room { result ≡ room_of hosting.new }
 {
     match hosting {
-        Some(hosting) => hosting.store.wrote_at(place.inner, &place.entity, entry),
+        Some(hosting) => {
+            hosting.store.wrote_at(place.inner, &place.entity, entry);
+            hosting.store.spare()
+        }
         None => unreachable!(),
     }
 }

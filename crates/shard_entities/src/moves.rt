@@ -5,7 +5,7 @@ ghost use Rattle.yard_model.specs.declared.packet.Body.TheVariants as body;
 ghost use Rattle.yard_model.specs.declared.packet.Body.{Body};
 ghost use Rattle.yard_model.specs.declared.input.Phase.TheVariants as phase;
 ghost use Rattle.yard_model.specs.declared.incarnation.Slot.TheVariants as slot;
-ghost use Rattle.yard_model.specs.Behaviour.{folded, is_valid};
+ghost use Rattle.yard_model.specs.Behaviour.{folded, is_valid, are_applicable};
 ghost use Rattle.yard_model.specs.Entities.{cell, entries, hosted};
 ghost use Rattle.yard_model.specs.Lawful.{may_follow};
 ghost use Rattle.yard_model.specs.Move.{told, post, made, passivates, handed_off};
@@ -19,7 +19,8 @@ use crate::hosting::{
 };
 use crate::place::Place;
 use crate::restless::note;
-use crate::shards::Shards;
+use crate::shards::{Shards, touch};
+use behaviour_core::Behaviour;
 use consumer_ctl::Stash;
 use yard_model::{
     Body, EntityName, Fact, Incarnation, Item, Keep, Message, Out, Packet, Phase, ProducerNo,
@@ -197,22 +198,35 @@ impl Shards {
         );
     }
 
-    /// A record of an entity is written, which leads to this state.
+    /// A record of an entity that takes commands is written.
     #[inline(always)]
-    pub(crate) fn tell_wrote(&mut self, place: &Place, entry: &Record, state: &State, out: &mut Out)
+    pub(crate) fn tell_wrote<B: Behaviour>(
+        &mut self,
+        behaviour: &B,
+        place: &Place,
+        entry: &Record,
+        out: &mut Out,
+    )
+        requires kind { B.kind_of behaviour.now ≡ self.old.script.config.kind }
         requires place { IsPlace self.old.script place.now }
+        requires active { (cell self.old.state place.now.entity).phase ≡ phase.Active }
         requires there { HasRoom self.old place.now.shard 0 }
         requires next { IsTrue (may_follow self.old.script (slot.Shard place.now.shard) (entries self.old.state place.now.entity) (fact.Wrote place.now.entity entry.now)) }
-        requires leads { state.now ≡ folded self.old.script.config.kind (journal place.now.entity (entries self.old.state place.now.entity) ++ entry.now ∷ []) }
-        requires valid { IsTrue (is_valid self.old.script.config.kind state.now) }
+        requires applies { IsTrue (are_applicable (folded self.old.script.config.kind (journal place.now.entity (entries self.old.state place.now.entity))) entry.now.events) }
         requires room { 0 < out.old.spare }
         ensures state { self.new ≡ moved self.old (told (fact.Wrote place.now.entity entry.now) ∷ []) }
         ensures out { out.new ≡ given out.old (told (fact.Wrote place.now.entity entry.now) ∷ []) }
     {
-        self.cells.set_state(place.at, state);
-        let touched = self.touched.with(place.shard);
-        self.touched = touched;
-        write_record(&mut self.hosted[place.shard.get() as usize], place, entry);
+        self.cells
+            .apply(place.at, behaviour, entry.events.as_slice());
+        let spare = write_record(&mut self.hosted[place.shard.get() as usize], place, entry);
+        touch(
+            &mut self.touched,
+            place.shard,
+            spare,
+            &self.places,
+            &self.config,
+        );
         push(out, Item::Fact(Fact::Wrote(place.entity, *entry)));
     }
 
@@ -227,7 +241,7 @@ impl Shards {
         ensures state { self.new ≡ moved self.old (told (fact.Snapshot place.now.entity number) ∷ []) }
         ensures out { out.new ≡ given out.old (told (fact.Snapshot place.now.entity number) ∷ []) }
     {
-        let state = self.cells.state(place.at);
+        let state = *self.cells.state(place.at);
         let touched = self.touched.with(place.shard);
         self.touched = touched;
         write_snapshot(

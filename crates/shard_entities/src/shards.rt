@@ -1,6 +1,6 @@
 //! The hosted shards of a node and the cells of their entities: how they are kept, and what is read
 //! off them.
-ghost use Rattle.std.specs.Prelude.{◌≡◌, ℕ, ◌-◌, ◌<◌, ◌≤◌, List, [], ◌∷◌, length, replicate, true, false, nat_lt, None, Some, IfOk, OnOk, MatchOption, IsTrue, not, is_none, slice_index_or};
+ghost use Rattle.std.specs.Prelude.{◌≡◌, ◌≢◌, ℕ, ◌-◌, ◌<◌, ◌≤◌, List, [], ◌∷◌, length, replicate, true, false, nat_lt, None, Some, IfOk, OnOk, MatchOption, IsTrue, not, is_none, slice_index_or};
 ghost use Rattle.std.specs.List.{list_any, list_all};
 ghost use Rattle.yard_model.specs.declared.fact.Fact.TheVariants as fact;
 ghost use Rattle.yard_model.specs.declared.incarnation.Cause.{Cause};
@@ -378,12 +378,12 @@ impl Shards {
 
     /// What its journal leads to, of one that takes commands.
     #[inline(always)]
-    pub(crate) fn state(&self, place: &Place) -> State
+    pub(crate) fn state(&self, place: &Place) -> &State
         requires place { IsPlace self.now.script place.now }
         requires active { (cell self.now.state place.now.entity).phase ≡ phase.Active }
         requires there { HasRoom self.now place.now.shard 0 }
-        ensures value { result ≡ folded self.now.script.config.kind (journal place.now.entity (entries self.now.state place.now.entity)) }
-        ensures valid { IsTrue (is_valid self.now.script.config.kind result) }
+        ensures value { result.now ≡ folded self.now.script.config.kind (journal place.now.entity (entries self.now.state place.now.entity)) }
+        ensures valid { IsTrue (is_valid self.now.script.config.kind result.now) }
     {
         self.cells.state(place.at)
     }
@@ -505,7 +505,29 @@ fn reserve_shard(
     reserve_in(&mut hosted[s.get() as usize], wanted)
 }
 
+/// The store of a shard has so much room left: the shard is touched where a turn may want more.
+#[inline(always)]
+pub(crate) fn touch(
+    touched: &mut ShardSet,
+    s: ShardNo,
+    spare: u32,
+    places: &Places,
+    config: &Config,
+)
+    requires script { IsScript places.now }
+    requires config { config.now ≡ places.now.config }
+    requires shard { s < places.now.config.shards }
+    ensures ready { has touched.new s ≡ false → room_wanted places.now s ≤ spare }
+    ensures others { (t : ℕ) → t ≢ s → has touched.new t ≡ has touched.old t }
+{
+    let wanted = wanted(config, places.count(s));
+    if spare < wanted {
+        *touched = touched.with(s);
+    }
+}
+
 /// How many entries a turn may write to the store of a shard with so many names.
+#[inline(always)]
 fn wanted(config: &Config, names: usize) -> u32
     requires config { is_config config.now ≡ true }
     requires names { names ≤ 1000 }

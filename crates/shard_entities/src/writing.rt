@@ -15,7 +15,7 @@ ghost use Rattle.shard_entities.specs.Placed.{IsPlace};
 use crate::delivery::Standing;
 use crate::place::Place;
 use crate::shards::Shards;
-use behaviour_core::{Behaviour, state_after};
+use behaviour_core::Behaviour;
 use consumer_ctl::wants;
 use yard_model::laws::{command_law, decision_law};
 use yard_model::{Keep, Message, Out, Record, State};
@@ -44,15 +44,14 @@ impl Shards {
     {
         self.knows();
         let state = self.state(place);
-        let entry = self.next_record(behaviour, place, message, standing, &state);
-        let after = state_after(behaviour, &state, entry.events.as_slice());
+        let entry = self.next_record(behaviour, place, message, standing, state);
         match self.armed(place) {
             Some(Keep::Lost) => self.tell_failed(place, out),
             Some(Keep::Kept) => {
-                self.tell_wrote(place, &entry, &after, out);
+                self.tell_wrote(behaviour, place, &entry, out);
                 self.tell_failed(place, out);
             }
-            None => self.write_on(place, message, &entry, &after, out),
+            None => self.write_on(behaviour, place, message, &entry, out),
         }
     }
 
@@ -96,25 +95,24 @@ impl Shards {
     /// A record is written; then a snapshot where one is due, what is recorded is acknowledged, and
     /// more is asked for where that is due.
     #[inline(always)]
-    fn write_on(
+    fn write_on<B: Behaviour>(
         &mut self,
+        behaviour: &B,
         place: &Place,
         message: &Message,
         entry: &Record,
-        after: &State,
         out: &mut Out,
     )
+        requires kind { B.kind_of behaviour.now ≡ self.old.script.config.kind }
         requires delivery { IsDelivery self.old place.now message.now }
         requires active { (cell self.old.state place.now.entity).phase ≡ phase.Active }
         requires next { IsNext self.old place.now message.now entry.now }
-        requires leads { after.now ≡ folded self.old.script.config.kind (journal place.now.entity (entries self.old.state place.now.entity) ++ entry.now ∷ []) }
-        requires valid { IsTrue (is_valid self.old.script.config.kind after.now) }
         requires room { 4 ≤ out.old.spare }
         ensures state { self.new ≡ moved self.old (write message.now entry.now message.now.number self.old.state None) }
         ensures out { out.new ≡ given out.old (write message.now entry.now message.now.number self.old.state None) }
     {
         self.knows();
-        self.tell_wrote(place, entry, after, out);
+        self.tell_wrote(behaviour, place, entry, out);
         self.snapshot_where_due(place, entry.number, out);
         self.acknowledge(message, message.number, out);
         self.ask_more(place, message, out);

@@ -8,7 +8,7 @@ pub write_snapshot-requires-clause-name : goal.write_snapshot-requires-clause-na
 write_snapshot-requires-clause-name c = store_names c.self.invariant.kept.lodged c.self.view_is c.requires.place c.get.ensures.value c.index_mut.ensures.value c.requires.there.hosted_is
 
 pub write_snapshot-requires-clause-state : goal.write_snapshot-requires-clause-state
-write_snapshot-requires-clause-state c = store_leads c.self.invariant.kept.lodged c.self.view_is c.requires.place (cell_read c.self.invariant.kept.lodged c.self.view_is c.requires.place) c.get.ensures.value c.index_mut.ensures.value c.requires.there.hosted_is c.requires.active c.state-state.ensures
+write_snapshot-requires-clause-state c = store_leads c.self.invariant.kept.lodged c.self.view_is c.requires.place (cell_read c.self.invariant.kept.lodged c.self.view_is c.requires.place) c.get.ensures.value c.index_mut.ensures.value c.requires.there.hosted_is c.requires.active c.state.ensures
 
 pub invariant_of-self : goal.invariant_of-self
 invariant_of-self c = record {

@@ -7,3 +7,6 @@ tell_wrote-requires-clause-next g c = (subst (IsNext c.args.self.now c.args.plac
 
 pub write_on-requires-clause-next : goal.write_on-requires-clause-next
 write_on-requires-clause-next g c = subst (IsNext c.args.self.now c.args.place.now c.args.message.now) (sym c.next_record-entry.ensures.record) c.next_record-entry.ensures.next
+
+pub tell_wrote-requires-clause-applies : goal.tell_wrote-requires-clause-applies
+tell_wrote-requires-clause-applies g c = (subst (IsNext c.args.self.now c.args.place.now c.args.message.now) (sym c.next_record-entry.ensures.record) c.next_record-entry.ensures.next).applies

@@ -123,6 +123,14 @@ pub(crate) fn next_in(held: &Option<Producer>, charter: &Charter) -> Option<Send
     }
 }
 
+/// Where the name of the next send may stand; 0 where the queue isn't held.
+pub(crate) fn hint_in(held: &Option<Producer>) -> usize {
+    match held {
+        Some(producer) => producer.hint(),
+        None => 0,
+    }
+}
+
 /// The message of a queued number of a producer whose queue is held.
 pub(crate) fn message_in(
     held: &Option<Producer>,

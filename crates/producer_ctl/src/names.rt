@@ -89,6 +89,16 @@ impl Names {
         self.kept.index.place(entity)
     }
 
+    /// The place of a name of the script, which may stand at `hint`.
+    #[inline(always)]
+    pub(crate) fn place_near(&self, entity: &EntityName, hint: usize) -> usize
+        requires { is_brought self.now entity.now ≡ true }
+        ensures within { result < length (setting self.now).names }
+        ensures it { name_at (setting self.now).names result ≡ entity.now }
+    {
+        self.kept.index.place_near(entity, hint)
+    }
+
     /// The name at a place.
     pub(crate) fn name(&self, at: usize) -> &EntityName
         requires { at < length (setting self.now).names }

@@ -160,6 +160,11 @@ impl Producer {
         charter.sends(self.number).get(queued).copied()
     }
 
+    /// Where the name of the next of the producer's sends may stand.
+    pub fn hint(&self) -> usize {
+        self.store.hint(self.store.total() as usize)
+    }
+
     /// The message of a queued number.
     pub fn message(&self, at: usize, entity: &EntityName, number: u32) -> Message
         requires place { IsPlace self.now.script (record { entity = entity.now; at = at }) }

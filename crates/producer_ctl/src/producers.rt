@@ -24,8 +24,8 @@ ghost use Rattle.producer_ctl.specs.Produced.{given, acking, asking, queueing, r
 ghost use Rattle.producer_ctl.specs.Producing.{no_routing, routing, held, waits, of_held, sending, moves_of, moved_by, stepped, holding, without, next_message, after_message, MayGo, IsStore, IsReserved, Stands, AreMore, AreReady, IsRoomy, HasPlaces, room_of};
 
 use crate::held::{
-    ack_in, demand_in, has_room_in, knows_in, message_in, next_in, next_waiting_in, queue_in,
-    resend_in, reserve_in, tick_in,
+    ack_in, demand_in, has_room_in, hint_in, knows_in, message_in, next_in, next_waiting_in,
+    queue_in, resend_in, reserve_in, tick_in,
 };
 use crate::names::Names;
 use crate::pair::Sends;
@@ -251,8 +251,8 @@ impl Producers {
         ensures state { self.new ≡ stepped p self.old (of_held (queueing sending.now) p self.old) }
         ensures out { out.new ≡ given out.old (moves_of (of_held (queueing sending.now) p self.old)) }
     {
-        let place = self.find(&sending.entity);
         let own = place_of(p);
+        let place = self.find_near(&sending.entity, hint_in(&self.held[own]));
         let sends = queue_in(&mut self.held[own], &place, sending, out);
         self.ready = is_ready(self.ready, &self.held, own);
         self.pending = pending_of(p, place.at, sends);
@@ -359,6 +359,18 @@ impl Producers {
         }
     }
 
+    /// The place of the name to which the next message goes that is to be routed, where one is left.
+    #[inline]
+    pub fn pending_at(&self) -> usize
+        ensures within { 0 < length self.now.pending.numbers → result < length (setting self.now.script).names }
+        ensures it { 0 < length self.now.pending.numbers → name_at (setting self.now.script).names result ≡ self.now.pending.entity }
+    {
+        match &self.pending {
+            Some(pending) => pending.at,
+            None => 0,
+        }
+    }
+
     /// The next message that is to be routed, where one is left; its number is bounded as that of
     /// `next_send`.
     pub fn take_message(&mut self) -> Message
@@ -387,6 +399,20 @@ impl Producers {
         ensures entity { result.entity ≡ entity.now }
     {
         let at = self.names.place(entity);
+        Place {
+            entity: *entity,
+            at,
+        }
+    }
+
+    /// Where a name stands, which may be at `hint`.
+    #[inline(always)]
+    fn find_near(&self, entity: &EntityName, hint: usize) -> Place
+        requires name { is_brought self.now.script entity.now ≡ true }
+        ensures place { IsPlace self.now.script result }
+        ensures entity { result.entity ≡ entity.now }
+    {
+        let at = self.names.place_near(entity, hint);
         Place {
             entity: *entity,
             at,

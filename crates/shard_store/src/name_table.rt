@@ -14,15 +14,17 @@ use shard_extract::shard_of;
 use std::alloc::{AllocError, Global};
 use std::marker::{Model, PhantomData};
 use std::snapshot::Snapshot as Ghost;
-use yard_model::{Charter, Command, EntityName, Order, ShardNo};
+use yard_model::{Charter, Command, EntityName, Order, ProducerNo, ShardNo};
 
-/// Of each name of a charter its shard, and how many sends go to it; seen as the charter's script.
+/// Of each name of a charter its shard, and how many sends go to it; seen as the charter's script. Beside it
+/// stands, of each send of each producer, where its name may stand, of which nothing is said.
 #[derive(Drop)]
 pub(crate) struct NameTable {
     script: Ghost<Charter>,
     names: NameIndex,
     shards: Vec<ShardNo>,
     counts: Vec<u32>,
+    hints: Vec<Vec<u16>>,
     holds: PhantomData<(Order, Command)>,
 }
 
@@ -44,12 +46,14 @@ impl NameTable {
     {
         let names = NameIndex::new(charter)?;
         let shards = shards_of(alloc, names.as_slice(), charter.config().shards)?;
-        let counts = counts_of(alloc, charter, &names)?;
+        let mut hints = new_hints(alloc, charter)?;
+        let counts = counts_of(alloc, charter, &names, &mut hints)?;
         Ok(NameTable {
             script: Ghost::of(charter),
             names,
             shards,
             counts,
+            hints,
             holds: PhantomData,
         })
     }
@@ -68,6 +72,33 @@ impl NameTable {
     {
         self.counts[self.names.place(name)]
     }
+
+    /// Where the name of each send of a producer may stand, in the order of its sends.
+    pub(crate) fn hints(&self, p: ProducerNo) -> &[u16] {
+        match self.hints.get(p.get() as usize - 1) {
+            Some(hints) => hints.as_slice(),
+            None => &[],
+        }
+    }
+}
+
+/// For each producer of a charter, room for a hint of each of its sends. The only error is want of memory.
+fn new_hints(alloc: Global, charter: &Charter) -> Result<Vec<Vec<u16>>, AllocError> {
+    let producers = charter.config().producers;
+    let mut hints = Vec::with_capacity(alloc, producers as usize)?;
+    for place in 0..producers {
+        let room = Vec::with_capacity(alloc, sends_of(charter, place))?;
+        hints.push(room)?;
+    }
+    Ok(hints)
+}
+
+/// How many sends the producer at this place has.
+fn sends_of(charter: &Charter, place: u8) -> usize {
+    match ProducerNo::new(place.wrapping_add(1)) {
+        Some(p) => charter.sends(p).len(),
+        None => 0,
+    }
 }
 
 /// The shard of each of these names, of so many. The only error is want of memory.
@@ -83,41 +114,70 @@ fn shards_of(alloc: Global, names: &[EntityName], count: u8) -> Result<Vec<Shard
     Ok(shards)
 }
 
-/// How many sends of a charter go to each of these names. The only error is want of memory.
-fn counts_of(alloc: Global, charter: &Charter, names: &NameIndex) -> Result<Vec<u32>, AllocError>
+/// How many sends of a charter go to each of these names; where the name of each stands is noted. The only
+/// error is want of memory.
+fn counts_of(
+    alloc: Global,
+    charter: &Charter,
+    names: &NameIndex,
+    hints: &mut Vec<Vec<u16>>,
+) -> Result<Vec<u32>, AllocError>
     requires { IsStrictlySortedBy (slice_cmp nat_cmp) names.now }
     ensures { IfOk result (λ counts. AreCountedBut charter.now names.now counts.items []) }
 {
     let orders = charter.orders();
     let mut counts = vec![in alloc; 0u32; names.len()]?;
     for line in orders {
-        count(&mut counts, names, &line.order);
+        count(&mut counts, names, &line.order, hints);
     }
     Ok(counts)
 }
 
 /// An order is counted, where it is a send to one of these names.
-fn count(counts: &mut Vec<u32>, names: &NameIndex, order: &Order)
+fn count(counts: &mut Vec<u32>, names: &NameIndex, order: &Order, hints: &mut Vec<Vec<u16>>)
     requires sorted { IsStrictlySortedBy (slice_cmp nat_cmp) names.now }
     requires there { length counts.old.items ≡ length names.now }
     requires few { AreFew names.now (λ e. is_send_to e order.now) counts.old.items }
     ensures { AreMore names.now (λ e. is_send_to e order.now) counts.old.items counts.new.items }
 {
     match order {
-        Order::Send(_, name, _) => count_to(counts, names, name),
+        Order::Send(p, name, _) => count_to(counts, names, name, *p, hints),
         _ => {}
     }
 }
 
-/// A send to this name is counted, where it is one of these.
-fn count_to(counts: &mut Vec<u32>, names: &NameIndex, name: &EntityName)
+/// A send of this producer to this name is counted, where it is one of these.
+fn count_to(
+    counts: &mut Vec<u32>,
+    names: &NameIndex,
+    name: &EntityName,
+    p: ProducerNo,
+    hints: &mut Vec<Vec<u16>>,
+)
     requires sorted { IsStrictlySortedBy (slice_cmp nat_cmp) names.now }
     requires there { length counts.old.items ≡ length names.now }
     requires few { AreFew names.now (is_name name.now) counts.old.items }
     ensures { AreMore names.now (is_name name.now) counts.old.items counts.new.items }
 {
     match names.find(name) {
-        Some(place) => counts[place] += 1,
+        Some(place) => {
+            note(hints, p, place);
+            counts[place] += 1;
+        }
         None => {}
+    }
+}
+
+/// It is noted where the name of this producer's next send stands.
+fn note(hints: &mut Vec<Vec<u16>>, p: ProducerNo, place: usize) {
+    if let Some(room) = hints.get_mut(p.get() as usize - 1) {
+        note_in(room, place);
+    }
+}
+
+/// The same in the hints of one producer, where there is room for it.
+fn note_in(hints: &mut Vec<u16>, place: usize) {
+    if hints.len() < hints.capacity() {
+        hints.push_reserved(u16::try_from(place).unwrap_or(0));
     }
 }

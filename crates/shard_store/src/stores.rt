@@ -208,7 +208,7 @@ fn new_store(
     if place == shards {
         return new_coordinator(alloc, charter);
     }
-    new_queue(alloc, charter, (place - shards) as u8)
+    new_queue(alloc, charter, table, (place - shards) as u8)
 }
 
 /// The empty store of a shard. The only error is want of memory.
@@ -258,7 +258,12 @@ fn new_coordinator(alloc: Global, charter: &Charter) -> Result<Store, AllocError
 }
 
 /// The empty queue of a producer. The only error is want of memory.
-fn new_queue(alloc: Global, charter: &Charter, p: u8) -> Result<Store, AllocError>
+fn new_queue(
+    alloc: Global,
+    charter: &Charter,
+    table: &NameTable,
+    p: u8,
+) -> Result<Store, AllocError>
     requires above { 0 < p }
     requires within { p ≤ charter.now.config.producers }
     ensures { IfOk result (IsNew charter.now (slot.Queue p)) }
@@ -267,7 +272,7 @@ fn new_queue(alloc: Global, charter: &Charter, p: u8) -> Result<Store, AllocErro
     let Some(producer) = ProducerNo::new(p) else {
         unreachable!()
     };
-    let mut store = QueueStore::new(alloc, charter, producer)?;
+    let mut store = QueueStore::with_hints(alloc, charter, producer, table.hints(producer))?;
     store.reserve(SPARE)?;
     Ok(Store::Queue(store))
 }

@@ -266,6 +266,17 @@ found {c} {v} {names} {spots} {starts} {order} i {e} {x} k seen within it read =
 pub spot_there : {c v : Script} {names : List (List ℕ)} {spots : List Spot} {starts order : List ℕ} (i : ℕ) → ArePlaces c names spots starts order → c ≡ v → i < length names → i < length spots
 spot_there {c} {v} {names} {spots} {starts} {order} i k seen within = subst (λ n. i < n) (sym k.first.there) (subst (λ l. i < length l) k.names_are within)
 
+-- the name at a place among all
+pub names_there : {c v : Script} {names : List (List ℕ)} {spots : List Spot} {starts order : List ℕ} (i : ℕ) → ArePlaces c names spots starts order → c ≡ v → i < length (setting v).names → i < length names
+names_there {c} {v} {names} {spots} {starts} {order} i k seen within = subst (λ l. i < length l) (sym k.names_are) (subst (λ (v : Script). i < length (setting v).names) (sym seen) within)
+
+pub named_at : {c v : Script} {names : List (List ℕ)} {spots : List Spot} {starts order : List ℕ} (i : ℕ) {e : List ℕ} {x : Spot} → ArePlaces c names spots starts order → c ≡ v → i < length (setting v).names → e ≡ slice_index_or names i e → x ≡ slice_index_or spots i x
+    → IsPlace v (record { entity = e; shard = x.shard; at = i; inner = x.inner }) × (e ≡ name_at (setting v).names i)
+named_at {c} {v} {names} {spots} {starts} {order} i {e} {x} k seen within named read =
+    let inside : i < length names = names_there i k seen within in
+    let it : slice_index_or names i [] ≡ e = get_or_default names i [] e inside ∙ sym named in
+    (found i k seen inside it read, sym it ∙ (ap (λ l. slice_index_or l i []) k.names_are ∙ ap (λ (v : Script). name_at (setting v).names i) seen))
+
 -- the name of a shard at a place
 pub nth_there : {c v : Script} {names : List (List ℕ)} {spots : List Spot} {starts order : List ℕ} (s i : ℕ) → ArePlaces c names spots starts order → c ≡ v → s < v.config.shards → i < length (names_of (setting v) s) → start_of (setting v) s + i < length order
 nth_there {c} {v} {names} {spots} {starts} {order} s i k seen lt below = subst (λ (v : Script). s < v.config.shards → i < length (names_of (setting v) s) → start_of (setting v) s + i < length order) seen (λ lt below. subst (λ n. start_of (setting c) s + i < n) (sym k.ordered.there) (inside_all (setting c) c.config.shards s i lt below)) lt below

@@ -278,6 +278,7 @@ fn cell_in<'a>(slots: &Vec<u16>, made: &'a Vec<Cell>, at: usize) -> &'a Cell
 }
 
 /// Where the cell of an entity is, which is made where it wasn't yet.
+#[inline(always)]
 fn made_at(slots: &mut Vec<u16>, made: &mut Vec<Cell>, at: usize) -> usize
     requires made { AreMade slots.old.items made.old.items (vec_capacity made.old) }
     requires there { at < length slots.old.items }
@@ -294,6 +295,7 @@ fn made_at(slots: &mut Vec<u16>, made: &mut Vec<Cell>, at: usize) -> usize
 }
 
 /// Makes the cell of an entity that has none yet; where it is.
+#[inline(never)]
 fn make(slots: &mut Vec<u16>, made: &mut Vec<Cell>, at: usize) -> usize
     requires made { AreMade slots.old.items made.old.items (vec_capacity made.old) }
     requires there { at < length slots.old.items }

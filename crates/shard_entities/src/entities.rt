@@ -11,12 +11,15 @@ ghost use Rattle.yard_model.specs.Script.{setting, is_version};
 ghost use Rattle.yard_model.specs.Setting.{shard_of, names_of};
 ghost use Rattle.yard_model.specs.ShardSet.{has};
 ghost use Rattle.yard_model.specs.SlotReads.{holder};
+ghost use Rattle.shard_store.specs.Shelved.{name_at};
 ghost use Rattle.shard_entities.specs.Delivered.{Stands};
 ghost use Rattle.shard_entities.specs.Lodged.{IsStore, HasRoom, RoomIfHosted, moved, given, hosting, without};
+ghost use Rattle.shard_entities.specs.Placed.{IsPlace};
 ghost use Rattle.shard_entities.specs.Roomy.{AreMore, IsRoomy, Takes, room_wanted};
 ghost use Rattle.shard_entities.specs.Settled.{IsSettled, IsStopped, IsFreed, frees};
 
 use crate::handoff::Stopped;
+use crate::place::Place;
 use crate::places::Places;
 use crate::shards::Shards;
 use behaviour_core::Behaviour;
@@ -99,6 +102,25 @@ impl Entities {
         self.shards.hosted()
     }
 
+    /// Where a name stands: looked for once, and then handed to each call that is about its entity.
+    pub fn place(&self, entity: &EntityName) -> Place
+        requires name { is_brought self.now.script entity.now ≡ true }
+        ensures place { IsPlace self.now.script result }
+        ensures entity { result.entity ≡ entity.now }
+    {
+        self.shards.find(entity)
+    }
+
+    /// Where the name stands that has this place among all names of the script, from 0; no name is
+    /// looked for.
+    pub fn place_at(&self, at: usize) -> Place
+        requires within { at < length (setting self.now.script).names }
+        ensures place { IsPlace self.now.script result }
+        ensures entity { result.entity ≡ name_at (setting self.now.script).names at }
+    {
+        self.shards.place_at(at)
+    }
+
     /// Whether an entity takes commands.
     pub fn is_active(&self, entity: &EntityName) -> bool
         requires name { is_brought self.now.script entity.now ≡ true }
@@ -158,8 +180,31 @@ impl Entities {
         ensures out { out.new ≡ given out.old (deliver message self.old.state) }
         ensures takes { Takes self.old self.new (shard_of (setting self.old.script) message.entity) (if is_in_phase phase.Active self.old.state message.entity then 2 else 0) }
     {
-        let place = self.shards.find(&message.entity);
-        self.shards.deliver_to(behaviour, &place, &message, out);
+        let place = self.place(&message.entity);
+        self.deliver_at(&place, &message, behaviour, out);
+    }
+
+    /// The same, of the entity at this place; no name is looked for.
+    pub fn deliver_at<B: Behaviour>(
+        &mut self,
+        place: &Place,
+        message: &Message,
+        behaviour: &B,
+        out: &mut Out,
+    )
+        requires kind { B.kind_of behaviour.now ≡ self.old.script.config.kind }
+        requires version { B.version_of behaviour.now ≡ self.old.state.version }
+        requires place { IsPlace self.old.script place.now }
+        requires entity { message.now.entity ≡ place.now.entity }
+        requires genuine { is_genuine self.old.script message.now ≡ true }
+        requires producer { is_producer self.old.script message.now.producer ≡ true }
+        requires there { HasRoom self.old (shard_of (setting self.old.script) message.now.entity) 1 }
+        requires room { 4 ≤ out.old.spare }
+        ensures state { self.new ≡ moved self.old (deliver message.now self.old.state) }
+        ensures out { out.new ≡ given out.old (deliver message.now self.old.state) }
+        ensures takes { Takes self.old self.new (shard_of (setting self.old.script) message.now.entity) (if is_in_phase phase.Active self.old.state message.now.entity then 2 else 0) }
+    {
+        self.shards.deliver_to(behaviour, place, message, out);
     }
 
     /// An entity has its journal (Akka 2.6, Event Sourcing: recovery): where it recovers it takes

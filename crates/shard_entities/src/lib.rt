@@ -25,4 +25,5 @@ mod writing;
 
 pub use entities::Entities;
 pub use handoff::Stopped;
+pub use place::Place;
 pub use places::Places;

@@ -114,6 +114,22 @@ impl Places {
         }
     }
 
+    /// The place of the name that stands there among all.
+    pub(crate) fn place_at(&self, at: usize) -> Place
+        requires within { at < length (setting self.now).names }
+        ensures place { IsPlace self.now result }
+        ensures entity { result.entity ≡ name_at (setting self.now).names at }
+    {
+        let kept = &*self.kept;
+        let spot = kept.spots[at];
+        Place {
+            entity: kept.names.as_slice()[at],
+            shard: spot.shard,
+            at,
+            inner: spot.inner as usize,
+        }
+    }
+
     /// How many names a shard has.
     pub(crate) fn count(&self, s: ShardNo) -> usize
         requires { s < self.now.config.shards }

@@ -173,6 +173,15 @@ impl Shards {
         self.places.find(entity)
     }
 
+    /// Where the name stands that has this place among all.
+    pub(crate) fn place_at(&self, at: usize) -> Place
+        requires within { at < length (setting self.now.script).names }
+        ensures place { IsPlace self.now.script result }
+        ensures entity { result.entity ≡ name_at (setting self.now.script).names at }
+    {
+        self.places.place_at(at)
+    }
+
     /// The shards that are hosted.
     pub(crate) fn hosted(&self) -> ShardSet
         ensures { (s : ℕ) → s < self.now.script.config.shards → has result s ≡ is_hosted self.now.state s }

@@ -2,5 +2,7 @@
 #![tactic(auto)]
 
 mod index;
+mod successors;
 
 pub use index::NameIndex;
+pub use successors::Successors;

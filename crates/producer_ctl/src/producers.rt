@@ -33,6 +33,7 @@ use crate::place::Place;
 use crate::producer::{Producer, push};
 use crate::table::Blank;
 use durable_queue::QueueStore;
+use name_index::Successors;
 use std::alloc::{AllocError, Global};
 use std::marker::{Model, PhantomData};
 use turn_rooms::{AMPLE_ROOM, TURN_ROOM};
@@ -67,6 +68,8 @@ pub struct Producers {
     tables: Vec<Option<Blank>>,
     pending: Option<Pending>,
     ready: bool,
+    // to which names acknowledgements came, one after the other
+    acked: Successors,
     holds: PhantomData<(Fact, Message, Place, Slot)>,
 }
 
@@ -98,6 +101,7 @@ impl Producers {
         let names = names.share()?;
         let held = none_held(alloc, producers)?;
         let tables = new_tables(alloc, producers, names.len())?;
+        let acked = Successors::new(alloc, names.len())?;
         Ok(Producers {
             names,
             who,
@@ -105,6 +109,7 @@ impl Producers {
             tables,
             pending: None,
             ready: true,
+            acked,
             holds: PhantomData,
         })
     }
@@ -294,7 +299,8 @@ impl Producers {
         ensures state { self.new ≡ stepped p self.old (of_held (acking entity.now confirmed) p self.old) }
         ensures out { out.new ≡ given out.old (moves_of (of_held (acking entity.now confirmed) p self.old)) }
     {
-        let place = self.find(entity);
+        let place = self.find_near(entity, self.acked.next());
+        self.acked.note(place.at);
         let own = place_of(p);
         let sends = ack_in(&mut self.held[own], &place, confirmed, out);
         self.ready = is_ready(self.ready, &self.held, own);

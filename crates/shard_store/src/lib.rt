@@ -2,6 +2,7 @@
 //! the mark of each of its entities (Akka 2.6, Cluster Sharding: remembering entities; Persistence).
 #![tactic(auto)]
 
+mod hints;
 mod list;
 mod name_table;
 mod names;

@@ -9,6 +9,7 @@ ghost use Rattle.yard_model.specs.Setting.{shard_of};
 ghost use Rattle.yard_model.specs.Shard.{shard};
 ghost use Rattle.shard_store.specs.Planned.{is_send_to, sent_to, AreCountedBut, AreFew, AreMore};
 
+use crate::hints::Hints;
 use name_index::NameIndex;
 use shard_extract::shard_of;
 use std::alloc::{AllocError, Global};
@@ -24,7 +25,7 @@ pub(crate) struct NameTable {
     names: NameIndex,
     shards: Vec<ShardNo>,
     counts: Vec<u32>,
-    hints: Vec<Vec<u16>>,
+    hints: Hints,
     holds: PhantomData<(Order, Command)>,
 }
 
@@ -46,7 +47,7 @@ impl NameTable {
     {
         let names = NameIndex::new(charter)?;
         let shards = shards_of(alloc, names.as_slice(), charter.config().shards)?;
-        let mut hints = new_hints(alloc, charter)?;
+        let mut hints = Hints::new(alloc, charter, names.len())?;
         let counts = counts_of(alloc, charter, &names, &mut hints)?;
         Ok(NameTable {
             script: Ghost::of(charter),
@@ -75,29 +76,7 @@ impl NameTable {
 
     /// Where the name of each send of a producer may stand, in the order of its sends.
     pub(crate) fn hints(&self, p: ProducerNo) -> &[u16] {
-        match self.hints.get(p.get() as usize - 1) {
-            Some(hints) => hints.as_slice(),
-            None => &[],
-        }
-    }
-}
-
-/// For each producer of a charter, room for a hint of each of its sends. The only error is want of memory.
-fn new_hints(alloc: Global, charter: &Charter) -> Result<Vec<Vec<u16>>, AllocError> {
-    let producers = charter.config().producers;
-    let mut hints = Vec::with_capacity(alloc, producers as usize)?;
-    for place in 0..producers {
-        let room = Vec::with_capacity(alloc, sends_of(charter, place))?;
-        hints.push(room)?;
-    }
-    Ok(hints)
-}
-
-/// How many sends the producer at this place has.
-fn sends_of(charter: &Charter, place: u8) -> usize {
-    match ProducerNo::new(place.wrapping_add(1)) {
-        Some(p) => charter.sends(p).len(),
-        None => 0,
+        self.hints.of_producer(p)
     }
 }
 
@@ -120,7 +99,7 @@ fn counts_of(
     alloc: Global,
     charter: &Charter,
     names: &NameIndex,
-    hints: &mut Vec<Vec<u16>>,
+    hints: &mut Hints,
 ) -> Result<Vec<u32>, AllocError>
     requires { IsStrictlySortedBy (slice_cmp nat_cmp) names.now }
     ensures { IfOk result (λ counts. AreCountedBut charter.now names.now counts.items []) }
@@ -134,7 +113,7 @@ fn counts_of(
 }
 
 /// An order is counted, where it is a send to one of these names.
-fn count(counts: &mut Vec<u32>, names: &NameIndex, order: &Order, hints: &mut Vec<Vec<u16>>)
+fn count(counts: &mut Vec<u32>, names: &NameIndex, order: &Order, hints: &mut Hints)
     requires sorted { IsStrictlySortedBy (slice_cmp nat_cmp) names.now }
     requires there { length counts.old.items ≡ length names.now }
     requires few { AreFew names.now (λ e. is_send_to e order.now) counts.old.items }
@@ -152,32 +131,18 @@ fn count_to(
     names: &NameIndex,
     name: &EntityName,
     p: ProducerNo,
-    hints: &mut Vec<Vec<u16>>,
+    hints: &mut Hints,
 )
     requires sorted { IsStrictlySortedBy (slice_cmp nat_cmp) names.now }
     requires there { length counts.old.items ≡ length names.now }
     requires few { AreFew names.now (is_name name.now) counts.old.items }
     ensures { AreMore names.now (is_name name.now) counts.old.items counts.new.items }
 {
-    match names.find(name) {
+    match names.find_near(name, hints.next()) {
         Some(place) => {
-            note(hints, p, place);
+            hints.note(p, place);
             counts[place] += 1;
         }
         None => {}
-    }
-}
-
-/// It is noted where the name of this producer's next send stands.
-fn note(hints: &mut Vec<Vec<u16>>, p: ProducerNo, place: usize) {
-    if let Some(room) = hints.get_mut(p.get() as usize - 1) {
-        note_in(room, place);
-    }
-}
-
-/// The same in the hints of one producer, where there is room for it.
-fn note_in(hints: &mut Vec<u16>, place: usize) {
-    if hints.len() < hints.capacity() {
-        hints.push_reserved(u16::try_from(place).unwrap_or(0));
     }
 }

@@ -25,6 +25,8 @@ pub struct Counts {
     rows: Vec<Row>,
     // a place and 1, or 0 where there is none
     hints: Vec<u16>,
+    // where the next send's name is looked for first: orders often name the same ones in the same order
+    next: usize,
 }
 
 /// A name and its counts.
@@ -54,6 +56,7 @@ impl Counts {
             places: BTreeMap::new(alloc),
             rows: Vec::new(alloc),
             hints: Vec::new(alloc),
+            next: 0,
         }
     }
 
@@ -100,6 +103,7 @@ impl Counts {
         ensures count { result ≡ slice_index (slice_index_or self.new.rows place no_row).counts producer }
         ensures more { result ≡ min (slice_index (slice_index_or self.old.rows place no_row).counts producer + 1) 4294967295 }
     {
+        self.next = place.wrapping_add(1);
         one_more(&mut self.rows[place].counts, producer)
     }
 
@@ -119,10 +123,13 @@ impl Counts {
         self.begin(entity)
     }
 
-    /// The place that a hint says, where the name stands there.
+    /// The place behind the last one, or the one that a hint says, where the name stands there.
     fn hinted(&self, entity: &EntityName) -> Option<usize>
         ensures { IfSome result (λ i. place_of self.now entity.now ≡ Some i) }
     {
+        if stands_at(self.rows.as_slice(), self.next, entity) {
+            return Some(self.next);
+        }
         let from = entity.hash();
         for step in 0..NEAR {
             let hint = hint_in(self.hints.as_slice(), from + step);

@@ -219,6 +219,7 @@ impl Shards {
     {
         self.cells
             .apply(place.at, behaviour, entry.events.as_slice());
+        push(out, Item::Fact(Fact::Wrote(place.entity, *entry)));
         let spare = write_record(&mut self.hosted[place.shard.get() as usize], place, entry);
         touch(
             &mut self.touched,
@@ -227,7 +228,6 @@ impl Shards {
             &self.places,
             &self.config,
         );
-        push(out, Item::Fact(Fact::Wrote(place.entity, *entry)));
     }
 
     /// A snapshot of all records of an entity that takes commands is written.

@@ -6,6 +6,7 @@ ghost use Rattle.yard_model.specs.Genuine.{is_brought, is_genuine, is_shard};
 ghost use Rattle.yard_model.specs.Node as rules;
 ghost use Rattle.yard_model.specs.Setting.{shard_of};
 ghost use Rattle.node_laws.specs.NodeStands.{IsSoundNode};
+ghost use Rattle.shard_entities.specs.Placed.{IsPlace};
 ghost use Rattle.node_core.specs.Found.{none};
 ghost use Rattle.node_core.specs.Gave.{Gave, moment};
 ghost use Rattle.node_core.specs.Leased.{Rests, MayGiveBack, GaveBack};
@@ -17,23 +18,26 @@ use crate::actors::Actors;
 use actor_laws::messages::genuine_is_message;
 use actor_laws::region::shards_are_there;
 use behaviour_core::Behaviour;
-use shard_entities::Stopped;
+use shard_entities::{Place, Stopped};
 use shard_lease::Leases;
 use shard_store::{ShardStore, Store};
 use yard_model::{Cause, EntityName, Incarnation, Keep, Message, Out, ShardNo, Slot, Stamp};
 
 impl<B: Behaviour + Drop> Actors<B> {
-    /// A message is delivered to its entity, whose shard is running here.
-    pub(crate) fn deliver(&mut self, message: Message, out: &mut Out)
-        requires genuine { is_genuine self.old.script message ≡ true }
-        requires there { IsHostedWith 2 self.old (shard_of self.old.state.set message.entity) }
+    /// A message is delivered to its entity, which stands at this place, and whose shard is running here.
+    pub(crate) fn deliver(&mut self, place: &Place, message: &Message, out: &mut Out)
+        requires place { IsPlace self.old.script place.now }
+        requires entity { message.now.entity ≡ place.now.entity }
+        requires genuine { is_genuine self.old.script message.now ≡ true }
+        requires there { IsHostedWith 2 self.old (shard_of self.old.state.set message.now.entity) }
         requires room { 4 ≤ out.old.spare }
-        ensures went { Went self.old self.new out.old out.new (rules.of_entities (deliver message) self.old.state) }
-        ensures taken { TookRoom (shard_of self.old.state.set message.entity) (if is_in_phase phase.Active self.old.state.entities message.entity then 2 else 0) self.old self.new }
+        ensures went { Went self.old self.new out.old out.new (rules.of_entities (deliver message.now) self.old.state) }
+        ensures taken { TookRoom (shard_of self.old.state.set message.now.entity) (if is_in_phase phase.Active self.old.state.entities message.now.entity then 2 else 0) self.old self.new }
         ensures pending { self.new.pending ≡ self.old.pending }
     {
         genuine_is_message();
-        self.entities.deliver(message, &self.behaviour, out);
+        self.entities
+            .deliver_at(place, message, &self.behaviour, out);
     }
 
     /// An entity has its journal (Akka 2.6, Event Sourcing: recovery).

@@ -1,5 +1,5 @@
 //! The packets of a node.
-ghost use Rattle.std.specs.Prelude.{◌≡◌, ◌<◌, ◌≤◌, [], ◌∷◌, Bool, true, false, IsTrue, if◌then◌else◌};
+ghost use Rattle.std.specs.Prelude.{◌≡◌, ◌<◌, ◌≤◌, [], ◌∷◌, Bool, true, false, length, IsTrue, if◌then◌else◌};
 ghost use Rattle.yard_model.specs.declared.incarnation.Slot.{Slot};
 ghost use Rattle.yard_model.specs.declared.packet.Body.TheVariants as body;
 ghost use Rattle.yard_model.specs.declared.input.Phase.TheVariants as phase;
@@ -10,6 +10,8 @@ ghost use Rattle.yard_model.specs.Node as rules;
 ghost use Rattle.yard_model.specs.Node.{by_region};
 ghost use Rattle.yard_model.specs.Region.{route_away};
 ghost use Rattle.yard_model.specs.Setting.{shard_of};
+ghost use Rattle.producer_ctl.specs.Paired.{name_at};
+ghost use Rattle.shard_entities.specs.Placed.{IsPlace};
 ghost use Rattle.node_core.specs.Calling.{is_for_producer};
 ghost use Rattle.node_laws.specs.NodeStands.{IsSoundNode, IsViewed};
 ghost use Rattle.node_laws.specs.NodeTurns.{Promised};
@@ -28,7 +30,7 @@ use actor_laws::region::{region_keeps, shards_are_there};
 use behaviour_core::Behaviour;
 use producer_ctl::rules_are_calls;
 use region_actor::laws::{away_room, same_law};
-use shard_extract::shard_of;
+use shard_entities::Place;
 use shard_lease::Leases;
 use yard_model::{Body, Charter, Incarnation, Item, Message, Out, Packet, ShardNo, Stamp};
 
@@ -199,14 +201,21 @@ impl<B: Behaviour + Drop> Actors<B> {
         ensures taken { TookRoom (shard_of self.old.state.set message.now.entity) (if is_in_phase phase.Active self.old.state.entities message.now.entity then 2 else 0) self.old self.new }
         ensures pending { self.new.pending ≡ self.old.pending }
     {
-        let s = self.shard_of(message);
-        self.route_to(s, message, out);
+        let place = self.place_of(message);
+        if self.is_local(place.shard(), message) {
+            self.deliver(&place, message, out);
+        } else {
+            self.route_away(place.shard(), message, out);
+        }
     }
 
-    /// A message of this shard is routed: to its entity where the shard is running here, else away.
-    pub(crate) fn route_to(&mut self, s: ShardNo, message: &Message, out: &mut Out)
+    /// A message of this shard, to the name at this place, is routed: to its entity where the shard is running
+    /// here, else away.
+    pub(crate) fn route_to(&mut self, s: ShardNo, at: usize, message: &Message, out: &mut Out)
         requires shard { s ≡ shard_of self.old.state.set message.now.entity }
         requires range { s < self.old.script.config.shards }
+        requires within { at < length self.old.state.set.names }
+        requires name { name_at self.old.state.set.names at ≡ message.now.entity }
         requires genuine { is_genuine self.old.script message.now ≡ true }
         requires rooms { HasRoomFor 2 self.old (shard_of self.old.state.set message.now.entity) }
         requires room { 4 ≤ out.old.spare }
@@ -215,18 +224,32 @@ impl<B: Behaviour + Drop> Actors<B> {
         ensures pending { self.new.pending ≡ self.old.pending }
     {
         if self.is_local(s, message) {
-            self.deliver(*message, out);
+            let place = self.place_at(at);
+            self.deliver(&place, message, out);
         } else {
             self.route_away(s, message, out);
         }
     }
 
-    /// The shard of a message.
-    fn shard_of(&self, message: &Message) -> ShardNo
-        ensures shard { result ≡ shard_of self.now.state.set message.now.entity }
-        ensures range { result < self.now.script.config.shards }
+    /// Where the entity of a message stands.
+    fn place_of(&self, message: &Message) -> Place
+        requires genuine { is_genuine self.now.script message.now ≡ true }
+        ensures place { IsPlace self.now.script result }
+        ensures entity { result.entity ≡ message.now.entity }
+        ensures shard { result.shard ≡ shard_of self.now.state.set message.now.entity }
+        ensures range { result.shard < self.now.script.config.shards }
     {
-        shard_of(&message.entity, self.region.shards())
+        genuine_is_message();
+        self.entities.place(&message.entity)
+    }
+
+    /// Where the name stands that has this place among the script's.
+    fn place_at(&self, at: usize) -> Place
+        requires { at < length self.now.state.set.names }
+        ensures place { IsPlace self.now.script result }
+        ensures entity { result.entity ≡ name_at self.now.state.set.names at }
+    {
+        self.entities.place_at(at)
     }
 
     /// Whether this shard, which is that of the message, is running here, and here is its home.

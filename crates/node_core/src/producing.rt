@@ -254,8 +254,9 @@ impl<B: Behaviour + Drop> Actors<B> {
         self.knows();
         genuine_is_message();
         while let Some(s) = self.pending_shard() {
+            let at = self.pending_at();
             let message = self.take_pending();
-            self.route_to(s, &message, out);
+            self.route_to(s, at, &message, out);
         }
     }
 
@@ -268,6 +269,14 @@ impl<B: Behaviour + Drop> Actors<B> {
     {
         self.knows();
         self.producers.pending_shard()
+    }
+
+    /// The place of the name to which the next message goes that is to be routed, where one is left.
+    fn pending_at(&self) -> usize
+        ensures within { 0 < length self.now.pending.numbers → result < length self.now.state.set.names }
+        ensures name { 0 < length self.now.pending.numbers → name_at self.now.state.set.names result ≡ self.now.pending.entity }
+    {
+        self.producers.pending_at()
     }
 
     /// The next message that is to be routed, where one is left.

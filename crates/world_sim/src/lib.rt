@@ -2,6 +2,7 @@
 #![tactic(auto)]
 
 mod asks;
+mod beginning;
 mod delivery;
 mod era;
 mod fault;

@@ -9,24 +9,19 @@ ghost use Rattle.world_sim.specs.Given.{IsGiven};
 ghost use Rattle.world_sim.specs.Played.{Answers, IsKnown, LineSettles, Settling, Steps, made_of};
 ghost use Rattle.world_sim.specs.Yard.{IsSeen};
 
+use crate::beginning::{book_of, first_book, first_numbers, given_numbers, yard_of};
 use crate::fault::StepFault;
 use crate::laws::{made_is_known, made_is_safe, standing_is_kept};
-use crate::mail::Mail;
 use crate::numbers::greatest_number;
-use crate::places::{no_nodes, set_number, zeros};
-use crate::scene::Scene;
-use crate::sent::all_sent;
 use crate::yard::Yard;
 use behaviour_core::Behaviour;
-use members_by_age::ByAge;
 use settle_laws::worlds::{few_orders_fit, given_may_settle, settle_line_settles, stores_settle};
-use shard_lease::LeaseBook;
 use shard_store::Stores;
 use std::alloc::{AllocError, Global};
-use std::marker::{Model, PhantomData};
+use std::marker::Model;
 use std::snapshot::Snapshot;
 use trace_notes::{Notes, Told};
-use yard_model::{Charter, Line, NodeNo};
+use yard_model::{Charter, Line};
 
 /// All nodes of a script, one step after the other: the members, the packets between them, and the
 /// leases. It begins before the script's first order, or with given stores, which it settles. Seen as
@@ -215,34 +210,13 @@ fn given_yard<B: Behaviour + Copy + Drop>(
     ensures known { IfOk result (λ y. IsScript y.script) }
 {
     let charter = charter.copy()?;
-    let count = charter.config().nodes;
     let shards = charter.config().shards;
     let producers = charter.config().producers;
     let greatest = greatest_number(&stores, shards, producers);
-    let parts = stores.into_parts();
-    let book = LeaseBook::new(alloc, Stores::from_parts(parts))?;
-    let nodes = no_nodes(alloc, count)?;
-    let mut ups = zeros(alloc, count)?;
-    set_number(&mut ups, NodeNo::FIRST, greatest);
-    let ordered = all_sent(alloc, &charter)?;
-    let mail = Mail::new(alloc, &charter)?;
-    let members = ByAge::new(alloc)?;
-    let scene = Scene::new(alloc, charter)?;
-    scene.config();
-    Ok(Yard {
-        alloc,
-        scene,
-        behaviour,
-        book,
-        nodes,
-        members,
-        version: 0,
-        ups,
-        ordered,
-        mail,
-        past: 0,
-        holds: PhantomData,
-    })
+    let numbers = given_numbers(alloc, &charter, greatest)?;
+    let book = book_of(alloc, stores)?;
+    let yard = yard_of(alloc, charter, behaviour, book, numbers)?;
+    Ok(yard)
 }
 
 /// The version of behaviours that is in force at first.
@@ -264,30 +238,8 @@ fn new_yard<B: Behaviour + Copy + Drop>(
     ensures known { IfOk result (λ y. IsScript y.script) }
 {
     let behaviour = behaviour.at_version(FIRST);
-    let count = charter.config().nodes;
-    let producers = charter.config().producers;
-    let stores = Stores::new(alloc, &charter)?;
-    let parts = stores.into_parts();
-    let book = LeaseBook::new(alloc, Stores::from_parts(parts))?;
-    let nodes = no_nodes(alloc, count)?;
-    let ups = zeros(alloc, count)?;
-    let ordered = zeros(alloc, producers)?;
-    let mail = Mail::new(alloc, &charter)?;
-    let members = ByAge::new(alloc)?;
-    let scene = Scene::new(alloc, charter)?;
-    scene.config();
-    Ok(Yard {
-        alloc,
-        scene,
-        behaviour,
-        book,
-        nodes,
-        members,
-        version: 0,
-        ups,
-        ordered,
-        mail,
-        past: 0,
-        holds: PhantomData,
-    })
+    let book = first_book(alloc, &charter)?;
+    let numbers = first_numbers(alloc, &charter)?;
+    let yard = yard_of(alloc, charter, behaviour, book, numbers)?;
+    Ok(yard)
 }

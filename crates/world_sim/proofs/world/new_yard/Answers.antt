@@ -1,42 +1,42 @@
-use Rattle.std.proofs.Common.{◌+◌, ◌<◌, length, ap, ◌∙◌, subst, refl, arith}
-use Rattle.std.specs.Prelude.{replicate, None}
-use Rattle.yard_model.specs.Lawful.{is_held}
-use Rattle.yard_model.specs.Script.{Script}
-use Rattle.shard_store.specs.Stores.{entries_at}
+use Rattle.std.proofs.Common.{ap, sym, ◌∙◌, subst, refl}
+use Rattle.yard_model.specs.Script.{setting}
+use Rattle.yard_model.specs.Trace.{no_lists}
+use Rattle.shard_lease.specs.Book.{Book, meaning_of}
+use Rattle.node_core.specs.Leased.{Tells}
 use Rattle.world_sim.proofs.NewLaws.{seen_new}
-use Rattle.world_sim.proofs.RestsLaws.{none_held, tells_new}
+use Rattle.world_sim.proofs.RestsLaws.{tells_new}
 use Rattle.world_sim.proofs.world.new_yard.Goals as goal
-
-pub new-requires-2 : goal.new-requires-2
-new-requires-2 g c k h =
-    let t = c.into_parts-parts.ensures in
-    let places = c.from_parts.ensures.places ∙ t.places in
-    let script = t.script ∙ c.in_ok-stores.ensures.script in
-    let less : k < length c.into_parts-parts.result.places.items = subst (λ ps. k < length ps) c.from_parts.ensures.places h in
-    let all = t.homes.all in
-    ap is_held (ap (λ ps. entries_at ps k) places ∙ none_held c.args.charter c.in_ok-stores.stores.places k c.in_ok-stores.ensures.none
-    (subst (λ (s : Script). k < s.config.shards + s.config.producers + 1) script (omega (arith, less, all))))
 
 pub returns-clause-seen : goal.returns-clause-seen
 returns-clause-seen g c =
-    let t = c.into_parts-parts.ensures in
-    let b = c.in_ok-book.ensures in
-    let places = c.from_parts.ensures.places ∙ t.places in
-    let script = b.script ∙ (c.from_parts.ensures.script ∙ (t.script ∙ c.in_ok-stores.ensures.script)) in
+    let b = c.in_ok-yard.ensures.begins in
+    let k = c.in_ok-book.ensures in
     seen_new _ c.args.charter (record {
-      script_is = c.in_ok-scene.ensures;
-      members_none = c.in_ok-members.ensures;
-      version_none = refl;
-      ups_none = c.in_ok-ups.ensures ∙ ap (λ k. replicate k 0) (ap (λ f. f.nodes) c.config.ensures.value);
-      kind_is = c.at_version-behaviour.ensures.kind ∙ c.requires;
-      behaviour_is = c.at_version-behaviour.ensures.version;
-      past_none = refl;
-      ordered_none = c.in_ok-ordered.ensures ∙ ap (λ k. replicate k 0) (ap (λ f. f.producers) c.config-2.ensures.value);
-      packets_none = c.in_ok-mail.ensures.packets;
-      fresh_none = c.in_ok-mail.ensures.fresh;
-      items_none = c.in_ok-mail.ensures.items;
-      full_not = c.in_ok-mail.ensures.full;
-      nodes_none = c.in_ok-nodes.ensures ∙ ap (λ k. replicate k None) (ap (λ f. f.nodes) c.config.ensures.value);
-      book_is = script;
-      tells_is = tells_new c.in_ok-book.book c.args.charter c.in_ok-stores.stores.places script (b.places ∙ places) (b.holders ∙ ap (λ ps. replicate (length ps) None) places) c.in_ok-stores.ensures.none;
+      script_is = b.script_is;
+      members_none = b.members_none;
+      version_none = b.version_none;
+      ups_none = b.ups_are ∙ c.in_ok-numbers.ensures.ups;
+      kind_is = c.in_ok-yard.ensures.kind ∙ (c.at_version-behaviour.ensures.kind ∙ c.requires);
+      behaviour_is = c.in_ok-yard.ensures.version ∙ c.at_version-behaviour.ensures.version;
+      past_none = b.past_none;
+      ordered_none = b.ordered_are ∙ c.in_ok-numbers.ensures.ordered;
+      packets_none = b.packets_none;
+      fresh_none = b.fresh_none;
+      items_none = b.items_none;
+      full_not = b.full_not;
+      nodes_none = b.nodes_none;
+      book_is = ap (λ (x : Book). x.script) b.book_is ∙ k.script;
+      tells_is = subst (λ (x : Book). Tells (meaning_of x) c.args.charter (no_lists (setting c.args.charter))) (sym b.book_is) (tells_new c.in_ok-book.book c.args.charter c.in_ok-book.book.places k.script refl k.holders k.none);
     })
+
+pub returns-clause-script : goal.returns-clause-script
+returns-clause-script g c = c.in_ok-yard.ensures.begins.script_is
+
+pub returns-clause-version : goal.returns-clause-version
+returns-clause-version g c = c.in_ok-yard.ensures.begins.version_none
+
+pub returns-clause-ups : goal.returns-clause-ups
+returns-clause-ups g c = c.in_ok-yard.ensures.begins.ups_are ∙ c.in_ok-numbers.ensures.ups
+
+pub returns-clause-ordered : goal.returns-clause-ordered
+returns-clause-ordered g c = c.in_ok-yard.ensures.begins.ordered_are ∙ c.in_ok-numbers.ensures.ordered

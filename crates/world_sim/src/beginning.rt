@@ -1,0 +1,113 @@
+//! What a world begins with. Each part is made by itself: who owns few values is checked soonest.
+ghost use Rattle.std.specs.Prelude.{◌≡◌, ℕ, ◌+◌, ◌<◌, false, IfOk, None, length, map, replicate, slice_set};
+ghost use Rattle.yard_model.specs.Lawful.{is_held};
+ghost use Rattle.yard_model.specs.Script.{IsScript, setting};
+ghost use Rattle.yard_model.specs.Trace.{no_lists};
+ghost use Rattle.yard_model.specs.World.{all_sends};
+ghost use Rattle.shard_store.specs.Stores.{entries_at, lists_at};
+ghost use Rattle.world_sim.specs.Begun.{Begins};
+
+use crate::mail::Mail;
+use crate::places::{no_nodes, set_number, zeros};
+use crate::scene::Scene;
+use crate::sent::all_sent;
+use crate::yard::Yard;
+use behaviour_core::Behaviour;
+use members_by_age::ByAge;
+use shard_lease::LeaseBook;
+use shard_store::Stores;
+use std::alloc::{AllocError, Global};
+use std::marker::PhantomData;
+use yard_model::{Charter, NodeNo};
+
+/// How often each node came up, and how many of each producer's sends were ordered.
+#[derive(Drop)]
+pub(crate) struct Numbers {
+    pub(crate) ups: Vec<u32>,
+    pub(crate) ordered: Vec<u32>,
+}
+
+/// No node came up, and nothing was ordered. The only error is want of memory.
+pub(crate) fn first_numbers(alloc: Global, charter: &Charter) -> Result<Numbers, AllocError>
+    ensures ups { IfOk result (λ n. n.ups.items ≡ replicate charter.now.config.nodes 0) }
+    ensures ordered { IfOk result (λ n. n.ordered.items ≡ replicate charter.now.config.producers 0) }
+{
+    let nodes = charter.config().nodes;
+    let producers = charter.config().producers;
+    let ups = zeros(alloc, nodes)?;
+    let ordered = zeros(alloc, producers)?;
+    Ok(Numbers { ups, ordered })
+}
+
+/// The first node came up so often, and all sends were ordered. The only error is want of memory.
+pub(crate) fn given_numbers(
+    alloc: Global,
+    charter: &Charter,
+    greatest: u32,
+) -> Result<Numbers, AllocError>
+    ensures ups { IfOk result (λ n. n.ups.items ≡ slice_set (replicate charter.now.config.nodes 0) 0 greatest) }
+    ensures ordered { IfOk result (λ n. n.ordered.items ≡ map length (all_sends charter.now)) }
+{
+    let nodes = charter.config().nodes;
+    let mut ups = zeros(alloc, nodes)?;
+    set_number(&mut ups, NodeNo::FIRST, greatest);
+    let ordered = all_sent(alloc, charter)?;
+    Ok(Numbers { ups, ordered })
+}
+
+/// The leases of a script's empty stores. The only error is want of memory.
+pub(crate) fn first_book(alloc: Global, charter: &Charter) -> Result<LeaseBook, AllocError>
+    ensures script { IfOk result (λ b. b.script ≡ charter.now) }
+    ensures none { IfOk result (λ b. lists_at charter.now.config b.places ≡ no_lists (setting charter.now)) }
+    ensures holders { IfOk result (λ b. b.holders ≡ replicate (length b.places) None) }
+{
+    let stores = Stores::new(alloc, charter)?;
+    let book = book_of(alloc, stores)?;
+    Ok(book)
+}
+
+/// The leases of these stores, of which none is leased. The only error is want of memory.
+pub(crate) fn book_of(alloc: Global, stores: Stores) -> Result<LeaseBook, AllocError>
+    requires { (k : ℕ) → k < stores.script.config.shards + stores.script.config.producers + 1 → is_held (entries_at stores.places k) ≡ false }
+    ensures script { IfOk result (λ b. b.script ≡ stores.script) }
+    ensures places { IfOk result (λ b. b.places ≡ stores.places) }
+    ensures holders { IfOk result (λ b. b.holders ≡ replicate (length b.places) None) }
+{
+    let parts = stores.into_parts();
+    let book = LeaseBook::new(alloc, Stores::from_parts(parts))?;
+    Ok(book)
+}
+
+/// A world in which no node is up, and to which nothing was posted. The only error is want of memory.
+pub(crate) fn yard_of<B: Behaviour + Copy + Drop>(
+    alloc: Global,
+    charter: Charter,
+    behaviour: B,
+    book: LeaseBook,
+    numbers: Numbers,
+) -> Result<Yard<B>, AllocError>
+    ensures begins { IfOk result (λ y. Begins charter book numbers.ups.items numbers.ordered.items y) }
+    ensures kind { IfOk result (λ y. y.force.kind ≡ B.kind_of behaviour) }
+    ensures version { IfOk result (λ y. y.force.version ≡ B.version_of behaviour) }
+    ensures known { IfOk result (λ y. IsScript y.script) }
+{
+    let nodes = no_nodes(alloc, charter.config().nodes)?;
+    let mail = Mail::new(alloc, &charter)?;
+    let members = ByAge::new(alloc)?;
+    let scene = Scene::new(alloc, charter)?;
+    scene.config();
+    Ok(Yard {
+        alloc,
+        scene,
+        behaviour,
+        book,
+        nodes,
+        members,
+        version: 0,
+        ups: numbers.ups,
+        ordered: numbers.ordered,
+        mail,
+        past: 0,
+        holds: PhantomData,
+    })
+}

@@ -1,5 +1,6 @@
 mod EntryLaws
 mod LiveLaws
+mod PuttingLaws
 mod ReplyLaws
 mod ResultLaws
 mod SizedLaws

@@ -1,6 +1,6 @@
 -- From what threads leave to the text of `live`.
 use Rattle.std.proofs.Common.{◌≡◌, ◌≤◌, ℕ, sym, ap, ◌∙◌, refl, subst, length, arith}
-use Rattle.std.specs.Prelude.{true, false, nat_le, [], ◌++◌, is_some, Option, Some, None}
+use Rattle.std.specs.Prelude.{true, false, nat_le, ◌++◌, is_some, Option, Some, None}
 use Rattle.std.specs.List.{list_all}
 use Rattle.plain_laws.proofs.Booleans.{and_both, at_most, all_map}
 use Rattle.yard_model.specs.declared.fact.Fact.{Fact}
@@ -85,15 +85,14 @@ live_folds c turns s is rules ok live =
     let lists : SlotLists = lists_at c.config s.places in
     subst (λ (d : Script). is_foldable_in_all (setting c) (lists_at d.config s.places) ≡ true) (sym is) (lists_fold c lists rules ok (each_own c lists (owns_of c lists live.lawful_is).0))
 
-pub live_text : (c : Script) (turns : ℕ) (s : Shelves) (none a b : Bytes) → s.script ≡ c → AreLive c turns (lists_at c.config s.places)
-    → none ≡ [] → a ≡ none ++ slots_text (setting c) (lists_at s.script.config s.places) → b ≡ a ++ report (setting c) (lists_at s.script.config s.places)
-    → SameDecision → AreSized c (lists_at s.script.config s.places) → LiveText c turns b
-live_text c turns s none a b is live empty first second decisions sized =
+pub live_text : (c : Script) (turns : ℕ) (s : Shelves) (text : Bytes) → s.script ≡ c → AreLive c turns (lists_at c.config s.places) → text ≡ report (setting c) (lists_at s.script.config s.places)
+    → SameDecision → AreSized c (lists_at s.script.config s.places) → LiveText c turns (slots_text (setting c) (lists_at s.script.config s.places) ++ text)
+live_text c turns s text is live end decisions sized =
     let lists : SlotLists = lists_at s.script.config s.places in
     let there : AreLive c turns lists = subst (λ (d : Script). AreLive c turns (lists_at d.config s.places)) (sym is) live in
     record {
       lists = lists;
       are_live = there;
       readable = lists_read c lists decisions (owns_of c lists there.lawful_is).0.shard sized;
-      text_is = second ∙ ap (λ x. x ++ report (setting c) lists) (first ∙ ap (λ x. x ++ slots_text (setting c) lists) empty);
+      text_is = ap (λ x. slots_text (setting c) lists ++ x) end;
     }

@@ -2,3 +2,4 @@ pub mod LiveText
 pub mod Readable
 pub mod Sized
 pub mod Tells
+pub mod Written

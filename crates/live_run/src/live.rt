@@ -1,50 +1,65 @@
 //! `live`: from a script to the lists that nodes on threads of their own leave once they are settled, and
-//! the report of these lists.
-ghost use Rattle.std.specs.Prelude.{◌≡◌, ◌≤◌, [], true, length, IfOk};
-ghost use Rattle.yard_model.specs.Script.{is_version};
+//! the report of these lists, written.
+ghost use Rattle.std.specs.Prelude.{◌≡◌, ◌≤◌, [], true, length, IfOk, IsTrue};
+ghost use Rattle.yard_model.specs.Script.{is_version, setting};
+ghost use Rattle.yard_model.specs.Text.{report};
 ghost use Rattle.shard_store.specs.Stores.{lists_at};
-ghost use Rattle.live_run.specs.LiveText.{AreLive, LiveText};
+ghost use Rattle.trace_text.specs.Foldable.{is_foldable_in_all};
+ghost use Rattle.live_run.specs.LiveText.{AreLive};
+ghost use Rattle.live_run.specs.Written.{WritesLive};
 
 use crate::sized::look_at_lists;
+use crate::writing::write_text;
 use behaviour_by_kind::ByKind;
 use behaviour_core::Behaviour;
 use behaviour_core::laws::decided_law;
 use live_laws::worked_goes_on;
 use node_runner::run_live;
+use run_parts::WriteError;
 use shard_store::Stores;
 use std::alloc::{AllocError, Global};
 use std::sync::Wait;
 use std::thread::Threads;
-use trace_text::{push_lists, push_report};
+use trace_text::push_report;
 use world_sim::settle_stores;
-use yard_io::Gate;
-use yard_model::Charter;
+use yard_io::{Gate, Sink};
 use yard_model::laws::{command_law, decision_law};
+use yard_model::{Charter, Lists};
 
-/// How many bytes of text an order mostly brings, with some to spare.
+/// How many bytes of the report an order mostly brings, with some to spare.
 const EACH: usize = 200;
 
 /// Runs the nodes of a script, which has at most 20,000 orders, as threads, each for so many turns at most,
-/// and settles what they leave: the text of the lists of all slots and of their report. These are the lists
-/// that a reader reads off the text, since different lists have different texts (`texts_tell_lists`). It may
-/// wait. The only error is want of memory.
-pub fn live_text<R: Threads + Wait + Sync, G: Gate + Sync>(
+/// settles what they leave, and writes the lists of all slots and their report. These are the lists that a reader
+/// reads off the text, since different lists have different texts (`texts_tell_lists`). It may wait. Nothing is
+/// flushed, and nothing is written where there is no memory.
+pub fn write_live<R: Threads + Wait + Sync, G: Gate + Sync, K: Sink>(
     rt: &R,
     alloc: Global,
     charter: &Charter,
     turns: u32,
     seed: u32,
     gate: &G,
-) -> Result<Vec<u8>, AllocError>
+    sink: &mut K,
+) -> Result<(), WriteError>
     requires { length charter.now.orders ≤ 20000 }
-    ensures { IfOk result (λ text. LiveText charter.now turns text.items) }
+    ensures { WritesLive charter.now turns result
+        (record { taken = K.taken sink.old; flushed = K.flushed sink.old; faults = K.faults sink.old })
+        (record { taken = K.taken sink.new; flushed = K.flushed sink.new; faults = K.faults sink.new }) }
 {
     let behaviour = ByKind::new(charter.config().kind);
-    text_of_run(rt, alloc, charter, behaviour, turns, seed, gate)
+    write_run(rt, alloc, charter, behaviour, turns, seed, gate, sink)
 }
 
-/// The text of a run of nodes whose entities behave so. It may wait. The only error is want of memory.
-fn text_of_run<R: Threads + Wait + Sync, B: Behaviour + Copy + Drop + Send + Sync, G: Gate + Sync>(
+/// Writes the text of a run of nodes whose entities behave so. It may wait.
+///
+/// All that wants memory comes before the first write.
+fn write_run<
+    R: Threads + Wait + Sync,
+    B: Behaviour + Copy + Drop + Send + Sync,
+    G: Gate + Sync,
+    K: Sink,
+>(
     rt: &R,
     alloc: Global,
     charter: &Charter,
@@ -52,11 +67,14 @@ fn text_of_run<R: Threads + Wait + Sync, B: Behaviour + Copy + Drop + Send + Syn
     turns: u32,
     seed: u32,
     gate: &G,
-) -> Result<Vec<u8>, AllocError>
+    sink: &mut K,
+) -> Result<(), WriteError>
     requires kind { B.kind_of behaviour ≡ charter.now.config.kind }
     requires version { is_version charter.now (B.version_of behaviour) ≡ true }
     requires few { length charter.now.orders ≤ 20000 }
-    ensures { IfOk result (λ text. LiveText charter.now turns text.items) }
+    ensures { WritesLive charter.now turns result
+        (record { taken = K.taken sink.old; flushed = K.flushed sink.old; faults = K.faults sink.old })
+        (record { taken = K.taken sink.new; flushed = K.flushed sink.new; faults = K.faults sink.new }) }
 {
     command_law();
     decision_law();
@@ -64,9 +82,19 @@ fn text_of_run<R: Threads + Wait + Sync, B: Behaviour + Copy + Drop + Send + Syn
     let stores = stores_of_run(rt, alloc, charter, behaviour, turns, seed, gate)?;
     charter.config();
     look_at_lists(charter, &stores);
+    let text = report_of(alloc, charter, &stores)?;
+    write_text(charter, &stores, text.as_slice(), sink)?;
+    Ok(())
+}
+
+/// The report of these stores. The only error is want of memory.
+fn report_of<T: Lists>(alloc: Global, charter: &Charter, stores: &T) -> Result<Vec<u8>, AllocError>
+    requires few { length charter.now.orders ≤ 20000 }
+    requires foldable { IsTrue (is_foldable_in_all (setting charter.now) (T.lists stores.now)) }
+    ensures { IfOk result (λ text. text.items ≡ report (setting charter.now) (T.lists stores.now)) }
+{
     let mut text = new_text(alloc, charter)?;
-    push_lists(&mut text, charter, &stores)?;
-    push_report(&mut text, charter, &stores)?;
+    push_report(&mut text, charter, stores)?;
     Ok(text)
 }
 

@@ -53,7 +53,7 @@ pub(crate) fn push_queue_entry(
 }
 
 /// The line of an entry of this shard's list.
-fn put_shard_entry(cells: &mut [u8], at: usize, s: ShardNo, entry: &ShardEntry) -> usize
+pub(crate) fn put_shard_entry(cells: &mut [u8], at: usize, s: ShardNo, entry: &ShardEntry) -> usize
     requires { at + 512 ≤ length cells.old }
     ensures items { take result cells.new ≡ take at cells.old ++ fact_line (shard_fact s entry.now) }
     ensures end { result ≤ at + 512 }
@@ -75,7 +75,12 @@ fn put_rare_of_shard(cells: &mut [u8], at: usize, s: ShardNo, entry: &ShardEntry
 }
 
 /// The line of an entry of this producer's queue.
-fn put_queue_entry(cells: &mut [u8], at: usize, p: ProducerNo, entry: &QueueEntry) -> usize
+pub(crate) fn put_queue_entry(
+    cells: &mut [u8],
+    at: usize,
+    p: ProducerNo,
+    entry: &QueueEntry,
+) -> usize
     requires { at + 512 ≤ length cells.old }
     ensures items { take result cells.new ≡ take at cells.old ++ fact_line (queue_fact p entry.now) }
     ensures end { result ≤ at + 512 }

@@ -17,6 +17,7 @@ mod json_sheet;
 mod json_text;
 mod number;
 mod parts;
+mod pieces;
 mod queues;
 mod records;
 mod report;
@@ -30,6 +31,7 @@ mod values;
 
 pub use facts::{push_fact, push_facts};
 pub use parts::{ReportNames, count_of_parts, parts_law};
+pub use pieces::{CELLS, Piece, put_coordinator_lines, put_head, put_queue_lines, put_shard_lines};
 pub use report::{push_json, push_report, report_value};
 pub use sheet::Sheet;
 pub use slots::push_lists;

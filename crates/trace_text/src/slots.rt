@@ -173,7 +173,7 @@ fn push_slot_line(text: &mut Vec<u8>, slot: &Slot, length: u64) -> Result<(), Al
     push_cells(text, &cells, end)
 }
 
-fn put_slot_line(cells: &mut [u8], at: usize, slot: &Slot, count: u64) -> usize
+pub(crate) fn put_slot_line(cells: &mut [u8], at: usize, slot: &Slot, count: u64) -> usize
     requires { at + 48 ≤ length cells.old }
     ensures items { take result cells.new ≡ take at cells.old ++ line (codes "slot" ∷ slot_text slot.now ∷ decimal count ∷ []) }
     ensures end { result ≤ at + 48 }

@@ -1,5 +1,5 @@
 -- What an answer says of the text of a form that needs a script alone, from what it says of the text.
-use Rattle.std.proofs.Common.{◌≡◌, ℕ, List, inr}
+use Rattle.std.proofs.Common.{◌≡◌, ◌≤◌, ℕ, List, inr, ap, arith}
 use Rattle.std.specs.Prelude.{true, Option, Result, Ok, Err}
 use Rattle.yard_model.specs.Script.{Script}
 use Rattle.yard_model.specs.Text.{Bytes}
@@ -7,6 +7,7 @@ use Rattle.program_words.specs.declared.forms.Form.{Form}
 use Rattle.program_words.specs.declared.forms.Form.TheVariants as form
 use Rattle.run_parts.specs.declared.writing.WriteError.{WriteError}
 use Rattle.run_parts.specs.declared.writing.WriteError.TheVariants as error
+use Rattle.live_run.specs.Written.{WritesLive}
 use Rattle.yard_top.specs.Ends.{IsText, HasScript, WroteFront}
 use Rattle.program_words.specs.Forms.{from_of, is_bare}
 use Rattle.yard_top.specs.Texts.{Gives, RanOut, TookSome}
@@ -27,6 +28,14 @@ pub gives : {A : Type 0} (f : Form) (c : Script) (text : Bytes) (r : Result A Wr
 gives f c text (Ok x) old new alone is w = record { text = text; is_text = is; took = w }
 gives f c text (Err error.Failed) old new alone is w = record { text = text; is_text = is; front = w }
 gives f c text (Err error.OutOfMemory) old new alone is w = ran_out f c old new alone (record { text = text; is_text = is; front = w })
+
+-- the same of `live`
+pub gives_live : {A : Type 0} (turns seed : ℕ) (c : Script) (r : Result A WriteError) (old new : Sunk) → WritesLive c turns r old new → Gives (form.Live turns seed) c r old new
+gives_live turns seed c (Ok x) old new w = record { text = w.text; is_text = w.is_text; took = w.took }
+gives_live turns seed c (Err error.Failed) old new w = record { text = w.text; is_text = w.is_text; front = w.front }
+gives_live turns seed c (Err error.OutOfMemory) old new same =
+    let faults : new.faults ≡ old.faults = ap (λ (s : Sunk). s.faults) same in
+    record { taken_is = ap (λ (s : Sunk). s.taken) same; flushed_is = ap (λ (s : Sunk). s.flushed) same; faults_are = omega arith }
 
 -- there was no memory, and a front of the text was taken, or nothing
 pub wrote_front : (f : Form) (c : Script) (had has : Option (List ℕ)) (old new : Sunk) → HasScript (from_of f) had has c → RanOut f c old new

@@ -3,8 +3,7 @@ ghost use Rattle.std.specs.Prelude.{◌≤◌, length};
 ghost use Rattle.yard_top.specs.Texts.{Gives};
 ghost use Rattle.program_words.specs.declared.forms.Form.TheVariants as form;
 
-use live_run::live_text;
-use run_parts::{WriteError, write_part};
+use run_parts::WriteError;
 use std::alloc::Global;
 use std::sync::Wait;
 use std::thread::Threads;
@@ -28,6 +27,5 @@ pub(crate) fn write_live<R: Threads + Wait + Sync, G: Gate + Sync, K: Sink>(
         (record { taken = K.taken sink.old; flushed = K.flushed sink.old; faults = K.faults sink.old })
         (record { taken = K.taken sink.new; flushed = K.flushed sink.new; faults = K.faults sink.new }) }
 {
-    let text = live_text(rt, alloc, charter, turns, seed, gate)?;
-    write_part(sink, text.as_slice())
+    live_run::write_live(rt, alloc, charter, turns, seed, gate, sink)
 }

@@ -93,14 +93,27 @@ fn comes_to(alloc: Global, cut: usize, outcome: Outcome) -> Result<bool, AllocEr
     Ok(is_outcome(end, sink.bytes(), outcome))
 }
 
-/// Replays the front of each length: how many there are, where this comes of each. Err: the first of which it doesn't.
+/// Replays the front of each length from this one to that: the first of which this doesn't come.
+fn first_unlike(
+    alloc: Global,
+    from: usize,
+    last: usize,
+    outcome: Outcome,
+) -> Result<Option<usize>, AllocError> {
+    for cut in from..=last {
+        if !comes_to(alloc, cut, outcome)? {
+            return Ok(Some(cut));
+        }
+    }
+    Ok(None)
+}
+
+/// Replays the front of each length: how many there are, where each comes to its outcome. Err: the first that doesn't.
 fn count_fronts(alloc: Global) -> Result<Result<usize, usize>, AllocError> {
     let mut next = 0;
     for (last, outcome) in &OUTCOMES {
-        for cut in next..=*last {
-            if !comes_to(alloc, cut, *outcome)? {
-                return Ok(Err(cut));
-            }
+        if let Some(cut) = first_unlike(alloc, next, *last, *outcome)? {
+            return Ok(Err(cut));
         }
         next = last.saturating_add(1);
     }

@@ -30,17 +30,44 @@ fn two_boxes(alloc: Global, capacity: u16) -> Result<Pair, AllocError>
     Ok((boxes, one, two))
 }
 
+// What calls on empty boxes of one place answer: what is taken, how many there are, and what a full box hands back.
+fn answers<R: Wait>(
+    rt: &R,
+    boxes: &PostBox<u32>,
+    one: &mut BoxPass<u32>,
+    two: &mut BoxPass<u32>,
+    second: NodeNo,
+) -> ([Option<u32>; 5], [usize; 2])
+    requires one { one.old.tables ≡ boxes.now.tables }
+    requires two { two.old.tables ≡ boxes.now.tables }
+    requires own { second ≡ two.old.node }
+    requires second { second ≤ length boxes.now.tables }
+{
+    let nothing = boxes.take(rt, two, second);
+    let before = boxes.count(rt, one, second);
+    let posted = boxes.post(rt, one, second, 5).err();
+    let after = boxes.count(rt, one, second);
+    let back = boxes.post(rt, one, second, 6).err();
+    let taken = boxes.take(rt, two, second);
+    let rest = boxes.take(rt, two, second);
+    ([nothing, posted, back, taken, rest], [before, after])
+}
+
+// The same, of boxes that are made.
+fn answered<R: Wait>(
+    rt: &R,
+    alloc: Global,
+) -> Result<([Option<u32>; 5], [usize; 2]), AllocError> {
+    let (boxes, mut one, mut two) = two_boxes(alloc, 1)?;
+    let second = two.node();
+    Ok(answers(rt, &boxes, &mut one, &mut two, second))
+}
+
 #[test]
 fn a_full_box_hands_back(rt: HostRuntime) -> Result<(), Fail> {
-    let second = NodeNo::new(2).ok_or("a node")?;
-    let (boxes, mut one, mut two) = two_boxes(rt.alloc(), 1)?;
-    assert_eq!(rt; boxes.take(&rt, &mut two, second), None);
-    assert_eq!(rt; boxes.count(&rt, &mut one, second), 0);
-    assert_eq!(rt; boxes.post(&rt, &mut one, second, 5), Ok(()));
-    assert_eq!(rt; boxes.count(&rt, &mut one, second), 1);
-    assert_eq!(rt; boxes.post(&rt, &mut one, second, 6), Err(6));
-    assert_eq!(rt; boxes.take(&rt, &mut two, second), Some(5));
-    assert_eq!(rt; boxes.take(&rt, &mut two, second), None);
+    let (parcels, counts) = answered(&rt, rt.alloc())?;
+    assert_eq!(rt; parcels, [None, None, Some(6), Some(5), None]);
+    assert_eq!(rt; counts, [0, 1]);
     Ok(())
 }
 

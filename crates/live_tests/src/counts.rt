@@ -1,6 +1,6 @@
 //! What no clause says: that the workers of a busy run let no packet go because they couldn't show what it needs.
 use behaviour_kinds::Counter;
-use node_runner::{Outcome, run_counted};
+use node_runner::run_counted;
 use script_text::{Mode, read_script};
 use shard_store::Stores;
 use std::alloc::{AllocError, Global};
@@ -129,23 +129,6 @@ fn busy(alloc: Global) -> Result<Vec<u8>, AllocError> {
     Ok(text)
 }
 
-/// What a run of a script of counters leaves; None for another kind. It may wait.
-fn run<R: Threads + Wait + Sync>(
-    rt: &R,
-    alloc: Global,
-    charter: &Charter,
-    seed: u32,
-) -> Result<Option<Outcome>, AllocError> {
-    match charter.config().kind {
-        Kind::Counter => {
-            let gate = Together::new();
-            let outcome = run_counted(rt, alloc, charter, Counter::new(), TURNS, seed, &gate)?;
-            Ok(Some(outcome))
-        }
-        _ => Ok(None),
-    }
-}
-
 /// Whether this producer was told that a command of it is recorded.
 fn is_confirmed(stores: &Stores, p: ProducerNo) -> bool {
     stores
@@ -166,15 +149,37 @@ fn is_any_confirmed(stores: &Stores) -> bool {
     false
 }
 
-#[test]
-fn nothing_is_let_go(rt: HostRuntime) -> Result<(), Fail> {
-    let alloc = rt.alloc();
+/// How many packets a run of a script of counters lets go, and whether a producer was told that a command of it is
+/// recorded; None for another kind. It may wait.
+fn run<R: Threads + Wait + Sync>(
+    rt: &R,
+    alloc: Global,
+    charter: &Charter,
+    seed: u32,
+) -> Result<Option<(u64, bool)>, AllocError> {
+    match charter.config().kind {
+        Kind::Counter => {
+            let gate = Together::new();
+            let outcome = run_counted(rt, alloc, charter, Counter::new(), TURNS, seed, &gate)?;
+            Ok(Some((outcome.unshown, is_any_confirmed(&outcome.stores))))
+        }
+        _ => Ok(None),
+    }
+}
+
+/// The charter of the script.
+fn charter_of(alloc: Global) -> Result<Charter, Fail> {
     let text = busy(alloc)?;
     let charter = read_script(alloc, text.as_slice(), Mode::Live)?;
+    Ok(charter)
+}
+
+#[test]
+fn nothing_is_let_go(rt: HostRuntime) -> Result<(), Fail> {
+    let charter = charter_of(rt.alloc())?;
     for seed in 0..SEEDS {
-        let outcome = run(&rt, alloc, &charter, seed)?.ok_or("counters")?;
-        assert_eq!(rt; outcome.unshown, 0, "seed {seed}");
-        assert!(rt; is_any_confirmed(&outcome.stores), "seed {seed}");
+        let outcome = run(&rt, rt.alloc(), &charter, seed)?;
+        assert_eq!(rt; outcome, Some((0, true)), "seed {seed}");
     }
     Ok(())
 }

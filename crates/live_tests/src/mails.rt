@@ -36,8 +36,31 @@ fn taken<J: Run, R: Wait>(rt: &R, boxes: &PostBox<Parcel<J>>, pass: &mut BoxPass
     8
 }
 
-/// A packet is sent by the first node: how many parcels of it come to the second at once, and how many
+/// A packet is sent by the holder of a pass: how many parcels of it come to the second node at once, and how many
 /// after the next turn.
+fn came_by<J: Run, R: Wait>(
+    rt: &R,
+    boxes: &PostBox<Parcel<J>>,
+    mail: &mut Mail<J>,
+    two: &mut BoxPass<Parcel<J>>,
+    packet: &Packet,
+) -> Result<(u8, u8), AllocError>
+    requires one { mail.old.pass.tables ≡ boxes.now.tables }
+    requires two { two.old.tables ≡ boxes.now.tables }
+    requires genuine { is_genuine_packet J.script packet.now ≡ true }
+    requires within { is_within_packet packet.now ≡ true }
+    requires plain { is_confirming packet.now.body ≡ false }
+    requires nodes { J.script.config.nodes ≡ 2 }
+    requires boxes { length boxes.now.tables ≡ 2 }
+{
+    mail.send_plain(rt, boxes, packet)?;
+    let soon = taken(rt, boxes, two);
+    mail.release(rt, boxes);
+    Ok((soon, taken(rt, boxes, two)))
+}
+
+/// A packet is sent by the first node, whose draws are of this seed: how many parcels of it come to the second at
+/// once, and how many after the next turn.
 fn came<J: Run, R: Wait>(
     rt: &R,
     alloc: Global,
@@ -57,11 +80,7 @@ fn came<J: Run, R: Wait>(
         unreachable!()
     };
     let mut mail = Mail::new(alloc, one, Draws::new(seed, NodeNo::FIRST));
-    mail.send_plain(rt, &boxes, packet)?;
-    let soon = taken(rt, &boxes, &mut two);
-    mail.release(rt, &boxes);
-    let later = taken(rt, &boxes, &mut two);
-    Ok((soon, later))
+    came_by(rt, &boxes, &mut mail, &mut two, packet)
 }
 
 /// A packet of the first node to the second.

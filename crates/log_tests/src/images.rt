@@ -3,64 +3,55 @@ ghost use Rattle.std.specs.Prelude.{◌<◌};
 
 use crate::logs::{Came, WHOLE, left, log_all, reading_of};
 use disk_log::MemDisk;
+use std::alloc::{AllocError, Global};
 use std::process::Abort;
 use std::test::Fail;
 
-/// What a stop just before this call leaves, with these bytes where any may be, is to be this.
-fn expect_left(
-    rt: &impl Abort,
-    disk: &MemDisk,
-    call: u32,
-    torn: &[u8],
-    wanted: &[u8],
-) -> Result<(), Fail>
+/// Whether a stop just before this call leaves this, with these bytes where any may be.
+fn is_left(disk: &MemDisk, call: u32, torn: &[u8], wanted: &[u8]) -> Result<bool, AllocError>
     requires { 0 < call }
 {
     let image = left(disk, call, torn)?;
-    assert!(rt; image.as_slice() == wanted);
-    Ok(())
+    Ok(image.as_slice() == wanted)
 }
 
-/// Reading this image is to come to this.
-fn expect_reading(
-    rt: &(impl Abort + AllocGlobal),
-    image: &[u8],
-    fails: &[u32],
-    wanted: Came,
-) -> Result<(), Fail> {
-    let came = reading_of(rt.alloc(), image, fails)?;
-    assert!(rt; came == wanted);
-    Ok(())
-}
-
-/// Before the last gate is opened, its batch stands there and doesn't count.
-fn expect_staged(rt: &(impl Abort + AllocGlobal), disk: &MemDisk) -> Result<(), Fail> {
+/// Whether the last batch stands there and doesn't count, before its gate is opened.
+fn is_staged(alloc: Global, disk: &MemDisk) -> Result<bool, AllocError> {
     let mut staged = *WHOLE;
     staged[98] = 0;
-    expect_left(rt, disk, 18, &[], &staged)?;
-    expect_left(rt, disk, 19, &[0], &staged)?;
-    expect_reading(rt, &staged, &[], Came::Read(3))
+    if !is_left(disk, 18, &[], &staged)? || !is_left(disk, 19, &[0], &staged)? {
+        return Ok(false);
+    }
+    Ok(reading_of(alloc, &staged, &[])? == Came::Read(3))
 }
 
-/// In the middle of a write any bytes may be there.
-fn expect_torn(rt: &(impl Abort + AllocGlobal), disk: &MemDisk) -> Result<(), Fail> {
+/// Whether any bytes may be there in the middle of a write.
+fn is_torn(alloc: Global, disk: &MemDisk) -> Result<bool, AllocError> {
     let mut torn = *WHOLE;
     torn[98] = 0;
     torn[99] = 7;
     torn[100] = 7;
-    expect_left(rt, disk, 17, &[7, 7], &torn)?;
-    expect_reading(rt, &torn, &[], Came::Read(3))
+    if !is_left(disk, 17, &[7, 7], &torn)? {
+        return Ok(false);
+    }
+    Ok(reading_of(alloc, &torn, &[])? == Came::Read(3))
+}
+
+/// The bytes of a log that all orders left, after so many calls, are to be these.
+fn expect_bytes(rt: &(impl Abort + AllocGlobal), disk: &MemDisk) -> Result<(), AllocError> {
+    assert_eq!(rt; disk.calls(), 19);
+    assert!(rt; is_left(disk, 20, &[], WHOLE)?);
+    assert!(rt; is_staged(rt.alloc(), disk)?);
+    assert!(rt; is_torn(rt.alloc(), disk)?);
+    Ok(())
 }
 
 #[test]
 fn the_bytes_of_a_log(rt: HostRuntime) -> Result<(), Fail> {
-    let alloc = rt.alloc();
-    let mut disk = MemDisk::new(alloc, &[], &[])?;
-    assert!(rt; log_all(alloc, &mut disk)?);
-    assert_eq!(rt; disk.calls(), 19);
-    expect_left(&rt, &disk, 20, &[], WHOLE)?;
-    expect_staged(&rt, &disk)?;
-    expect_torn(&rt, &disk)
+    let mut disk = MemDisk::new(rt.alloc(), &[], &[])?;
+    assert!(rt; log_all(rt.alloc(), &mut disk)?);
+    expect_bytes(&rt, &disk)?;
+    Ok(())
 }
 
 /// Images, and what is read of them.
@@ -84,44 +75,65 @@ const IMAGES: [(&[u8], Came); 11] = [
     (b"\x09\0\0\0\x0fregistered 1.1\n\0", Came::Read(1)),
 ];
 
+/// The first of these images that is read as something else.
+fn misread(alloc: Global) -> Result<Option<usize>, AllocError> {
+    for (k, (image, came)) in IMAGES.iter().enumerate() {
+        if reading_of(alloc, image, &[])? != *came {
+            return Ok(Some(k));
+        }
+    }
+    Ok(None)
+}
+
+/// The first cut within the last batch that isn't read as damage.
+fn misread_cut(alloc: Global) -> Result<Option<usize>, AllocError> {
+    for cut in 99..208 {
+        if reading_of(alloc, &WHOLE[..cut], &[])? != Came::Damaged(98) {
+            return Ok(Some(cut));
+        }
+    }
+    Ok(None)
+}
+
 #[test]
 fn what_is_read(rt: HostRuntime) -> Result<(), Fail> {
-    for (image, came) in IMAGES {
-        expect_reading(&rt, image, &[], came)?;
-    }
-    for cut in 99..208 {
-        expect_reading(&rt, &WHOLE[..cut], &[], Came::Damaged(98))?;
-    }
+    assert_eq!(rt; misread(rt.alloc())?, None);
+    assert_eq!(rt; misread_cut(rt.alloc())?, None);
     Ok(())
 }
 
-/// Logging all orders fails where the call of this number does; the disk after it.
-fn failed_at(rt: &(impl Abort + AllocGlobal), call: u32) -> Result<MemDisk, Fail> {
-    let mut disk = MemDisk::new(rt.alloc(), &[], &[call])?;
-    assert!(rt; !log_all(rt.alloc(), &mut disk)?);
-    Ok(disk)
+/// Whether all orders are logged where the call of this number fails.
+fn is_logged(alloc: Global, call: u32) -> Result<bool, AllocError> {
+    let mut disk = MemDisk::new(alloc, &[], &[call])?;
+    log_all(alloc, &mut disk)
 }
 
-/// Of what such a stop leaves with this byte where any may be, so many batches are read.
-fn expect_batches(
-    rt: &(impl Abort + AllocGlobal),
-    disk: &MemDisk,
-    torn: u8,
-    batches: u32,
-) -> Result<(), Fail> {
-    let image = left(disk, 8, &[torn])?;
-    expect_reading(rt, image.as_slice(), &[], Came::Read(batches))
+/// The first call whose failure isn't told.
+fn untold(alloc: Global) -> Result<Option<u32>, AllocError> {
+    for call in 1..20 {
+        if is_logged(alloc, call)? {
+            return Ok(Some(call));
+        }
+    }
+    Ok(None)
+}
+
+/// The second sync of a commit fails, and there is a stop: what is read, with this byte where any may be.
+fn after_sync(alloc: Global, torn: u8) -> Result<Came, AllocError> {
+    let mut disk = MemDisk::new(alloc, &[], &[7])?;
+    log_all(alloc, &mut disk)?;
+    let image = left(&disk, 8, &[torn])?;
+    reading_of(alloc, image.as_slice(), &[])
 }
 
 #[test]
 fn calls_that_fail(rt: HostRuntime) -> Result<(), Fail> {
-    expect_reading(&rt, WHOLE, &[1], Came::Failed)?;
-    expect_reading(&rt, WHOLE, &[2], Came::Failed)?;
-    for call in 1..20 {
-        failed_at(&rt, call)?;
-    }
-    // The second sync of a commit: the batch may stand there or not.
-    let disk = failed_at(&rt, 7)?;
-    expect_batches(&rt, &disk, 0, 0)?;
-    expect_batches(&rt, &disk, 1, 1)
+    let alloc = rt.alloc();
+    assert!(rt; reading_of(alloc, WHOLE, &[1])? == Came::Failed);
+    assert!(rt; reading_of(alloc, WHOLE, &[2])? == Came::Failed);
+    assert_eq!(rt; untold(alloc)?, None);
+    // The batch may stand there or not.
+    assert!(rt; after_sync(alloc, 0)? == Came::Read(0));
+    assert!(rt; after_sync(alloc, 1)? == Came::Read(1));
+    Ok(())
 }

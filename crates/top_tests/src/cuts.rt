@@ -1,10 +1,11 @@
 //! A script that is cut off after each of its bytes.
-use crate::fixtures::run_alone;
+use crate::fixtures::run_script;
 use crate::stored::{FIRST_COMMAND, FIRST_TEXT};
 use script_text::Why;
+use std::alloc::{AllocError, Global};
 use std::process::Abort;
 use std::test::Fail;
-use yard_io::{MemSink, WholeSource};
+use yard_io::MemSink;
 use yard_top::Status;
 
 /// What comes of the front of a script.
@@ -62,43 +63,66 @@ const OUTCOMES: [(usize, Outcome); 25] = [
     (72, Outcome::Played(662, CONFIRMED)),
 ];
 
-/// Replays the front of a script of so many bytes, and compares what comes of it.
-fn expect_cut(rt: &(impl Abort + AllocGlobal), cut: usize, outcome: Outcome) -> Result<(), Fail> {
-    let alloc = rt.alloc();
-    assert!(rt; cut <= FIRST_COMMAND.len());
-    let mut source = WholeSource::new(alloc, &FIRST_COMMAND[..cut])?;
-    let mut sink = MemSink::new(alloc, &[])?;
-    let end = run_alone(alloc, &["replay"], &mut source, &mut sink)?;
+/// Whether a text is a front of the trace, so many bytes long, and this report.
+fn is_played(text: &[u8], trace: usize, report: &[u8]) -> bool {
+    let Some(front) = FIRST_TEXT.get(..trace) else {
+        return false;
+    };
+    text.starts_with(front)
+        && text.ends_with(report)
+        && text.len() == trace.saturating_add(report.len())
+}
+
+/// Whether this is what comes of a front.
+fn is_outcome(end: Status, text: &[u8], outcome: Outcome) -> bool {
     match outcome {
         Outcome::Played(trace, report) => {
-            assert_eq!(rt; end, Status::Ok, "cut at {cut}");
-            assert!(rt; trace <= FIRST_TEXT.len());
-            let text = sink.bytes();
-            assert!(rt; text.starts_with(&FIRST_TEXT[..trace]), "cut at {cut}");
-            assert!(rt; text.ends_with(report.as_bytes()), "cut at {cut}");
-            assert_eq!(rt;
-                text.len(),
-                trace.saturating_add(report.len()),
-                "cut at {cut}"
-            );
+            end == Status::Ok && is_played(text, trace, report.as_bytes())
         }
-        Outcome::Refused(line, why) => {
-            assert_eq!(rt; end, Status::Refused { line, why }, "cut at {cut}");
-            assert!(rt; sink.bytes().is_empty(), "cut at {cut}");
+        Outcome::Refused(line, why) => end == Status::Refused { line, why } && text.is_empty(),
+    }
+}
+
+/// Replays the front of a script of so many bytes: whether this comes of it.
+fn comes_to(alloc: Global, cut: usize, outcome: Outcome) -> Result<bool, AllocError> {
+    let Some(front) = FIRST_COMMAND.get(..cut) else {
+        return Ok(false);
+    };
+    let mut sink = MemSink::new(alloc, &[])?;
+    let end = run_script(alloc, &["replay"], front, &mut sink)?;
+    Ok(is_outcome(end, sink.bytes(), outcome))
+}
+
+/// Replays the front of each length from this one to that: the first of which this doesn't come.
+fn first_unlike(
+    alloc: Global,
+    from: usize,
+    last: usize,
+    outcome: Outcome,
+) -> Result<Option<usize>, AllocError> {
+    for cut in from..=last {
+        if !comes_to(alloc, cut, outcome)? {
+            return Ok(Some(cut));
         }
     }
-    Ok(())
+    Ok(None)
+}
+
+/// Replays the front of each length: how many there are, where each comes to its outcome. Err: the first that doesn't.
+fn count_fronts(alloc: Global) -> Result<Result<usize, usize>, AllocError> {
+    let mut next = 0;
+    for (last, outcome) in &OUTCOMES {
+        if let Some(cut) = first_unlike(alloc, next, *last, *outcome)? {
+            return Ok(Err(cut));
+        }
+        next = last.saturating_add(1);
+    }
+    Ok(Ok(next))
 }
 
 #[test]
 fn each_front_of_a_script(rt: HostRuntime) -> Result<(), Fail> {
-    let mut next = 0;
-    for (last, outcome) in OUTCOMES {
-        for cut in next..=last {
-            expect_cut(&rt, cut, outcome)?;
-        }
-        next = last.saturating_add(1);
-    }
-    assert_eq!(rt; next, FIRST_COMMAND.len().saturating_add(1));
+    let wanted = FIRST_COMMAND.len().saturating_add(1);
+    assert_eq!(rt; count_fronts(rt.alloc())?, Ok(wanted));
     Ok(())
 }

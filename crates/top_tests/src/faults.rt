@@ -1,11 +1,14 @@
 //! Runs whose reads, writes and flush fail, each in its turn.
-use crate::fixtures::{Drip, Nowhere, Trickle, run_alone};
+ghost use Rattle.std.specs.Prelude.{◌<◌};
+
+use crate::fixtures::{Drip, Nowhere, Trickle, run_alone, run_script};
 use crate::stored::{
     FIRST_COMMAND, FIRST_TEXT, ONE_COMMAND, ONE_DONE, ONE_INSTANCE, ONE_JOB, ONE_PING, ONE_RECORD,
 };
+use std::alloc::{AllocError, Global};
 use std::process::Abort;
 use std::test::Fail;
-use yard_io::{MemSink, MemSource, StdSink, WholeSource};
+use yard_io::{MemSink, MemSource, StdSink};
 use yard_top::Status;
 
 /// More calls than any run here makes.
@@ -21,97 +24,150 @@ const CASES: [Case<'static>; 4] = [
     (&["pull"], ONE_JOB, ONE_DONE),
 ];
 
-/// Runs a form again and again, and each time the next read fails, until none does. One byte comes of a read, so
-/// there is one for each byte, and one more that finds the end.
-fn fail_each_read(rt: &(impl Abort + AllocGlobal), case: Case<'_>) -> Result<(), Fail> {
-    let alloc = rt.alloc();
-    let (form, script, text) = case;
-    for done in 0..MOST_CALLS {
-        let mut source = Trickle(MemSource::new(alloc, script, &[done + 1])?);
-        let mut sink = MemSink::new(alloc, &[])?;
-        let end = run_alone(alloc, form, &mut source, &mut sink)?;
-        if end == Status::Ok {
-            assert!(rt; sink.bytes() == text);
-            assert_eq!(rt; done as usize, script.len().saturating_add(1));
-            return Ok(());
-        }
-        assert_eq!(rt; end, Status::ReadFault, "{form:?}, after {done} reads");
-        assert!(rt; sink.bytes().is_empty(), "{form:?}, after {done} reads");
-    }
-    panic!(rt; "{form:?}: a read failed in each run")
+/// How many calls of a form's run there are, where each fails in a run of its own as it is to. Err: how many calls
+/// went before the one that failed otherwise.
+type Calls = Result<usize, usize>;
+
+/// Runs a form over a source that gives one byte a read, where this read fails: how it ends.
+fn end_at_read(
+    alloc: Global,
+    case: Case<'_>,
+    call: u32,
+    sink: &mut MemSink,
+) -> Result<Status, AllocError> {
+    let mut source = Trickle(MemSource::new(alloc, case.1, &[call])?);
+    run_alone(alloc, case.0, &mut source, sink)
 }
 
-/// Runs a form again and again, and each time the next write or flush fails, until none does. One byte goes with a
-/// write, so there is one for each byte, and the flush.
-fn fail_each_write(rt: &(impl Abort + AllocGlobal), case: Case<'_>) -> Result<(), Fail> {
-    let alloc = rt.alloc();
-    let (form, script, text) = case;
-    for done in 0..MOST_CALLS {
-        let mut source = WholeSource::new(alloc, script)?;
-        let mut sink = Drip(MemSink::new(alloc, &[done + 1])?);
-        let end = run_alone(alloc, form, &mut source, &mut sink)?;
-        let taken = sink.0.bytes();
-        assert!(rt; text.starts_with(taken), "{form:?}, after {done} writes");
-        if end == Status::Ok {
-            assert_eq!(rt; taken.len(), text.len());
-            assert_eq!(rt; done as usize, text.len().saturating_add(1));
-            return Ok(());
-        }
-        assert_eq!(rt; end, Status::WriteFault, "{form:?}, after {done} writes");
-        assert_eq!(rt; taken.len(), done as usize, "{form:?}");
-    }
-    panic!(rt; "{form:?}: a write failed in each run")
+/// Runs it where the read after so many fails: how it ends, and whether it writes the whole text where it ends
+/// well, and else nothing.
+fn fail_read(alloc: Global, case: Case<'_>, done: u32) -> Result<(Status, bool), AllocError>
+    requires { done < 1000 }
+{
+    let mut sink = MemSink::new(alloc, &[])?;
+    let end = end_at_read(alloc, case, done + 1, &mut sink)?;
+    let wanted = if end == Status::Ok { case.2.len() } else { 0 };
+    Ok((end, Some(sink.bytes()) == case.2.get(..wanted)))
 }
 
-/// The same where a write takes the whole piece: the pieces are what the program makes of its text, and before the
-/// last call, the flush, all of it was taken.
-fn fail_each_piece(rt: &(impl Abort + AllocGlobal), case: Case<'_>) -> Result<(), Fail> {
-    let alloc = rt.alloc();
-    let (form, script, text) = case;
+/// Runs a form again and again, and each time the next read fails, until none does.
+fn count_reads(alloc: Global, case: Case<'_>) -> Result<Calls, AllocError> {
+    for done in 0..MOST_CALLS {
+        match fail_read(alloc, case, done)? {
+            (Status::Ok, true) => return Ok(Ok(done as usize)),
+            (Status::ReadFault, true) => {}
+            _ => return Ok(Err(done as usize)),
+        }
+    }
+    Ok(Err(MOST_CALLS as usize))
+}
+
+/// Runs a form over a sink that takes one byte a write, where the write or flush after so many fails: how it ends,
+/// and whether it writes the whole text where it ends well, and else as many bytes of it as there were writes.
+fn fail_write(alloc: Global, case: Case<'_>, done: u32) -> Result<(Status, bool), AllocError>
+    requires { done < 1000 }
+{
+    let mut sink = Drip(MemSink::new(alloc, &[done + 1])?);
+    let end = run_script(alloc, case.0, case.1, &mut sink)?;
+    let wanted = if end == Status::Ok {
+        case.2.len()
+    } else {
+        done as usize
+    };
+    Ok((end, Some(sink.0.bytes()) == case.2.get(..wanted)))
+}
+
+/// Runs a form again and again, and each time the next write or flush fails, until none does.
+fn count_writes(alloc: Global, case: Case<'_>) -> Result<Calls, AllocError> {
+    for done in 0..MOST_CALLS {
+        match fail_write(alloc, case, done)? {
+            (Status::Ok, true) => return Ok(Ok(done as usize)),
+            (Status::WriteFault, true) => {}
+            _ => return Ok(Err(done as usize)),
+        }
+    }
+    Ok(Err(MOST_CALLS as usize))
+}
+
+/// How many bytes these are, where they are a front of the text.
+fn length_of_front(text: &[u8], bytes: &[u8]) -> Option<usize> {
+    if text.starts_with(bytes) {
+        Some(bytes.len())
+    } else {
+        None
+    }
+}
+
+/// Runs a form over a sink that takes whole pieces, where the write or flush after so many fails: how it ends, and
+/// how long a front of the text it writes.
+fn fail_piece(
+    alloc: Global,
+    case: Case<'_>,
+    done: u32,
+) -> Result<(Status, Option<usize>), AllocError>
+    requires { done < 1000 }
+{
+    let mut sink = MemSink::new(alloc, &[done + 1])?;
+    let end = run_script(alloc, case.0, case.1, &mut sink)?;
+    Ok((end, length_of_front(case.2, sink.bytes())))
+}
+
+/// Runs a form again and again, and each time the next piece or the flush fails, until none does: how many bytes
+/// were taken before the last call, the flush. Err: of a run that ended otherwise, or took less than one before.
+fn taken_in_pieces(alloc: Global, case: Case<'_>) -> Result<Calls, AllocError> {
     let mut before = 0;
     for done in 0..MOST_CALLS {
-        let mut source = WholeSource::new(alloc, script)?;
-        let mut sink = MemSink::new(alloc, &[done + 1])?;
-        let end = run_alone(alloc, form, &mut source, &mut sink)?;
-        let taken = sink.bytes();
-        assert!(rt; text.starts_with(taken), "{form:?}, after {done} writes");
-        assert!(rt; before <= taken.len(), "{form:?}, after {done} writes");
-        if end == Status::Ok {
-            assert_eq!(rt; before, text.len());
-            return Ok(());
+        match fail_piece(alloc, case, done)? {
+            (Status::Ok, Some(taken)) if before <= taken => return Ok(Ok(before)),
+            (Status::WriteFault, Some(taken)) if before <= taken => before = taken,
+            _ => return Ok(Err(done as usize)),
         }
-        assert_eq!(rt; end, Status::WriteFault, "{form:?}, after {done} writes");
-        before = taken.len();
     }
-    panic!(rt; "{form:?}: a write failed in each run")
+    Ok(Err(MOST_CALLS as usize))
 }
 
+/// One byte comes of a read, so there is one for each byte, and one more that finds the end.
 #[test]
 fn each_read_fails_in_turn(rt: HostRuntime) -> Result<(), Fail> {
-    for case in CASES {
-        fail_each_read(&rt, case)?;
+    for case in &CASES {
+        let wanted = case.1.len().saturating_add(1);
+        assert_eq!(rt; count_reads(rt.alloc(), *case)?, Ok(wanted));
     }
     Ok(())
 }
 
+/// One byte goes with a write, so there is one for each byte, and the flush.
 #[test]
 fn each_write_fails_in_turn(rt: HostRuntime) -> Result<(), Fail> {
-    for case in CASES {
-        fail_each_write(&rt, case)?;
-        fail_each_piece(&rt, case)?;
+    for case in &CASES {
+        let wanted = case.2.len().saturating_add(1);
+        assert_eq!(rt; count_writes(rt.alloc(), *case)?, Ok(wanted));
     }
     Ok(())
+}
+
+/// Where a write takes the whole piece, the pieces are what the program makes of its text, and before the flush all
+/// of it was taken.
+#[test]
+fn each_piece_fails_in_turn(rt: HostRuntime) -> Result<(), Fail> {
+    for case in &CASES {
+        assert_eq!(rt; taken_in_pieces(rt.alloc(), *case)?, Ok(case.2.len()));
+    }
+    Ok(())
+}
+
+/// Runs a form over a writer that takes nothing: how it ends, and how often the sink failed.
+fn end_nowhere(alloc: Global, form: &[&str], script: &[u8]) -> Result<(Status, u64), AllocError> {
+    let mut sink = StdSink::new(alloc, Nowhere)?;
+    let end = run_script(alloc, form, script, &mut sink)?;
+    Ok((end, sink.faults()))
 }
 
 #[test]
 fn nothing_is_taken(rt: HostRuntime) -> Result<(), Fail> {
-    let alloc = rt.alloc();
-    for (form, script, _) in CASES {
-        let mut source = WholeSource::new(alloc, script)?;
-        let mut sink = StdSink::new(alloc, Nowhere)?;
-        let end = run_alone(alloc, form, &mut source, &mut sink)?;
-        assert_eq!(rt; end, Status::WriteFault, "{form:?}");
-        assert_eq!(rt; sink.faults(), 1, "{form:?}");
+    for (form, script, _) in &CASES {
+        let (end, faults) = end_nowhere(rt.alloc(), form, script)?;
+        assert!(rt; end == Status::WriteFault && faults == 1, "{form:?}");
     }
     Ok(())
 }

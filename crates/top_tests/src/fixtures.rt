@@ -3,7 +3,7 @@ use disk_log::{Disk, MemDisk};
 use std::alloc::{AllocError, Global};
 use std::io;
 use std::io::Write;
-use yard_io::{Failed, MemSink, MemSource, Sink, Source};
+use yard_io::{Failed, MemSink, MemSource, Sink, Source, WholeSource};
 use yard_top::{Status, sharder_alone};
 
 /// These words.
@@ -37,6 +37,17 @@ pub(crate) fn run_alone<S: Source, K: Sink>(
 ) -> Result<Status, AllocError> {
     let mut disk = MemDisk::new(alloc, &[], &[])?;
     run_on(alloc, form, source, sink, &mut disk)
+}
+
+/// Runs a form of one thread on this script over an empty disk.
+pub(crate) fn run_script<K: Sink>(
+    alloc: Global,
+    form: &[&str],
+    script: &[u8],
+    sink: &mut K,
+) -> Result<Status, AllocError> {
+    let mut source = WholeSource::new(alloc, script)?;
+    run_alone(alloc, form, &mut source, sink)
 }
 
 /// A source that gives one byte a call.

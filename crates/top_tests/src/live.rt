@@ -1,6 +1,6 @@
 //! Nodes as threads: what every run of a script comes to, and runs whose reads and writes fail.
 use crate::fixtures::{Counted, Drip, run_alone, words_of};
-use crate::meeting::{LOOKS, Meeting};
+use crate::meeting::{LOOKS, Meeting, Side};
 use script_text::Why;
 use std::alloc::{AllocError, Global};
 use std::process::Abort;
@@ -73,6 +73,18 @@ fn run<R: Threads + Wait + Sync, S: Source, K: Sink>(
     run_at(rt, alloc, form, source, sink, &FreeGate)
 }
 
+/// Runs the program on these words and the script of two producers, at this gate.
+fn run_two<R: Threads + Wait + Sync, K: Sink, G: Gate + Sync>(
+    rt: &R,
+    alloc: Global,
+    form: &[&str],
+    sink: &mut K,
+    gate: &G,
+) -> Result<Status, AllocError> {
+    let mut source = WholeSource::new(alloc, TWO_PRODUCERS)?;
+    run_at(rt, alloc, form, &mut source, sink, gate)
+}
+
 /// Whether this is a line of the text.
 fn has_line(text: &str, line: &str) -> bool {
     text.lines().any(|one| one == line)
@@ -90,93 +102,124 @@ fn line_after<'a>(text: &'a str, start: &str) -> Option<&'a str> {
     None
 }
 
-#[test]
-fn each_run_comes_to_this(rt: HostRuntime) -> Result<(), Fail> {
-    let alloc = rt.alloc();
-    let mut source = WholeSource::new(alloc, TWO_PRODUCERS)?;
-    let mut sink = MemSink::new(alloc, &[])?;
-    let form = ["live", "2000", "7"];
-    let end = run(&rt, alloc, &form, &mut source, &mut sink)?;
-    assert_eq!(rt; end, Status::Ok);
-    let text = str::from_utf8(sink.bytes())?;
-    for line in REPORTED {
-        assert!(rt; has_line(text, line), "no line {line} in\n{text}");
-    }
-    // Producer 2 is on node 2 alone.
-    let first = line_after(text, "slot queue:2 ").ok_or("a list")?;
-    assert_eq!(rt; first, "granted queue:2 1 2.1");
-    Ok(())
+/// Whether the queue of producer 2 begins on node 2, where the producer is.
+fn begins_on_second(text: &str) -> bool {
+    line_after(text, "slot queue:2 ") == Some("granted queue:2 1 2.1")
 }
 
-/// Runs the program for so many turns with this seed, at this gate; what it writes.
-fn written_at<R: Threads + Wait + Sync + Abort, G: Gate + Sync>(
+/// The report is to say what it says at every run.
+fn expect_reported(rt: &impl Abort, text: &str) {
+    for line in &REPORTED {
+        assert!(rt; has_line(text, line), "no line {line} in\n{text}");
+    }
+    assert!(rt; begins_on_second(text));
+}
+
+/// Runs the program for so many turns with this seed, at this gate, which is to end well.
+fn run_well<R: Threads + Wait + Sync + Abort, G: Gate + Sync>(
     rt: &R,
     alloc: Global,
     turns: &str,
     seed: &str,
+    sink: &mut MemSink,
     gate: &G,
-) -> Result<MemSink, Fail> {
-    let mut source = WholeSource::new(alloc, TWO_PRODUCERS)?;
+) -> Result<(), AllocError> {
+    let end = run_two(rt, alloc, &["live", turns, seed], sink, gate)?;
+    assert!(rt; end == Status::Ok, "seed {seed}: {end:?}");
+    Ok(())
+}
+
+#[test]
+fn each_run_comes_to_this(rt: HostRuntime) -> Result<(), Fail> {
+    let mut sink = MemSink::new(rt.alloc(), &[])?;
+    run_well(&rt, rt.alloc(), "2000", "7", &mut sink, &FreeGate)?;
+    expect_reported(&rt, str::from_utf8(sink.bytes())?);
+    Ok(())
+}
+
+/// Runs the program at this gate: whether the queue of producer 2 begins on node 2.
+fn second_at<R: Threads + Wait + Sync + Abort>(
+    rt: &R,
+    alloc: Global,
+    gate: &Meeting,
+) -> Result<bool, AllocError> {
     let mut sink = MemSink::new(alloc, &[])?;
-    let end = run_at(
-        rt,
-        alloc,
-        &["live", turns, seed],
-        &mut source,
-        &mut sink,
-        gate,
-    )?;
-    assert_eq!(rt; end, Status::Ok, "seed {seed}");
-    Ok(sink)
+    run_well(rt, alloc, "2000", "7", &mut sink, gate)?;
+    match str::from_utf8(sink.bytes()) {
+        Ok(text) => Ok(begins_on_second(text)),
+        Err(_) => Ok(false),
+    }
+}
+
+/// Whether a node came to its fifth turn, and no wait of it was too long.
+fn has_met(side: &Side) -> bool {
+    side.turn() >= 5 && side.longest() < LOOKS
 }
 
 /// The turns of the nodes overlap: at its fifth turn each waits until the other has come to its own.
 #[test]
 fn two_nodes_run_at_once(rt: HostRuntime) -> Result<(), Fail> {
     let gate = Meeting::at(5, 5);
-    let sink = written_at(&rt, rt.alloc(), "2000", "7", &gate)?;
-    let text = str::from_utf8(sink.bytes())?;
-    for side in [&gate.first, &gate.second] {
-        assert!(rt; side.turn() >= 5);
-        assert!(rt; side.longest() < LOOKS);
-    }
-    let first = line_after(text, "slot queue:2 ").ok_or("a list")?;
-    assert_eq!(rt; first, "granted queue:2 1 2.1");
+    assert!(rt; second_at(&rt, rt.alloc(), &gate)?);
+    assert!(rt; has_met(&gate.first));
+    assert!(rt; has_met(&gate.second));
     Ok(())
+}
+
+/// Whether both regions are registered.
+fn has_both(bytes: &[u8]) -> bool {
+    match str::from_utf8(bytes) {
+        Ok(text) => has_line(text, "registered 1.1") && has_line(text, "registered 2.1"),
+        Err(_) => false,
+    }
+}
+
+/// Runs the program at a gate at which the nodes go side by side: whether both regions are registered by turns alone.
+fn are_registered<R: Threads + Wait + Sync + Abort>(
+    rt: &R,
+    alloc: Global,
+    seed: &str,
+    gate: &Meeting,
+) -> Result<bool, AllocError> {
+    let mut sink = MemSink::new(alloc, &[])?;
+    run_well(rt, alloc, "200", seed, &mut sink, gate)?;
+    Ok(has_both(sink.bytes()))
+}
+
+/// Of how many seeds that is so.
+fn count_registered<R: Threads + Wait + Sync + Abort>(
+    rt: &R,
+    alloc: Global,
+) -> Result<u32, AllocError> {
+    let mut count: u32 = 0;
+    for seed in &["1", "2", "3", "4", "5", "6", "7", "8"] {
+        let gate = Meeting::at(1, 200);
+        if are_registered(rt, alloc, seed, &gate)? {
+            count = count.saturating_add(1);
+        }
+    }
+    Ok(count)
 }
 
 /// Nodes that go side by side take one another's packets: in some run both regions are registered by turns alone.
 #[test]
 fn each_node_registers_with_the_other(rt: HostRuntime) -> Result<(), Fail> {
-    let mut count: u32 = 0;
-    for seed in ["1", "2", "3", "4", "5", "6", "7", "8"] {
-        let gate = Meeting::at(1, 200);
-        let sink = written_at(&rt, rt.alloc(), "200", seed, &gate)?;
-        let text = str::from_utf8(sink.bytes())?;
-        if has_line(text, "registered 1.1") && has_line(text, "registered 2.1") {
-            count = count.saturating_add(1);
-        }
-    }
-    assert!(rt; count > 0);
+    assert!(rt; count_registered(&rt, rt.alloc())? > 0);
     Ok(())
 }
 
 /// How many seeds are tried.
 const SEEDS: u32 = 32;
 
-/// What a run of so many turns with this seed writes.
-fn written<R: Threads + Wait + Sync + Abort>(
+/// Runs the program with this seed, which is to end well.
+fn run_seed<R: Threads + Wait + Sync + Abort>(
     rt: &R,
     alloc: Global,
     seed: u32,
-) -> Result<MemSink, Fail> {
+    sink: &mut MemSink,
+) -> Result<(), AllocError> {
     let word = format!(in alloc; "{seed}")?;
-    let mut source = WholeSource::new(alloc, TWO_PRODUCERS)?;
-    let mut sink = MemSink::new(alloc, &[])?;
-    let form = ["live", "500", word.as_str()];
-    let end = run(rt, alloc, &form, &mut source, &mut sink)?;
-    assert_eq!(rt; end, Status::Ok, "seed {seed}");
-    Ok(sink)
+    run_well(rt, alloc, "500", word.as_str(), sink, &FreeGate)
 }
 
 /// The lines from `report` on.
@@ -208,8 +251,8 @@ fn is_same_line(one: &str, other: &str) -> bool {
     others.next().is_none()
 }
 
-/// Whether two reports are the same, but for the epochs.
-fn is_same_report(one: &[&str], other: &[&str]) -> bool {
+/// Whether two reports have the same lines, but for the epochs.
+fn are_same_lines(one: &[&str], other: &[&str]) -> bool {
     if one.len() != other.len() {
         return false;
     }
@@ -218,129 +261,190 @@ fn is_same_report(one: &[&str], other: &[&str]) -> bool {
         .all(|(x, y)| is_same_line(x, y))
 }
 
+/// Whether two texts have the same report, but for the epochs.
+fn is_same_report(alloc: Global, one: &str, other: &str) -> Result<bool, AllocError> {
+    let report = report_of(alloc, one)?;
+    let next = report_of(alloc, other)?;
+    Ok(are_same_lines(report.as_slice(), next.as_slice()))
+}
+
+/// Whether a run with this seed reports the same as this text.
+fn reports_the_same<R: Threads + Wait + Sync + Abort>(
+    rt: &R,
+    alloc: Global,
+    seed: u32,
+    text: &str,
+) -> Result<bool, Fail> {
+    let mut sink = MemSink::new(alloc, &[])?;
+    run_seed(rt, alloc, seed, &mut sink)?;
+    Ok(is_same_report(alloc, text, str::from_utf8(sink.bytes())?)?)
+}
+
+/// The first seed of the others whose run reports something else than this text.
+fn first_other<R: Threads + Wait + Sync + Abort>(
+    rt: &R,
+    alloc: Global,
+    text: &str,
+) -> Result<Option<u32>, Fail> {
+    for seed in 2..SEEDS + 1 {
+        if !reports_the_same(rt, alloc, seed, text)? {
+            return Ok(Some(seed));
+        }
+    }
+    Ok(None)
+}
+
 #[test]
 fn each_seed_reports_the_same(rt: HostRuntime) -> Result<(), Fail> {
-    let alloc = rt.alloc();
-    let first = written(&rt, alloc, 1)?;
-    let report = report_of(alloc, str::from_utf8(first.bytes())?)?;
-    for seed in 2..SEEDS + 1 {
-        let next = written(&rt, alloc, seed)?;
-        let other = report_of(alloc, str::from_utf8(next.bytes())?)?;
-        assert!(rt;
-            is_same_report(report.as_slice(), other.as_slice()),
-            "seed {seed}"
-        );
+    let mut sink = MemSink::new(rt.alloc(), &[])?;
+    run_seed(&rt, rt.alloc(), 1, &mut sink)?;
+    let other = first_other(&rt, rt.alloc(), str::from_utf8(sink.bytes())?)?;
+    assert_eq!(rt; other, None);
+    Ok(())
+}
+
+/// Runs the program whose sink takes one byte a call, and this call fails: how it ends, and how many bytes it wrote.
+fn fail_a_byte<R: Threads + Wait + Sync>(
+    rt: &R,
+    alloc: Global,
+    call: u32,
+) -> Result<(Status, usize), AllocError> {
+    let mut sink = Drip(MemSink::new(alloc, &[call])?);
+    let end = run_two(rt, alloc, &["live", "50", "1"], &mut sink, &FreeGate)?;
+    Ok((end, sink.0.bytes().len()))
+}
+
+#[test]
+fn a_byte_is_not_taken(rt: HostRuntime) -> Result<(), Fail> {
+    for done in 0..RUNS {
+        let (end, taken) = fail_a_byte(&rt, rt.alloc(), done + 1)?;
+        let is_wanted = end == Status::WriteFault && taken == done as usize;
+        assert!(rt; is_wanted, "after {done} bytes");
     }
     Ok(())
 }
 
-/// Runs a script whose sink takes one byte a call, and this call fails.
-fn fail_a_byte<R: Threads + Wait + Sync + Abort>(
+/// Runs the program whose sink takes whole pieces, and this call fails, if it comes: how it ends, how many calls
+/// there were, and whether a whole report was written.
+fn fail_a_piece<R: Threads + Wait + Sync>(
     rt: &R,
     alloc: Global,
     call: u32,
-) -> Result<(), Fail> {
-    let mut source = WholeSource::new(alloc, TWO_PRODUCERS)?;
-    let mut sink = Drip(MemSink::new(alloc, &[call])?);
-    let end = run(rt, alloc, &["live", "50", "1"], &mut source, &mut sink)?;
-    assert_eq!(rt; end, Status::WriteFault, "call {call}");
-    assert_eq!(rt; sink.0.bytes().len().saturating_add(1), call as usize);
-    Ok(())
-}
-
-/// Runs a script whose sink takes whole pieces, and this call fails, if it comes.
-fn fail_a_piece<R: Threads + Wait + Sync + Abort>(
-    rt: &R,
-    alloc: Global,
-    call: u32,
-) -> Result<(), Fail> {
-    let mut source = WholeSource::new(alloc, TWO_PRODUCERS)?;
+) -> Result<(Status, u32, bool), AllocError> {
     let mut sink = Counted {
         sink: MemSink::new(alloc, &[call])?,
         calls: 0,
     };
-    let end = run(rt, alloc, &["live", "50", "1"], &mut source, &mut sink)?;
-    let wanted = if call <= sink.calls {
-        Status::WriteFault
-    } else {
-        Status::Ok
-    };
-    assert_eq!(rt; end, wanted, "call {call} of {}", sink.calls);
-    if end == Status::Ok {
-        assert!(rt; sink.sink.bytes().ends_with(b"\nend\n"));
+    let end = run_two(rt, alloc, &["live", "50", "1"], &mut sink, &FreeGate)?;
+    let is_whole = sink.sink.bytes().ends_with(b"\nend\n");
+    Ok((end, sink.calls, is_whole))
+}
+
+#[test]
+fn a_piece_is_not_taken(rt: HostRuntime) -> Result<(), Fail> {
+    for done in 0..RUNS {
+        let (end, calls, is_whole) = fail_a_piece(&rt, rt.alloc(), done + 1)?;
+        let wanted = if done < calls {
+            Status::WriteFault
+        } else {
+            Status::Ok
+        };
+        let is_wanted = end == wanted && (is_whole || end != Status::Ok);
+        assert!(rt; is_wanted, "after {done} calls of {calls}");
     }
     Ok(())
 }
 
-#[test]
-fn a_write_fails(rt: HostRuntime) -> Result<(), Fail> {
-    for done in 0..RUNS {
-        fail_a_byte(&rt, rt.alloc(), done + 1)?;
-        fail_a_piece(&rt, rt.alloc(), done + 1)?;
-    }
-    Ok(())
+/// Runs the program whose source fails at this call: how it ends.
+fn end_at_read<R: Threads + Wait + Sync>(
+    rt: &R,
+    alloc: Global,
+    call: u32,
+    sink: &mut MemSink,
+) -> Result<Status, AllocError> {
+    let mut source = MemSource::new(alloc, TWO_PRODUCERS, &[call])?;
+    run(rt, alloc, &["live", "50", "1"], &mut source, sink)
 }
 
 #[test]
 fn a_read_fails(rt: HostRuntime) -> Result<(), Fail> {
-    let alloc = rt.alloc();
-    for call in [1, 2] {
-        let mut source = MemSource::new(alloc, TWO_PRODUCERS, &[call])?;
-        let mut sink = MemSink::new(alloc, &[])?;
-        let end = run(&rt, alloc, &["live", "50", "1"], &mut source, &mut sink)?;
-        assert_eq!(rt; end, Status::ReadFault, "call {call}");
-        assert!(rt; sink.bytes().is_empty(), "call {call}");
+    let mut sink = MemSink::new(rt.alloc(), &[])?;
+    let first = end_at_read(&rt, rt.alloc(), 1, &mut sink)?;
+    let second = end_at_read(&rt, rt.alloc(), 2, &mut sink)?;
+    assert!(rt; first == Status::ReadFault && second == Status::ReadFault);
+    assert!(rt; sink.bytes().is_empty());
+    Ok(())
+}
+
+/// Words that are no form.
+const NO_FORMS: [&[&str]; 8] = [
+    &["live"],
+    &["live", "1"],
+    &["live", "0", "1"],
+    &["live", "100001", "1"],
+    &["live", "1", "4294967296"],
+    &["live", "1", "-1"],
+    &["live", "", "1"],
+    &["live", "1", "1", "1"],
+];
+
+/// They are to be answered by Usage.
+fn expect_usage<R: Threads + Wait + Sync + Abort>(
+    rt: &R,
+    alloc: Global,
+    source: &mut WholeSource,
+    sink: &mut MemSink,
+) -> Result<(), AllocError> {
+    for form in &NO_FORMS {
+        let end = run(rt, alloc, form, source, sink)?;
+        assert!(rt; end == Status::Usage, "{form:?}");
     }
+    // Where one thread alone is asked for, `live` is no form.
+    let end = run_alone(alloc, &["live", "1", "1"], source, sink)?;
+    assert!(rt; end == Status::Usage);
     Ok(())
 }
 
 #[test]
 fn words_that_are_no_run(rt: HostRuntime) -> Result<(), Fail> {
-    let alloc = rt.alloc();
-    let mut source = WholeSource::new(alloc, b"config\n")?;
-    let mut sink = MemSink::new(alloc, &[])?;
-    let forms: [&[&str]; 8] = [
-        &["live"],
-        &["live", "1"],
-        &["live", "0", "1"],
-        &["live", "100001", "1"],
-        &["live", "1", "4294967296"],
-        &["live", "1", "-1"],
-        &["live", "", "1"],
-        &["live", "1", "1", "1"],
-    ];
-    for form in forms {
-        let end = run(&rt, alloc, form, &mut source, &mut sink)?;
-        assert_eq!(rt; end, Status::Usage, "{form:?}");
-    }
-    // Where one thread alone is asked for, `live` is no form.
-    let end = run_alone(alloc, &["live", "1", "1"], &mut source, &mut sink)?;
-    assert_eq!(rt; end, Status::Usage);
+    let mut source = WholeSource::new(rt.alloc(), b"config\n")?;
+    let mut sink = MemSink::new(rt.alloc(), &[])?;
+    expect_usage(&rt, rt.alloc(), &mut source, &mut sink)?;
     assert!(rt; sink.bytes().is_empty());
     // Nothing was read: the script is there yet.
-    let end = run(&rt, alloc, &["live", "1", "1"], &mut source, &mut sink)?;
+    let form = ["live", "1", "1"];
+    let end = run(&rt, rt.alloc(), &form, &mut source, &mut sink)?;
     assert_eq!(rt; end, Status::Ok);
     Ok(())
 }
 
+/// Runs the program on this script: how it ends, and how many bytes it writes.
+fn end_of<R: Threads + Wait + Sync>(
+    rt: &R,
+    alloc: Global,
+    script: &[u8],
+) -> Result<(Status, usize), AllocError> {
+    let mut source = WholeSource::new(alloc, script)?;
+    let mut sink = MemSink::new(alloc, &[])?;
+    let end = run(rt, alloc, &["live", "2000", "7"], &mut source, &mut sink)?;
+    Ok((end, sink.bytes().len()))
+}
+
 #[test]
 fn orders_that_no_thread_takes(rt: HostRuntime) -> Result<(), Fail> {
-    let alloc = rt.alloc();
     let scripts: [&[u8]; 3] = [
         b"config nodes=2\nup 1\ndeliver 1\n",
         b"config\n\npump 1\n",
         b"# No write of a store fails.\nconfig\nfailwrite a kept\n",
     ];
-    for script in scripts {
-        let mut source = WholeSource::new(alloc, script)?;
-        let mut sink = MemSink::new(alloc, &[])?;
-        let end = run(&rt, alloc, &["live", "2000", "7"], &mut source, &mut sink)?;
-        let refused = Status::Refused {
-            line: 3,
-            why: Why::WrongMode,
-        };
+    let refused = Status::Refused {
+        line: 3,
+        why: Why::WrongMode,
+    };
+    for script in &scripts {
+        let (end, written) = end_of(&rt, rt.alloc(), script)?;
         assert_eq!(rt; end, refused);
-        assert!(rt; sink.bytes().is_empty());
+        assert_eq!(rt; written, 0);
     }
     Ok(())
 }

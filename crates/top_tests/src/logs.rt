@@ -1,5 +1,7 @@
 //! `log` and `resume` over a disk in memory: known images, a crash before each call, and calls that fail in turn.
-use crate::fixtures::{run_alone, run_on};
+ghost use Rattle.std.specs.Prelude.{◌<◌};
+
+use crate::fixtures::{run_on, run_script};
 use crate::stored::{
     FIRST_COMMAND, FIRST_LOG, FIRST_TEXT, MOVED_COMMAND, OTHER_COMMAND, RESUMED_EMPTY,
     RESUMED_GRANT, RESUMED_QUEUED,
@@ -14,19 +16,29 @@ use yard_top::Status;
 /// More calls than any run here makes.
 const MOST_CALLS: u32 = 1_000;
 
-/// What came of a run over a disk.
-#[derive(Drop)]
-struct Came {
-    end: Status,
-    sink: MemSink,
+/// Runs `log` or `resume` on a script over this disk: how it ends.
+fn end_on(
+    alloc: Global,
+    word: &str,
+    script: &[u8],
+    disk: &mut MemDisk,
+    sink: &mut MemSink,
+) -> Result<Status, AllocError> {
+    let mut source = WholeSource::new(alloc, script)?;
+    run_on(alloc, &[word], &mut source, sink, disk)
 }
 
-/// Runs `log` or `resume` on a script over this disk.
-fn ran(alloc: Global, word: &str, script: &[u8], disk: &mut MemDisk) -> Result<Came, AllocError> {
-    let mut source = WholeSource::new(alloc, script)?;
+/// The same, and whether it writes this text.
+fn ran(
+    alloc: Global,
+    word: &str,
+    script: &[u8],
+    disk: &mut MemDisk,
+    text: &[u8],
+) -> Result<(Status, bool), AllocError> {
     let mut sink = MemSink::new(alloc, &[])?;
-    let end = run_on(alloc, &[word], &mut source, &mut sink, disk)?;
-    Ok(Came { end, sink })
+    let end = end_on(alloc, word, script, disk, &mut sink)?;
+    Ok((end, sink.bytes() == text))
 }
 
 /// A word, a script, what the disk has, and the status and the text that come of it.
@@ -107,35 +119,47 @@ const CASES: [Case<'static>; 10] = [
     ("log", FIRST_COMMAND, b"\x00", Status::LogThere, b""),
 ];
 
-/// How many calls a disk had, where they were few.
-fn calls_of(rt: &impl Abort, disk: &MemDisk) -> u32 {
+/// Whether this is what a crash leaves after all calls, of which there were few.
+fn is_left(disk: &MemDisk, image: &[u8]) -> Result<bool, AllocError> {
     let calls = disk.calls();
-    assert!(rt; calls < 1_000);
-    calls as u32
+    if calls >= 1_000 {
+        return Ok(false);
+    }
+    let left = disk.image(calls as u32 + 1, &[])?;
+    Ok(left.as_slice() == image)
 }
 
-/// What a crash leaves after all calls, of which there were few.
-fn left(rt: &impl Abort, disk: &MemDisk) -> Result<Vec<u8>, AllocError> {
-    let calls = disk.calls();
-    assert!(rt; calls < 1_000);
-    disk.image(calls as u32 + 1, &[])
+/// Carries a case out: how it ends, whether it writes its text, and whether it leaves this image.
+fn carried_out(
+    alloc: Global,
+    case: Case<'_>,
+    image: &[u8],
+) -> Result<(Status, bool, bool), AllocError> {
+    let (word, script, before, _, text) = case;
+    let mut disk = MemDisk::new(alloc, before, &[])?;
+    let (end, is_text) = ran(alloc, word, script, &mut disk, text)?;
+    let is_left = is_left(&disk, image)?;
+    Ok((end, is_text, is_left))
+}
+
+/// A case is to come to its status and its text, and to leave this image.
+fn expect_case(
+    rt: &(impl Abort + AllocGlobal),
+    case: Case<'_>,
+    image: &[u8],
+) -> Result<(), AllocError> {
+    let (end, is_text, is_left) = carried_out(rt.alloc(), case, image)?;
+    assert_eq!(rt; end, case.3);
+    assert!(rt; is_text && is_left);
+    Ok(())
 }
 
 #[test]
 fn known_logs(rt: HostRuntime) -> Result<(), Fail> {
-    let alloc = rt.alloc();
-    let mut disk = MemDisk::new(alloc, &[], &[])?;
-    let run = ran(alloc, "log", FIRST_COMMAND, &mut disk)?;
-    assert_eq!(rt; run.end, Status::Ok);
-    assert!(rt; run.sink.bytes() == FIRST_TEXT);
-    let image = left(&rt, &disk)?;
-    assert!(rt; image.as_slice() == FIRST_LOG);
-    for (word, script, image, end, text) in CASES {
-        let mut disk = MemDisk::new(alloc, image, &[])?;
-        let run = ran(alloc, word, script, &mut disk)?;
-        assert_eq!(rt; run.end, end);
-        assert!(rt; run.sink.bytes() == text);
-        assert!(rt; left(&rt, &disk)?.as_slice() == image);
+    let first: Case<'_> = ("log", FIRST_COMMAND, b"", Status::Ok, FIRST_TEXT);
+    expect_case(&rt, first, FIRST_LOG)?;
+    for case in &CASES {
+        expect_case(&rt, *case, case.2)?;
     }
     Ok(())
 }
@@ -175,106 +199,199 @@ fn first_report(text: &[u8]) -> Option<usize> {
     None
 }
 
-/// Goes on from what a crash before this call leaves, with these bytes where any may be: which report comes first.
-/// The last one has each command confirmed.
+/// Which report comes first in the text of a run, which is to end well and to have each command confirmed.
+fn report_in(end: Status, text: &[u8], confirmed: &[u8]) -> Option<usize> {
+    if end != Status::Ok || !text.ends_with(confirmed) {
+        return None;
+    }
+    first_report(text)
+}
+
+/// Goes on from this image: which report comes first.
 fn resumed(
-    rt: &(impl Abort + AllocGlobal),
+    alloc: Global,
+    script: &[u8],
+    image: &[u8],
+    confirmed: &[u8],
+) -> Result<Option<usize>, AllocError> {
+    let mut disk = MemDisk::new(alloc, image, &[])?;
+    let mut sink = MemSink::new(alloc, &[])?;
+    let end = end_on(alloc, "resume", script, &mut disk, &mut sink)?;
+    Ok(report_in(end, sink.bytes(), confirmed))
+}
+
+/// Goes on from what a crash before this call leaves, with these bytes where any may be: which report comes first.
+fn crashed(
+    alloc: Global,
     script: &[u8],
     disk: &MemDisk,
     call: u32,
     torn: &[u8],
     confirmed: &[u8],
-) -> Result<usize, Fail> {
-    let alloc = rt.alloc();
-    assert!(rt; 0 < call && call as usize <= disk.calls().saturating_add(1));
+) -> Result<Option<usize>, AllocError>
+    requires { 0 < call }
+{
+    if call as usize - 1 > disk.calls() {
+        return Ok(None);
+    }
     let image = disk.image(call, torn)?;
-    let mut left = MemDisk::new(alloc, image.as_slice(), &[])?;
-    let run = ran(alloc, "resume", script, &mut left)?;
-    assert_eq!(rt; run.end, Status::Ok, "before call {call}");
-    assert!(rt; run.sink.bytes().ends_with(confirmed), "before call {call}");
-    match first_report(run.sink.bytes()) {
-        Some(k) => Ok(k),
-        None => panic!(rt; "before call {call}: no report of a front"),
+    resumed(alloc, script, image.as_slice(), confirmed)
+}
+
+/// The same for three kinds of bytes, each with at least this report: which the last one has.
+fn crashed_before(
+    alloc: Global,
+    script: &[u8],
+    disk: &MemDisk,
+    call: u32,
+    confirmed: &[u8],
+    least: usize,
+) -> Result<Option<usize>, AllocError>
+    requires { 0 < call }
+{
+    let mut last = least;
+    for torn in [&[0; 256][..], &[1; 256], &[]] {
+        match crashed(alloc, script, disk, call, torn, confirmed)? {
+            Some(report) if least <= report => last = report,
+            _ => return Ok(None),
+        }
+    }
+    Ok(Some(last))
+}
+
+/// The same before each call in turn: what was there is there ever after. Err: the call with which it wasn't.
+fn crashed_in_turn(
+    alloc: Global,
+    script: &[u8],
+    disk: &MemDisk,
+    confirmed: &[u8],
+) -> Result<Result<usize, u32>, AllocError> {
+    let mut before = 0;
+    for call in 1..MOST_CALLS {
+        if call as usize > disk.calls().saturating_add(1) {
+            break;
+        }
+        match crashed_before(alloc, script, disk, call, confirmed, before)? {
+            Some(report) => before = report,
+            None => return Ok(Err(call)),
+        }
+    }
+    Ok(Ok(before))
+}
+
+/// Logs a script, and crashes before each call: which report comes first at the end. Err: the call with which a
+/// crash came to something else, 0 where the script wasn't logged.
+fn last_report(
+    alloc: Global,
+    script: &[u8],
+    confirmed: &[u8],
+) -> Result<Result<usize, u32>, AllocError> {
+    let mut disk = MemDisk::new(alloc, &[], &[])?;
+    match ran(alloc, "log", script, &mut disk, &[])? {
+        (Status::Ok, _) => crashed_in_turn(alloc, script, &disk, confirmed),
+        _ => Ok(Err(0)),
     }
 }
 
 /// A crash before each call: what was there is there ever after.
 #[test]
 fn each_crash(rt: HostRuntime) -> Result<(), Fail> {
-    let alloc = rt.alloc();
     let scripts: [(&[u8], usize, &[u8]); 2] = [
         (FIRST_COMMAND, 2, b"queue 1 c1 queued 1 confirmed 1\nend\n"),
         (MOVED_COMMAND, 4, b"queue 1 c1 queued 2 confirmed 2\nend\n"),
     ];
-    for (script, last, confirmed) in scripts {
-        let mut disk = MemDisk::new(alloc, &[], &[])?;
-        let run = ran(alloc, "log", script, &mut disk)?;
-        assert_eq!(rt; run.end, Status::Ok);
-        let mut before = 0;
-        for call in 1..MOST_CALLS {
-            if call as usize > disk.calls().saturating_add(1) {
-                break;
-            }
-            let least = before;
-            for torn in [&[0; 256][..], &[1; 256], &[]] {
-                let report = resumed(&rt, script, &disk, call, torn, confirmed)?;
-                assert!(rt; least <= report, "before call {call}");
-                before = report;
-            }
-        }
-        assert_eq!(rt; before, last);
+    for (script, last, confirmed) in &scripts {
+        assert_eq!(rt; last_report(rt.alloc(), script, confirmed)?, Ok(*last));
     }
     Ok(())
 }
 
-/// Runs a form over this image again and again, and each time the next call of the disk fails, until none does.
-fn fail_each_call(
-    rt: &(impl Abort + AllocGlobal),
+/// Runs a form over this image, and the call after so many fails: how it ends, and how many calls there were.
+fn end_at_call(
+    alloc: Global,
+    word: &str,
+    image: &[u8],
+    done: u32,
+    sink: &mut MemSink,
+) -> Result<(Status, usize), AllocError>
+    requires { done < 1000 }
+{
+    let mut disk = MemDisk::new(alloc, image, &[done + 1])?;
+    let end = end_on(alloc, word, FIRST_COMMAND, &mut disk, sink)?;
+    Ok((end, disk.calls()))
+}
+
+/// The same: how it ends, and whether it writes this text and makes no further call where it ends well, and else
+/// writes a front of it.
+fn fail_call(
+    alloc: Global,
     word: &str,
     image: &[u8],
     text: &[u8],
-) -> Result<(), Fail> {
-    let alloc = rt.alloc();
-    for done in 0..MOST_CALLS {
-        let mut disk = MemDisk::new(alloc, image, &[done + 1])?;
-        let run = ran(alloc, word, FIRST_COMMAND, &mut disk)?;
-        if run.end == Status::Ok {
-            assert!(rt; run.sink.bytes() == text);
-            assert_eq!(rt; calls_of(rt, &disk), done);
-            return Ok(());
-        }
-        assert_eq!(rt; run.end, Status::DiskFault, "{word}, after {done} calls");
-        assert!(rt;
-            text.starts_with(run.sink.bytes()),
-            "{word}, after {done} calls"
-        );
+    done: u32,
+) -> Result<(Status, bool), AllocError>
+    requires { done < 1000 }
+{
+    let mut sink = MemSink::new(alloc, &[])?;
+    let (end, calls) = end_at_call(alloc, word, image, done, &mut sink)?;
+    if end == Status::Ok {
+        return Ok((end, sink.bytes() == text && calls == done as usize));
     }
-    panic!(rt; "{word}: a call failed in each run")
+    Ok((end, text.starts_with(sink.bytes())))
+}
+
+/// Runs a form over this image again and again, and each time the next call of the disk fails, until none does: how
+/// many did. Err: how many calls went before the one that failed otherwise.
+fn count_calls(
+    alloc: Global,
+    word: &str,
+    image: &[u8],
+    text: &[u8],
+) -> Result<Result<u32, u32>, AllocError> {
+    for done in 0..MOST_CALLS {
+        match fail_call(alloc, word, image, text, done)? {
+            (Status::Ok, true) => return Ok(Ok(done)),
+            (Status::DiskFault, true) => {}
+            _ => return Ok(Err(done)),
+        }
+    }
+    Ok(Err(MOST_CALLS))
 }
 
 #[test]
 fn each_call_fails(rt: HostRuntime) -> Result<(), Fail> {
-    fail_each_call(&rt, "log", b"", FIRST_TEXT)?;
-    fail_each_call(&rt, "resume", CLOSED_AT_98, RESUMED_QUEUED)
+    let logged = count_calls(rt.alloc(), "log", b"", FIRST_TEXT)?;
+    assert!(rt; logged.is_ok(), "{logged:?}");
+    let resumed = count_calls(rt.alloc(), "resume", CLOSED_AT_98, RESUMED_QUEUED)?;
+    assert!(rt; resumed.is_ok(), "{resumed:?}");
+    Ok(())
+}
+
+/// How many calls a run makes of a disk that has a log.
+fn calls_of(alloc: Global, word: &str, script: &[u8]) -> Result<usize, AllocError> {
+    let mut disk = MemDisk::new(alloc, FIRST_LOG, &[1])?;
+    ran(alloc, word, script, &mut disk, &[])?;
+    Ok(disk.calls())
 }
 
 /// Words that use no disk leave it alone, and a script that is refused does.
 #[test]
 fn no_call_is_made(rt: HostRuntime) -> Result<(), Fail> {
-    let alloc = rt.alloc();
     let cases: [(&str, &[u8]); 3] = [
         ("replay", FIRST_COMMAND),
         ("log", b"config\nupgrade\n"),
         ("resume", b"config\nreshard 1\n"),
     ];
-    for (word, script) in cases {
-        let mut disk = MemDisk::new(alloc, FIRST_LOG, &[1])?;
-        ran(alloc, word, script, &mut disk)?;
-        assert_eq!(rt; disk.calls(), 0, "{word}");
+    for (word, script) in &cases {
+        assert!(rt; calls_of(rt.alloc(), word, script)? == 0, "{word}");
     }
-    let mut source = WholeSource::new(alloc, FIRST_COMMAND)?;
-    let mut sink = MemSink::new(alloc, &[])?;
-    let end = run_alone(alloc, &["resumes"], &mut source, &mut sink)?;
+    Ok(())
+}
+
+#[test]
+fn a_word_more_is_no_form(rt: HostRuntime) -> Result<(), Fail> {
+    let mut sink = MemSink::new(rt.alloc(), &[])?;
+    let end = run_script(rt.alloc(), &["resumes"], FIRST_COMMAND, &mut sink)?;
     assert_eq!(rt; end, Status::Usage);
     Ok(())
 }

@@ -54,10 +54,7 @@ fn answers<R: Wait>(
 }
 
 // The same, of boxes that are made.
-fn answered<R: Wait>(
-    rt: &R,
-    alloc: Global,
-) -> Result<([Option<u32>; 5], [usize; 2]), AllocError> {
+fn answered<R: Wait>(rt: &R, alloc: Global) -> Result<([Option<u32>; 5], [usize; 2]), AllocError> {
     let (boxes, mut one, mut two) = two_boxes(alloc, 1)?;
     let second = two.node();
     Ok(answers(rt, &boxes, &mut one, &mut two, second))

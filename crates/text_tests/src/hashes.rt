@@ -1,6 +1,6 @@
 //! Hash codes that Java gives, and the shards that follow from them.
 use shard_extract::{java_hash, shard_of};
-use std::test::Fail;
+use std::process::Abort;
 use yard_model::EntityName;
 
 const TABLE: [(&str, i32, u8); 5] = [
@@ -11,12 +11,15 @@ const TABLE: [(&str, i32, u8); 5] = [
     ("polygenelubricants", -2147483648, 8),
 ];
 
+/// The hash code of a name, and its shard of ten.
+fn hashed(text: &str) -> Option<(i32, u8)> {
+    let name = EntityName::new(text.as_bytes())?;
+    Some((java_hash(&name), shard_of(&name, 10).get()))
+}
+
 #[test]
-fn names_have_the_hash_codes_of_java(rt: HostRuntime) -> Result<(), Fail> {
-    for (text, hash, shard) in TABLE {
-        let name = EntityName::new(text.as_bytes()).ok_or("a name")?;
-        assert_eq!(rt; java_hash(&name), hash, "the hash of {text}");
-        assert_eq!(rt; shard_of(&name, 10).get(), shard, "the shard of {text}");
+fn names_have_the_hash_codes_of_java(rt: HostRuntime) {
+    for (text, hash, shard) in &TABLE {
+        assert!(rt; hashed(text) == Some((*hash, *shard)), "{text}");
     }
-    Ok(())
 }

@@ -2,14 +2,10 @@
 use script_text::{Mode, ScriptFault, Why, read_script};
 use std::alloc::Global;
 use std::process::Abort;
-use std::test::Fail;
 
-/// Reads a script that is to be refused there and for that.
-fn expect_fault(rt: &impl Abort, alloc: Global, text: &[u8], mode: Mode, line: u32, why: Why) {
-    match read_script(alloc, text, mode) {
-        Ok(_) => panic!(rt; "read, and not {why:?} at {line}"),
-        Err(fault) => assert_eq!(rt; fault, ScriptFault::At { line, why }),
-    }
+/// What a script is refused for.
+fn fault_of(alloc: Global, text: &[u8], mode: Mode) -> Option<ScriptFault> {
+    read_script(alloc, text, mode).err()
 }
 
 /// What scripts of the commands are refused for that `known_replays`, which runs on one thread, can't ask.
@@ -38,7 +34,11 @@ const REFUSED: [(&str, Mode, u32, Why); 10] = [
 
 #[test]
 fn the_first_fault_is_told(rt: HostRuntime) {
-    for (text, mode, line, why) in REFUSED {
-        expect_fault(&rt, rt.alloc(), text.as_bytes(), mode, line, why);
+    for (text, mode, line, why) in &REFUSED {
+        let wanted = ScriptFault::At {
+            line: *line,
+            why: *why,
+        };
+        assert_eq!(rt; fault_of(rt.alloc(), text.as_bytes(), *mode), Some(wanted));
     }
 }

@@ -1,5 +1,6 @@
 //! What no clause says: that calls succeed, and what reads and writes answer one after the other.
 
+use std::alloc::{AllocError, Global};
 use std::io;
 use std::io::{Read, Write};
 use std::process::Abort;
@@ -9,37 +10,59 @@ use yard_io::{
     write_all,
 };
 
+/// Reads up to so many bytes: whether they are these.
+fn reads<S: Source>(
+    alloc: Global,
+    source: &mut S,
+    most: usize,
+    wanted: &[u8],
+) -> Result<bool, ReadError> {
+    let bytes = read_up_to(alloc, source, most)?;
+    Ok(bytes.as_slice() == wanted)
+}
+
 /// Reads up to so many bytes, which are to be these.
 fn expect_read<S: Source>(
     rt: &(impl Abort + AllocGlobal),
     source: &mut S,
     most: usize,
     wanted: &[u8],
-) -> Result<(), Fail> {
-    let bytes = read_up_to(rt.alloc(), source, most)?;
-    assert_eq!(rt; bytes.as_slice(), wanted);
+) -> Result<(), ReadError> {
+    assert!(rt; reads(rt.alloc(), source, most, wanted)?);
     Ok(())
 }
 
 #[test]
 fn memory_is_read(rt: HostRuntime) -> Result<(), Fail> {
     let mut source = MemSource::new(rt.alloc(), b"abcde", &[4])?;
-    expect_read(&rt, &mut source, 3, b"abc")
+    expect_read(&rt, &mut source, 3, b"abc")?;
+    Ok(())
 }
 
 #[test]
 fn memory_is_read_as_a_whole(rt: HostRuntime) -> Result<(), Fail> {
     let mut source = WholeSource::new(rt.alloc(), b"abcde")?;
-    expect_read(&rt, &mut source, 9, b"abcde")
+    expect_read(&rt, &mut source, 9, b"abcde")?;
+    Ok(())
+}
+
+/// Whether a write, a flush and a write after it go well.
+fn writes<K: Sink>(sink: &mut K) -> [bool; 3] {
+    let first = write_all(sink, b"cd").is_ok();
+    let flushed = sink.flush().is_ok();
+    [first, flushed, write_all(sink, b"ef").is_ok()]
+}
+
+/// The second write to this sink is to fail.
+fn expect_written(rt: &impl Abort, sink: &mut MemSink) {
+    assert!(rt; writes(sink) == [true, true, false]);
+    assert!(rt; sink.bytes() == b"cd".as_slice());
 }
 
 #[test]
 fn memory_is_written(rt: HostRuntime) -> Result<(), Fail> {
     let mut sink = MemSink::new(rt.alloc(), &[3])?;
-    assert!(rt; write_all(&mut sink, b"cd").is_ok());
-    assert!(rt; sink.flush().is_ok());
-    assert!(rt; write_all(&mut sink, b"ef").is_err());
-    assert_eq!(rt; sink.bytes(), b"cd".as_slice());
+    expect_written(&rt, &mut sink);
     Ok(())
 }
 
@@ -66,22 +89,30 @@ impl Write for Slow<'_> {
     }
 }
 
+/// Whether a write and two flushes go well, and how many faults there are after each.
+fn flushes<W: Write + Drop>(sink: &mut StdSink<W>) -> ([bool; 3], [u64; 3]) {
+    let written = write_all(sink, b"one\ntwo\n").is_ok();
+    let none = sink.faults();
+    let first = sink.flush().is_ok();
+    let one = sink.faults();
+    let second = sink.flush().is_ok();
+    ([written, first, second], [none, one, sink.faults()])
+}
+
+/// The same over a slow writer to this text.
+fn flushes_to(alloc: Global, text: &mut Vec<u8>) -> Result<([bool; 3], [u64; 3]), AllocError> {
+    let writer = Slow { to: text, calls: 0 };
+    let mut sink = StdSink::new(alloc, writer)?;
+    Ok(flushes(&mut sink))
+}
+
 #[test]
 fn a_writer_that_fails_is_counted(rt: HostRuntime) -> Result<(), Fail> {
     let mut text = Vec::new(rt.alloc());
-    let writer = Slow {
-        to: &mut text,
-        calls: 0,
-    };
-    let mut sink = StdSink::new(rt.alloc(), writer)?;
-    assert!(rt; write_all(&mut sink, b"one\ntwo\n").is_ok());
-    assert_eq!(rt; sink.faults(), 0);
-    assert!(rt; sink.flush().is_err());
-    assert_eq!(rt; sink.faults(), 1);
-    assert!(rt; sink.flush().is_ok());
-    assert_eq!(rt; sink.faults(), 1);
-    drop(sink);
-    assert_eq!(rt; text.as_slice(), b"one\ntwo\n".as_slice());
+    let (are_well, faults) = flushes_to(rt.alloc(), &mut text)?;
+    assert!(rt; are_well == [true, false, true]);
+    assert!(rt; faults == [0, 1, 1]);
+    assert!(rt; text.as_slice() == b"one\ntwo\n".as_slice());
     Ok(())
 }
 
@@ -106,13 +137,26 @@ impl Read for Torn {
     }
 }
 
+/// Whether reading fails.
+fn fails<S: Source>(alloc: Global, source: &mut S) -> bool {
+    read_up_to(alloc, source, 4).err() == Some(ReadError::Failed)
+}
+
+/// The first of two reads of this source is to fail, and to be counted.
+fn expect_counted<R: Read>(
+    rt: &(impl Abort + AllocGlobal),
+    source: &mut StdSource<R>,
+) -> Result<(), ReadError> {
+    assert!(rt; fails(rt.alloc(), source));
+    assert_eq!(rt; source.faults(), 1);
+    assert!(rt; reads(rt.alloc(), source, 4, b"xxxx")?);
+    assert_eq!(rt; source.faults(), 1);
+    Ok(())
+}
+
 #[test]
 fn a_reader_that_fails_is_counted(rt: HostRuntime) -> Result<(), Fail> {
     let mut source = StdSource::new(Torn { calls: 0 });
-    let failed = read_up_to(rt.alloc(), &mut source, 4).err();
-    assert_eq!(rt; failed, Some(ReadError::Failed));
-    assert_eq!(rt; source.faults(), 1);
-    expect_read(&rt, &mut source, 4, b"xxxx")?;
-    assert_eq!(rt; source.faults(), 1);
+    expect_counted(&rt, &mut source)?;
     Ok(())
 }

@@ -17,7 +17,7 @@ set -euo pipefail
 unset CDPATH
 
 # An unproved run, as measured on two machines with no other work; a build from nothing, by what its parts took.
-readonly TRY_TAKES="90 to 240 seconds, as fast as the machine is"
+readonly TRY_TAKES="65 to 240 seconds, as fast as the machine is"
 readonly BUILD_TAKES="up to 75 minutes on four processors"
 # How long an unproved run may take once it is compiled, in seconds.
 readonly TRY_SECONDS=600

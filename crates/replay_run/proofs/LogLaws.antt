@@ -1,6 +1,6 @@
 -- A run whose orders are logged, from order to order.
 use Rattle.std.proofs.Common.{◌≡◌, ◌≢◌, refl, sym, ap, ◌∙◌, subst, arith, ℕ, ◌+◌, ◌<◌, ◌≤◌, length, get_or, List, [], ◌++◌, take, drop}
-use Rattle.std.specs.Prelude.{Bool, IsTrue, Option, Result, Err, slice_get, Some}
+use Rattle.std.specs.Prelude.{Bool, IfErr, IsTrue, Option, Result, Err, slice_get, Some}
 use Rattle.std.specs.List.{flat_map}
 use Rattle.std.proofs.lemmas.List.{take_all}
 use Rattle.std.proofs.Math.Seq.{drop-append_seam}
@@ -102,6 +102,9 @@ text_wrote c e s t r is other front = fails_wrote (replay_text c) e s t r is (te
 pub write_no_there : {A : Type 0} (f : WriteError) (r : Result A LogError) → r ≡ Err (of_write f) → r ≡ Err fault.There → ⊥
 write_no_there error.Failed r is same = cc
 write_no_there error.OutOfMemory r is same = cc
+
+pub write_never_there : {A : Type 0} (f : WriteError) (r : Result A LogError) → r ≡ Err (of_write f) → IfErr r (λ e. e ≢ fault.There)
+write_never_there f r is = subst (λ r. IfErr r (λ e. e ≢ fault.There)) (sym is) (λ same. write_no_there f r is (is ∙ ap Err same))
 
 pub write_no_disk : {A : Type 0} (f : WriteError) (r : Result A LogError) → r ≡ Err (of_write f) → r ≡ Err fault.Disk → ⊥
 write_no_disk error.Failed r is same = cc

@@ -1,8 +1,8 @@
 //! `replay json`: from a script to the report of its trace's lists, as JSON.
-ghost use Rattle.std.specs.Prelude.{◌≡◌, IfOk, IsTrue};
+ghost use Rattle.std.specs.Prelude.{◌≡◌, ◌++◌, [], IfOk, OnOk, IsTrue};
 ghost use Rattle.yard_model.specs.Safe.{safe};
 ghost use Rattle.yard_model.specs.World.{trace_of};
-ghost use Rattle.replay_run.specs.Replays.{replay_json};
+ghost use Rattle.replay_run.specs.Replays.{IsDone, replay_json};
 ghost use Rattle.run_parts.specs.Stops.{stop_in};
 ghost use Rattle.run_parts.specs.Writing.{Writes};
 
@@ -49,11 +49,45 @@ fn json_of<B: Behaviour + Copy + Drop>(
     ensures text { IfOk result (λ r. r.0.items ≡ replay_json charter) }
     ensures stop { IfOk result (λ r. r.1 ≡ stop_in (trace_of charter)) }
 {
-    let mut world = World::of(alloc, charter, behaviour)?;
     let mut facts = Told::new(Course::start());
-    follow(&mut world, &mut facts)?;
-    let (last, stores) = stores_of(world)?;
     let mut text = Vec::new(alloc);
-    push_json(&mut text, &last, &stores)?;
+    tell_json(alloc, charter, behaviour, &mut facts, &mut text)?;
     Ok((text, facts.notes().stop))
+}
+
+/// Plays a script in a world of its own, tells its facts, and puts its report as JSON behind a text. The only
+/// error is want of memory.
+///
+/// A function that owns a world is proved in a time that grows with what else it owns: so nothing else is
+/// made here.
+fn tell_json<B: Behaviour + Copy + Drop>(
+    alloc: Global,
+    charter: Charter,
+    behaviour: B,
+    facts: &mut Told<Course>,
+    text: &mut Vec<u8>,
+) -> Result<(), AllocError>
+    requires kind { B.kind_of behaviour ≡ charter.config.kind }
+    requires none { facts.old ≡ [] }
+    ensures told { OnOk result (facts.new ≡ trace_of charter) }
+    ensures text { OnOk result (text.new.items ≡ text.old.items ++ replay_json charter) }
+{
+    let mut world = World::of(alloc, charter, behaviour)?;
+    follow(&mut world, facts)?;
+    push_end(world, text)?;
+    Ok(())
+}
+
+/// Puts the report as JSON of a world that is through with its script behind a text. The only error is want of
+/// memory.
+fn push_end<B: Behaviour + Copy + Drop>(
+    world: World<B>,
+    text: &mut Vec<u8>,
+) -> Result<(), AllocError>
+    requires { IsDone world.script world }
+    ensures { OnOk result (text.new.items ≡ text.old.items ++ replay_json world.script) }
+{
+    let (last, stores) = stores_of(world)?;
+    push_json(text, &last, &stores)?;
+    Ok(())
 }

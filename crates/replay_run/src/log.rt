@@ -4,8 +4,8 @@ ghost use Rattle.std.specs.List.{flat_map};
 ghost use Rattle.yard_model.specs.declared.fact.Fact.{Fact as FactValue};
 ghost use Rattle.yard_model.specs.Limits.{most_orders};
 ghost use Rattle.yard_model.specs.Replay.{replay_text};
-ghost use Rattle.yard_model.specs.Text.{fact_line, report};
-ghost use Rattle.yard_model.specs.World.{played, trace_of, wire_limit};
+ghost use Rattle.yard_model.specs.Text.{fact_line};
+ghost use Rattle.yard_model.specs.World.{trace_of};
 ghost use Rattle.disk_log.specs.Images.{LeavesOnly, Only};
 ghost use Rattle.disk_log.specs.Rest.{Rests};
 ghost use Rattle.disk_log.specs.Spelled.{SpellsPrefix};
@@ -14,17 +14,16 @@ ghost use Rattle.log_orders.specs.Orders.{batch_of};
 ghost use Rattle.logged_lines.specs.Logged.{IsFresh, LogEnds, batches_of};
 ghost use Rattle.logged_lines.specs.Told.{OrderEnds, WritesLog};
 ghost use Rattle.run_parts.specs.Stops.{course, course_step, start, stop_in};
-ghost use Rattle.run_parts.specs.Writing.{Writes};
 ghost use Rattle.world_sim.specs.Played.{next_of};
 ghost use Rattle.replay_run.specs.Replays.{IsDone, IsNext, IsOn, trace_text};
 
 use crate::following::play_next;
-use crate::replay::{stores_of, write_report};
+use crate::replay::write_end;
 use behaviour_by_kind::ByKind;
 use behaviour_core::Behaviour;
 use disk_log::{Batch, Disk, Log};
 use logged_lines::{LogError, tell_order};
-use run_parts::{Course, WriteError, course_after};
+use run_parts::{Course, course_after};
 use std::alloc::Global;
 use trace_notes::Told;
 use trace_text::Sheet;
@@ -97,7 +96,6 @@ fn logged<B: Behaviour + Copy + Drop, K: Sink, D: Disk>(
     ensures disk_cause { result ≡ Err LogError.Disk → D.faults disk.old < D.faults disk.new }
     ensures disk_faults { D.faults disk.old ≤ D.faults disk.new }
 {
-    let mut world = World::of(alloc, charter, behaviour)?;
     let batch = Batch::new(alloc)?;
     let mut desk = Desk {
         facts: Told::new(Facts::new(alloc)),
@@ -106,25 +104,41 @@ fn logged<B: Behaviour + Copy + Drop, K: Sink, D: Disk>(
         course: Course::start(),
     };
     let log = Log::make(disk)?;
-    play(&mut world, &mut desk, log, sink, disk)?;
-    write_end(alloc, world, &mut desk.lines, sink)?;
+    log_world(alloc, charter, behaviour, &mut desk, log, sink, disk)?;
     Ok(desk.course.stop)
 }
 
-/// Writes the report of a world that is through with its script.
-fn write_end<B: Behaviour + Copy + Drop, K: Sink>(
+/// Plays a script in a world of its own: logs and writes its trace, and writes its report.
+///
+/// A function that owns a world is proved in a time that grows with what else it owns: so the desk is lent.
+fn log_world<B: Behaviour + Copy + Drop, K: Sink, D: Disk>(
     alloc: Global,
-    world: World<B>,
-    lines: &mut Sheet,
+    charter: Charter,
+    behaviour: B,
+    desk: &mut Desk,
+    log: Log,
     sink: &mut K,
-) -> Result<(), WriteError>
-    requires { IsDone world.script world }
-    ensures { Writes (report (played world.script wire_limit).world.set (played world.script wire_limit).world.lists) result
+    disk: &mut D,
+) -> Result<(), LogError>
+    requires kind { B.kind_of behaviour ≡ charter.config.kind }
+    requires few { length charter.orders ≤ most_orders }
+    requires course { desk.old.course ≡ start }
+    requires rests { Rests D.tells log (D.content disk.old) (D.images disk.old) [] }
+    ensures wrote { WritesLog (replay_text charter) result
         (record { taken = K.taken sink.old; flushed = K.flushed sink.old; faults = K.faults sink.old })
         (record { taken = K.taken sink.new; flushed = K.flushed sink.new; faults = K.faults sink.new }) }
+    ensures course { OnOk result (desk.new.course ≡ course (trace_of charter)) }
+    ensures any_moment { IsTrue D.tells →
+        LeavesOnly (D.images disk.old) (D.images disk.new) (SpellsPrefix (batches_of charter) 0) }
+    ensures at_exit { IsTrue D.tells → LogEnds charter (K.taken sink.old) (K.taken sink.new) (D.images disk.new) }
+    ensures never_there { IfErr result (λ e. e ≢ LogError.There) }
+    ensures disk_cause { result ≡ Err LogError.Disk → D.faults disk.old < D.faults disk.new }
+    ensures disk_faults { D.faults disk.old ≤ D.faults disk.new }
 {
-    let (last, stores) = stores_of(world)?;
-    write_report(alloc, lines, &last, &stores, sink)
+    let mut world = World::of(alloc, charter, behaviour)?;
+    play(&mut world, desk, log, sink, disk)?;
+    write_end(alloc, world, &mut desk.lines, sink)?;
+    Ok(())
 }
 
 /// Plays all orders of the script, or up to the one with which its trace stops: commits the batch of each, and writes

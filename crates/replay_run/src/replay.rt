@@ -87,16 +87,52 @@ fn replayed<B: Behaviour + Copy + Drop, K: Sink>(
         (record { taken = K.taken sink.new; flushed = K.flushed sink.new; faults = K.faults sink.new }) }
     ensures stop { IfOk result (λ stop. stop ≡ stop_in (trace_of charter)) }
 {
-    let mut world = World::of(alloc, charter, behaviour)?;
     let mut desk = Desk {
         facts: Told::new(Facts::new(alloc)),
         lines: Sheet::new(alloc),
         course: Course::start(),
     };
-    play(&mut world, &mut desk, sink)?;
-    let (last, stores) = stores_of(world)?;
-    write_report(alloc, &mut desk.lines, &last, &stores, sink)?;
+    replay_world(alloc, charter, behaviour, &mut desk, sink)?;
     Ok(desk.course.stop)
+}
+
+/// Plays a script in a world of its own, and writes its trace and its report.
+///
+/// A function that owns a world is proved in a time that grows with what else it owns: so the desk is lent.
+fn replay_world<B: Behaviour + Copy + Drop, K: Sink>(
+    alloc: Global,
+    charter: Charter,
+    behaviour: B,
+    desk: &mut Desk,
+    sink: &mut K,
+) -> Result<(), WriteError>
+    requires kind { B.kind_of behaviour ≡ charter.config.kind }
+    requires course { desk.old.course ≡ start }
+    ensures wrote { Writes (replay_text charter) result
+        (record { taken = K.taken sink.old; flushed = K.flushed sink.old; faults = K.faults sink.old })
+        (record { taken = K.taken sink.new; flushed = K.flushed sink.new; faults = K.faults sink.new }) }
+    ensures course { OnOk result (desk.new.course ≡ course (trace_of charter)) }
+{
+    let mut world = World::of(alloc, charter, behaviour)?;
+    play(&mut world, desk, sink)?;
+    write_end(alloc, world, &mut desk.lines, sink)?;
+    Ok(())
+}
+
+/// Writes the report of a world that is through with its script.
+pub(crate) fn write_end<B: Behaviour + Copy + Drop, K: Sink>(
+    alloc: Global,
+    world: World<B>,
+    lines: &mut Sheet,
+    sink: &mut K,
+) -> Result<(), WriteError>
+    requires { IsDone world.script world }
+    ensures { Writes (report (played world.script wire_limit).world.set (played world.script wire_limit).world.lists) result
+        (record { taken = K.taken sink.old; flushed = K.flushed sink.old; faults = K.faults sink.old })
+        (record { taken = K.taken sink.new; flushed = K.flushed sink.new; faults = K.faults sink.new }) }
+{
+    let (last, stores) = stores_of(world)?;
+    write_report(alloc, lines, &last, &stores, sink)
 }
 
 /// Plays all orders of the script, or up to the one with which its trace stops, and writes their

@@ -1,33 +1,20 @@
-use Rattle.std.proofs.Common.{◌≡◌, ◌∙◌, ap, refl, sym, subst, List, ℕ, length}
+use Rattle.std.proofs.Common.{◌∙◌, ap, refl}
 use Rattle.std.specs.Prelude.{Err}
 use Rattle.std.proofs.lemmas.Result.{err_from_is_err_and}
-use Rattle.yard_io.proofs.ToldLemmas.{front_whole}
 use Rattle.yard_model.specs.Replay.{replay_text}
-use Rattle.yard_model.specs.Script.{Script}
-use Rattle.yard_model.specs.World.{trace_of}
-use Rattle.disk_log.specs.Images.{LeavesOnly}
-use Rattle.disk_log.specs.Spelled.{SpellsPrefix}
 use Rattle.disk_log.proofs.Moments.{leaves_then}
-use Rattle.logged_lines.specs.Logged.{LogEnds, batches_of}
-use Rattle.logged_lines.specs.Told.{WritesLog}
-use Rattle.logged_lines.proofs.TellLaws.{ends_all_logged, ends_empty, fresh_leaves, fresh_prefix, made_leaves, made_prefix, make_disk, make_there, make_wrote, write_wrote}
-use Rattle.world_sim.specs.Played.{Played}
+use Rattle.logged_lines.specs.Logged.{batches_of}
+use Rattle.logged_lines.proofs.TellLaws.{ends_empty, fails_wrote, fresh_leaves, fresh_prefix, made_leaves, made_prefix, make_disk, make_there, make_wrote}
 use Rattle.run_parts.specs.declared.course.Course.{Course}
-use Rattle.run_parts.specs.Stops.{course}
 use Rattle.run_parts.specs.Writing.{Sunk}
-use Rattle.run_parts.proofs.WritingLaws.{took_both, took_same, front_both, front_same, none_taken}
-use Rattle.replay_run.specs.Replays.{IsDone, trace_text}
-use Rattle.replay_run.proofs.LogLaws.{end_of, text_wrote, write_no_disk, write_no_there}
+use Rattle.run_parts.proofs.WritingLaws.{none_taken}
 use Rattle.replay_run.proofs.log.logged.Goals as goal
 
-pub write_end-requires : goal.write_end-requires
-write_end-requires g c = let done = c.in_ok-play.ensures.done in subst (λ s. IsDone s c.play.new.world) (sym done.script_is) done
-
-pub returns-in_err-world-clause-any_moment : goal.returns-in_err-world-clause-any_moment
-returns-in_err-world-clause-any_moment g c told only = fresh_leaves (batches_of c.args.charter) (g.D.Disk.images c.args.disk.now) (g.met.D.Disk.timed c.args.disk.now) only
-
-pub returns-in_err-world-clause-at_exit : goal.returns-in_err-world-clause-at_exit
-returns-in_err-world-clause-at_exit g c told fresh = ends_empty c.args.charter (g.K.Sink.taken c.args.sink.now) (g.K.Sink.taken c.args.sink.now) (g.D.Disk.images c.args.disk.now) refl (fresh_prefix (batches_of c.args.charter) (g.D.Disk.images c.args.disk.now) fresh.only)
+pub returns-in_err-batch-clause-wrote : goal.returns-in_err-batch-clause-wrote
+returns-in_err-batch-clause-wrote g c =
+    let s0 : Sunk = record { taken = g.K.Sink.taken c.args.sink.now; flushed = g.K.Sink.flushed c.args.sink.now; faults = g.K.Sink.faults c.args.sink.now } in
+    let p = err_from_is_err_and c.from_residual.result c.from_residual.ensures.1 in
+    rw (p.1, p.2) (none_taken (replay_text c.args.charter) s0)
 
 pub returns-in_err-batch-clause-any_moment : goal.returns-in_err-batch-clause-any_moment
 returns-in_err-batch-clause-any_moment g c told only = fresh_leaves (batches_of c.args.charter) (g.D.Disk.images c.args.disk.now) (g.met.D.Disk.timed c.args.disk.now) only
@@ -60,107 +47,31 @@ returns-in_err-log-clause-disk_cause g c is =
     let p = err_from_is_err_and c.from_residual-in_err-log.result c.from_residual-in_err-log.ensures.1 in
     c.in_err-log.ensures.cause (ap Err (make_disk _ c.from_residual-in_err-log.result (p.1 ∙ ap Err p.2) is))
 
-pub returns-in_err-play-clause-wrote : goal.returns-in_err-play-clause-wrote
-returns-in_err-play-clause-wrote g c =
+pub returns-in_err-log_world-clause-wrote : goal.returns-in_err-log_world-clause-wrote
+returns-in_err-log_world-clause-wrote g c =
     let s0 : Sunk = record { taken = g.K.Sink.taken c.args.sink.now; flushed = g.K.Sink.flushed c.args.sink.now; faults = g.K.Sink.faults c.args.sink.now } in
-    let s1 : Sunk = record { taken = g.K.Sink.taken c.play.new.sink; flushed = g.K.Sink.flushed c.play.new.sink; faults = g.K.Sink.faults c.play.new.sink } in
-    let p = err_from_is_err_and c.from_residual-in_err-play.result c.from_residual-in_err-play.ensures.1 in
-    let script : c.in_ok-world.world.script ≡ c.args.charter = ap (λ (w : Played). w.script) c.in_ok-world.ensures in
-    subst (λ (s : Script). WritesLog (replay_text s) c.from_residual-in_err-play.result
-    (record { taken = g.K.Sink.taken c.args.sink.now; flushed = g.K.Sink.flushed c.args.sink.now; faults = g.K.Sink.faults c.args.sink.now })
-    (record { taken = g.K.Sink.taken c.play.new.sink; flushed = g.K.Sink.flushed c.play.new.sink; faults = g.K.Sink.faults c.play.new.sink })) script
-    (text_wrote c.in_ok-world.world.script _ s0 s1 c.from_residual-in_err-play.result (p.1 ∙ ap Err p.2) c.in_err-play.ensures.never_there c.in_err-play.ensures.wrote)
-
-pub returns-in_err-play-clause-any_moment : goal.returns-in_err-play-clause-any_moment
-returns-in_err-play-clause-any_moment g c told only =
-    let script : c.in_ok-world.world.script ≡ c.args.charter = ap (λ (w : Played). w.script) c.in_ok-world.ensures in
-    leaves_then (g.D.Disk.images c.args.disk.now) (g.D.Disk.images c.make.new.disk) (g.D.Disk.images c.play.new.disk)
-    (made_leaves (batches_of c.args.charter) (g.D.Disk.images c.args.disk.now) (g.D.Disk.images c.make.new.disk) (c.make.ensures.any_moment only))
-    (subst (λ (s : Script). LeavesOnly (g.D.Disk.images c.make.new.disk) (g.D.Disk.images c.play.new.disk) (SpellsPrefix (batches_of s) 0)) script (c.play.ensures.any_moment told))
-
-pub returns-in_err-play-clause-at_exit : goal.returns-in_err-play-clause-at_exit
-returns-in_err-play-clause-at_exit g c told fresh =
-    let script : c.in_ok-world.world.script ≡ c.args.charter = ap (λ (w : Played). w.script) c.in_ok-world.ensures in
-    subst (λ (s : Script). LogEnds s (g.K.Sink.taken c.args.sink.now) (g.K.Sink.taken c.play.new.sink) (g.D.Disk.images c.play.new.disk)) script (c.in_err-play.ensures.at_exit told)
-
-pub returns-in_err-write_end-clause-wrote : goal.returns-in_err-write_end-clause-wrote
-returns-in_err-write_end-clause-wrote g c =
-    let s0 : Sunk = record { taken = g.K.Sink.taken c.args.sink.now; flushed = g.K.Sink.flushed c.args.sink.now; faults = g.K.Sink.faults c.args.sink.now } in
-    let s1 : Sunk = record { taken = g.K.Sink.taken c.play.new.sink; flushed = g.K.Sink.flushed c.play.new.sink; faults = g.K.Sink.faults c.play.new.sink } in
-    let s2 : Sunk = record { taken = g.K.Sink.taken c.write_end.new.sink; flushed = g.K.Sink.flushed c.write_end.new.sink; faults = g.K.Sink.faults c.write_end.new.sink } in
-    let p = err_from_is_err_and c.from_residual-in_err-write_end.result c.from_residual-in_err-write_end.ensures.1 in
-    let script : c.in_ok-world.world.script ≡ c.args.charter = ap (λ (w : Played). w.script) c.in_ok-world.ensures in
-    let trace : trace_text c.in_ok-world.world.script ≡ trace_text c.args.charter = ap trace_text script in
-    let end : end_of c.play.new.world.script ≡ end_of c.args.charter = ap end_of (c.in_ok-play.ensures.done.script_is ∙ script) in
-    write_wrote (replay_text c.args.charter) _ s0 s2 c.from_residual-in_err-write_end.result (p.1 ∙ ap Err p.2)
-    (front_both (trace_text c.args.charter) (end_of c.args.charter) _ s0 s1 s2 (took_same (trace_text c.in_ok-world.world.script) (trace_text c.args.charter) s0 s1 trace c.in_ok-play.ensures.wrote) (front_same (end_of c.play.new.world.script) (end_of c.args.charter) _ s1 s2 end c.in_err-write_end.ensures))
-
-pub returns-in_err-write_end-clause-any_moment : goal.returns-in_err-write_end-clause-any_moment
-returns-in_err-write_end-clause-any_moment g c told only =
-    let script : c.in_ok-world.world.script ≡ c.args.charter = ap (λ (w : Played). w.script) c.in_ok-world.ensures in
-    leaves_then (g.D.Disk.images c.args.disk.now) (g.D.Disk.images c.make.new.disk) (g.D.Disk.images c.play.new.disk)
-    (made_leaves (batches_of c.args.charter) (g.D.Disk.images c.args.disk.now) (g.D.Disk.images c.make.new.disk) (c.make.ensures.any_moment only))
-    (subst (λ (s : Script). LeavesOnly (g.D.Disk.images c.make.new.disk) (g.D.Disk.images c.play.new.disk) (SpellsPrefix (batches_of s) 0)) script (c.play.ensures.any_moment told))
-
-pub returns-in_err-write_end-clause-at_exit : goal.returns-in_err-write_end-clause-at_exit
-returns-in_err-write_end-clause-at_exit g c told fresh =
-    let s0 : Sunk = record { taken = g.K.Sink.taken c.args.sink.now; flushed = g.K.Sink.flushed c.args.sink.now; faults = g.K.Sink.faults c.args.sink.now } in
-    let s1 : Sunk = record { taken = g.K.Sink.taken c.play.new.sink; flushed = g.K.Sink.flushed c.play.new.sink; faults = g.K.Sink.faults c.play.new.sink } in
-    let s2 : Sunk = record { taken = g.K.Sink.taken c.write_end.new.sink; flushed = g.K.Sink.flushed c.write_end.new.sink; faults = g.K.Sink.faults c.write_end.new.sink } in
-    let script : c.in_ok-world.world.script ≡ c.args.charter = ap (λ (w : Played). w.script) c.in_ok-world.ensures in
-    let trace : trace_text c.in_ok-world.world.script ≡ trace_text c.args.charter = ap trace_text script in
-    let end : end_of c.play.new.world.script ≡ end_of c.args.charter = ap end_of (c.in_ok-play.ensures.done.script_is ∙ script) in
-    let all : (image : List ℕ) → (g.D.Disk.images c.play.new.disk).now image → SpellsPrefix (batches_of c.args.charter) (length (batches_of c.args.charter)) image =
-    subst (λ (s : Script). (image : List ℕ) → (g.D.Disk.images c.play.new.disk).now image → SpellsPrefix (batches_of s) (length (batches_of s)) image) script (c.in_ok-play.ensures.all told) in
-    ends_all_logged c.args.charter (g.K.Sink.taken c.args.sink.now) (g.K.Sink.taken c.write_end.new.sink) (g.D.Disk.images c.play.new.disk)
-    (front_both (trace_text c.args.charter) (end_of c.args.charter) _ s0 s1 s2 (took_same (trace_text c.in_ok-world.world.script) (trace_text c.args.charter) s0 s1 trace c.in_ok-play.ensures.wrote) (front_same (end_of c.play.new.world.script) (end_of c.args.charter) _ s1 s2 end c.in_err-write_end.ensures)).front all
+    let s1 : Sunk = record { taken = g.K.Sink.taken c.log_world.new.sink; flushed = g.K.Sink.flushed c.log_world.new.sink; faults = g.K.Sink.faults c.log_world.new.sink } in
+    let p = err_from_is_err_and c.from_residual-in_err-log_world.result c.from_residual-in_err-log_world.ensures.1 in
+    fails_wrote (replay_text c.args.charter) _ s0 s1 c.from_residual-in_err-log_world.result (p.1 ∙ ap Err p.2) c.in_err-log_world.ensures.wrote
 
 pub returns-clause-wrote : goal.returns-clause-wrote
-returns-clause-wrote g c =
-    let s0 : Sunk = record { taken = g.K.Sink.taken c.args.sink.now; flushed = g.K.Sink.flushed c.args.sink.now; faults = g.K.Sink.faults c.args.sink.now } in
-    let s1 : Sunk = record { taken = g.K.Sink.taken c.play.new.sink; flushed = g.K.Sink.flushed c.play.new.sink; faults = g.K.Sink.faults c.play.new.sink } in
-    let s2 : Sunk = record { taken = g.K.Sink.taken c.write_end.new.sink; flushed = g.K.Sink.flushed c.write_end.new.sink; faults = g.K.Sink.faults c.write_end.new.sink } in
-    let script : c.in_ok-world.world.script ≡ c.args.charter = ap (λ (w : Played). w.script) c.in_ok-world.ensures in
-    let trace : trace_text c.in_ok-world.world.script ≡ trace_text c.args.charter = ap trace_text script in
-    let end : end_of c.play.new.world.script ≡ end_of c.args.charter = ap end_of (c.in_ok-play.ensures.done.script_is ∙ script) in
-    (took_both (trace_text c.args.charter) (end_of c.args.charter) s0 s1 s2 (took_same (trace_text c.in_ok-world.world.script) (trace_text c.args.charter) s0 s1 trace c.in_ok-play.ensures.wrote) (took_same (end_of c.play.new.world.script) (end_of c.args.charter) s1 s2 end c.in_ok-write_end.ensures))
+returns-clause-wrote g c = c.in_ok-log_world.ensures.wrote
+
+pub returns-in_err-log_world-clause-any_moment : goal.returns-in_err-log_world-clause-any_moment
+returns-in_err-log_world-clause-any_moment g c told only =
+    leaves_then (g.D.Disk.images c.args.disk.now) (g.D.Disk.images c.make.new.disk) (g.D.Disk.images c.log_world.new.disk)
+    (made_leaves (batches_of c.args.charter) (g.D.Disk.images c.args.disk.now) (g.D.Disk.images c.make.new.disk) (c.make.ensures.any_moment only)) (c.log_world.ensures.any_moment told)
 
 pub returns-clause-any_moment : goal.returns-clause-any_moment
 returns-clause-any_moment g c told only =
-    let script : c.in_ok-world.world.script ≡ c.args.charter = ap (λ (w : Played). w.script) c.in_ok-world.ensures in
-    leaves_then (g.D.Disk.images c.args.disk.now) (g.D.Disk.images c.make.new.disk) (g.D.Disk.images c.play.new.disk)
-    (made_leaves (batches_of c.args.charter) (g.D.Disk.images c.args.disk.now) (g.D.Disk.images c.make.new.disk) (c.make.ensures.any_moment only))
-    (subst (λ (s : Script). LeavesOnly (g.D.Disk.images c.make.new.disk) (g.D.Disk.images c.play.new.disk) (SpellsPrefix (batches_of s) 0)) script (c.play.ensures.any_moment told))
+    leaves_then (g.D.Disk.images c.args.disk.now) (g.D.Disk.images c.make.new.disk) (g.D.Disk.images c.log_world.new.disk)
+    (made_leaves (batches_of c.args.charter) (g.D.Disk.images c.args.disk.now) (g.D.Disk.images c.make.new.disk) (c.make.ensures.any_moment only)) (c.log_world.ensures.any_moment told)
+
+pub returns-in_err-log_world-clause-at_exit : goal.returns-in_err-log_world-clause-at_exit
+returns-in_err-log_world-clause-at_exit g c told fresh = c.log_world.ensures.at_exit told
 
 pub returns-clause-at_exit : goal.returns-clause-at_exit
-returns-clause-at_exit g c told fresh =
-    let s0 : Sunk = record { taken = g.K.Sink.taken c.args.sink.now; flushed = g.K.Sink.flushed c.args.sink.now; faults = g.K.Sink.faults c.args.sink.now } in
-    let s1 : Sunk = record { taken = g.K.Sink.taken c.play.new.sink; flushed = g.K.Sink.flushed c.play.new.sink; faults = g.K.Sink.faults c.play.new.sink } in
-    let s2 : Sunk = record { taken = g.K.Sink.taken c.write_end.new.sink; flushed = g.K.Sink.flushed c.write_end.new.sink; faults = g.K.Sink.faults c.write_end.new.sink } in
-    let script : c.in_ok-world.world.script ≡ c.args.charter = ap (λ (w : Played). w.script) c.in_ok-world.ensures in
-    let trace : trace_text c.in_ok-world.world.script ≡ trace_text c.args.charter = ap trace_text script in
-    let end : end_of c.play.new.world.script ≡ end_of c.args.charter = ap end_of (c.in_ok-play.ensures.done.script_is ∙ script) in
-    let all : (image : List ℕ) → (g.D.Disk.images c.play.new.disk).now image → SpellsPrefix (batches_of c.args.charter) (length (batches_of c.args.charter)) image =
-    subst (λ (s : Script). (image : List ℕ) → (g.D.Disk.images c.play.new.disk).now image → SpellsPrefix (batches_of s) (length (batches_of s)) image) script (c.in_ok-play.ensures.all told) in
-    ends_all_logged c.args.charter (g.K.Sink.taken c.args.sink.now) (g.K.Sink.taken c.write_end.new.sink) (g.D.Disk.images c.play.new.disk)
-    (front_whole (g.K.Sink.taken c.args.sink.now) (g.K.Sink.taken c.write_end.new.sink) (replay_text c.args.charter) (took_both (trace_text c.args.charter) (end_of c.args.charter) s0 s1 s2 (took_same (trace_text c.in_ok-world.world.script) (trace_text c.args.charter) s0 s1 trace c.in_ok-play.ensures.wrote) (took_same (end_of c.play.new.world.script) (end_of c.args.charter) s1 s2 end c.in_ok-write_end.ensures)).taken_is) all
+returns-clause-at_exit g c told fresh = c.log_world.ensures.at_exit told
 
 pub returns-clause-stop : goal.returns-clause-stop
-returns-clause-stop g c =
-    ap (λ (k : Course). k.stop) (c.in_ok-play.ensures.course ∙ ap (λ (w : Played). course (trace_of w.script)) c.in_ok-world.ensures)
-
-pub returns-in_err-batch-clause-wrote : goal.returns-in_err-batch-clause-wrote
-returns-in_err-batch-clause-wrote g c =
-    let s0 : Sunk = record { taken = g.K.Sink.taken c.args.sink.now; flushed = g.K.Sink.flushed c.args.sink.now; faults = g.K.Sink.faults c.args.sink.now } in
-    let p = err_from_is_err_and c.from_residual-in_err-batch.result c.from_residual-in_err-batch.ensures.1 in
-    rw (p.1, p.2) (none_taken (replay_text c.args.charter) s0)
-
-pub returns-in_err-write_end-clause-there : goal.returns-in_err-write_end-clause-there
-returns-in_err-write_end-clause-there g c is told =
-    let p = err_from_is_err_and c.from_residual-in_err-write_end.result c.from_residual-in_err-write_end.ensures.1 in
-    absurd (write_no_there _ c.from_residual-in_err-write_end.result (p.1 ∙ ap Err p.2) is)
-
-pub returns-in_err-write_end-clause-disk_cause : goal.returns-in_err-write_end-clause-disk_cause
-returns-in_err-write_end-clause-disk_cause g c is =
-    let p = err_from_is_err_and c.from_residual-in_err-write_end.result c.from_residual-in_err-write_end.ensures.1 in
-    absurd (write_no_disk _ c.from_residual-in_err-write_end.result (p.1 ∙ ap Err p.2) is)
+returns-clause-stop g c = ap (λ (k : Course). k.stop) c.in_ok-log_world.ensures.course

@@ -1,46 +1,15 @@
-use Rattle.std.proofs.Common.{◌∙◌, ap, sym, subst}
+use Rattle.std.proofs.Common.{ap}
 use Rattle.std.proofs.lemmas.Result.{err_from_is_err_and}
-use Rattle.yard_model.specs.Script.{Script}
-use Rattle.yard_model.specs.Text.{report}
-use Rattle.yard_model.specs.World.{played, trace_of, wire_limit}
-use Rattle.world_sim.specs.Played.{Played}
 use Rattle.run_parts.specs.declared.course.Course.{Course}
-use Rattle.replay_run.specs.Replays.{IsDone, trace_text}
-use Rattle.run_parts.specs.Stops.{course}
-use Rattle.run_parts.proofs.WritingLaws.{took_both, took_same, front_both, front_more, front_same, none_taken}
 use Rattle.replay_run.proofs.replay.replayed.Goals as goal
 
-pub stores_of-requires : goal.stores_of-requires
-stores_of-requires g c =
-    let done = c.in_ok-play.ensures.done in
-    subst (λ s. IsDone s c.play.new.world) (sym done.script_is) done
-
-pub returns-in_err-play-clause-wrote : goal.returns-in_err-play-clause-wrote
-returns-in_err-play-clause-wrote g c =
-    let p = err_from_is_err_and c.from_residual-in_err-play.result c.from_residual-in_err-play.ensures.1 in
-    let trace = ap (λ (w : Played). trace_text w.script) c.in_ok-world.ensures in
-    rw (p.1, p.2) (front_more _ _ _ _ _ (front_same _ _ _ _ _ trace c.in_err-play.ensures.wrote))
-
-pub returns-in_err-last-clause-wrote : goal.returns-in_err-last-clause-wrote
-returns-in_err-last-clause-wrote g c =
-    let p = err_from_is_err_and c.from_residual-in_err-last.result c.from_residual-in_err-last.ensures.1 in
-    let trace = ap (λ (w : Played). trace_text w.script) c.in_ok-world.ensures in
-    rw (p.1, p.2) (front_both _ _ _ _ _ _ (took_same _ _ _ _ trace c.in_ok-play.ensures.wrote) (none_taken _ _))
-
-pub returns-in_err-write_report-clause-wrote : goal.returns-in_err-write_report-clause-wrote
-returns-in_err-write_report-clause-wrote g c =
-    let p = err_from_is_err_and c.from_residual-in_err-write_report.result c.from_residual-in_err-write_report.ensures.1 in
-    let trace = ap (λ (w : Played). trace_text w.script) c.in_ok-world.ensures in
-    let script = c.in_ok-play.ensures.done.script_is ∙ ap (λ (w : Played). w.script) c.in_ok-world.ensures in
-    let end = c.in_ok-last.ensures.report ∙ ap (λ (s : Script). report (played s wire_limit).world.set (played s wire_limit).world.lists) script in
-    rw (p.1, p.2) (front_both _ _ _ _ _ _ (took_same _ _ _ _ trace c.in_ok-play.ensures.wrote) (front_same _ _ _ _ _ end c.in_err-write_report.ensures))
+pub returns-in_err-replay_world-clause-wrote : goal.returns-in_err-replay_world-clause-wrote
+returns-in_err-replay_world-clause-wrote g c =
+    let p = err_from_is_err_and c.from_residual.result c.from_residual.ensures.1 in
+    rw (p.1, p.2) c.in_err-replay_world.ensures.wrote
 
 pub returns-clause-wrote : goal.returns-clause-wrote
-returns-clause-wrote g c =
-    let trace = ap (λ (w : Played). trace_text w.script) c.in_ok-world.ensures in
-    let script = c.in_ok-play.ensures.done.script_is ∙ ap (λ (w : Played). w.script) c.in_ok-world.ensures in
-    let end = c.in_ok-last.ensures.report ∙ ap (λ (s : Script). report (played s wire_limit).world.set (played s wire_limit).world.lists) script in
-    took_both _ _ _ _ _ (took_same _ _ _ _ trace c.in_ok-play.ensures.wrote) (took_same _ _ _ _ end c.in_ok-write_report.ensures)
+returns-clause-wrote g c = c.in_ok-replay_world.ensures.wrote
 
 pub returns-clause-stop : goal.returns-clause-stop
-returns-clause-stop g c = ap (λ (k : Course). k.stop) (c.in_ok-play.ensures.course ∙ ap (λ (w : Played). course (trace_of w.script)) c.in_ok-world.ensures)
+returns-clause-stop g c = ap (λ (k : Course). k.stop) c.in_ok-replay_world.ensures.course

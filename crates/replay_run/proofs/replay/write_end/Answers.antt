@@ -2,7 +2,7 @@ use Rattle.std.proofs.Common.{subst}
 use Rattle.std.proofs.lemmas.Result.{err_from_is_err_and}
 use Rattle.run_parts.specs.Writing.{Writes}
 use Rattle.run_parts.proofs.WritingLaws.{none_taken}
-use Rattle.replay_run.proofs.log.write_end.Goals as goal
+use Rattle.replay_run.proofs.replay.write_end.Goals as goal
 
 pub returns : goal.returns
 returns g c =

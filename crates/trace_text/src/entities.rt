@@ -63,7 +63,7 @@ fn put_entity_line(
     put(cells, at, b'\n')
 }
 
-fn put_entity_head(cells: &mut [u8], at: usize, s: ShardNo, name: &EntityName) -> usize
+pub(crate) fn put_entity_head(cells: &mut [u8], at: usize, s: ShardNo, name: &EntityName) -> usize
     requires { at + 60 ≤ length cells.old }
     ensures items { take result cells.new ≡ take at cells.old ++ words (codes "entity" ∷ name.now ∷ codes "shard" ∷ decimal s ∷ []) }
     ensures end { result ≤ at + 60 }
@@ -111,7 +111,7 @@ fn put_record_in_more(cells: &mut Vec<u8>, at: usize, written: &Record) -> Resul
     Ok(put_record_line(cells.as_mut_slice(), at, written))
 }
 
-fn put_record_line(cells: &mut [u8], at: usize, written: &Record) -> usize
+pub(crate) fn put_record_line(cells: &mut [u8], at: usize, written: &Record) -> usize
     requires { at + 268 ≤ length cells.old }
     ensures items { take result cells.new ≡ take at cells.old ++ line (codes "record" ∷ record_words written.now) }
     ensures end { result ≤ at + 268 }
@@ -136,7 +136,7 @@ pub(crate) fn state_after(kind: Kind, records: &[&Record]) -> State
 
 /// The state goes on by a record's events.
 #[tactic(auto, using(crate::proofs::FoldLaws::applicable_first, crate::proofs::FoldLaws::applicable_next))]
-fn apply_events(state: &mut State, events: &[Event])
+pub(crate) fn apply_events(state: &mut State, events: &[Event])
     requires { IsTrue (are_applicable state.old events.now) }
     ensures { state.new ≡ fold apply state.old events.now }
 {

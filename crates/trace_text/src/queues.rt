@@ -134,7 +134,7 @@ pub(crate) fn put_tally(
     Ok(put_pair_line(cells.as_mut_slice(), at, p, name, tally))
 }
 
-fn put_pair_line(
+pub(crate) fn put_pair_line(
     cells: &mut [u8],
     at: usize,
     p: ProducerNo,

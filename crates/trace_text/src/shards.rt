@@ -11,11 +11,8 @@ use shard_extract::shard_of;
 use std::alloc::{AllocError, Global};
 use yard_model::{Charter, EntityName};
 
-/// Of each shard the names that are its own, in order.
-pub(crate) fn names_by_shard(
-    alloc: Global,
-    charter: &Charter,
-) -> Result<Vec<Vec<EntityName>>, AllocError>
+/// Of each shard the names that are its own, in order. The only error is want of memory.
+pub fn names_by_shard(alloc: Global, charter: &Charter) -> Result<Vec<Vec<EntityName>>, AllocError>
     ensures names { IfOk result (λ all. (s : ℕ) → s < charter.now.config.shards → slice_index_or (map (λ v. v.items) all.items) s [] ≡ names_of (setting charter.now) s) }
     ensures sorted { IfOk result (λ all. (s : ℕ) → s < charter.now.config.shards → IsStrictlySortedBy (slice_cmp nat_cmp) (slice_index_or (map (λ v. v.items) all.items) s [])) }
     ensures length { IfOk result (λ all. length all.items ≡ charter.now.config.shards) }

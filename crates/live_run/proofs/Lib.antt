@@ -2,6 +2,7 @@ mod EntryLaws
 mod LiveLaws
 mod PuttingLaws
 mod ReplyLaws
+mod ReportLaws
 mod ResultLaws
 mod SizedLaws
 mod SlotLaws

@@ -1,4 +1,5 @@
 pub mod LiveText
+pub mod Owned
 pub mod Readable
 pub mod Sized
 pub mod Tells

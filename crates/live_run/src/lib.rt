@@ -4,6 +4,7 @@
 
 mod laws;
 mod live;
+mod reporting;
 mod sized;
 mod writing;
 

@@ -1,10 +1,8 @@
 //! `live`: from a script to the lists that nodes on threads of their own leave once they are settled, and
 //! the report of these lists, written.
-ghost use Rattle.std.specs.Prelude.{◌≡◌, ◌≤◌, [], true, length, IfOk, IsTrue};
-ghost use Rattle.yard_model.specs.Script.{is_version, setting};
-ghost use Rattle.yard_model.specs.Text.{report};
+ghost use Rattle.std.specs.Prelude.{◌≡◌, ◌≤◌, true, length, IfOk};
+ghost use Rattle.yard_model.specs.Script.{is_version};
 ghost use Rattle.shard_store.specs.Stores.{lists_at};
-ghost use Rattle.trace_text.specs.Foldable.{is_foldable_in_all};
 ghost use Rattle.live_run.specs.LiveText.{AreLive};
 ghost use Rattle.live_run.specs.Written.{WritesLive};
 
@@ -20,14 +18,11 @@ use shard_store::Stores;
 use std::alloc::{AllocError, Global};
 use std::sync::Wait;
 use std::thread::Threads;
-use trace_text::push_report;
+use trace_text::names_by_shard;
 use world_sim::settle_stores;
 use yard_io::{Gate, Sink};
+use yard_model::Charter;
 use yard_model::laws::{command_law, decision_law};
-use yard_model::{Charter, Lists};
-
-/// How many bytes of the report an order mostly brings, with some to spare.
-const EACH: usize = 200;
 
 /// Runs the nodes of a script, which has at most 20,000 orders, as threads, each for so many turns at most,
 /// settles what they leave, and writes the lists of all slots and their report. These are the lists that a reader
@@ -82,30 +77,9 @@ fn write_run<
     let stores = stores_of_run(rt, alloc, charter, behaviour, turns, seed, gate)?;
     charter.config();
     look_at_lists(charter, &stores);
-    let text = report_of(alloc, charter, &stores)?;
-    write_text(charter, &stores, text.as_slice(), sink)?;
+    let names = names_by_shard(alloc, charter)?;
+    write_text(charter, names.as_slice(), stores, sink)?;
     Ok(())
-}
-
-/// The report of these stores. The only error is want of memory.
-fn report_of<T: Lists>(alloc: Global, charter: &Charter, stores: &T) -> Result<Vec<u8>, AllocError>
-    requires few { length charter.now.orders ≤ 20000 }
-    requires foldable { IsTrue (is_foldable_in_all (setting charter.now) (T.lists stores.now)) }
-    ensures { IfOk result (λ text. text.items ≡ report (setting charter.now) (T.lists stores.now)) }
-{
-    let mut text = new_text(alloc, charter)?;
-    push_report(&mut text, charter, stores)?;
-    Ok(text)
-}
-
-/// A text with no byte yet, made for as many as its lines mostly take, so that it seldom moves. Memory that isn't
-/// written to isn't touched. The only error is want of memory.
-fn new_text(alloc: Global, charter: &Charter) -> Result<Vec<u8>, AllocError>
-    requires { length charter.now.orders ≤ 20000 }
-    ensures { IfOk result (λ text. text.items ≡ []) }
-{
-    let orders = charter.orders().len();
-    Vec::with_capacity(alloc, orders * EACH)
 }
 
 /// The stores that a run of nodes leaves, whose entities behave so, settled. It may wait. The only error

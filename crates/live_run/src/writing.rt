@@ -1,31 +1,42 @@
-//! The lists of all slots, written in pieces: no memory is wanted for them. The only error is a failed write, and
-//! nothing is flushed.
-ghost use Rattle.std.specs.Prelude.{◌<◌, ◌++◌, ◌∷◌, [], codes, decimal, map};
+//! The lists of all slots and their report, written in pieces: no memory is wanted for them. The only error is a
+//! failed write, and nothing is flushed.
+ghost use Rattle.std.specs.Prelude.{◌≡◌, ◌<◌, ◌++◌, ◌∷◌, [], IsTrue, codes, decimal, map};
 ghost use Rattle.std.specs.List.{flat_map};
 ghost use Rattle.yard_model.specs.Entry.{shard_fact, coord_fact, queue_fact};
 ghost use Rattle.yard_model.specs.Script.{setting};
 ghost use Rattle.yard_model.specs.SlotLists.{shard_list, queue_list};
-ghost use Rattle.yard_model.specs.Text.{fact_line, line, slot_lines, slot_text};
+ghost use Rattle.yard_model.specs.Text.{fact_line, line, report, slot_lines, slot_text};
+ghost use Rattle.shard_store.specs.Stores.{lists_at};
+ghost use Rattle.trace_text.specs.Foldable.{is_foldable_in_all};
 ghost use Rattle.trace_text.specs.Slots.{shards_lists, queues_lists, slots_text};
+ghost use Rattle.live_run.specs.Owned.{AreOwned};
 ghost use Rattle.live_run.specs.Written.{Puts};
 
+use crate::reporting::write_report;
+use shard_store::Stores;
 use trace_text::{CELLS, put_coordinator_lines, put_head, put_queue_lines, put_shard_lines};
 use yard_io::{Failed, Sink, write_all};
-use yard_model::{Charter, CoordEntry, Lists, ProducerNo, QueueEntry, ShardEntry, ShardNo, Slot};
+use yard_model::{
+    Charter, CoordEntry, EntityName, Lists, ProducerNo, QueueEntry, ShardEntry, ShardNo, Slot,
+};
 
-/// Writes the lists of all slots, and this report behind them.
-pub(crate) fn write_text<T: Lists, K: Sink>(
+/// Writes the lists of all slots of these stores, and their report behind them. These are the names of each shard.
+pub(crate) fn write_text<K: Sink>(
     charter: &Charter,
-    stores: &T,
-    report: &[u8],
+    names: &[Vec<EntityName>],
+    stores: Stores,
     sink: &mut K,
 ) -> Result<(), Failed>
-    ensures { Puts (slots_text (setting charter.now) (T.lists stores.now) ++ report.now) result
+    requires script { stores.script ≡ charter.now }
+    requires names { AreOwned charter.now (map (λ v. v.items) names.now) }
+    requires foldable { IsTrue (is_foldable_in_all (setting charter.now) (lists_at stores.script.config stores.places)) }
+    ensures { Puts (slots_text (setting charter.now) (lists_at stores.script.config stores.places) ++ report (setting charter.now) (lists_at stores.script.config stores.places)) result
         (record { taken = K.taken sink.old; flushed = K.flushed sink.old; faults = K.faults sink.old })
         (record { taken = K.taken sink.new; flushed = K.flushed sink.new; faults = K.faults sink.new }) }
 {
-    write_lists(charter, stores, sink)?;
-    write_piece(sink, report)
+    write_lists(charter, &stores, sink)?;
+    let parts = stores.into_parts();
+    write_report(charter, names, parts.places.as_slice(), sink)
 }
 
 /// Writes the list of each slot that has an entry, shards rising, the coordinator, queues rising.
@@ -40,7 +51,7 @@ fn write_lists<T: Lists, K: Sink>(charter: &Charter, stores: &T, sink: &mut K) -
 }
 
 /// Writes a piece of a text.
-fn write_piece<K: Sink>(sink: &mut K, piece: &[u8]) -> Result<(), Failed>
+pub(crate) fn write_piece<K: Sink>(sink: &mut K, piece: &[u8]) -> Result<(), Failed>
     ensures { Puts piece.now result
         (record { taken = K.taken sink.old; flushed = K.flushed sink.old; faults = K.faults sink.old })
         (record { taken = K.taken sink.new; flushed = K.flushed sink.new; faults = K.faults sink.new }) }

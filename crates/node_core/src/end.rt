@@ -44,7 +44,7 @@ impl<B: Behaviour + Drop> Actors<B> {
         }
     }
 
-    /// A shard is freed, if it is hosted.
+    /// A shard is freed, if it is hosted, and none of its entities is left.
     fn let_shard_go<L: Leases>(&mut self, s: ShardNo, leases: &mut L, out: &mut Out)
         requires shard { is_shard self.old.script s ≡ true }
         requires ending { IsEnding self.old }
@@ -53,20 +53,9 @@ impl<B: Behaviour + Drop> Actors<B> {
         ensures { AreFreed (slot.Shard s ∷ []) self.old self.new (L.meaning leases.old) (L.meaning leases.new) out.old out.new }
     {
         if self.is_hosted(s) {
-            self.let_hosted_go(s, leases, out);
+            let store = self.entities.take_all(s);
+            free_shard_if_there(self.region.who(), s, store, leases, out);
         }
-    }
-
-    /// A shard, which is hosted, is freed, and none of its entities is left.
-    fn let_hosted_go<L: Leases>(&mut self, s: ShardNo, leases: &mut L, out: &mut Out)
-        requires shard { is_shard self.old.script s ≡ true }
-        requires ending { IsEnding self.old }
-        requires room { 1 ≤ out.old.spare }
-        requires rests { Rests (L.meaning leases.old) self.old.script self.old.state }
-        ensures { AreFreed (slot.Shard s ∷ []) self.old self.new (L.meaning leases.old) (L.meaning leases.new) out.old out.new }
-    {
-        let store = self.entities.take_all(s);
-        free_shard_if_there(self.region.who(), s, store, leases, out);
     }
 
     /// The coordinator's slot is freed, if it is held.
@@ -77,19 +66,9 @@ impl<B: Behaviour + Drop> Actors<B> {
         ensures { AreFreed (slot.Coordinator ∷ []) self.old self.new (L.meaning leases.old) (L.meaning leases.new) out.old out.new }
     {
         if self.is_coordinator() {
-            self.let_held_office_go(leases, out);
+            let coordinator = self.coordinator.take();
+            free_office_if_there(self.region.who(), coordinator, leases, out);
         }
-    }
-
-    /// The coordinator's slot, which is held, is freed.
-    fn let_held_office_go<L: Leases>(&mut self, leases: &mut L, out: &mut Out)
-        requires ending { IsEnding self.old }
-        requires room { 1 ≤ out.old.spare }
-        requires rests { Rests (L.meaning leases.old) self.old.script self.old.state }
-        ensures { AreFreed (slot.Coordinator ∷ []) self.old self.new (L.meaning leases.old) (L.meaning leases.new) out.old out.new }
-    {
-        let coordinator = self.coordinator.take();
-        free_office_if_there(self.region.who(), coordinator, leases, out);
     }
 
     /// Every queue that is held is freed, rising.
@@ -113,20 +92,9 @@ impl<B: Behaviour + Drop> Actors<B> {
         ensures { AreFreed (slot.Queue p ∷ []) self.old self.new (L.meaning leases.old) (L.meaning leases.new) out.old out.new }
     {
         if self.holds_queue(p) {
-            self.let_held_queue_go(p, leases, out);
+            let store = self.producers.take_all(p);
+            free_queue_if_there(self.region.who(), p, store, leases, out);
         }
-    }
-
-    /// A queue, which is held, is freed.
-    fn let_held_queue_go<L: Leases>(&mut self, p: ProducerNo, leases: &mut L, out: &mut Out)
-        requires producer { is_producer self.old.script p ≡ true }
-        requires ending { IsEnding self.old }
-        requires room { 1 ≤ out.old.spare }
-        requires rests { Rests (L.meaning leases.old) self.old.script self.old.state }
-        ensures { AreFreed (slot.Queue p ∷ []) self.old self.new (L.meaning leases.old) (L.meaning leases.new) out.old out.new }
-    {
-        let store = self.producers.take_all(p);
-        free_queue_if_there(self.region.who(), p, store, leases, out);
     }
 }
 

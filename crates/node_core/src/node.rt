@@ -20,12 +20,10 @@ ghost use Rattle.node_core.specs.Gave.{moment};
 ghost use Rattle.node_core.specs.Turned.{Turned, Ended};
 
 use crate::actors::Actors;
+use crate::beginning::first_actors;
 use crate::grounds::Grounds;
 use behaviour_core::Behaviour;
 use node_laws::node::{crash_stands, new_node_stands, turn_stands, turn_viewed};
-use producer_ctl::Producers;
-use region_actor::Region;
-use shard_entities::Entities;
 use shard_lease::Leases;
 use shard_store::StoreRef;
 use std::alloc::{AllocError, Global};
@@ -69,24 +67,16 @@ impl<B: Behaviour + Drop> Node<B> {
         ensures state { IfOk result (λ n. n.state ≡ new_node (setting charter.now) (B.version_of behaviour) who) }
     {
         new_node_stands();
-        let region = Region::new(alloc, who, charter)?;
-        let entities = Entities::new(
-            alloc,
-            region.who(),
-            behaviour.version(),
-            charter,
-            grounds.places(),
-        )?;
-        let producers = Producers::new(alloc, region.who(), charter, grounds.names())?;
+        let first = first_actors(alloc, who, behaviour.version(), charter, grounds)?;
         Ok(Node {
             actors: Actors {
                 alloc,
                 script: Snapshot::of(charter),
                 buffer: charter.config().buffer,
                 behaviour,
-                region,
-                entities,
-                producers,
+                region: first.region,
+                entities: first.entities,
+                producers: first.producers,
                 queues: charter.config().producers,
                 coordinator: None,
                 holds: PhantomData,

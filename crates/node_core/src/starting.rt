@@ -14,7 +14,7 @@ ghost use Rattle.node_core.specs.Taken.{IsGranted};
 ghost use Rattle.node_core.specs.Started.{take_shard, asks_start, IsShardGrant, IsShardGrantOf, StartLeaves, TookShard, Hosts};
 
 use crate::actors::Actors;
-use crate::lead::holder_in;
+use crate::lead::{discard, holder_in};
 use behaviour_core::Behaviour;
 use shard_lease::{Acquire, Leases};
 use shard_store::{ShardStore, Store};
@@ -64,7 +64,10 @@ impl<B: Behaviour + Drop> Actors<B> {
         ensures { TookShard s answer self.old self.new out.old out.new }
     {
         match holder_in(&answer) {
-            Some(node) => self.tell_held(s, node, out),
+            Some(node) => {
+                discard(answer);
+                self.tell_held(s, node, out);
+            }
             None => self.host_granted(s, answer, out),
         }
     }

@@ -3,7 +3,7 @@ use Rattle.std.proofs.Common.{◌≡◌, ℕ, List, [], ◌∷◌, length, map, 
 use Rattle.std.specs.Prelude.{Bool, ◌&&◌, ◌↔◌, Option, None, Some, IfSome, IfNone, IsNone, drop, take, slice_set, slice_index_or}
 use Rattle.std.specs.Option.{option_map}
 use Rattle.std.specs.List.{list_all}
-use Rattle.std.proofs.lemmas.List.{map-set, length-replicate}
+use Rattle.std.proofs.lemmas.List.{map-set, length-replicate, set-get_or}
 use Rattle.std.proofs.Math.Seq.{map-set_same}
 use Rattle.yard_model.specs.declared.charter.Config.{Config}
 use Rattle.yard_model.specs.declared.fact.Fact.TheVariants as fact
@@ -11,10 +11,11 @@ use Rattle.yard_model.specs.declared.incarnation.Incarnation.{Incarnation}
 use Rattle.yard_model.specs.declared.input.Phase.{Phase}
 use Rattle.yard_model.specs.declared.input.Phase.TheVariants as phase
 use Rattle.yard_model.specs.declared.packet.Message.{Message}
-use Rattle.yard_model.specs.Entities.{Cell, cell, new_cell, stash_step}
+use Rattle.yard_model.specs.Entities.{Cell, cell, cell_after, new_cell, stash_step}
 use Rattle.yard_model.specs.Genuine.{is_genuine, is_producer}
 use Rattle.yard_model.specs.Move.{told}
 use Rattle.yard_model.specs.Script.{Script, setting, is_name}
+use Rattle.yard_model.specs.Setting.{place}
 use Rattle.yard_model.specs.Words.{at}
 use Rattle.plain_laws.proofs.Booleans.{and_both, same_name}
 use Rattle.shard_entities.specs.Celled.{Celled, celled, celled_after}
@@ -41,6 +42,22 @@ dropped_cell who m {c} {e} {o} {was} gone k = record {
   clear = λ active. absurd (absent_not_active gone active);
   folds = λ active. absurd (absent_not_active gone active);
 }
+
+-- a message is dropped of an entity that exists: nothing changes
+kept_stash : (q : Phase) (l : List Message) (who : Incarnation) (m : Message) → (q ≡ phase.Absent → ⊥) → stash_step q l (told (fact.Dropped who m)) ≡ l
+kept_stash phase.Absent l who m there = absurd (there refl)
+kept_stash phase.Loading l who m there = refl
+kept_stash phase.Active l who m there = refl
+kept_stash phase.Stopping l who m there = refl
+
+kept_cell : (x : Cell) (who : Incarnation) (m : Message) → (x.phase ≡ phase.Absent → ⊥) → cell_after x (told (fact.Dropped who m)) ≡ x
+kept_cell x who m there = ap (λ (l : List Message). record { phase = x.phase; passivating = x.passivating; stash = l; armed = x.armed; reach = x.reach }) (kept_stash x.phase x.stash who m there)
+
+pub dropped_stays : (v : Lodged) (m : Message) {e : List ℕ} → m.entity ≡ e → ((cell v.state e).phase ≡ phase.Absent → ⊥) → v ≡ moved v (told (fact.Dropped v.state.who m) ∷ [])
+dropped_stays v m {e} same there =
+    let it : (cell v.state m.entity).phase ≡ phase.Absent → ⊥ = subst (λ n. (cell v.state n).phase ≡ phase.Absent → ⊥) (sym same) there in
+    ap (λ (l : List Cell). record { script = v.script; state = record { who = v.state.who; set = v.state.set; version = v.state.version; hosted = v.state.hosted; cells = l }; rooms = v.rooms })
+    (sym (ap (λ (x : Cell). slice_set v.state.cells (place v.state.set m.entity) x) (kept_cell (cell v.state m.entity) v.state.who m it) ∙ set-get_or v.state.cells (place v.state.set m.entity) (new_cell v.state.set)))
 
 pub dropped_stands : (r : Option Message) (now : Celled) {c : Script} {version : ℕ} {who : Incarnation} {config : Config} {places : Script} {cells : List Celled} {items : List (Option Hosting)} {running : ℕ} {v : Lodged} {p : Place} {was : Celled}
     → IsLodged c version who config places cells items running → lodged c version who items cells ≡ v → IsPlace v.script p → was ≡ slice_index_or cells p.at was → (cell v.state p.entity).phase ≡ phase.Absent

@@ -8,14 +8,16 @@ use Rattle.std.proofs.lemmas.Bool.Decides.{nat_tests}
 use Rattle.std.proofs.lemmas.List.{drop_more}
 use Rattle.yard_model.specs.declared.fact.Fact.TheVariants as fact
 use Rattle.yard_model.specs.declared.incarnation.Cause.{Cause}
+use Rattle.yard_model.specs.declared.incarnation.Incarnation.{Incarnation}
 use Rattle.yard_model.specs.declared.incarnation.Slot.TheVariants as slot
 use Rattle.yard_model.specs.declared.input.Phase.{Phase}
 use Rattle.yard_model.specs.declared.input.Phase.TheVariants as phase
-use Rattle.yard_model.specs.Entities.{Cell, Hosted, cell, new_cell, hosted, entities_of, is_phase, is_in_phase}
+use Rattle.yard_model.specs.Entities.{Cell, Hosted, cell, new_cell, new_entities, hosted, entities_of, is_phase, is_in_phase}
 use Rattle.yard_model.specs.Move.{told}
 use Rattle.yard_model.specs.Script.{Script, Setting, setting}
 use Rattle.yard_model.specs.Setting.{shard_of, names_of, place}
 use Rattle.yard_model.specs.Words.{at}
+use Rattle.plain_laws.proofs.Booleans.{get_replicate}
 use Rattle.shard_store.specs.Shelf.{Shelf}
 use Rattle.shard_store.specs.Shelved.{name_at, IsNamed}
 use Rattle.shard_entities.specs.Delivered.{Stands}
@@ -119,6 +121,10 @@ freed_settled {v} {w} s n why st settled left step = subst IsSettled (sym step) 
 
 new_quiet : (set : Setting) (o : Option Hosted) → IsQuiet o (new_cell set)
 new_quiet set o = record { at_home = λ none. refl; gone = λ gone. refl; clear = λ active. refl }
+
+-- of a node that comes up
+pub new_settled : (c : Script) (version : ℕ) (who : Incarnation) (rooms : List ℕ) → IsSettled (record { script = c; state = new_entities (setting c) version who; rooms = rooms })
+new_settled c version who rooms = λ i within. subst (IsQuiet (hosted (new_entities (setting c) version who) (shard_of (setting c) (name_at (setting c).names i)))) (sym (get_replicate (length (setting c).names) i (new_cell (setting c)))) (new_quiet (setting c) (hosted (new_entities (setting c) version who) (shard_of (setting c) (name_at (setting c).names i))))
 
 cleared_keeps : (P : Cell → Type 0) (set : Setting) → P (new_cell set) → (es : List (List ℕ)) (cells : List Cell) (i : ℕ) → P (slice_index_or cells i (new_cell set)) → P (slice_index_or (fold (cells_cleared set) cells es) i (new_cell set))
 cleared_keeps P set new [] cells i old = old

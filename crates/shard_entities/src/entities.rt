@@ -68,8 +68,8 @@ impl Entities {
         requires places { places.now ≡ charter.now }
         ensures { IfOk result (λ e. e ≡ record { script = charter.now; state = new_entities (setting charter.now) version who; rooms = replicate charter.now.config.shards 0 }) }
     {
-        let shards = Shards::new(alloc, who, version, charter, places)?;
         let pending = Stash::new(alloc, charter.config().window)?;
+        let shards = Shards::new(alloc, who, version, charter, places)?;
         Ok(Entities { shards, pending })
     }
 

@@ -21,12 +21,13 @@ ghost use Rattle.shard_entities.specs.Ready.{IsReady, AreReady};
 ghost use Rattle.shard_entities.specs.Settled.{IsSettled};
 ghost use Rattle.shard_entities.specs.Placed.{IsPlace};
 
+use crate::beginning::{none_hosted, none_started};
 use crate::cells::Cells;
 use crate::counts::count_out;
 use crate::hosting::{Ending, Hosting, reserve_in};
 use crate::place::Place;
 use crate::places::{Places, shard_at};
-use crate::restless::{none_restless, note};
+use crate::restless::note;
 use place_set::PlaceSet;
 use shard_store::ShardStore;
 use std::alloc::{AllocError, Global};
@@ -110,23 +111,20 @@ impl Shards {
     {
         let config = *charter.config();
         let count = charter.names().len();
-        let places = places.share()?;
-        let cells = Cells::new(alloc, count, config.producers, config.window)?;
-        let hosted = none_hosted(alloc, config.shards)?;
-        let existing = none_counted(alloc, config.shards)?;
-        let restless = none_restless(alloc, &places)?;
+        let unhosted = none_hosted(alloc, config.shards)?;
+        let unstarted = none_started(alloc, count, &config, places)?;
         Ok(Shards {
             script: Snapshot::of(charter),
             who,
             version,
             config,
-            places,
-            cells,
-            hosted,
+            places: unstarted.places,
+            cells: unstarted.cells,
+            hosted: unhosted.hosted,
             running: ShardSet::empty(),
-            existing,
+            existing: unhosted.existing,
             touched: ShardSet::empty(),
-            restless,
+            restless: unstarted.restless,
             holds: PhantomData,
         })
     }
@@ -411,25 +409,6 @@ impl Shards {
     {
         self.config.window
     }
-}
-
-/// No shard is hosted.
-fn none_hosted(alloc: Global, shards: u8) -> Result<Vec<Option<Hosting>>, AllocError>
-    ensures { IfOk result (λ v. v.items ≡ replicate shards None) }
-{
-    let mut hosted = Vec::with_capacity(alloc, shards as usize)?;
-    for _ in 0..shards {
-        hosted.push_reserved(None);
-    }
-    Ok(hosted)
-}
-
-/// No entity of any shard exists.
-fn none_counted(alloc: Global, shards: u8) -> Result<Vec<u32>, AllocError>
-    ensures { IfOk result (λ v. v.items ≡ replicate shards 0) }
-{
-    let existing = vec![in alloc; 0u32; shards as usize]?;
-    Ok(existing)
 }
 
 /// Which of these shards are hosted.

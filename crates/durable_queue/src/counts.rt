@@ -6,6 +6,37 @@ use crate::names::Names;
 use std::alloc::{AllocError, Global};
 use yard_model::EntityName;
 
+/// Two numbers for each name: how many commands are queued, and the last confirmed number.
+#[derive(Drop)]
+pub(crate) struct Counts {
+    pub(crate) queued: Vec<u32>,
+    pub(crate) confirmed: Vec<u32>,
+}
+
+/// 0 twice for each of so many names. The only error is want of memory.
+pub(crate) fn no_counts(alloc: Global, count: usize) -> Result<Counts, AllocError>
+    ensures queued { IfOk result (λ c. c.queued.items ≡ replicate count 0) }
+    ensures confirmed { IfOk result (λ c. c.confirmed.items ≡ replicate count 0) }
+{
+    let queued = zeros_of(alloc, count)?;
+    let confirmed = zeros_of(alloc, count)?;
+    Ok(Counts { queued, confirmed })
+}
+
+/// The same numbers of each name. The only error is want of memory.
+pub(crate) fn same_counts(
+    alloc: Global,
+    queued: &[u32],
+    confirmed: &[u32],
+) -> Result<Counts, AllocError>
+    ensures queued { IfOk result (λ c. c.queued.items ≡ queued.now) }
+    ensures confirmed { IfOk result (λ c. c.confirmed.items ≡ confirmed.now) }
+{
+    let queued = copy_of(alloc, queued)?;
+    let confirmed = copy_of(alloc, confirmed)?;
+    Ok(Counts { queued, confirmed })
+}
+
 /// 0 for each of so many names. The only error is want of memory.
 pub(crate) fn zeros_of(alloc: Global, count: usize) -> Result<Vec<u32>, AllocError>
     ensures { IfOk result (λ counts. counts.items ≡ replicate count 0) }
@@ -14,7 +45,7 @@ pub(crate) fn zeros_of(alloc: Global, count: usize) -> Result<Vec<u32>, AllocErr
 }
 
 /// The same numbers. The only error is want of memory.
-pub(crate) fn copy_of(alloc: Global, counts: &[u32]) -> Result<Vec<u32>, AllocError>
+fn copy_of(alloc: Global, counts: &[u32]) -> Result<Vec<u32>, AllocError>
     ensures { IfOk result (λ same. same.items ≡ counts.now) }
 {
     let mut same = Vec::with_capacity(alloc, counts.len())?;

@@ -4,6 +4,7 @@
 
 mod counts;
 mod hints;
+mod known;
 mod names;
 mod plans;
 mod store;

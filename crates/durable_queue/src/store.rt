@@ -9,10 +9,11 @@ ghost use Rattle.yard_model.specs.Script.{names_in, sends, plan, with_shards};
 ghost use Rattle.yard_model.specs.SlotReads as reads;
 ghost use Rattle.durable_queue.specs.Queue.{name_at};
 
-use crate::counts::{copy_of, count_at, count_of, put_at, zeros_of};
-use crate::hints::{hint_at, hints_of};
+use crate::counts::{Counts, count_at, count_of, no_counts, put_at, same_counts};
+use crate::hints::hint_at;
+use crate::known::{Known, known_of};
 use crate::names::Names;
-use crate::plans::{command_at, command_to, plans_of};
+use crate::plans::{command_at, command_to};
 use std::alloc::{AllocError, Global};
 use std::marker::{Model, PhantomData};
 use std::snapshot::Snapshot as Ghost;
@@ -89,13 +90,16 @@ impl QueueStore {
         ensures entries { IfOk result (λ q. q.entries ≡ []) }
         ensures spare { IfOk result (λ q. q.spare ≡ 0) }
     {
-        let sends = charter.sends(producer);
-        let names = Names::new(alloc, charter)?;
-        let hints = hints_of(alloc, &names, sends, hints)?;
-        let plans = plans_of(alloc, &names, sends, hints.as_slice())?;
-        let queued = zeros_of(alloc, names.len())?;
-        let confirmed = zeros_of(alloc, names.len())?;
-        let entries = Vec::with_capacity(alloc, room_for(sends.len()))?;
+        let known = known_of(alloc, charter, producer, hints)?;
+        let counts = no_counts(alloc, known.names.len())?;
+        let room = room_for(charter.sends(producer).len());
+        let entries = Vec::with_capacity(alloc, room)?;
+        let Known {
+            names,
+            hints,
+            plans,
+        } = known;
+        let Counts { queued, confirmed } = counts;
         Ok(QueueStore {
             script: Ghost::of(charter),
             producer,
@@ -267,13 +271,16 @@ impl QueueStore {
         requires { charter.now ≡ with_shards charter.now.config.shards self.now.script }
         ensures { IfOk result (λ q. q ≡ record self.now { script = charter.now; spare = 0 }) }
     {
-        let sends = charter.sends(self.producer);
-        let names = Names::new(alloc, charter)?;
-        let hints = hints_of(alloc, &names, sends, self.hints.as_slice())?;
-        let plans = plans_of(alloc, &names, sends, hints.as_slice())?;
-        let queued = copy_of(alloc, self.queued.as_slice())?;
-        let confirmed = copy_of(alloc, self.confirmed.as_slice())?;
-        let entries = entries_of(alloc, sends.len(), self.entries.as_slice())?;
+        let known = known_of(alloc, charter, self.producer, self.hints.as_slice())?;
+        let counts = same_counts(alloc, self.queued.as_slice(), self.confirmed.as_slice())?;
+        let sends = charter.sends(self.producer).len();
+        let entries = entries_of(alloc, sends, self.entries.as_slice())?;
+        let Known {
+            names,
+            hints,
+            plans,
+        } = known;
+        let Counts { queued, confirmed } = counts;
         Ok(QueueStore {
             script: Ghost::of(charter),
             producer: self.producer,

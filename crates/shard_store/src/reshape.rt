@@ -65,11 +65,26 @@ fn shards_after(
     requires { MayGoOver stores.now charter.now epoch }
     ensures { IfOk result (λ places. AreEach None (λ k. IsAfterAt charter.now (next_lists stores.now charter.now.config.shards epoch) (slot.Shard k)) places.items charter.now.config.shards) }
 {
-    let shards = charter.config().shards;
     let table = NameTable::new(alloc, charter)?;
+    each_after(alloc, stores, charter, &table, epoch)
+}
+
+/// The same, with the table of the charter's names.
+fn each_after(
+    alloc: Global,
+    stores: &Stores,
+    charter: &Charter,
+    table: &NameTable,
+    epoch: u32,
+) -> Result<Vec<Option<Store>>, AllocError>
+    requires over { MayGoOver stores.now charter.now epoch }
+    requires table { table.now ≡ charter.now }
+    ensures { IfOk result (λ places. AreEach None (λ k. IsAfterAt charter.now (next_lists stores.now charter.now.config.shards epoch) (slot.Shard k)) places.items charter.now.config.shards) }
+{
+    let shards = charter.config().shards;
     let mut places = Vec::new(alloc);
     for s in 0..shards {
-        let store = shard_after(alloc, stores, charter, &table, s, epoch)?;
+        let store = shard_after(alloc, stores, charter, table, s, epoch)?;
         places.push(Some(store))?;
     }
     Ok(places)

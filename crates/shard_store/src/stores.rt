@@ -62,7 +62,6 @@ impl Model for Stores {
 
 impl Stores {
     /// The empty store of each slot. The only error is want of memory.
-    #[tactic(auto, using(crate::proofs::StoresLaws::homes_of, crate::proofs::StoresLaws::no_entries, crate::proofs::StoresLaws::none_at))]
     pub fn new(alloc: Global, charter: &Charter) -> Result<Stores, AllocError>
         ensures script { IfOk result (λ s. s.script ≡ charter.now) }
         ensures none { IfOk result (λ s. lists_at charter.now.config s.places ≡ no_lists (setting charter.now)) }
@@ -173,16 +172,28 @@ pub struct Parts {
 }
 
 /// The empty stores, by place. The only error is want of memory.
-#[tactic(auto, using(crate::proofs::StoresLaws::none_yet, crate::proofs::StoresLaws::new_more))]
 fn new_places(alloc: Global, charter: &Charter) -> Result<Vec<Option<Store>>, AllocError>
+    ensures { IfOk result (λ places. AreNew charter.now places.items (charter.now.config.shards + charter.now.config.producers + 1)) }
+{
+    let table = NameTable::new(alloc, charter)?;
+    new_stores(alloc, charter, &table)
+}
+
+/// The same, with the table of the charter's names.
+#[tactic(auto, using(crate::proofs::StoresLaws::none_yet))]
+fn new_stores(
+    alloc: Global,
+    charter: &Charter,
+    table: &NameTable,
+) -> Result<Vec<Option<Store>>, AllocError>
+    requires { table.now ≡ charter.now }
     ensures { IfOk result (λ places. AreNew charter.now places.items (charter.now.config.shards + charter.now.config.producers + 1)) }
 {
     let config = charter.config();
     let count = config.shards as u32 + config.producers as u32 + 1;
-    let table = NameTable::new(alloc, charter)?;
     let mut places = Vec::with_capacity(alloc, count as usize)?;
     for place in 0..count {
-        let store = new_store(alloc, charter, &table, place)?;
+        let store = new_store(alloc, charter, table, place)?;
         places.push(Some(store))?;
     }
     Ok(places)

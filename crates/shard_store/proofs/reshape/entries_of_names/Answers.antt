@@ -1,7 +1,11 @@
 use Rattle.std.proofs.Common.{map}
 use Rattle.yard_model.specs.Entry.{shard_fact}
-use Rattle.shard_store.proofs.ReshapeLaws.{entries_more, entries_all}
+use Rattle.yard_model.specs.Genuine.{is_brought}
+use Rattle.shard_store.proofs.ReshapeLaws.{all_at, entries_more, entries_all}
 use Rattle.shard_store.proofs.reshape.entries_of_names.Goals as goal
+
+pub store_of-requires : goal.store_of-requires
+store_of-requires c = all_at (is_brought c.args.stores.now.script) c.args.names.now c.loop-name.name-index c.name-item.result c.requires c.loop-name-test.true c.name-item.is
 
 pub loop-name-preserved : goal.loop-name-preserved
 loop-name-preserved c = λ s.

@@ -3,7 +3,7 @@ use Rattle.std.specs.Prelude.{None, Some}
 use Rattle.yard_model.specs.declared.incarnation.Slot.TheVariants as slot
 use Rattle.shard_store.specs.Reshaped.{AreEach, IsAfterAt, next_lists}
 use Rattle.shard_store.proofs.ReshapeLaws.{each_more}
-use Rattle.shard_store.proofs.reshape.shards_after.Goals as goal
+use Rattle.shard_store.proofs.reshape.each_after.Goals as goal
 
 pub loop-s-preserved : goal.loop-s-preserved
 loop-s-preserved c =

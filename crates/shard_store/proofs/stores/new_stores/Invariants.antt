@@ -1,6 +1,6 @@
 use Rattle.std.proofs.Common.{◌≡◌, ◌+◌}
 use Rattle.shard_store.specs.Stores.{AreNew}
-use Rattle.shard_store.proofs.stores.new_places.Given as goal
+use Rattle.shard_store.proofs.stores.new_stores.Given as goal
 
 abbrev pub invariant-loop-place : goal.invariant-loop-place
 invariant-loop-place l = record {

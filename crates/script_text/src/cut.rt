@@ -8,7 +8,7 @@ ghost use Rattle.script_text.specs.Words.{is_gap, is_plain, is_printable, ArePri
 use std::simd::prelude::*;
 
 /// A line, and what comes after it.
-#[derive(Clone, Copy, Debug)]
+#[derive(Clone, Copy)]
 pub struct Cut<'a> {
     /// The line, without its end.
     pub line: &'a [u8],

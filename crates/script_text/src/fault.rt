@@ -100,7 +100,7 @@ pub enum ScriptFault {
 }
 
 /// Why a line adds nothing.
-#[derive(Clone, Copy, Debug, PartialEq, Eq)]
+#[derive(Clone, Copy)]
 pub enum Stop {
     /// It is refused.
     Refused(Why),

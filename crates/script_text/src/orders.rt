@@ -12,7 +12,7 @@ use crate::words::{both, first, is, name, no_more, number_of, only, only_number}
 use yard_model::{Command, Config, EntityName, Keep, NodeNo, Order, ProducerNo};
 
 /// The first word of an order.
-#[derive(Clone, Copy, Debug, PartialEq, Eq)]
+#[derive(Clone, Copy)]
 pub enum Verb {
     /// `up N`
     Up,

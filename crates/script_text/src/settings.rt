@@ -14,7 +14,7 @@ use crate::words::{is, number_of};
 use yard_model::{Config, Kind};
 
 /// A setting, with a value in its range.
-#[derive(Clone, Copy, Debug, PartialEq, Eq)]
+#[derive(Clone, Copy)]
 pub enum Setting {
     /// `nodes=N`
     Nodes(u8),

@@ -130,14 +130,12 @@ impl Charter {
         requires { IsScript (record { config = config; orders = orders.items }) }
         ensures { IfOk result (λ c. c ≡ record { config = config; orders = orders.items }) }
     {
-        let mut counts = Counts::new(alloc);
-        let sends = sends_of_all(alloc, &mut counts, orders.as_slice())?;
-        let names = NameList::new(alloc, counts.into_names(alloc)?)?;
+        let (names, sends) = brought_by(alloc, orders.as_slice())?;
         Ok(Charter {
             config,
             orders: shared_lines(alloc, orders)?,
             names,
-            sends: shared_sends(alloc, sends)?,
+            sends,
             holds: PhantomData,
         })
     }
@@ -215,6 +213,23 @@ impl Charter {
         let place = p.get() as usize - 1;
         self.sends[place].as_slice()
     }
+}
+
+/// The names and the sends of each producer that these orders bring, to be shared. The only error is want of
+/// memory.
+fn brought_by(
+    alloc: Global,
+    orders: &[Line],
+) -> Result<(NameList, Arc<Vec<Vec<Sending>>, Global>), AllocError>
+    requires { length orders.now ≤ 200000 }
+    ensures names { IfOk result (λ r. r.0 ≡ names_in orders.now) }
+    ensures sorted { IfOk result (λ r. IsStrictlySortedBy (slice_cmp nat_cmp) r.0) }
+    ensures sends { IfOk result (λ r. map (λ v. v.items) (arc_value r.1).items ≡ map (λ p. sends_in p orders.now) (numbers 1 32)) }
+{
+    let mut counts = Counts::new(alloc);
+    let sends = shared_sends(alloc, sends_of_all(alloc, &mut counts, orders)?)?;
+    let names = counts.into_names(alloc)?;
+    Ok((NameList::new(alloc, names)?, sends))
 }
 
 /// These lines, to be shared. The only error is want of memory.

@@ -15,7 +15,7 @@ use Rattle.yard_model.specs.SlotReads.{holder, queued, confirmed}
 use Rattle.durable_queue.specs.Queue.{Queue}
 use Rattle.place_set.specs.Places.{Places, is_in}
 use Rattle.plain_laws.proofs.Lists.{by_place}
-use Rattle.producer_ctl.specs.declared.pair.Pair.{Pair}
+use Rattle.send_window.specs.declared.pair.Pair.{Pair}
 use Rattle.producer_ctl.specs.Paired.{IsPair, is_waiting, name_at, new_pair, no_pair, progress_of}
 use Rattle.producer_ctl.specs.Produced.{IsProduced, produced}
 

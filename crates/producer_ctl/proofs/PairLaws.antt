@@ -21,7 +21,7 @@ use Rattle.durable_queue.specs.Queue.{Queue}
 use Rattle.plain_laws.proofs.Lists.{by_place, of_write}
 use Rattle.plain_laws.proofs.Names.{name_itself}
 use Rattle.name_index.proofs.NameLaws.{another_name}
-use Rattle.producer_ctl.specs.declared.pair.Pair.{Pair}
+use Rattle.send_window.specs.declared.pair.Pair.{Pair}
 use Rattle.producer_ctl.specs.declared.place.Place.{Place}
 use Rattle.producer_ctl.specs.Paired.{IsPair, IsPlace, is_waiting, name_at, no_pair, progress_of}
 use Rattle.producer_ctl.specs.Produced.{Produced, IsProduced, produced, moved, room_step}

@@ -18,10 +18,11 @@ use Rattle.yard_model.specs.Setting.{place}
 use Rattle.yard_model.specs.Words.{at}
 use Rattle.plain_laws.proofs.Booleans.{true_is_not_false, and_both}
 use Rattle.plain_laws.proofs.Lists.{by_place, of_write, some_is, none_is_not_some}
-use Rattle.producer_ctl.specs.declared.pair.Sends.{Sends}
+use Rattle.send_window.specs.declared.pair.Sends.{Sends}
 use Rattle.producer_ctl.specs.declared.producers.Pending.{Pending}
 use Rattle.producer_ctl.specs.declared.place.Place.{Place}
-use Rattle.producer_ctl.specs.Paired.{IsPlace, numbers_of}
+use Rattle.producer_ctl.specs.Paired.{IsPlace}
+use Rattle.send_window.specs.Window.{numbers_of}
 use Rattle.producer_ctl.specs.Produced.{Produced, Gives, moved, produced_after, room_step}
 use Rattle.producer_ctl.specs.Within.{IsWithin, RoutesWithin}
 use Rattle.producer_ctl.proofs.RuleLaws.{moved_state}

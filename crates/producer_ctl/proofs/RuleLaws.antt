@@ -13,8 +13,8 @@ use Rattle.yard_model.specs.Words.{from_to}
 use Rattle.plain_laws.proofs.Booleans.{not_below}
 use Rattle.plain_laws.proofs.Names.{name_itself}
 use Rattle.producer_ctl.proofs.PairLaws.{confirmed_more}
-use Rattle.producer_ctl.specs.declared.pair.Pair.{Pair}
-use Rattle.producer_ctl.specs.Paired.{allowed_of}
+use Rattle.send_window.specs.declared.pair.Pair.{Pair}
+use Rattle.send_window.specs.Window.{allowed_of}
 use Rattle.producer_ctl.specs.Produced.{Produced, Gives, moved, given, and_then, IsPairOf}
 
 -- the state after moves

@@ -15,10 +15,11 @@ use Rattle.yard_model.specs.SlotReads.{confirmed, queued_in_all}
 use Rattle.yard_model.specs.Words.{at, numbers}
 use Rattle.durable_queue.specs.Queue.{Queue}
 use Rattle.plain_laws.proofs.Lists.{by_place, none_is_not_some, some_is}
-use Rattle.producer_ctl.specs.declared.pair.Pair.{Pair}
-use Rattle.producer_ctl.specs.declared.pair.Sends.{Sends}
+use Rattle.send_window.specs.declared.pair.Pair.{Pair}
+use Rattle.send_window.specs.declared.pair.Sends.{Sends}
 use Rattle.producer_ctl.specs.declared.producers.Pending.{Pending}
-use Rattle.producer_ctl.specs.Paired.{IsPair, IsPlace, name_at, no_pair, numbers_of, progress_of}
+use Rattle.producer_ctl.specs.Paired.{IsPair, IsPlace, name_at, no_pair, progress_of}
+use Rattle.send_window.specs.Window.{numbers_of}
 use Rattle.producer_ctl.specs.Produced.{Produced, IsProduced, StandsAs, produced, queueing}
 use Rattle.producer_ctl.specs.Producing.{Producing, producing, IsProducing, IsHeld, IsPending, IsQueued, MaySend, MayGo, IsReserved, IsBounded, Stands, AreMore, AreReady, IsRoomy, after_message, first_of, held, next_message, no_routing, place_at, rest_of, room_of, sending, state_of, with_room}
 use Rattle.producer_ctl.proofs.NamedLaws.{none_at}

@@ -19,7 +19,7 @@ use Rattle.yard_model.specs.Turns.{where_some}
 use Rattle.yard_model.specs.Words.{at}
 use Rattle.durable_queue.specs.Queue.{Queue}
 use Rattle.plain_laws.proofs.Lists.{some_is, none_is_not_some}
-use Rattle.producer_ctl.specs.declared.pair.Sends.{Sends}
+use Rattle.send_window.specs.declared.pair.Sends.{Sends}
 use Rattle.producer_ctl.specs.declared.place.Place.{Place}
 use Rattle.producer_ctl.specs.declared.producers.Pending.{Pending}
 use Rattle.producer_ctl.specs.Paired.{IsPlace, name_at}

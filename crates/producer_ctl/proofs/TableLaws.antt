@@ -7,7 +7,7 @@ use Rattle.yard_model.specs.Genuine.{is_producer}
 use Rattle.yard_model.specs.Script.{Script, setting}
 use Rattle.yard_model.specs.SlotReads.{queued, confirmed}
 use Rattle.durable_queue.specs.Queue.{Queue}
-use Rattle.producer_ctl.specs.declared.pair.Pair.{Pair}
+use Rattle.send_window.specs.declared.pair.Pair.{Pair}
 use Rattle.producer_ctl.specs.declared.producers.Pending.{Pending}
 use Rattle.producer_ctl.specs.Paired.{IsNext, IsPair, is_waiting, name_at, no_pair}
 use Rattle.producer_ctl.specs.Produced.{Produced, IsProduced, produced, waits_to}

@@ -1,14 +1,12 @@
 -- What is kept of a pair of producer and entity.
-use Rattle.std.specs.Prelude.{◌≡◌, ℕ, ◌+◌, ◌<◌, ◌≤◌, Bool, true, false, nat_lt, List, [], length, min, max, slice_index_or}
+use Rattle.std.specs.Prelude.{◌≡◌, ℕ, ◌+◌, ◌<◌, ◌≤◌, Bool, true, false, nat_lt, List, [], length, slice_index_or}
 use Rattle.yard_model.specs.declared.fact.Fact.{Fact}
 use Rattle.yard_model.specs.Producer.{Progress}
 use Rattle.yard_model.specs.Script.{Script, setting}
 use Rattle.yard_model.specs.Setting.{place}
 use Rattle.yard_model.specs.SlotReads.{queued, confirmed}
-use Rattle.yard_model.specs.Words.{from_to}
 use Rattle.place_set.specs.Places.{Places, is_in}
-use Rattle.producer_ctl.specs.declared.pair.Pair.{Pair}
-use Rattle.producer_ctl.specs.declared.pair.Sends.{Sends}
+use Rattle.send_window.specs.declared.pair.Pair.{Pair}
 use Rattle.producer_ctl.specs.declared.place.Place.{Place}
 
 abbrev pub no_pair : Pair
@@ -16,14 +14,6 @@ no_pair = record { demand = 0; sent = 0; queued = 0; confirmed = 0 }
 
 abbrev pub progress_of : Pair → Progress
 progress_of k = record { demand = k.demand; sent = k.sent }
-
--- the number that may be sent up to
-abbrev pub allowed_of : Pair → ℕ
-allowed_of k = min k.queued (max k.demand (k.confirmed + 1))
-
--- the numbers that are sent
-abbrev pub numbers_of : Sends → List ℕ
-numbers_of s = from_to (s.after + 1) s.last
 
 -- what the queue's list says of the pair is at hand; demand isn't above the confirmed number and the window
 pub record IsPair (window : ℕ) (e : List ℕ) (entries : List Fact) (k : Pair) : Type 0 where

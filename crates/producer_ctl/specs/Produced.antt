@@ -14,7 +14,7 @@ use Rattle.yard_model.specs.Script.{Script, setting}
 use Rattle.yard_model.specs.SlotReads.{queued, confirmed, holder}
 use Rattle.yard_model.specs.Spared.{Spared}
 use Rattle.durable_queue.specs.Queue.{Queue}
-use Rattle.producer_ctl.specs.declared.pair.Pair.{Pair}
+use Rattle.send_window.specs.declared.pair.Pair.{Pair}
 use Rattle.producer_ctl.specs.Paired.{IsPair, name_at, no_pair, progress_of}
 
 pub record Produced : Type 0 where

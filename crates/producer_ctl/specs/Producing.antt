@@ -17,10 +17,11 @@ use Rattle.yard_model.specs.Script.{Script, setting}
 use Rattle.yard_model.specs.SlotReads.{confirmed, holder, queued}
 use Rattle.yard_model.specs.Words.{at}
 use Rattle.durable_queue.specs.Queue.{Queue}
-use Rattle.producer_ctl.specs.declared.pair.Sends.{Sends}
+use Rattle.send_window.specs.declared.pair.Sends.{Sends}
 use Rattle.producer_ctl.specs.declared.place.Place.{Place}
 use Rattle.producer_ctl.specs.declared.producers.Pending.{Pending}
-use Rattle.producer_ctl.specs.Paired.{IsPlace, name_at, numbers_of}
+use Rattle.producer_ctl.specs.Paired.{IsPlace, name_at}
+use Rattle.send_window.specs.Window.{numbers_of}
 use Rattle.producer_ctl.specs.Produced.{Produced, Gives, moved, room_step, queueing, waits_to}
 use Rattle.producer_ctl.specs.Within.{IsWithin}
 

@@ -8,9 +8,9 @@ ghost use Rattle.producer_ctl.specs.Paired.{IsPlace, IsNext, name_at};
 ghost use Rattle.producer_ctl.specs.Produced.{given, acking, asking, queueing, resending, repeating, waits_to, StandsAs};
 ghost use Rattle.producer_ctl.specs.Producing.{IsQueued, IsSent, IsReserved, room_of, of_item, moves_of};
 
-use crate::pair::Sends;
 use crate::place::Place;
 use crate::producer::Producer;
+use send_window::Sends;
 use std::alloc::AllocError;
 use yard_model::{Charter, EntityName, Message, Out, Sending};
 

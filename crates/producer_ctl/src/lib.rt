@@ -6,7 +6,6 @@
 mod held;
 mod laws;
 mod names;
-mod pair;
 mod place;
 mod producer;
 mod producers;
@@ -14,8 +13,8 @@ mod table;
 
 pub use laws::{numbers_are_within, rules_are_calls};
 pub use names::Names;
-pub use pair::Sends;
 pub use place::Place;
 pub use producer::{Parts, Producer};
 pub use producers::Producers;
+pub use send_window::Sends;
 pub use table::Blank;

@@ -8,13 +8,14 @@ ghost use Rattle.yard_model.specs.Move.{told, made, demanded, pushed};
 ghost use Rattle.yard_model.specs.Producer.{new_producer, next_sending, queue, confirm, push_marks, to_push, to_resend, to_repeat, message_of};
 ghost use Rattle.yard_model.specs.Script.{setting, sends};
 ghost use Rattle.yard_model.specs.SlotReads.{holder, queued, confirmed};
-ghost use Rattle.producer_ctl.specs.Paired.{IsPlace, IsNext, name_at, numbers_of, new_pair, no_pair};
+ghost use Rattle.producer_ctl.specs.Paired.{IsPlace, IsNext, name_at, new_pair, no_pair};
+ghost use Rattle.send_window.specs.Window.{numbers_of};
 ghost use Rattle.producer_ctl.specs.Produced.{moved, given, acking, asking, queueing, repeating, waits_to, IsPairOf, IsStoreOf, StandsAs};
 
-use crate::pair::{Pair, Sends, larger};
 use crate::place::Place;
 use crate::table::{Blank, Table};
 use durable_queue::QueueStore;
+use send_window::{Pair, Sends, larger};
 use std::alloc::AllocError;
 use std::marker::{Model, PhantomData};
 use yard_model::{

@@ -18,7 +18,7 @@ ghost use Rattle.yard_model.specs.SlotReads.{holder, epoch, queued};
 ghost use Rattle.yard_model.specs.Turns.{where_some};
 ghost use Rattle.yard_model.specs.Words.{at};
 ghost use Rattle.durable_queue.specs.Queue.{Queue};
-ghost use Rattle.producer_ctl.specs.declared.pair.Sends.{Sends};
+ghost use Rattle.send_window.specs.declared.pair.Sends.{Sends};
 ghost use Rattle.producer_ctl.specs.Paired.{IsPlace, IsNext, name_at};
 ghost use Rattle.producer_ctl.specs.Produced.{given, acking, asking, queueing, resending, repeating};
 ghost use Rattle.producer_ctl.specs.Producing.{no_routing, routing, held, waits, of_held, sending, moves_of, moved_by, stepped, holding, without, next_message, after_message, MayGo, IsStore, IsReserved, Stands, AreMore, AreReady, IsRoomy, HasPlaces, room_of};
@@ -28,12 +28,12 @@ use crate::held::{
     queue_in, resend_in, reserve_in, tick_in,
 };
 use crate::names::Names;
-use crate::pair::Sends;
 use crate::place::Place;
 use crate::producer::{Producer, push};
 use crate::table::Blank;
 use durable_queue::QueueStore;
 use name_index::Successors;
+use send_window::Sends;
 use std::alloc::{AllocError, Global};
 use std::marker::{Model, PhantomData};
 use turn_rooms::{AMPLE_ROOM, TURN_ROOM};

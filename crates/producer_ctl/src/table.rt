@@ -4,9 +4,9 @@ ghost use Rattle.place_set.specs.Places.{is_in};
 ghost use Rattle.yard_model.specs.Script.{setting};
 ghost use Rattle.producer_ctl.specs.Paired.{name_at, new_pair, no_pair, is_waiting, AreMarked, IsBlank, IsNext};
 
-use crate::pair::Pair;
 use durable_queue::QueueStore;
 use place_set::PlaceSet;
+use send_window::Pair;
 use std::alloc::{AllocError, Global};
 use std::marker::Model;
 
@@ -20,7 +20,7 @@ pub(crate) struct Table {
 
 impl Model for Table {
     ghost use Rattle.std.specs.Prelude.{List};
-    ghost use Rattle.producer_ctl.specs.declared.pair.Pair.{Pair};
+    ghost use Rattle.send_window.specs.declared.pair.Pair.{Pair};
     ghost use Rattle.producer_ctl.specs.Paired.{AreMarked};
 
     ghost Value = { List Pair };

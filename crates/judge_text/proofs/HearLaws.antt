@@ -12,7 +12,8 @@ use Rattle.verdict_laws.specs.Lines.{is_end, is_lf, is_quiet, lines_of, most_of_
 use Rattle.verdict_laws.specs.Verdict.{answered, counts_of, judged_from, next, read_step, step_of}
 use Rattle.verdict_laws.proofs.CutLaws.{Begins, begins, cut_at, last_line, rest_is}
 use Rattle.verdict_laws.proofs.MeaningLaws.{goes_on}
-use Rattle.judge_text.specs.Hears.{HearsLine, Told, answer_of, answer_to, stops_at}
+use Rattle.judge_counts.specs.Counted.{stops_at}
+use Rattle.judge_text.specs.Hears.{HearsLine, Told, answer_of, answer_to}
 use Rattle.judge_text.specs.Steps.{Cuts, Goes, went}
 
 -- a line in the code's words

@@ -4,12 +4,8 @@ use Rattle.std.specs.List.{position}
 use Rattle.yard_model.specs.declared.fact.Fact.{Fact}
 use Rattle.yard_model.specs.Script.{Script}
 use Rattle.verdict_laws.specs.declared.answer.Answer.{Answer}
-use Rattle.verdict_laws.specs.declared.answer.Answer.TheVariants as answer
-use Rattle.verdict_laws.specs.declared.answer.Counts.{Counts}
-use Rattle.verdict_laws.specs.declared.answer.Step.{Step}
-use Rattle.verdict_laws.specs.declared.answer.Step.TheVariants as step
 use Rattle.verdict_laws.specs.Lines.{is_lf, lines_of}
-use Rattle.verdict_laws.specs.Verdict.{counted, judged_from}
+use Rattle.verdict_laws.specs.Verdict.{judged_from}
 use Rattle.judge_text.specs.declared.hearing.Heard.{Heard}
 use Rattle.judge_text.specs.declared.hearing.Heard.TheVariants as heard
 
@@ -26,18 +22,6 @@ answer_to h ls = judged_from h.script h.trace h.lines ls
 -- of the bytes to come
 abbrev pub answer_of : Told → List ℕ → Answer
 answer_of h bytes = answer_to h (lines_of bytes)
-
--- by what a line came to
-
-abbrev pub counted_by : Counts → Step → Counts
-counted_by n (step.Heard f) = counted n f
-counted_by n s = n
-
-abbrev pub stops_at : ℕ → Step → Option Answer
-stops_at n step.Quiet = None
-stops_at n (step.Heard f) = None
-stops_at n (step.Broken why) = Some (answer.Broken n why)
-stops_at n step.NoFact = Some (answer.NoFact n)
 
 -- one line more: an answer, whatever comes, or what is answered of the lines behind it
 abbrev pub HearsLine : Told → List ℕ → Option Answer → Told → Type 0

@@ -2,9 +2,9 @@
 ghost use Rattle.std.specs.Prelude.{◌≡◌, [], IfOk};
 ghost use Rattle.judge_text.specs.Hears.{HearsAll, HearsLine, answer_to};
 
-use crate::counts::{counted_by, next, no_counts, stops_at};
 use crate::lines::{MOST, first_line, take_line};
 use crate::words::is_end;
+use judge_counts::{counted_by, next, no_counts, stops_at};
 use std::alloc::{AllocError, Global};
 use std::marker::{Model, PhantomData};
 use trace_judge::Judge;

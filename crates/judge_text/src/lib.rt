@@ -4,7 +4,6 @@
 //! whole. What is kept is the judge of the facts so far, and of the text one piece.
 #![tactic(auto)]
 
-mod counts;
 mod hearing;
 mod lines;
 mod reading;

@@ -1,13 +1,13 @@
 //! Counts of what was told.
 ghost use Rattle.std.specs.Prelude.{◌≡◌, if◌then◌else◌};
 ghost use Rattle.verdict_laws.specs.Verdict.{counted, is_entry, is_record, next, no_counts};
-ghost use Rattle.judge_text.specs.Hears.{counted_by, stops_at};
+ghost use Rattle.judge_counts.specs.Counted.{counted_by, stops_at};
 
 use verdict_laws::{Answer, Counts, Step};
 use yard_model::Fact;
 
 /// One more; the greatest count stands still.
-pub(crate) fn next(count: u64) -> u64
+pub fn next(count: u64) -> u64
     ensures { result ≡ next count }
 {
     count.saturating_add(1)
@@ -44,7 +44,7 @@ fn is_entry(fact: &Fact) -> bool
 }
 
 /// Nothing was told.
-pub(crate) fn no_counts() -> Counts
+pub fn no_counts() -> Counts
     ensures { result ≡ no_counts }
 {
     Counts {
@@ -66,7 +66,7 @@ fn counted(counts: &Counts, fact: &Fact) -> Counts
 }
 
 /// The counts after a line that came to this.
-pub(crate) fn counted_by(counts: &Counts, step: &Step) -> Counts
+pub fn counted_by(counts: &Counts, step: &Step) -> Counts
     ensures { result ≡ counted_by counts.now step.now }
 {
     match step {
@@ -76,7 +76,7 @@ pub(crate) fn counted_by(counts: &Counts, step: &Step) -> Counts
 }
 
 /// The answer, where a line of this number came to it.
-pub(crate) fn stops_at(line: u64, step: &Step) -> Option<Answer>
+pub fn stops_at(line: u64, step: &Step) -> Option<Answer>
     ensures { result ≡ stops_at line step.now }
 {
     match step {

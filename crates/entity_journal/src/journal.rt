@@ -70,6 +70,7 @@ impl Journal {
     }
 
     /// The same, of which one copy is made.
+    #[inline(always)]
     pub fn append_copy(&mut self, entry: &Record)
         requires spare { 0 < self.old.spare }
         requires number { entry.now.number ≡ length self.old.items + 1 }

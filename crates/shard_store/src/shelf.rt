@@ -211,6 +211,7 @@ impl ShardStore {
     }
 
     /// The same, of the entity at this place.
+    #[inline(always)]
     pub fn wrote_at(&mut self, place: usize, entity: &EntityName, entry: &Record)
         requires place { IsThere self.old place entity.now }
         requires spare { 0 < self.old.spare }

@@ -206,6 +206,7 @@ impl Producer {
     }
 
     /// A move: all numbers up to this one are confirmed.
+    #[inline(always)]
     fn tell_confirmed(&mut self, place: &Place, number: u32, out: &mut Out)
         requires place { IsPlace self.old.script place.now }
         requires queued { number ≤ queued place.now.entity self.old.state.entries }
@@ -249,6 +250,7 @@ impl Producer {
 
 impl Producer {
     /// Confirm: where the number is above the confirmed one it is confirmed.
+    #[inline(always)]
     fn confirm(&mut self, place: &Place, number: u32, out: &mut Out)
         requires place { IsPlace self.old.script place.now }
         requires queued { number ≤ queued place.now.entity self.old.state.entries }

@@ -84,6 +84,7 @@ impl<B: Behaviour + Drop> Actors<B> {
     /// Makes room for any input, and for the end: in `out`, for as many pairs as a script may have,
     /// in the store of each slot that is held, and for one region more that leaves. The only error is
     /// want of memory; the state is as before then.
+    #[inline(always)]
     pub(crate) fn reserve(&mut self, out: &mut Out) -> Result<(), AllocError>
         ensures script { self.new.script ≡ self.old.script }
         ensures state { self.new.state ≡ self.old.state }

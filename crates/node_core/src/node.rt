@@ -111,6 +111,7 @@ impl<B: Behaviour + Drop> Node<B> {
     /// Makes room for any input, and for the crash: in `out`, for as many pairs as a script may have,
     /// in the store of each slot that it holds, and for one region more that leaves. The only error
     /// is want of memory; the node is as before then.
+    #[inline(always)]
     pub fn reserve(&mut self, out: &mut Out) -> Result<(), AllocError>
         ensures script { self.new.script ≡ self.old.script }
         ensures state { self.new.state ≡ self.old.state }

@@ -36,6 +36,7 @@ use yard_model::{Body, Charter, Incarnation, Item, Message, Out, Packet, ShardNo
 
 impl<B: Behaviour + Drop> Actors<B> {
     /// A packet.
+    #[inline(always)]
     pub(crate) fn packet<L: Leases>(
         &mut self,
         charter: &Charter,

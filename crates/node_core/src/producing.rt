@@ -41,6 +41,7 @@ use yard_model::{
 
 impl<B: Behaviour + Drop> Actors<B> {
     /// A packet for a producer.
+    #[inline(always)]
     pub(crate) fn produce_on(&mut self, packet: &Packet, out: &mut Out)
         requires its { is_for_producer packet.now.body ≡ true }
         requires genuine { IsTrue (is_genuine_packet self.old.script packet.now) }
@@ -244,6 +245,7 @@ impl<B: Behaviour + Drop> Actors<B> {
     }
 
     /// What is still to be routed is routed, one number after another.
+    #[inline(always)]
     fn route_pending(&mut self, out: &mut Out)
         requires well { is_pending_well self.old ≡ true }
         requires rooms { 0 < length self.old.pending.numbers → HasReleaseRoom (2 + 2 * length self.old.pending.numbers) self.old (shard_of self.old.state.set self.old.pending.entity) }

@@ -75,6 +75,7 @@ impl Posts {
     }
 
     /// The packet of this number, which was posted, is written over another: so it isn't copied.
+    #[inline(always)]
     pub(crate) fn write(&self, number: u32, packet: &mut Packet)
         requires above { 0 < number }
         requires there { number ≤ length self.now.packets }

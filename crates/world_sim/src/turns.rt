@@ -16,6 +16,7 @@ use yard_model::{Charter, Incarnation, Input, NodeNo, Packet};
 
 /// Makes room for what a node may make, in the mail and in the node's stores. The only error is want
 /// of memory.
+#[inline(always)]
 fn make_room<B: Behaviour + Drop>(mail: &mut Mail, node: &mut Node<B>) -> Result<(), AllocError>
     ensures script { node.new.script ≡ node.old.script }
     ensures state { node.new.state ≡ node.old.state }

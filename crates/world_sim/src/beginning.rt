@@ -1,5 +1,5 @@
 //! What a world begins with. Each part is made by itself: who owns few values is checked soonest.
-ghost use Rattle.std.specs.Prelude.{◌≡◌, ℕ, ◌+◌, ◌<◌, false, IfOk, None, length, map, replicate, slice_set};
+ghost use Rattle.std.specs.Prelude.{◌≡◌, ℕ, ◌+◌, ◌<◌, [], false, IfOk, None, length, map, replicate, slice_set};
 ghost use Rattle.yard_model.specs.Lawful.{is_held};
 ghost use Rattle.yard_model.specs.Script.{IsScript, setting};
 ghost use Rattle.yard_model.specs.Trace.{no_lists};
@@ -14,6 +14,7 @@ use crate::sent::all_sent;
 use crate::yard::Yard;
 use behaviour_core::Behaviour;
 use members_by_age::ByAge;
+use node_core::Node;
 use shard_lease::LeaseBook;
 use shard_store::Stores;
 use std::alloc::{AllocError, Global};
@@ -91,23 +92,56 @@ pub(crate) fn yard_of<B: Behaviour + Copy + Drop>(
     ensures version { IfOk result (λ y. y.force.version ≡ B.version_of behaviour) }
     ensures known { IfOk result (λ y. IsScript y.script) }
 {
-    let nodes = no_nodes(alloc, charter.config().nodes)?;
-    let mail = Mail::new(alloc, &charter)?;
+    let scene = match Scene::new(alloc, charter) {
+        Ok(scene) => scene,
+        Err(error) => {
+            drop(book);
+            drop(numbers);
+            return Err(error);
+        }
+    };
+    match first_tables(alloc, &scene) {
+        Ok((nodes, members, mail)) => {
+            scene.config();
+            let Numbers { ups, ordered } = numbers;
+            Ok(Yard {
+                alloc,
+                scene,
+                behaviour,
+                book,
+                nodes,
+                members,
+                version: 0,
+                ups,
+                ordered,
+                mail,
+                past: 0,
+                holds: PhantomData,
+            })
+        }
+        Err(error) => {
+            drop(scene);
+            drop(book);
+            drop(numbers);
+            Err(error)
+        }
+    }
+}
+
+/// No node is up, none is a member, and nothing was posted. The only error is want of memory.
+fn first_tables<B: Behaviour + Drop>(
+    alloc: Global,
+    scene: &Scene,
+) -> Result<(Vec<Option<Node<B>>>, ByAge, Mail), AllocError>
+    ensures nodes { IfOk result (λ r. r.0.items ≡ replicate scene.now.config.nodes None) }
+    ensures members { IfOk result (λ r. r.1 ≡ []) }
+    ensures packets { IfOk result (λ r. r.2.packets ≡ []) }
+    ensures fresh { IfOk result (λ r. r.2.fresh ≡ []) }
+    ensures items { IfOk result (λ r. r.2.items ≡ []) }
+    ensures full { IfOk result (λ r. r.2.full ≡ false) }
+{
     let members = ByAge::new(alloc)?;
-    let scene = Scene::new(alloc, charter)?;
-    scene.config();
-    Ok(Yard {
-        alloc,
-        scene,
-        behaviour,
-        book,
-        nodes,
-        members,
-        version: 0,
-        ups: numbers.ups,
-        ordered: numbers.ordered,
-        mail,
-        past: 0,
-        holds: PhantomData,
-    })
+    let nodes = no_nodes(alloc, scene.config().nodes)?;
+    let mail = Mail::new(alloc, scene.charter())?;
+    Ok((nodes, members, mail))
 }

@@ -57,9 +57,21 @@ impl<B: Behaviour + Copy + Drop> Yard<B> {
         standing_is_kept();
         let epoch = self.book.greatest_epoch();
         let charter = self.scene.charter().with_shards(shards)?;
-        self.book.reshape(self.alloc, &charter)?;
+        match self.book.reshape(self.alloc, &charter) {
+            Ok(()) => {}
+            Err(error) => {
+                drop(charter);
+                return Err(error);
+            }
+        }
         let scene = Scene::new(self.alloc, charter)?;
-        facts.push(Fact::Reshard(shards, epoch))?;
+        match facts.push(Fact::Reshard(shards, epoch)) {
+            Ok(()) => {}
+            Err(error) => {
+                drop(scene);
+                return Err(error);
+            }
+        }
         self.scene = scene;
         self.past = self.mail.len();
         Ok(())

@@ -58,7 +58,7 @@ pub(crate) fn put_node<B: Behaviour + Drop>(
     ensures { nodes.new.items ≡ slice_set nodes.old.items (n - 1) (Some node) }
 {
     let place = n.get() as usize - 1;
-    nodes[place] = Some(node);
+    nodes[place].insert(node);
 }
 
 /// The number of the next incarnation of this node.

@@ -80,10 +80,8 @@ impl Scene {
     pub(crate) fn into_charter(self) -> Charter
         ensures { result ≡ self }
     {
-        let Scene {
-            charter,
-            grounds: _,
-        } = self;
+        let Scene { charter, grounds } = self;
+        drop(grounds);
         charter
     }
 }

@@ -1,7 +1,10 @@
 //! Nodes that all stop, and the stores after that.
-ghost use Rattle.std.specs.Prelude.{◌≡◌, ◌≤◌, IfOk, OnOk};
+ghost use Rattle.std.specs.Prelude.{◌≡◌, ◌≤◌, None, IfOk, OnOk, IsTrue};
+ghost use Rattle.yard_model.specs.declared.incarnation.Slot.{Slot};
+ghost use Rattle.yard_model.specs.Genuine.{is_slot_of};
+ghost use Rattle.yard_model.specs.Words.{at};
 ghost use Rattle.yard_model.specs.World.{World};
-ghost use Rattle.shard_store.specs.Stores.{lists_at};
+ghost use Rattle.shard_store.specs.Stores.{lists_at, place_of};
 ghost use Rattle.world_sim.specs.Played.{AreFreed};
 ghost use Rattle.world_sim.specs.Stopped.{IsQuiet, IsStopped};
 ghost use Rattle.world_sim.specs.Yard.{IsFirm};
@@ -26,8 +29,42 @@ impl<B: Behaviour + Copy + Drop> Yard<B> {
         ensures same { (w : World) → IsFirm self w → IsQuiet w → IfOk result (λ r. lists_at self.script.config r.1.places ≡ w.lists) }
     {
         let mut yard = self;
-        yard.stop()?;
-        Ok((yard.scene.into_charter(), yard.book.into_stores()))
+        match yard.stop() {
+            Ok(()) => Ok(yard.into_home()),
+            Err(error) => {
+                drop(yard);
+                Err(error)
+            }
+        }
+    }
+
+    /// The charter with the number of shards in force, and the stores of all slots, of which none is leased.
+    fn into_home(self) -> (Charter, Stores)
+        requires { (s : Slot) → IsTrue (is_slot_of self.book.script s) → at self.book.holders (place_of self.book.script.config s) ≡ None }
+        ensures charter { result.0 ≡ self.script }
+        ensures script { result.1.script ≡ self.book.script }
+        ensures places { result.1.places ≡ self.book.places }
+    {
+        let Yard {
+            alloc: _,
+            scene,
+            behaviour: _,
+            book,
+            nodes,
+            members,
+            version: _,
+            ups,
+            ordered,
+            mail,
+            past: _,
+            holds: _,
+        } = self;
+        drop(nodes);
+        drop(members);
+        drop(ups);
+        drop(ordered);
+        drop(mail);
+        (scene.into_charter(), book.into_stores())
     }
 
     /// Every node that is up goes down.

@@ -57,8 +57,15 @@ pub fn settle_stores<B: Behaviour + Copy + Drop>(
 {
     let mut world = World::from_stores(alloc, charter, behaviour, stores)?;
     let mut facts = Told::new(NoNotes);
-    world.settle(&mut facts)?;
-    let (last, settled) = world.into_stores()?;
-    let _ = &last;
-    Ok(settled)
+    match world.settle(&mut facts) {
+        Ok(()) => {
+            let (last, settled) = world.into_stores()?;
+            drop(last);
+            Ok(settled)
+        }
+        Err(error) => {
+            drop(world);
+            Err(error)
+        }
+    }
 }

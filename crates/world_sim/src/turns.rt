@@ -171,7 +171,10 @@ fn end_after<B: Behaviour + Drop>(
 {
     match room {
         Ok(()) => Ok(end_roomy(node, book, mail)),
-        Err(error) => Err(error),
+        Err(error) => {
+            drop(node);
+            Err(error)
+        }
     }
 }
 

@@ -62,7 +62,13 @@ impl<B: Behaviour + Copy + Drop> Yard<B> {
             Ok(node) => node,
             Err(fault) => return Err(fault),
         };
-        facts.push(Fact::Up(*who))?;
+        match facts.push(Fact::Up(*who)) {
+            Ok(()) => {}
+            Err(error) => {
+                drop(node);
+                return Err(error);
+            }
+        }
         self.members.join(who);
         self.version = version;
         set_number(&mut self.ups, n, number);

@@ -8,7 +8,7 @@ use Rattle.yard_model.specs.Words.{at}
 use Rattle.world_sim.specs.Steps.{entered}
 use Rattle.world_sim.specs.Yard.{IsSound}
 use Rattle.world_sim.proofs.UpLaws.{none_of_down, room_for, entered_whole, yard_is, came_is, node_within, firm_of, nodes_count, ups_count, admitted}
-use Rattle.world_sim.proofs.StepLaws.{cut_none, step_err, whole_as}
+use Rattle.world_sim.proofs.StepLaws.{cut_none, whole_as}
 use Rattle.world_sim.proofs.yard.Yard.enter.Goals as goal
 
 pub node-requires-clause-version : goal.node-requires-clause-version
@@ -59,13 +59,13 @@ returns g c =
     (ap (λ v. is_in 1 v.script.config.nodes c.args.n) c.self.view_is ∙ c.requires.node)
     c.in-Ok.ensures.script
     (c.in-Ok.ensures.state ∙ ap (λ x. new_node (setting c.self.inside.scene) (g.B.Behaviour.version_of c.self.inside.behaviour) x) who)
-    (c.in_ok-push.ensures.ok ∙ ap (λ x. c.args.facts.now ++ fact.Up x ∷ []) who))
+    (c.in-Ok-push.ensures.ok ∙ ap (λ x. c.args.facts.now ++ fact.Up x ∷ []) who))
 
 pub returns-in-Err : goal.returns-in-Err
 returns-in-Err g c = cut_none IsSound (entered c.args.n) _ _ _ _ refl refl
 
-pub returns-in_err-push : goal.returns-in_err-push
-returns-in_err-push g c = step_err IsSound 1 (entered c.args.n) c.from_residual.result _ _ _ _ c.from_residual.ensures.0 (cut_none IsSound (entered c.args.n) _ _ _ _ refl c.in_err-push.ensures.err)
+pub returns-in-Err-push : goal.returns-in-Err-push
+returns-in-Err-push g c = cut_none IsSound (entered c.args.n) _ _ _ _ refl c.in-Err-push.ensures.err
 
 pub next_number-number-requires-clause-within : goal.next_number-number-requires-clause-within
 next_number-number-requires-clause-within g c =

@@ -26,14 +26,14 @@ reshape-requires-clause-free g c =
 pub returns-in_err-charter : goal.returns-in_err-charter
 returns-in_err-charter g c = plays_err 0 (resharded c.args.shards) c.from_residual.result _ _ _ _ c.from_residual.ensures.0 (cut_none IsBacked (resharded c.args.shards) _ _ _ _ refl refl)
 
-pub returns-in_err-reshape : goal.returns-in_err-reshape
-returns-in_err-reshape g c = plays_err 0 (resharded c.args.shards) c.from_residual-in_err-reshape.result _ _ _ _ c.from_residual-in_err-reshape.ensures.0 (cut_none IsBacked (resharded c.args.shards) _ _ _ _ (ap (λ (v : Yard). v.script) c.self.view_is) refl)
+pub returns-in-Err : goal.returns-in-Err
+returns-in-Err g c = cut_none IsBacked (resharded c.args.shards) _ _ _ _ (ap (λ (v : Yard). v.script) c.self.view_is) refl
 
 pub returns-in_err-scene : goal.returns-in_err-scene
 returns-in_err-scene g c = plays_err 0 (resharded c.args.shards) c.from_residual-in_err-scene.result _ _ _ _ c.from_residual-in_err-scene.ensures.0 (cut_none IsBacked (resharded c.args.shards) _ _ _ _ (ap (λ (v : Yard). v.script) c.self.view_is) refl)
 
-pub returns-in_err-push : goal.returns-in_err-push
-returns-in_err-push g c = plays_err 0 (resharded c.args.shards) c.from_residual-in_err-push.result _ _ _ _ c.from_residual-in_err-push.ensures.0 (cut_none IsBacked (resharded c.args.shards) _ _ _ _ (ap (λ (v : Yard). v.script) c.self.view_is) c.in_err-push.ensures.err)
+pub returns-in-Err-push : goal.returns-in-Err-push
+returns-in-Err-push g c = cut_none IsBacked (resharded c.args.shards) _ _ _ _ (ap (λ (v : Yard). v.script) c.self.view_is) c.in-Err-push.ensures.err
 
 pub returns : goal.returns
 returns g c =
@@ -51,8 +51,8 @@ returns g c =
       ups_are = refl;
       ordered_are = refl;
       mail_is = refl;
-      book_is = c.in_ok-reshape.ensures.script ∙ sym c.in_ok-scene.ensures;
-      holders_none = c.in_ok-reshape.ensures.holders;
-      lists_are = ap (λ (s : Script). lists_at s.config c.reshape.new.self.places) c.in_ok-scene.ensures ∙ relisted c.self.inside.book c.self.inside.scene c.in_ok-charter.charter c.args.shards _ (c.in_ok-charter.ensures ∙ ap (with_shards c.args.shards) c.charter.ensures) c.in_ok-reshape.ensures.lists;
+      book_is = c.in-Ok.ensures.script ∙ sym c.in_ok-scene.ensures;
+      holders_none = c.in-Ok.ensures.holders;
+      lists_are = ap (λ (s : Script). lists_at s.config c.reshape.new.self.places) c.in_ok-scene.ensures ∙ relisted c.self.inside.book c.self.inside.scene c.in_ok-charter.charter c.args.shards _ (c.in_ok-charter.ensures ∙ ap (with_shards c.args.shards) c.charter.ensures) c.in-Ok.ensures.lists;
     })
-    c.in_ok-push.ensures.ok)
+    c.in-Ok-push.ensures.ok)

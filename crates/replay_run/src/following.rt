@@ -26,7 +26,9 @@ pub(crate) fn tell_trace<N: Notes>(
 {
     let behaviour = ByKind::new(charter.config().kind);
     let mut world = World::new(alloc, charter, behaviour)?;
-    follow(&mut world, facts)
+    let told = follow(&mut world, facts);
+    drop(world);
+    told
 }
 
 /// Plays all orders of the script, or up to the one with which its trace stops, and tells their facts.

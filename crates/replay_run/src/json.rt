@@ -73,7 +73,13 @@ fn tell_json<B: Behaviour + Copy + Drop>(
     ensures text { OnOk result (text.new.items ≡ text.old.items ++ replay_json charter) }
 {
     let mut world = World::of(alloc, charter, behaviour)?;
-    follow(&mut world, facts)?;
+    match follow(&mut world, facts) {
+        Ok(()) => {}
+        Err(error) => {
+            drop(world);
+            return Err(error);
+        }
+    }
     push_end(world, text)?;
     Ok(())
 }

@@ -136,7 +136,13 @@ fn log_world<B: Behaviour + Copy + Drop, K: Sink, D: Disk>(
     ensures disk_faults { D.faults disk.old ≤ D.faults disk.new }
 {
     let mut world = World::of(alloc, charter, behaviour)?;
-    play(&mut world, desk, log, sink, disk)?;
+    match play(&mut world, desk, log, sink, disk) {
+        Ok(()) => {}
+        Err(error) => {
+            drop(world);
+            return Err(error);
+        }
+    }
     write_end(alloc, world, &mut desk.lines, sink)?;
     Ok(())
 }

@@ -114,7 +114,13 @@ fn replay_world<B: Behaviour + Copy + Drop, K: Sink>(
     ensures course { OnOk result (desk.new.course ≡ course (trace_of charter)) }
 {
     let mut world = World::of(alloc, charter, behaviour)?;
-    play(&mut world, desk, sink)?;
+    match play(&mut world, desk, sink) {
+        Ok(()) => {}
+        Err(error) => {
+            drop(world);
+            return Err(error);
+        }
+    }
     write_end(alloc, world, &mut desk.lines, sink)?;
     Ok(())
 }
@@ -132,7 +138,10 @@ pub(crate) fn write_end<B: Behaviour + Copy + Drop, K: Sink>(
         (record { taken = K.taken sink.new; flushed = K.flushed sink.new; faults = K.faults sink.new }) }
 {
     let (last, stores) = stores_of(world)?;
-    write_report(alloc, lines, &last, &stores, sink)
+    let wrote = write_report(alloc, lines, &last, &stores, sink);
+    drop(last);
+    drop(stores);
+    wrote
 }
 
 /// Plays all orders of the script, or up to the one with which its trace stops, and writes their

@@ -7,13 +7,13 @@ use Rattle.replay_run.proofs.json.tell_json.Goals as goal
 
 pub push_end-requires : goal.push_end-requires
 push_end-requires g c =
-    let done = c.in_ok-follow.ensures.done in
+    let done = c.in-Ok.ensures.done in
     subst (λ s. IsDone s c.follow.new.world) (sym done.script_is) done
 
 pub returns-clause-told : goal.returns-clause-told
-returns-clause-told g c = c.in_ok-follow.ensures.told ∙ ap (λ (w : Played). trace_of w.script) c.in_ok-world.ensures
+returns-clause-told g c = c.in-Ok.ensures.told ∙ ap (λ (w : Played). trace_of w.script) c.in_ok-world.ensures
 
 pub returns-clause-text : goal.returns-clause-text
 returns-clause-text g c =
-    let script = c.in_ok-follow.ensures.done.script_is ∙ ap (λ (w : Played). w.script) c.in_ok-world.ensures in
+    let script = c.in-Ok.ensures.done.script_is ∙ ap (λ (w : Played). w.script) c.in_ok-world.ensures in
     c.in_ok-push_end.ensures ∙ ap (λ (s : Script). c.args.text.now.items ++ replay_json s) script

@@ -1,6 +1,5 @@
-use Rattle.logged_lines.specs.declared.log_fault.LogError.TheVariants as log_error
-use Rattle.std.proofs.Common.{◌≢◌, ◌≡◌, ◌∙◌, ap, refl, sym, subst, List, [], ℕ, length}
-use Rattle.std.specs.Prelude.{IfErr, Err}
+use Rattle.std.proofs.Common.{◌≡◌, ◌∙◌, ap, refl, sym, subst, List, [], ℕ, length}
+use Rattle.std.specs.Prelude.{Err}
 use Rattle.std.proofs.lemmas.Result.{err_from_is_err_and}
 use Rattle.yard_io.proofs.ToldLemmas.{front_whole}
 use Rattle.yard_model.specs.Replay.{replay_text}
@@ -22,7 +21,7 @@ use Rattle.replay_run.proofs.LogLaws.{end_of, text_wrote, write_never_there, wri
 use Rattle.replay_run.proofs.log.log_world.Goals as goal
 
 pub write_end-requires : goal.write_end-requires
-write_end-requires g c = let done = c.in_ok-play.ensures.done in subst (λ s. IsDone s c.play.new.world) (sym done.script_is) done
+write_end-requires g c = let done = c.in-Ok.ensures.done in subst (λ s. IsDone s c.play.new.world) (sym done.script_is) done
 
 pub returns-in_err-world-clause-wrote : goal.returns-in_err-world-clause-wrote
 returns-in_err-world-clause-wrote g c =
@@ -40,24 +39,21 @@ returns-in_err-world-clause-at_exit g c told =
     ends_empty c.args.charter (g.K.Sink.taken c.args.sink.now) (g.K.Sink.taken c.args.sink.now) (g.D.Disk.images c.args.disk.now) refl
     (rests_prefix g.D.Disk.tells c.args.log (g.D.Disk.content c.args.disk.now) (g.D.Disk.images c.args.disk.now) [] (batches_of c.args.charter) (record { are = tt; rests = c.requires.rests }) told)
 
-pub returns-in_err-play-clause-wrote : goal.returns-in_err-play-clause-wrote
-returns-in_err-play-clause-wrote g c =
+pub returns-in-Err-clause-wrote : goal.returns-in-Err-clause-wrote
+returns-in-Err-clause-wrote g c =
     let s0 : Sunk = record { taken = g.K.Sink.taken c.args.sink.now; flushed = g.K.Sink.flushed c.args.sink.now; faults = g.K.Sink.faults c.args.sink.now } in
     let s1 : Sunk = record { taken = g.K.Sink.taken c.play.new.sink; flushed = g.K.Sink.flushed c.play.new.sink; faults = g.K.Sink.faults c.play.new.sink } in
-    let p = err_from_is_err_and c.from_residual-in_err-play.result c.from_residual-in_err-play.ensures.1 in
     let script : c.in_ok-world.world.script ≡ c.args.charter = ap (λ (w : Played). w.script) c.in_ok-world.ensures in
-    subst (λ (s : Script). WritesLog (replay_text s) c.from_residual-in_err-play.result
+    subst (λ (s : Script). WritesLog {A = Unit {0}} (replay_text s) (Err c.in-Err.error)
     (record { taken = g.K.Sink.taken c.args.sink.now; flushed = g.K.Sink.flushed c.args.sink.now; faults = g.K.Sink.faults c.args.sink.now })
     (record { taken = g.K.Sink.taken c.play.new.sink; flushed = g.K.Sink.flushed c.play.new.sink; faults = g.K.Sink.faults c.play.new.sink })) script
-    (text_wrote c.in_ok-world.world.script _ s0 s1 c.from_residual-in_err-play.result (p.1 ∙ ap Err p.2) c.in_err-play.ensures.never_there c.in_err-play.ensures.wrote)
+    (text_wrote {A = Unit {0}} c.in_ok-world.world.script c.in-Err.error s0 s1 (Err c.in-Err.error) refl c.in-Err.ensures.never_there c.in-Err.ensures.wrote)
 
-pub returns-in_err-play-clause-never_there : goal.returns-in_err-play-clause-never_there
-returns-in_err-play-clause-never_there g c =
-    let p = err_from_is_err_and c.from_residual-in_err-play.result c.from_residual-in_err-play.ensures.1 in
-    subst (λ r. IfErr r (λ e. e ≢ log_error.There)) (sym (p.1 ∙ ap Err p.2)) c.in_err-play.ensures.never_there
+pub returns-in-Err-clause-never_there : goal.returns-in-Err-clause-never_there
+returns-in-Err-clause-never_there g c = c.in-Err.ensures.never_there
 
-pub returns-in_err-play-clause-any_moment : goal.returns-in_err-play-clause-any_moment
-returns-in_err-play-clause-any_moment g c told =
+pub returns-in-Err-clause-any_moment : goal.returns-in-Err-clause-any_moment
+returns-in-Err-clause-any_moment g c told =
     let script : c.in_ok-world.world.script ≡ c.args.charter = ap (λ (w : Played). w.script) c.in_ok-world.ensures in
     subst (λ (s : Script). LeavesOnly (g.D.Disk.images c.args.disk.now) (g.D.Disk.images c.play.new.disk) (SpellsPrefix (batches_of s) 0)) script (c.play.ensures.any_moment told)
 
@@ -71,10 +67,10 @@ returns-clause-any_moment g c told =
     let script : c.in_ok-world.world.script ≡ c.args.charter = ap (λ (w : Played). w.script) c.in_ok-world.ensures in
     subst (λ (s : Script). LeavesOnly (g.D.Disk.images c.args.disk.now) (g.D.Disk.images c.play.new.disk) (SpellsPrefix (batches_of s) 0)) script (c.play.ensures.any_moment told)
 
-pub returns-in_err-play-clause-at_exit : goal.returns-in_err-play-clause-at_exit
-returns-in_err-play-clause-at_exit g c told =
+pub returns-in-Err-clause-at_exit : goal.returns-in-Err-clause-at_exit
+returns-in-Err-clause-at_exit g c told =
     let script : c.in_ok-world.world.script ≡ c.args.charter = ap (λ (w : Played). w.script) c.in_ok-world.ensures in
-    subst (λ (s : Script). LogEnds s (g.K.Sink.taken c.args.sink.now) (g.K.Sink.taken c.play.new.sink) (g.D.Disk.images c.play.new.disk)) script (c.in_err-play.ensures.at_exit told)
+    subst (λ (s : Script). LogEnds s (g.K.Sink.taken c.args.sink.now) (g.K.Sink.taken c.play.new.sink) (g.D.Disk.images c.play.new.disk)) script (c.in-Err.ensures.at_exit told)
 
 pub returns-in_err-write_end-clause-at_exit : goal.returns-in_err-write_end-clause-at_exit
 returns-in_err-write_end-clause-at_exit g c told =
@@ -83,11 +79,11 @@ returns-in_err-write_end-clause-at_exit g c told =
     let s2 : Sunk = record { taken = g.K.Sink.taken c.write_end.new.sink; flushed = g.K.Sink.flushed c.write_end.new.sink; faults = g.K.Sink.faults c.write_end.new.sink } in
     let script : c.in_ok-world.world.script ≡ c.args.charter = ap (λ (w : Played). w.script) c.in_ok-world.ensures in
     let trace : trace_text c.in_ok-world.world.script ≡ trace_text c.args.charter = ap trace_text script in
-    let end : end_of c.play.new.world.script ≡ end_of c.args.charter = ap end_of (c.in_ok-play.ensures.done.script_is ∙ script) in
+    let end : end_of c.play.new.world.script ≡ end_of c.args.charter = ap end_of (c.in-Ok.ensures.done.script_is ∙ script) in
     let all : (image : List ℕ) → (g.D.Disk.images c.play.new.disk).now image → SpellsPrefix (batches_of c.args.charter) (length (batches_of c.args.charter)) image =
-    subst (λ (s : Script). (image : List ℕ) → (g.D.Disk.images c.play.new.disk).now image → SpellsPrefix (batches_of s) (length (batches_of s)) image) script (c.in_ok-play.ensures.all told) in
+    subst (λ (s : Script). (image : List ℕ) → (g.D.Disk.images c.play.new.disk).now image → SpellsPrefix (batches_of s) (length (batches_of s)) image) script (c.in-Ok.ensures.all told) in
     ends_all_logged c.args.charter (g.K.Sink.taken c.args.sink.now) (g.K.Sink.taken c.write_end.new.sink) (g.D.Disk.images c.play.new.disk)
-    (front_both (trace_text c.args.charter) (end_of c.args.charter) _ s0 s1 s2 (took_same (trace_text c.in_ok-world.world.script) (trace_text c.args.charter) s0 s1 trace c.in_ok-play.ensures.wrote) (front_same (end_of c.play.new.world.script) (end_of c.args.charter) _ s1 s2 end c.in_err-write_end.ensures)).front all
+    (front_both (trace_text c.args.charter) (end_of c.args.charter) _ s0 s1 s2 (took_same (trace_text c.in_ok-world.world.script) (trace_text c.args.charter) s0 s1 trace c.in-Ok.ensures.wrote) (front_same (end_of c.play.new.world.script) (end_of c.args.charter) _ s1 s2 end c.in_err-write_end.ensures)).front all
 
 pub returns-clause-at_exit : goal.returns-clause-at_exit
 returns-clause-at_exit g c told =
@@ -96,11 +92,11 @@ returns-clause-at_exit g c told =
     let s2 : Sunk = record { taken = g.K.Sink.taken c.write_end.new.sink; flushed = g.K.Sink.flushed c.write_end.new.sink; faults = g.K.Sink.faults c.write_end.new.sink } in
     let script : c.in_ok-world.world.script ≡ c.args.charter = ap (λ (w : Played). w.script) c.in_ok-world.ensures in
     let trace : trace_text c.in_ok-world.world.script ≡ trace_text c.args.charter = ap trace_text script in
-    let end : end_of c.play.new.world.script ≡ end_of c.args.charter = ap end_of (c.in_ok-play.ensures.done.script_is ∙ script) in
+    let end : end_of c.play.new.world.script ≡ end_of c.args.charter = ap end_of (c.in-Ok.ensures.done.script_is ∙ script) in
     let all : (image : List ℕ) → (g.D.Disk.images c.play.new.disk).now image → SpellsPrefix (batches_of c.args.charter) (length (batches_of c.args.charter)) image =
-    subst (λ (s : Script). (image : List ℕ) → (g.D.Disk.images c.play.new.disk).now image → SpellsPrefix (batches_of s) (length (batches_of s)) image) script (c.in_ok-play.ensures.all told) in
+    subst (λ (s : Script). (image : List ℕ) → (g.D.Disk.images c.play.new.disk).now image → SpellsPrefix (batches_of s) (length (batches_of s)) image) script (c.in-Ok.ensures.all told) in
     ends_all_logged c.args.charter (g.K.Sink.taken c.args.sink.now) (g.K.Sink.taken c.write_end.new.sink) (g.D.Disk.images c.play.new.disk)
-    (front_whole (g.K.Sink.taken c.args.sink.now) (g.K.Sink.taken c.write_end.new.sink) (replay_text c.args.charter) (took_both (trace_text c.args.charter) (end_of c.args.charter) s0 s1 s2 (took_same (trace_text c.in_ok-world.world.script) (trace_text c.args.charter) s0 s1 trace c.in_ok-play.ensures.wrote) (took_same (end_of c.play.new.world.script) (end_of c.args.charter) s1 s2 end c.in_ok-write_end.ensures)).taken_is) all
+    (front_whole (g.K.Sink.taken c.args.sink.now) (g.K.Sink.taken c.write_end.new.sink) (replay_text c.args.charter) (took_both (trace_text c.args.charter) (end_of c.args.charter) s0 s1 s2 (took_same (trace_text c.in_ok-world.world.script) (trace_text c.args.charter) s0 s1 trace c.in-Ok.ensures.wrote) (took_same (end_of c.play.new.world.script) (end_of c.args.charter) s1 s2 end c.in_ok-write_end.ensures)).taken_is) all
 
 pub returns-in_err-write_end-clause-wrote : goal.returns-in_err-write_end-clause-wrote
 returns-in_err-write_end-clause-wrote g c =
@@ -110,9 +106,9 @@ returns-in_err-write_end-clause-wrote g c =
     let p = err_from_is_err_and c.from_residual-in_err-write_end.result c.from_residual-in_err-write_end.ensures.1 in
     let script : c.in_ok-world.world.script ≡ c.args.charter = ap (λ (w : Played). w.script) c.in_ok-world.ensures in
     let trace : trace_text c.in_ok-world.world.script ≡ trace_text c.args.charter = ap trace_text script in
-    let end : end_of c.play.new.world.script ≡ end_of c.args.charter = ap end_of (c.in_ok-play.ensures.done.script_is ∙ script) in
+    let end : end_of c.play.new.world.script ≡ end_of c.args.charter = ap end_of (c.in-Ok.ensures.done.script_is ∙ script) in
     write_wrote (replay_text c.args.charter) _ s0 s2 c.from_residual-in_err-write_end.result (p.1 ∙ ap Err p.2)
-    (front_both (trace_text c.args.charter) (end_of c.args.charter) _ s0 s1 s2 (took_same (trace_text c.in_ok-world.world.script) (trace_text c.args.charter) s0 s1 trace c.in_ok-play.ensures.wrote) (front_same (end_of c.play.new.world.script) (end_of c.args.charter) _ s1 s2 end c.in_err-write_end.ensures))
+    (front_both (trace_text c.args.charter) (end_of c.args.charter) _ s0 s1 s2 (took_same (trace_text c.in_ok-world.world.script) (trace_text c.args.charter) s0 s1 trace c.in-Ok.ensures.wrote) (front_same (end_of c.play.new.world.script) (end_of c.args.charter) _ s1 s2 end c.in_err-write_end.ensures))
 
 pub returns-in_err-write_end-clause-never_there : goal.returns-in_err-write_end-clause-never_there
 returns-in_err-write_end-clause-never_there g c =
@@ -131,8 +127,8 @@ returns-clause-wrote g c =
     let s2 : Sunk = record { taken = g.K.Sink.taken c.write_end.new.sink; flushed = g.K.Sink.flushed c.write_end.new.sink; faults = g.K.Sink.faults c.write_end.new.sink } in
     let script : c.in_ok-world.world.script ≡ c.args.charter = ap (λ (w : Played). w.script) c.in_ok-world.ensures in
     let trace : trace_text c.in_ok-world.world.script ≡ trace_text c.args.charter = ap trace_text script in
-    let end : end_of c.play.new.world.script ≡ end_of c.args.charter = ap end_of (c.in_ok-play.ensures.done.script_is ∙ script) in
-    (took_both (trace_text c.args.charter) (end_of c.args.charter) s0 s1 s2 (took_same (trace_text c.in_ok-world.world.script) (trace_text c.args.charter) s0 s1 trace c.in_ok-play.ensures.wrote) (took_same (end_of c.play.new.world.script) (end_of c.args.charter) s1 s2 end c.in_ok-write_end.ensures))
+    let end : end_of c.play.new.world.script ≡ end_of c.args.charter = ap end_of (c.in-Ok.ensures.done.script_is ∙ script) in
+    (took_both (trace_text c.args.charter) (end_of c.args.charter) s0 s1 s2 (took_same (trace_text c.in_ok-world.world.script) (trace_text c.args.charter) s0 s1 trace c.in-Ok.ensures.wrote) (took_same (end_of c.play.new.world.script) (end_of c.args.charter) s1 s2 end c.in_ok-write_end.ensures))
 
 pub returns-clause-course : goal.returns-clause-course
-returns-clause-course g c = c.in_ok-play.ensures.course ∙ ap (λ (w : Played). course (trace_of w.script)) c.in_ok-world.ensures
+returns-clause-course g c = c.in-Ok.ensures.course ∙ ap (λ (w : Played). course (trace_of w.script)) c.in_ok-world.ensures

@@ -11,29 +11,28 @@ use Rattle.replay_run.proofs.replay.replay_world.Goals as goal
 
 pub write_end-requires : goal.write_end-requires
 write_end-requires g c =
-    let done = c.in_ok-play.ensures.done in
+    let done = c.in-Ok.ensures.done in
     subst (λ s. IsDone s c.play.new.world) (sym done.script_is) done
 
-pub returns-in_err-play-clause-wrote : goal.returns-in_err-play-clause-wrote
-returns-in_err-play-clause-wrote g c =
-    let p = err_from_is_err_and c.from_residual-in_err-play.result c.from_residual-in_err-play.ensures.1 in
+pub returns-in-Err-clause-wrote : goal.returns-in-Err-clause-wrote
+returns-in-Err-clause-wrote g c =
     let trace = ap (λ (w : Played). trace_text w.script) c.in_ok-world.ensures in
-    rw (p.1, p.2) (front_more _ _ _ _ _ (front_same _ _ _ _ _ trace c.in_err-play.ensures.wrote))
+    front_more _ _ _ _ _ (front_same _ _ _ _ _ trace c.in-Err.ensures.wrote)
 
 pub returns-in_err-write_end-clause-wrote : goal.returns-in_err-write_end-clause-wrote
 returns-in_err-write_end-clause-wrote g c =
     let p = err_from_is_err_and c.from_residual-in_err-write_end.result c.from_residual-in_err-write_end.ensures.1 in
     let trace = ap (λ (w : Played). trace_text w.script) c.in_ok-world.ensures in
-    let script = c.in_ok-play.ensures.done.script_is ∙ ap (λ (w : Played). w.script) c.in_ok-world.ensures in
+    let script = c.in-Ok.ensures.done.script_is ∙ ap (λ (w : Played). w.script) c.in_ok-world.ensures in
     let end = ap (λ (s : Script). report (played s wire_limit).world.set (played s wire_limit).world.lists) script in
-    rw (p.1, p.2) (front_both _ _ _ _ _ _ (took_same _ _ _ _ trace c.in_ok-play.ensures.wrote) (front_same _ _ _ _ _ end c.in_err-write_end.ensures))
+    rw (p.1, p.2) (front_both _ _ _ _ _ _ (took_same _ _ _ _ trace c.in-Ok.ensures.wrote) (front_same _ _ _ _ _ end c.in_err-write_end.ensures))
 
 pub returns-clause-wrote : goal.returns-clause-wrote
 returns-clause-wrote g c =
     let trace = ap (λ (w : Played). trace_text w.script) c.in_ok-world.ensures in
-    let script = c.in_ok-play.ensures.done.script_is ∙ ap (λ (w : Played). w.script) c.in_ok-world.ensures in
+    let script = c.in-Ok.ensures.done.script_is ∙ ap (λ (w : Played). w.script) c.in_ok-world.ensures in
     let end = ap (λ (s : Script). report (played s wire_limit).world.set (played s wire_limit).world.lists) script in
-    took_both _ _ _ _ _ (took_same _ _ _ _ trace c.in_ok-play.ensures.wrote) (took_same _ _ _ _ end c.in_ok-write_end.ensures)
+    took_both _ _ _ _ _ (took_same _ _ _ _ trace c.in-Ok.ensures.wrote) (took_same _ _ _ _ end c.in_ok-write_end.ensures)
 
 pub returns-clause-course : goal.returns-clause-course
-returns-clause-course g c = c.in_ok-play.ensures.course ∙ ap (λ (w : Played). course (trace_of w.script)) c.in_ok-world.ensures
+returns-clause-course g c = c.in-Ok.ensures.course ∙ ap (λ (w : Played). course (trace_of w.script)) c.in_ok-world.ensures

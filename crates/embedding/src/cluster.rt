@@ -118,16 +118,22 @@ fn play(world: &mut World<Counter>, facts: &mut Told<Facts>) -> Result<(), Alloc
     Ok(())
 }
 
-/// What the charter comes to: the facts that were told, and the stores that are left. The only error is
-/// want of memory.
-fn played(alloc: Global, charter: &Charter) -> Result<(Told<Facts>, Stores), AllocError>
+/// What the charter comes to: its facts are told, and the stores are left. The only error is want of memory.
+fn played(alloc: Global, charter: &Charter, facts: &mut Told<Facts>) -> Result<Stores, AllocError>
     requires { charter.now.config.kind ≡ kind.Counter }
 {
     let mut world = World::new(alloc, charter, Counter::new())?;
-    let mut facts = Told::new(Facts::new(alloc));
-    play(&mut world, &mut facts)?;
-    let (_, stores) = world.into_stores()?;
-    Ok((facts, stores))
+    match play(&mut world, facts) {
+        Ok(()) => {
+            let (last, stores) = world.into_stores()?;
+            drop(last);
+            Ok(stores)
+        }
+        Err(error) => {
+            drop(world);
+            Err(error)
+        }
+    }
 }
 
 /// Tells the records in the list of the first shard.
@@ -143,11 +149,21 @@ fn tell_records(rt: &impl Print, stores: &Stores) -> io::Result<()> {
     Ok(())
 }
 
+/// Tells how many facts there are, and the records.
+fn tell_end(rt: &impl Print, facts: &Told<Facts>, stores: &Stores) -> io::Result<()> {
+    println!(rt; "{} facts", facts.as_slice().len())?;
+    tell_records(rt, stores)
+}
+
 /// Plays the charter, and tells what came of it.
 pub(crate) fn tell(rt: &(impl AllocGlobal + Print)) -> io::Result<()> {
     let alloc = rt.alloc();
     let charter = charter(alloc)?;
-    let (facts, stores) = played(alloc, &charter)?;
-    println!(rt; "{} facts", facts.as_slice().len())?;
-    tell_records(rt, &stores)
+    let mut facts = Told::new(Facts::new(alloc));
+    let stores = played(alloc, &charter, &mut facts);
+    drop(charter);
+    let stores = stores?;
+    let told = tell_end(rt, &facts, &stores);
+    drop(stores);
+    told
 }

@@ -54,10 +54,13 @@ fn with_room(mut store: Store) -> Option<Store>
     ensures spare { IfSome result (λ x. 101 ≤ spare_of x) }
     ensures same { IfSome result (λ x. (script_of x ≡ script_of store) × (slot_of x ≡ slot_of store) × (entries_of x ≡ entries_of store)) }
 {
-    if store.reserve(101).is_err() {
-        return None;
+    match store.reserve(101) {
+        Ok(()) => Some(store),
+        Err(_) => {
+            drop(store);
+            None
+        }
     }
-    Some(store)
 }
 
 /// A turn of a node: whether the slot was free. None where memory ran out.

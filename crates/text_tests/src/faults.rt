@@ -10,9 +10,14 @@ fn says(alloc: Global, fault: WireFault, text: &str) -> Result<bool, AllocError>
     Ok(said.as_str() == text)
 }
 
+/// Whether each fault says what it is.
+fn are_said(alloc: Global) -> Result<bool, AllocError> {
+    let full = says(alloc, WireFault::Full, "the wire is full")?;
+    Ok(full && says(alloc, WireFault::OutOfMemory, "out of memory")?)
+}
+
 #[test]
 fn faults_say_what_they_are(rt: HostRuntime) -> Result<(), Fail> {
-    assert!(rt; says(rt.alloc(), WireFault::Full, "the wire is full")?);
-    assert!(rt; says(rt.alloc(), WireFault::OutOfMemory, "out of memory")?);
+    assert!(rt; are_said(rt.alloc())?);
     Ok(())
 }

@@ -17,9 +17,17 @@ fn hashed(text: &str) -> Option<(i32, u8)> {
     Some((java_hash(&name), shard_of(&name, 10).get()))
 }
 
+/// The first name of the table that has another one.
+fn first_other() -> Option<&'static str> {
+    for (text, hash, shard) in &TABLE {
+        if hashed(text) != Some((*hash, *shard)) {
+            return Some(text);
+        }
+    }
+    None
+}
+
 #[test]
 fn names_have_the_hash_codes_of_java(rt: HostRuntime) {
-    for (text, hash, shard) in &TABLE {
-        assert!(rt; hashed(text) == Some((*hash, *shard)), "{text}");
-    }
+    assert!(rt; first_other().is_none());
 }

@@ -32,13 +32,21 @@ const REFUSED: [(&str, Mode, u32, Why); 10] = [
     ),
 ];
 
-#[test]
-fn the_first_fault_is_told(rt: HostRuntime) {
+/// The first script that is refused for something else, or isn't.
+fn first_other(alloc: Global) -> Option<&'static str> {
     for (text, mode, line, why) in &REFUSED {
         let wanted = ScriptFault::At {
             line: *line,
             why: *why,
         };
-        assert_eq!(rt; fault_of(rt.alloc(), text.as_bytes(), *mode), Some(wanted));
+        if fault_of(alloc, text.as_bytes(), *mode) != Some(wanted) {
+            return Some(text);
+        }
     }
+    None
+}
+
+#[test]
+fn the_first_fault_is_told(rt: HostRuntime) {
+    assert!(rt; first_other(rt.alloc()).is_none());
 }

@@ -21,28 +21,22 @@ fn reads<S: Source>(
     Ok(bytes.as_slice() == wanted)
 }
 
-/// Reads up to so many bytes, which are to be these.
-fn expect_read<S: Source>(
-    rt: &(impl Abort + AllocGlobal),
-    source: &mut S,
-    most: usize,
-    wanted: &[u8],
-) -> Result<(), ReadError> {
-    assert!(rt; reads(rt.alloc(), source, most, wanted)?);
-    Ok(())
+/// Whether memory gives what is asked for.
+fn memory_gives(alloc: Global) -> Result<bool, ReadError> {
+    let mut source = MemSource::new(alloc, b"abcde", &[4])?;
+    reads(alloc, &mut source, 3, b"abc")
+}
+
+/// Whether memory gives all at once.
+fn memory_gives_all(alloc: Global) -> Result<bool, ReadError> {
+    let mut source = WholeSource::new(alloc, b"abcde")?;
+    reads(alloc, &mut source, 9, b"abcde")
 }
 
 #[test]
 fn memory_is_read(rt: HostRuntime) -> Result<(), Fail> {
-    let mut source = MemSource::new(rt.alloc(), b"abcde", &[4])?;
-    expect_read(&rt, &mut source, 3, b"abc")?;
-    Ok(())
-}
-
-#[test]
-fn memory_is_read_as_a_whole(rt: HostRuntime) -> Result<(), Fail> {
-    let mut source = WholeSource::new(rt.alloc(), b"abcde")?;
-    expect_read(&rt, &mut source, 9, b"abcde")?;
+    assert!(rt; memory_gives(rt.alloc())?);
+    assert!(rt; memory_gives_all(rt.alloc())?);
     Ok(())
 }
 
@@ -53,16 +47,15 @@ fn writes<K: Sink>(sink: &mut K) -> [bool; 3] {
     [first, flushed, write_all(sink, b"ef").is_ok()]
 }
 
-/// The second write to this sink is to fail.
-fn expect_written(rt: &impl Abort, sink: &mut MemSink) {
-    assert!(rt; writes(sink) == [true, true, false]);
-    assert!(rt; sink.bytes() == b"cd".as_slice());
+/// Whether memory takes what is written until the second write, which fails.
+fn memory_takes(alloc: Global) -> Result<bool, AllocError> {
+    let mut sink = MemSink::new(alloc, &[3])?;
+    Ok(writes(&mut sink) == [true, true, false] && sink.bytes() == b"cd".as_slice())
 }
 
 #[test]
 fn memory_is_written(rt: HostRuntime) -> Result<(), Fail> {
-    let mut sink = MemSink::new(rt.alloc(), &[3])?;
-    expect_written(&rt, &mut sink);
+    assert!(rt; memory_takes(rt.alloc())?);
     Ok(())
 }
 
@@ -106,13 +99,17 @@ fn flushes_to(alloc: Global, text: &mut Vec<u8>) -> Result<([bool; 3], [u64; 3])
     Ok(flushes(&mut sink))
 }
 
+/// Whether the first flush fails alone, and all is written.
+fn writer_is_counted(alloc: Global) -> Result<bool, AllocError> {
+    let mut text = Vec::new(alloc);
+    let (are_well, faults) = flushes_to(alloc, &mut text)?;
+    let is_counted = are_well == [true, false, true] && faults == [0, 1, 1];
+    Ok(is_counted && text.as_slice() == b"one\ntwo\n".as_slice())
+}
+
 #[test]
 fn a_writer_that_fails_is_counted(rt: HostRuntime) -> Result<(), Fail> {
-    let mut text = Vec::new(rt.alloc());
-    let (are_well, faults) = flushes_to(rt.alloc(), &mut text)?;
-    assert!(rt; are_well == [true, false, true]);
-    assert!(rt; faults == [0, 1, 1]);
-    assert!(rt; text.as_slice() == b"one\ntwo\n".as_slice());
+    assert!(rt; writer_is_counted(rt.alloc())?);
     Ok(())
 }
 
@@ -142,21 +139,22 @@ fn fails<S: Source>(alloc: Global, source: &mut S) -> bool {
     read_up_to(alloc, source, 4).err() == Some(ReadError::Failed)
 }
 
-/// The first of two reads of this source is to fail, and to be counted.
-fn expect_counted<R: Read>(
-    rt: &(impl Abort + AllocGlobal),
-    source: &mut StdSource<R>,
-) -> Result<(), ReadError> {
-    assert!(rt; fails(rt.alloc(), source));
-    assert_eq!(rt; source.faults(), 1);
-    assert!(rt; reads(rt.alloc(), source, 4, b"xxxx")?);
-    assert_eq!(rt; source.faults(), 1);
-    Ok(())
+/// Whether the first of two reads of this source fails, and is counted, and the second doesn't.
+fn counts<R: Read>(alloc: Global, source: &mut StdSource<R>) -> Result<bool, ReadError> {
+    let is_failed = fails(alloc, source);
+    let first = source.faults();
+    let is_read = reads(alloc, source, 4, b"xxxx")?;
+    Ok(is_failed && first == 1 && is_read && source.faults() == 1)
+}
+
+/// Whether a torn reader's first read is counted.
+fn reader_is_counted(alloc: Global) -> Result<bool, ReadError> {
+    let mut source = StdSource::new(Torn { calls: 0 });
+    counts(alloc, &mut source)
 }
 
 #[test]
 fn a_reader_that_fails_is_counted(rt: HostRuntime) -> Result<(), Fail> {
-    let mut source = StdSource::new(Torn { calls: 0 });
-    expect_counted(&rt, &mut source)?;
+    assert!(rt; reader_is_counted(rt.alloc())?);
     Ok(())
 }

@@ -2,7 +2,8 @@
 use crate::logs::log_all;
 use disk_log::{Disk, StdDisk, read_log};
 use std::alloc::{AllocError, Global};
-use std::fs;
+use std::fs::{self, Files};
+use std::os::unix::fs::FileExt;
 use std::process::Abort;
 use std::test::Fail;
 
@@ -29,16 +30,49 @@ fn count_in<D: Disk>(alloc: Global, disk: &mut D) -> Option<u32> {
     }
 }
 
+/// Whether a disk gives what was written, makes no log where one is, and has four batches.
+fn is_read_back<D: Disk>(alloc: Global, disk: &mut D) -> Result<bool, AllocError> {
+    let is_there = is_read(disk);
+    let is_made = log_all(alloc, disk)?;
+    Ok(is_there && !is_made && count_in(alloc, disk) == Some(4))
+}
+
+/// Removes the file, if there is one.
+fn forget(rt: &impl Files) {
+    let _ = fs::remove_file(rt, "sharder.log");
+}
+
+/// Whether a disk over the file takes all orders.
+fn is_made<R: Files + AllocGlobal>(rt: &R) -> Result<bool, AllocError>
+where
+    R::File: FileExt,
+{
+    let mut disk = StdDisk::new(rt);
+    is_logged(rt.alloc(), &mut disk)
+}
+
+/// Whether what was written is read through another disk over the file.
+fn is_kept<R: Files + AllocGlobal>(rt: &R) -> Result<bool, AllocError>
+where
+    R::File: FileExt,
+{
+    let mut disk = StdDisk::new(rt);
+    is_read_back(rt.alloc(), &mut disk)
+}
+
+/// Whether the file is a disk; it is gone before and after.
+fn is_a_disk<R: Files + AllocGlobal>(rt: &R) -> Result<bool, AllocError>
+where
+    R::File: FileExt,
+{
+    forget(rt);
+    let is_all = is_made(rt)? && is_kept(rt)?;
+    forget(rt);
+    Ok(is_all)
+}
+
 #[test]
 fn a_file_is_a_disk(rt: HostRuntime) -> Result<(), Fail> {
-    let _ = fs::remove_file(&rt, "sharder.log");
-    let mut disk = StdDisk::new(&rt);
-    assert!(rt; is_logged(rt.alloc(), &mut disk)?);
-    // What was written is read through another disk over the same file, and a log isn't made where one is.
-    let mut again = StdDisk::new(&rt);
-    assert!(rt; is_read(&mut again));
-    assert!(rt; !log_all(rt.alloc(), &mut again)?);
-    assert!(rt; count_in(rt.alloc(), &mut again) == Some(4));
-    let _ = fs::remove_file(&rt, "sharder.log");
+    assert!(rt; is_a_disk(&rt)?);
     Ok(())
 }

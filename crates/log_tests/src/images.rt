@@ -37,20 +37,23 @@ fn is_torn(alloc: Global, disk: &MemDisk) -> Result<bool, AllocError> {
     Ok(reading_of(alloc, &torn, &[])? == Came::Read(3))
 }
 
-/// The bytes of a log that all orders left, after so many calls, are to be these.
-fn expect_bytes(rt: &(impl Abort + AllocGlobal), disk: &MemDisk) -> Result<(), AllocError> {
-    assert_eq!(rt; disk.calls(), 19);
-    assert!(rt; is_left(disk, 20, &[], WHOLE)?);
-    assert!(rt; is_staged(rt.alloc(), disk)?);
-    assert!(rt; is_torn(rt.alloc(), disk)?);
-    Ok(())
+/// Whether the bytes of a log that all orders left, after so many calls, are these.
+fn are_known(alloc: Global, disk: &MemDisk) -> Result<bool, AllocError> {
+    if disk.calls() != 19 || !is_left(disk, 20, &[], WHOLE)? {
+        return Ok(false);
+    }
+    Ok(is_staged(alloc, disk)? && is_torn(alloc, disk)?)
+}
+
+/// Whether all orders leave those bytes.
+fn leave_known(alloc: Global) -> Result<bool, AllocError> {
+    let mut disk = MemDisk::new(alloc, &[], &[])?;
+    Ok(log_all(alloc, &mut disk)? && are_known(alloc, &disk)?)
 }
 
 #[test]
 fn the_bytes_of_a_log(rt: HostRuntime) -> Result<(), Fail> {
-    let mut disk = MemDisk::new(rt.alloc(), &[], &[])?;
-    assert!(rt; log_all(rt.alloc(), &mut disk)?);
-    expect_bytes(&rt, &disk)?;
+    assert!(rt; leave_known(rt.alloc())?);
     Ok(())
 }
 
@@ -97,8 +100,8 @@ fn misread_cut(alloc: Global) -> Result<Option<usize>, AllocError> {
 
 #[test]
 fn what_is_read(rt: HostRuntime) -> Result<(), Fail> {
-    assert_eq!(rt; misread(rt.alloc())?, None);
-    assert_eq!(rt; misread_cut(rt.alloc())?, None);
+    assert!(rt; misread(rt.alloc())?.is_none());
+    assert!(rt; misread_cut(rt.alloc())?.is_none());
     Ok(())
 }
 
@@ -126,14 +129,22 @@ fn after_sync(alloc: Global, torn: u8) -> Result<Came, AllocError> {
     reading_of(alloc, image.as_slice(), &[])
 }
 
+/// Whether a read that fails is told.
+fn are_told(alloc: Global) -> Result<bool, AllocError> {
+    let first = reading_of(alloc, WHOLE, &[1])?;
+    let second = reading_of(alloc, WHOLE, &[2])?;
+    Ok(first == Came::Failed && second == Came::Failed)
+}
+
+/// Whether the batch may stand there after a sync that fails, or not.
+fn may_stand(alloc: Global) -> Result<bool, AllocError> {
+    Ok(after_sync(alloc, 0)? == Came::Read(0) && after_sync(alloc, 1)? == Came::Read(1))
+}
+
 #[test]
 fn calls_that_fail(rt: HostRuntime) -> Result<(), Fail> {
-    let alloc = rt.alloc();
-    assert!(rt; reading_of(alloc, WHOLE, &[1])? == Came::Failed);
-    assert!(rt; reading_of(alloc, WHOLE, &[2])? == Came::Failed);
-    assert_eq!(rt; untold(alloc)?, None);
-    // The batch may stand there or not.
-    assert!(rt; after_sync(alloc, 0)? == Came::Read(0));
-    assert!(rt; after_sync(alloc, 1)? == Came::Read(1));
+    assert!(rt; are_told(rt.alloc())?);
+    assert!(rt; untold(rt.alloc())?.is_none());
+    assert!(rt; may_stand(rt.alloc())?);
     Ok(())
 }

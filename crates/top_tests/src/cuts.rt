@@ -1,11 +1,10 @@
 //! A script that is cut off after each of its bytes.
-use crate::fixtures::run_script;
+use crate::fixtures::{Drain, run_script};
 use crate::stored::{FIRST_COMMAND, FIRST_TEXT};
 use script_text::Why;
 use std::alloc::{AllocError, Global};
 use std::process::Abort;
 use std::test::Fail;
-use yard_io::MemSink;
 use yard_top::Status;
 
 /// What comes of the front of a script.
@@ -63,6 +62,24 @@ const OUTCOMES: [(usize, Outcome); 25] = [
     (72, Outcome::Played(662, CONFIRMED)),
 ];
 
+/// What is to come of the front of so many bytes.
+fn outcome_of(cut: usize) -> Option<Outcome> {
+    for (last, outcome) in &OUTCOMES {
+        if cut <= *last {
+            return Some(*outcome);
+        }
+    }
+    None
+}
+
+/// The front of so many bytes, as far as there are so many.
+fn front_of(cut: usize) -> &'static [u8] {
+    match FIRST_COMMAND.get(..cut) {
+        Some(front) => front,
+        None => FIRST_COMMAND,
+    }
+}
+
 /// Whether a text is a front of the trace, so many bytes long, and this report.
 fn is_played(text: &[u8], trace: usize, report: &[u8]) -> bool {
     let Some(front) = FIRST_TEXT.get(..trace) else {
@@ -73,56 +90,39 @@ fn is_played(text: &[u8], trace: usize, report: &[u8]) -> bool {
         && text.len() == trace.saturating_add(report.len())
 }
 
-/// Whether this is what comes of a front.
-fn is_outcome(end: Status, text: &[u8], outcome: Outcome) -> bool {
-    match outcome {
-        Outcome::Played(trace, report) => {
+/// Whether this is what comes of the front of so many bytes.
+fn is_outcome(end: Status, text: &[u8], cut: usize) -> bool {
+    match outcome_of(cut) {
+        Some(Outcome::Played(trace, report)) => {
             end == Status::Ok && is_played(text, trace, report.as_bytes())
         }
-        Outcome::Refused(line, why) => end == Status::Refused { line, why } && text.is_empty(),
+        Some(Outcome::Refused(line, why)) => {
+            end == Status::Refused { line, why } && text.is_empty()
+        }
+        None => false,
     }
 }
 
-/// Replays the front of a script of so many bytes: whether this comes of it.
-fn comes_to(alloc: Global, cut: usize, outcome: Outcome) -> Result<bool, AllocError> {
-    let Some(front) = FIRST_COMMAND.get(..cut) else {
-        return Ok(false);
-    };
-    let mut sink = MemSink::new(alloc, &[])?;
-    let end = run_script(alloc, &["replay"], front, &mut sink)?;
-    Ok(is_outcome(end, sink.bytes(), outcome))
+/// Replays the front of a script of so many bytes: whether what is to come of it does.
+fn comes_out(alloc: Global, sink: &mut Drain, cut: usize) -> Result<bool, AllocError> {
+    sink.restart(0, false);
+    let end = run_script(alloc, &["replay"], front_of(cut), sink)?;
+    Ok(is_outcome(end, sink.bytes(), cut))
 }
 
-/// Replays the front of each length from this one to that: the first of which this doesn't come.
-fn first_unlike(
-    alloc: Global,
-    from: usize,
-    last: usize,
-    outcome: Outcome,
-) -> Result<Option<usize>, AllocError> {
-    for cut in from..=last {
-        if !comes_to(alloc, cut, outcome)? {
-            return Ok(Some(cut));
+/// Replays the front of each length: whether what is to come of each does.
+fn all_come_out(alloc: Global, sink: &mut Drain) -> Result<bool, AllocError> {
+    for cut in 0..=FIRST_COMMAND.len() {
+        if !comes_out(alloc, sink, cut)? {
+            return Ok(false);
         }
     }
-    Ok(None)
-}
-
-/// Replays the front of each length: how many there are, where each comes to its outcome. Err: the first that doesn't.
-fn count_fronts(alloc: Global) -> Result<Result<usize, usize>, AllocError> {
-    let mut next = 0;
-    for (last, outcome) in &OUTCOMES {
-        if let Some(cut) = first_unlike(alloc, next, *last, *outcome)? {
-            return Ok(Err(cut));
-        }
-        next = last.saturating_add(1);
-    }
-    Ok(Ok(next))
+    Ok(true)
 }
 
 #[test]
 fn each_front_of_a_script(rt: HostRuntime) -> Result<(), Fail> {
-    let wanted = FIRST_COMMAND.len().saturating_add(1);
-    assert_eq!(rt; count_fronts(rt.alloc())?, Ok(wanted));
+    let mut sink = Drain::new(rt.alloc());
+    assert!(rt; all_come_out(rt.alloc(), &mut sink)?);
     Ok(())
 }

@@ -1,14 +1,14 @@
 //! Runs whose reads, writes and flush fail, each in its turn.
 ghost use Rattle.std.specs.Prelude.{◌<◌};
 
-use crate::fixtures::{Drip, Nowhere, Trickle, run_alone, run_script};
+use crate::fixtures::{Drain, Feed, Nowhere, run_alone, run_script};
 use crate::stored::{
     FIRST_COMMAND, FIRST_TEXT, ONE_COMMAND, ONE_DONE, ONE_INSTANCE, ONE_JOB, ONE_PING, ONE_RECORD,
 };
 use std::alloc::{AllocError, Global};
 use std::process::Abort;
 use std::test::Fail;
-use yard_io::{MemSink, MemSource, StdSink};
+use yard_io::StdSink;
 use yard_top::Status;
 
 /// More calls than any run here makes.
@@ -24,69 +24,44 @@ const CASES: [Case<'static>; 4] = [
     (&["pull"], ONE_JOB, ONE_DONE),
 ];
 
-/// How many calls of a form's run there are, where each fails in a run of its own as it is to. Err: how many calls
-/// went before the one that failed otherwise.
-type Calls = Result<usize, usize>;
-
-/// Runs a form over a source that gives one byte a read, where this read fails: how it ends.
-fn end_at_read(
-    alloc: Global,
-    case: Case<'_>,
-    call: u32,
-    sink: &mut MemSink,
-) -> Result<Status, AllocError> {
-    let mut source = Trickle(MemSource::new(alloc, case.1, &[call])?);
-    run_alone(alloc, case.0, &mut source, sink)
+/// Which calls fail, each in a run of its own.
+#[derive(Clone, Copy)]
+enum Calls {
+    /// The reads of a source that gives one byte a call.
+    Reads,
+    /// The writes and the flush of a sink that takes one byte a call.
+    Writes,
+    /// Those of a sink that takes whole pieces.
+    Pieces,
 }
 
-/// Runs it where the read after so many fails: how it ends, and whether it writes the whole text where it ends
-/// well, and else nothing.
-fn fail_read(alloc: Global, case: Case<'_>, done: u32) -> Result<(Status, bool), AllocError>
-    requires { done < 1000 }
-{
-    let mut sink = MemSink::new(alloc, &[])?;
-    let end = end_at_read(alloc, case, done + 1, &mut sink)?;
-    let wanted = if end == Status::Ok { case.2.len() } else { 0 };
-    Ok((end, Some(sink.bytes()) == case.2.get(..wanted)))
-}
-
-/// Runs a form again and again, and each time the next read fails, until none does.
-fn count_reads(alloc: Global, case: Case<'_>) -> Result<Calls, AllocError> {
-    for done in 0..MOST_CALLS {
-        match fail_read(alloc, case, done)? {
-            (Status::Ok, true) => return Ok(Ok(done as usize)),
-            (Status::ReadFault, true) => {}
-            _ => return Ok(Err(done as usize)),
-        }
+/// How a run ends whose call failed.
+fn fault_of(calls: Calls) -> Status {
+    match calls {
+        Calls::Reads => Status::ReadFault,
+        Calls::Writes | Calls::Pieces => Status::WriteFault,
     }
-    Ok(Err(MOST_CALLS as usize))
 }
 
-/// Runs a form over a sink that takes one byte a write, where the write or flush after so many fails: how it ends,
-/// and whether it writes the whole text where it ends well, and else as many bytes of it as there were writes.
-fn fail_write(alloc: Global, case: Case<'_>, done: u32) -> Result<(Status, bool), AllocError>
-    requires { done < 1000 }
-{
-    let mut sink = Drip(MemSink::new(alloc, &[done + 1])?);
-    let end = run_script(alloc, case.0, case.1, &mut sink)?;
-    let wanted = if end == Status::Ok {
-        case.2.len()
-    } else {
-        done as usize
-    };
-    Ok((end, Some(sink.0.bytes()) == case.2.get(..wanted)))
-}
-
-/// Runs a form again and again, and each time the next write or flush fails, until none does.
-fn count_writes(alloc: Global, case: Case<'_>) -> Result<Calls, AllocError> {
-    for done in 0..MOST_CALLS {
-        match fail_write(alloc, case, done)? {
-            (Status::Ok, true) => return Ok(Ok(done as usize)),
-            (Status::WriteFault, true) => {}
-            _ => return Ok(Err(done as usize)),
-        }
+/// Whether a run takes so many bytes as it is to where the call after so many fails, of which the run before took so
+/// many: none where a read fails, one with each write before it, and with pieces no fewer than the run before.
+fn is_front(calls: Calls, taken: usize, done: usize, before: usize) -> bool {
+    match calls {
+        Calls::Reads => taken == 0,
+        Calls::Writes => taken == done,
+        Calls::Pieces => before <= taken,
     }
-    Ok(Err(MOST_CALLS as usize))
+}
+
+/// Whether there are as many calls as there are to be where none failed, and the last that failed left so many bytes:
+/// a read for each byte, and one more that finds the end; a write for each byte, and the flush; and before the flush
+/// all pieces were taken.
+fn is_last(calls: Calls, case: &Case<'_>, done: usize, before: usize) -> bool {
+    match calls {
+        Calls::Reads => done == case.1.len().saturating_add(1),
+        Calls::Writes => done == case.2.len().saturating_add(1),
+        Calls::Pieces => before == case.2.len(),
+    }
 }
 
 /// How many bytes these are, where they are a front of the text.
@@ -98,76 +73,109 @@ fn length_of_front(text: &[u8], bytes: &[u8]) -> Option<usize> {
     }
 }
 
-/// Runs a form over a sink that takes whole pieces, where the write or flush after so many fails: how it ends, and
-/// how long a front of the text it writes.
-fn fail_piece(
+/// Runs a form over a source and a sink whose calls of these numbers fail: how it ends, and how long a front of the
+/// text it writes; None where it writes something else.
+fn written(
     alloc: Global,
-    case: Case<'_>,
-    done: u32,
-) -> Result<(Status, Option<usize>), AllocError>
-    requires { done < 1000 }
-{
-    let mut sink = MemSink::new(alloc, &[done + 1])?;
-    let end = run_script(alloc, case.0, case.1, &mut sink)?;
+    case: &Case<'_>,
+    read: u32,
+    write: u32,
+    is_slow: bool,
+    sink: &mut Drain,
+) -> Result<(Status, Option<usize>), AllocError> {
+    sink.restart(write, is_slow);
+    let mut source = Feed::new(case.1, read, is_slow);
+    let end = run_alone(alloc, case.0, &mut source, sink)?;
     Ok((end, length_of_front(case.2, sink.bytes())))
 }
 
-/// Runs a form again and again, and each time the next piece or the flush fails, until none does: how many bytes
-/// were taken before the last call, the flush. Err: of a run that ended otherwise, or took less than one before.
-fn taken_in_pieces(alloc: Global, case: Case<'_>) -> Result<Calls, AllocError> {
+/// The same where the call after so many fails.
+fn written_after(
+    alloc: Global,
+    case: &Case<'_>,
+    calls: Calls,
+    done: u32,
+    sink: &mut Drain,
+) -> Result<(Status, Option<usize>), AllocError>
+    requires { done < 1000 }
+{
+    match calls {
+        Calls::Reads => written(alloc, case, done + 1, 0, true, sink),
+        Calls::Writes => written(alloc, case, 0, done + 1, true, sink),
+        Calls::Pieces => written(alloc, case, 0, done + 1, false, sink),
+    }
+}
+
+/// Runs a form again and again, and each time the next call fails, until none does: whether each run ends as it is
+/// to, and there are as many as there are to be.
+fn fail_in_turn(
+    alloc: Global,
+    case: &Case<'_>,
+    calls: Calls,
+    sink: &mut Drain,
+) -> Result<bool, AllocError> {
     let mut before = 0;
     for done in 0..MOST_CALLS {
-        match fail_piece(alloc, case, done)? {
-            (Status::Ok, Some(taken)) if before <= taken => return Ok(Ok(before)),
-            (Status::WriteFault, Some(taken)) if before <= taken => before = taken,
-            _ => return Ok(Err(done as usize)),
+        let (end, front) = written_after(alloc, case, calls, done, sink)?;
+        let Some(taken) = front else {
+            return Ok(false);
+        };
+        if end == Status::Ok {
+            return Ok(taken == case.2.len() && is_last(calls, case, done as usize, before));
+        }
+        if end != fault_of(calls) || !is_front(calls, taken, done as usize, before) {
+            return Ok(false);
+        }
+        before = taken;
+    }
+    Ok(false)
+}
+
+/// Whether that is so of each form.
+fn all_fail_in_turn(alloc: Global, calls: Calls, sink: &mut Drain) -> Result<bool, AllocError> {
+    for case in &CASES {
+        if !fail_in_turn(alloc, case, calls, sink)? {
+            return Ok(false);
         }
     }
-    Ok(Err(MOST_CALLS as usize))
+    Ok(true)
 }
 
-/// One byte comes of a read, so there is one for each byte, and one more that finds the end.
+/// Whether it is so of all calls.
+fn each_fails_in_turn(alloc: Global, sink: &mut Drain) -> Result<bool, AllocError> {
+    Ok(
+        all_fail_in_turn(alloc, Calls::Reads, sink)?
+            && all_fail_in_turn(alloc, Calls::Writes, sink)?
+            && all_fail_in_turn(alloc, Calls::Pieces, sink)?,
+    )
+}
+
 #[test]
-fn each_read_fails_in_turn(rt: HostRuntime) -> Result<(), Fail> {
-    for case in &CASES {
-        let wanted = case.1.len().saturating_add(1);
-        assert_eq!(rt; count_reads(rt.alloc(), *case)?, Ok(wanted));
-    }
+fn each_call_fails_in_turn(rt: HostRuntime) -> Result<(), Fail> {
+    let mut sink = Drain::new(rt.alloc());
+    assert!(rt; each_fails_in_turn(rt.alloc(), &mut sink)?);
     Ok(())
 }
 
-/// One byte goes with a write, so there is one for each byte, and the flush.
-#[test]
-fn each_write_fails_in_turn(rt: HostRuntime) -> Result<(), Fail> {
-    for case in &CASES {
-        let wanted = case.2.len().saturating_add(1);
-        assert_eq!(rt; count_writes(rt.alloc(), *case)?, Ok(wanted));
-    }
-    Ok(())
-}
-
-/// Where a write takes the whole piece, the pieces are what the program makes of its text, and before the flush all
-/// of it was taken.
-#[test]
-fn each_piece_fails_in_turn(rt: HostRuntime) -> Result<(), Fail> {
-    for case in &CASES {
-        assert_eq!(rt; taken_in_pieces(rt.alloc(), *case)?, Ok(case.2.len()));
-    }
-    Ok(())
-}
-
-/// Runs a form over a writer that takes nothing: how it ends, and how often the sink failed.
-fn end_nowhere(alloc: Global, form: &[&str], script: &[u8]) -> Result<(Status, u64), AllocError> {
+/// Whether a form that runs over a writer which takes nothing ends so, and its sink has failed once.
+fn fails_once(alloc: Global, form: &[&str], script: &[u8]) -> Result<bool, AllocError> {
     let mut sink = StdSink::new(alloc, Nowhere)?;
     let end = run_script(alloc, form, script, &mut sink)?;
-    Ok((end, sink.faults()))
+    Ok(end == Status::WriteFault && sink.faults() == 1)
+}
+
+/// Whether that is so of each form.
+fn all_fail_once(alloc: Global) -> Result<bool, AllocError> {
+    for (form, script, _) in &CASES {
+        if !fails_once(alloc, form, script)? {
+            return Ok(false);
+        }
+    }
+    Ok(true)
 }
 
 #[test]
 fn nothing_is_taken(rt: HostRuntime) -> Result<(), Fail> {
-    for (form, script, _) in &CASES {
-        let (end, faults) = end_nowhere(rt.alloc(), form, script)?;
-        assert!(rt; end == Status::WriteFault && faults == 1, "{form:?}");
-    }
+    assert!(rt; all_fail_once(rt.alloc())?);
     Ok(())
 }

@@ -1,5 +1,7 @@
 //! Nodes as threads: what every run of a script comes to, and runs whose reads and writes fail.
-use crate::fixtures::{Counted, Drip, run_alone, words_of};
+ghost use Rattle.std.specs.Prelude.{◌<◌};
+
+use crate::fixtures::{Drain, Feed, run_alone, words_of};
 use crate::meeting::{LOOKS, Meeting, Side};
 use script_text::Why;
 use std::alloc::{AllocError, Global};
@@ -7,7 +9,6 @@ use std::process::Abort;
 use std::sync::Wait;
 use std::test::Fail;
 use std::thread::Threads;
-use yard_io::{FreeGate, Gate, MemSink, MemSource, Sink, Source, WholeSource};
 use yard_top::{Status, sharder};
 
 /// Two nodes; a producer on each sends ten commands.
@@ -38,117 +39,104 @@ send 2 b add 2
 send 2 b add 2
 ";
 
-/// What the report says of it at every run.
+/// Lines of the report of it at every run.
 const REPORTED: [&str; 4] = [
-    "entity a shard 1 records 10 state 10",
-    "entity b shard 2 records 10 state 20",
-    "queue 1 a queued 10 confirmed 10",
-    "queue 2 b queued 10 confirmed 10",
+    "\nentity a shard 1 records 10 state 10\n",
+    "\nentity b shard 2 records 10 state 20\n",
+    "\nqueue 1 a queued 10 confirmed 10\n",
+    "\nqueue 2 b queued 10 confirmed 10\n",
 ];
 
 /// How many runs have a call that fails.
 const RUNS: u32 = 200;
 
 /// Runs the program on these words, at this gate.
-fn run_at<R: Threads + Wait + Sync, S: Source, K: Sink, G: Gate + Sync>(
+fn run_at<R: Threads + Wait + Sync>(
     rt: &R,
     alloc: Global,
     form: &[&str],
-    source: &mut S,
-    sink: &mut K,
-    gate: &G,
+    source: &mut Feed<'_>,
+    sink: &mut Drain,
+    gate: &Meeting,
 ) -> Result<Status, AllocError> {
     let words = words_of(alloc, form)?;
     Ok(sharder(rt, alloc, words.as_slice(), source, sink, gate))
 }
 
 /// Runs the program on these words, and holds no thread.
-fn run<R: Threads + Wait + Sync, S: Source, K: Sink>(
+fn run<R: Threads + Wait + Sync>(
     rt: &R,
     alloc: Global,
     form: &[&str],
-    source: &mut S,
-    sink: &mut K,
+    source: &mut Feed<'_>,
+    sink: &mut Drain,
 ) -> Result<Status, AllocError> {
-    run_at(rt, alloc, form, source, sink, &FreeGate)
+    let gate = Meeting::free();
+    run_at(rt, alloc, form, source, sink, &gate)
+}
+
+/// Runs the program on these words and this script, and holds no thread.
+fn run_script<R: Threads + Wait + Sync>(
+    rt: &R,
+    alloc: Global,
+    form: &[&str],
+    script: &[u8],
+    sink: &mut Drain,
+) -> Result<Status, AllocError> {
+    let mut source = Feed::new(script, 0, false);
+    run(rt, alloc, form, &mut source, sink)
 }
 
 /// Runs the program on these words and the script of two producers, at this gate.
-fn run_two<R: Threads + Wait + Sync, K: Sink, G: Gate + Sync>(
+fn run_two<R: Threads + Wait + Sync>(
     rt: &R,
     alloc: Global,
     form: &[&str],
-    sink: &mut K,
-    gate: &G,
+    sink: &mut Drain,
+    gate: &Meeting,
 ) -> Result<Status, AllocError> {
-    let mut source = WholeSource::new(alloc, TWO_PRODUCERS)?;
+    let mut source = Feed::new(TWO_PRODUCERS, 0, false);
     run_at(rt, alloc, form, &mut source, sink, gate)
 }
 
-/// Whether this is a line of the text.
-fn has_line(text: &str, line: &str) -> bool {
-    text.lines().any(|one| one == line)
-}
-
-/// The line after the first that begins so.
-fn line_after<'a>(text: &'a str, start: &str) -> Option<&'a str> {
-    let mut is_next = false;
-    for line in text.lines() {
-        if is_next {
-            return Some(line);
-        }
-        is_next = line.starts_with(start);
+/// What these bytes spell; nothing where they spell nothing.
+fn text_of(bytes: &[u8]) -> &str {
+    match str::from_utf8(bytes) {
+        Ok(text) => text,
+        Err(_) => "",
     }
-    None
 }
 
 /// Whether the queue of producer 2 begins on node 2, where the producer is.
 fn begins_on_second(text: &str) -> bool {
-    line_after(text, "slot queue:2 ") == Some("granted queue:2 1 2.1")
-}
-
-/// The report is to say what it says at every run.
-fn expect_reported(rt: &impl Abort, text: &str) {
-    for line in &REPORTED {
-        assert!(rt; has_line(text, line), "no line {line} in\n{text}");
+    let Some((_, slot)) = text.split_once("\nslot queue:2 ") else {
+        return false;
+    };
+    match slot.split_once('\n') {
+        Some((_, list)) => list.starts_with("granted queue:2 1 2.1\n"),
+        None => false,
     }
-    assert!(rt; begins_on_second(text));
 }
 
-/// Runs the program for so many turns with this seed, at this gate, which is to end well.
-fn run_well<R: Threads + Wait + Sync + Abort, G: Gate + Sync>(
+/// Whether a text has these lines, and the queue of producer 2 begins on node 2.
+fn says_all(text: &str) -> bool {
+    for line in &REPORTED {
+        if !text.contains(*line) {
+            return false;
+        }
+    }
+    begins_on_second(text)
+}
+
+/// Whether a run at this gate ends well, and says that.
+fn comes_to_this<R: Threads + Wait + Sync>(
     rt: &R,
     alloc: Global,
-    turns: &str,
-    seed: &str,
-    sink: &mut MemSink,
-    gate: &G,
-) -> Result<(), AllocError> {
-    let end = run_two(rt, alloc, &["live", turns, seed], sink, gate)?;
-    assert!(rt; end == Status::Ok, "seed {seed}: {end:?}");
-    Ok(())
-}
-
-#[test]
-fn each_run_comes_to_this(rt: HostRuntime) -> Result<(), Fail> {
-    let mut sink = MemSink::new(rt.alloc(), &[])?;
-    run_well(&rt, rt.alloc(), "2000", "7", &mut sink, &FreeGate)?;
-    expect_reported(&rt, str::from_utf8(sink.bytes())?);
-    Ok(())
-}
-
-/// Runs the program at this gate: whether the queue of producer 2 begins on node 2.
-fn second_at<R: Threads + Wait + Sync + Abort>(
-    rt: &R,
-    alloc: Global,
+    sink: &mut Drain,
     gate: &Meeting,
 ) -> Result<bool, AllocError> {
-    let mut sink = MemSink::new(alloc, &[])?;
-    run_well(rt, alloc, "2000", "7", &mut sink, gate)?;
-    match str::from_utf8(sink.bytes()) {
-        Ok(text) => Ok(begins_on_second(text)),
-        Err(_) => Ok(false),
-    }
+    let end = run_two(rt, alloc, &["live", "2000", "7"], sink, gate)?;
+    Ok(end == Status::Ok && says_all(text_of(sink.bytes())))
 }
 
 /// Whether a node came to its fifth turn, and no wait of it was too long.
@@ -156,203 +144,257 @@ fn has_met(side: &Side) -> bool {
     side.turn() >= 5 && side.longest() < LOOKS
 }
 
-/// The turns of the nodes overlap: at its fifth turn each waits until the other has come to its own.
+/// Whether a run that holds no thread comes to this.
+fn free_comes_to_this<R: Threads + Wait + Sync>(
+    rt: &R,
+    alloc: Global,
+    sink: &mut Drain,
+) -> Result<bool, AllocError> {
+    let gate = Meeting::free();
+    comes_to_this(rt, alloc, sink, &gate)
+}
+
+/// Whether one does in which, at its fifth turn, each node waits until the other has come to its own.
+fn both_come_to_this<R: Threads + Wait + Sync>(
+    rt: &R,
+    alloc: Global,
+    sink: &mut Drain,
+) -> Result<bool, AllocError> {
+    let gate = Meeting::at(5, 5);
+    let is_this = comes_to_this(rt, alloc, sink, &gate)?;
+    Ok(is_this && has_met(&gate.first) && has_met(&gate.second))
+}
+
+#[test]
+fn each_run_comes_to_this(rt: HostRuntime) -> Result<(), Fail> {
+    let mut sink = Drain::new(rt.alloc());
+    assert!(rt; free_comes_to_this(&rt, rt.alloc(), &mut sink)?);
+    Ok(())
+}
+
+/// The turns of the nodes overlap.
 #[test]
 fn two_nodes_run_at_once(rt: HostRuntime) -> Result<(), Fail> {
-    let gate = Meeting::at(5, 5);
-    assert!(rt; second_at(&rt, rt.alloc(), &gate)?);
-    assert!(rt; has_met(&gate.first));
-    assert!(rt; has_met(&gate.second));
+    let mut sink = Drain::new(rt.alloc());
+    assert!(rt; both_come_to_this(&rt, rt.alloc(), &mut sink)?);
     Ok(())
 }
 
 /// Whether both regions are registered.
-fn has_both(bytes: &[u8]) -> bool {
-    match str::from_utf8(bytes) {
-        Ok(text) => has_line(text, "registered 1.1") && has_line(text, "registered 2.1"),
-        Err(_) => false,
+fn has_both(text: &str) -> bool {
+    text.contains("\nregistered 1.1\n") && text.contains("\nregistered 2.1\n")
+}
+
+/// Whether a run that ended well registered both; None where it didn't end well.
+fn both_in(end: Status, text: &str) -> Option<bool> {
+    if end == Status::Ok {
+        Some(has_both(text))
+    } else {
+        None
     }
 }
 
-/// Runs the program at a gate at which the nodes go side by side: whether both regions are registered by turns alone.
-fn are_registered<R: Threads + Wait + Sync + Abort>(
+/// Runs the program at a gate: whether both regions are registered by turns alone.
+fn registered_at<R: Threads + Wait + Sync>(
     rt: &R,
     alloc: Global,
     seed: &str,
+    sink: &mut Drain,
     gate: &Meeting,
-) -> Result<bool, AllocError> {
-    let mut sink = MemSink::new(alloc, &[])?;
-    run_well(rt, alloc, "200", seed, &mut sink, gate)?;
-    Ok(has_both(sink.bytes()))
+) -> Result<Option<bool>, AllocError> {
+    sink.restart(0, false);
+    let end = run_two(rt, alloc, &["live", "200", seed], sink, gate)?;
+    Ok(both_in(end, text_of(sink.bytes())))
 }
 
-/// Of how many seeds that is so.
-fn count_registered<R: Threads + Wait + Sync + Abort>(
+/// The same where the nodes go side by side.
+fn registered<R: Threads + Wait + Sync>(
     rt: &R,
     alloc: Global,
-) -> Result<u32, AllocError> {
-    let mut count: u32 = 0;
+    seed: &str,
+    sink: &mut Drain,
+) -> Result<Option<bool>, AllocError> {
+    let gate = Meeting::at(1, 200);
+    registered_at(rt, alloc, seed, sink, &gate)
+}
+
+/// Whether all of eight runs end well, and in some both are registered.
+fn some_registered<R: Threads + Wait + Sync>(
+    rt: &R,
+    alloc: Global,
+    sink: &mut Drain,
+) -> Result<bool, AllocError> {
+    let mut is_some = false;
     for seed in &["1", "2", "3", "4", "5", "6", "7", "8"] {
-        let gate = Meeting::at(1, 200);
-        if are_registered(rt, alloc, seed, &gate)? {
-            count = count.saturating_add(1);
+        match registered(rt, alloc, seed, sink)? {
+            Some(are_both) => is_some = is_some || are_both,
+            None => return Ok(false),
         }
     }
-    Ok(count)
+    Ok(is_some)
 }
 
 /// Nodes that go side by side take one another's packets: in some run both regions are registered by turns alone.
 #[test]
 fn each_node_registers_with_the_other(rt: HostRuntime) -> Result<(), Fail> {
-    assert!(rt; count_registered(&rt, rt.alloc())? > 0);
+    let mut sink = Drain::new(rt.alloc());
+    assert!(rt; some_registered(&rt, rt.alloc(), &mut sink)?);
     Ok(())
 }
 
 /// How many seeds are tried.
 const SEEDS: u32 = 32;
 
-/// Runs the program with this seed, which is to end well.
-fn run_seed<R: Threads + Wait + Sync + Abort>(
+/// Runs the program with this seed: how it ends.
+fn end_of_seed<R: Threads + Wait + Sync>(
     rt: &R,
     alloc: Global,
     seed: u32,
-    sink: &mut MemSink,
-) -> Result<(), AllocError> {
+    sink: &mut Drain,
+) -> Result<Status, AllocError> {
     let word = format!(in alloc; "{seed}")?;
-    run_well(rt, alloc, "500", word.as_str(), sink, &FreeGate)
+    run_script(
+        rt,
+        alloc,
+        &["live", "500", word.as_str()],
+        TWO_PRODUCERS,
+        sink,
+    )
 }
 
-/// The lines from `report` on.
-fn report_of<'a>(alloc: Global, text: &'a str) -> Result<Vec<&'a str>, AllocError> {
-    let mut lines = Vec::new(alloc);
-    let mut is_there = false;
-    for line in text.lines() {
-        is_there = is_there || line == "report";
-        if is_there {
-            lines.push(line)?;
-        }
+/// A line without the word behind `epoch`: what stands before it and behind it.
+fn without_epoch(line: &str) -> (&str, &str) {
+    let Some((front, rest)) = line.split_once(" epoch ") else {
+        return (line, "");
+    };
+    match rest.split_once(' ') {
+        Some((_, back)) => (front, back),
+        None => (front, ""),
     }
-    Ok(lines)
 }
 
 /// Whether two lines are the same, but for the word behind `epoch`.
 fn is_same_line(one: &str, other: &str) -> bool {
-    let mut others = other.split(' ');
-    let mut is_epoch = false;
-    for word in one.split(' ') {
-        let Some(next) = others.next() else {
-            return false;
-        };
-        if !is_epoch && word != next {
-            return false;
-        }
-        is_epoch = word == "epoch";
-    }
-    others.next().is_none()
+    let one = without_epoch(one);
+    let other = without_epoch(other);
+    one.0 == other.0 && one.1 == other.1
 }
 
-/// Whether two reports have the same lines, but for the epochs.
-fn are_same_lines(one: &[&str], other: &[&str]) -> bool {
-    if one.len() != other.len() {
-        return false;
+/// Whether two texts have the same lines, but for the epochs.
+fn are_same_lines(one: &str, other: &str) -> bool {
+    for (x, y) in one.lines().zip(other.lines()) {
+        if !is_same_line(x, y) {
+            return false;
+        }
     }
-    one.iter()
-        .zip(other.iter())
-        .all(|(x, y)| is_same_line(x, y))
+    one.lines().count() == other.lines().count()
 }
 
 /// Whether two texts have the same report, but for the epochs.
-fn is_same_report(alloc: Global, one: &str, other: &str) -> Result<bool, AllocError> {
-    let report = report_of(alloc, one)?;
-    let next = report_of(alloc, other)?;
-    Ok(are_same_lines(report.as_slice(), next.as_slice()))
+fn is_same_report(one: &str, other: &str) -> bool {
+    match (one.split_once("\nreport\n"), other.split_once("\nreport\n")) {
+        (Some((_, one)), Some((_, other))) => are_same_lines(one, other),
+        _ => false,
+    }
 }
 
-/// Whether a run with this seed reports the same as this text.
-fn reports_the_same<R: Threads + Wait + Sync + Abort>(
+/// Whether a run with this seed ends well and reports the same as this text.
+fn reports_the_same<R: Threads + Wait + Sync>(
     rt: &R,
     alloc: Global,
     seed: u32,
     text: &str,
-) -> Result<bool, Fail> {
-    let mut sink = MemSink::new(alloc, &[])?;
-    run_seed(rt, alloc, seed, &mut sink)?;
-    Ok(is_same_report(alloc, text, str::from_utf8(sink.bytes())?)?)
+    sink: &mut Drain,
+) -> Result<bool, AllocError> {
+    sink.restart(0, false);
+    let end = end_of_seed(rt, alloc, seed, sink)?;
+    Ok(end == Status::Ok && is_same_report(text, text_of(sink.bytes())))
 }
 
-/// The first seed of the others whose run reports something else than this text.
-fn first_other<R: Threads + Wait + Sync + Abort>(
+/// Whether all other seeds do.
+fn others_report_the_same<R: Threads + Wait + Sync>(
     rt: &R,
     alloc: Global,
     text: &str,
-) -> Result<Option<u32>, Fail> {
+    sink: &mut Drain,
+) -> Result<bool, AllocError> {
     for seed in 2..SEEDS + 1 {
-        if !reports_the_same(rt, alloc, seed, text)? {
-            return Ok(Some(seed));
+        if !reports_the_same(rt, alloc, seed, text, sink)? {
+            return Ok(false);
         }
     }
-    Ok(None)
+    Ok(true)
+}
+
+/// Whether all seeds report the same as the first.
+fn all_report_the_same<R: Threads + Wait + Sync>(
+    rt: &R,
+    alloc: Global,
+    first: &mut Drain,
+    sink: &mut Drain,
+) -> Result<bool, AllocError> {
+    let end = end_of_seed(rt, alloc, 1, first)?;
+    Ok(end == Status::Ok && others_report_the_same(rt, alloc, text_of(first.bytes()), sink)?)
+}
+
+/// The same over a sink of its own for the first.
+fn seeds_report_the_same<R: Threads + Wait + Sync>(
+    rt: &R,
+    alloc: Global,
+    sink: &mut Drain,
+) -> Result<bool, AllocError> {
+    let mut first = Drain::new(alloc);
+    all_report_the_same(rt, alloc, &mut first, sink)
 }
 
 #[test]
 fn each_seed_reports_the_same(rt: HostRuntime) -> Result<(), Fail> {
-    let mut sink = MemSink::new(rt.alloc(), &[])?;
-    run_seed(&rt, rt.alloc(), 1, &mut sink)?;
-    let other = first_other(&rt, rt.alloc(), str::from_utf8(sink.bytes())?)?;
-    assert_eq!(rt; other, None);
+    let mut sink = Drain::new(rt.alloc());
+    assert!(rt; seeds_report_the_same(&rt, rt.alloc(), &mut sink)?);
     Ok(())
 }
 
-/// Runs the program whose sink takes one byte a call, and this call fails: how it ends, and how many bytes it wrote.
-fn fail_a_byte<R: Threads + Wait + Sync>(
+/// Whether a run is as it is to be whose sink fails at the call after so many, if it comes. Where one byte goes with
+/// a call, it writes one with each before. Where whole pieces do, it ends well only with a whole report, after no
+/// more calls.
+fn is_stopped(end: Status, sink: &Drain, done: u32, is_slow: bool) -> bool {
+    if is_slow {
+        end == Status::WriteFault && sink.bytes().len() == done as usize
+    } else if done < sink.calls() {
+        end == Status::WriteFault
+    } else {
+        end == Status::Ok && sink.bytes().ends_with(b"\nend\n")
+    }
+}
+
+/// Runs the program, and the call after so many fails: whether it is stopped so.
+fn stops<R: Threads + Wait + Sync>(
     rt: &R,
     alloc: Global,
-    call: u32,
-) -> Result<(Status, usize), AllocError> {
-    let mut sink = Drip(MemSink::new(alloc, &[call])?);
-    let end = run_two(rt, alloc, &["live", "50", "1"], &mut sink, &FreeGate)?;
-    Ok((end, sink.0.bytes().len()))
+    done: u32,
+    is_slow: bool,
+    sink: &mut Drain,
+) -> Result<bool, AllocError>
+    requires { done < 200 }
+{
+    sink.restart(done + 1, is_slow);
+    let end = run_script(rt, alloc, &["live", "50", "1"], TWO_PRODUCERS, sink)?;
+    Ok(is_stopped(end, sink, done, is_slow))
 }
 
-#[test]
-fn a_byte_is_not_taken(rt: HostRuntime) -> Result<(), Fail> {
-    for done in 0..RUNS {
-        let (end, taken) = fail_a_byte(&rt, rt.alloc(), done + 1)?;
-        let is_wanted = end == Status::WriteFault && taken == done as usize;
-        assert!(rt; is_wanted, "after {done} bytes");
-    }
-    Ok(())
-}
-
-/// Runs the program whose sink takes whole pieces, and this call fails, if it comes: how it ends, how many calls
-/// there were, and whether a whole report was written.
-fn fail_a_piece<R: Threads + Wait + Sync>(
+/// Whether each of these runs is.
+fn all_stop<R: Threads + Wait + Sync>(
     rt: &R,
     alloc: Global,
-    call: u32,
-) -> Result<(Status, u32, bool), AllocError> {
-    let mut sink = Counted {
-        sink: MemSink::new(alloc, &[call])?,
-        calls: 0,
-    };
-    let end = run_two(rt, alloc, &["live", "50", "1"], &mut sink, &FreeGate)?;
-    let is_whole = sink.sink.bytes().ends_with(b"\nend\n");
-    Ok((end, sink.calls, is_whole))
-}
-
-#[test]
-fn a_piece_is_not_taken(rt: HostRuntime) -> Result<(), Fail> {
+    is_slow: bool,
+    sink: &mut Drain,
+) -> Result<bool, AllocError> {
     for done in 0..RUNS {
-        let (end, calls, is_whole) = fail_a_piece(&rt, rt.alloc(), done + 1)?;
-        let wanted = if done < calls {
-            Status::WriteFault
-        } else {
-            Status::Ok
-        };
-        let is_wanted = end == wanted && (is_whole || end != Status::Ok);
-        assert!(rt; is_wanted, "after {done} calls of {calls}");
+        if !stops(rt, alloc, done, is_slow, sink)? {
+            return Ok(false);
+        }
     }
-    Ok(())
+    Ok(true)
 }
 
 /// Runs the program whose source fails at this call: how it ends.
@@ -360,19 +402,41 @@ fn end_at_read<R: Threads + Wait + Sync>(
     rt: &R,
     alloc: Global,
     call: u32,
-    sink: &mut MemSink,
+    sink: &mut Drain,
 ) -> Result<Status, AllocError> {
-    let mut source = MemSource::new(alloc, TWO_PRODUCERS, &[call])?;
+    let mut source = Feed::new(TWO_PRODUCERS, call, false);
     run(rt, alloc, &["live", "50", "1"], &mut source, sink)
 }
 
+/// Whether each of two reads that fail ends a run that writes nothing.
+fn reads_fail<R: Threads + Wait + Sync>(
+    rt: &R,
+    alloc: Global,
+    sink: &mut Drain,
+) -> Result<bool, AllocError> {
+    sink.restart(0, false);
+    let first = end_at_read(rt, alloc, 1, sink)?;
+    let second = end_at_read(rt, alloc, 2, sink)?;
+    Ok(first == Status::ReadFault && second == Status::ReadFault && sink.bytes().is_empty())
+}
+
+/// Whether all runs with a call that fails are as they are to be.
+fn all_fail<R: Threads + Wait + Sync>(
+    rt: &R,
+    alloc: Global,
+    sink: &mut Drain,
+) -> Result<bool, AllocError> {
+    Ok(
+        all_stop(rt, alloc, true, sink)?
+            && all_stop(rt, alloc, false, sink)?
+            && reads_fail(rt, alloc, sink)?,
+    )
+}
+
 #[test]
-fn a_read_fails(rt: HostRuntime) -> Result<(), Fail> {
-    let mut sink = MemSink::new(rt.alloc(), &[])?;
-    let first = end_at_read(&rt, rt.alloc(), 1, &mut sink)?;
-    let second = end_at_read(&rt, rt.alloc(), 2, &mut sink)?;
-    assert!(rt; first == Status::ReadFault && second == Status::ReadFault);
-    assert!(rt; sink.bytes().is_empty());
+fn a_call_fails(rt: HostRuntime) -> Result<(), Fail> {
+    let mut sink = Drain::new(rt.alloc());
+    assert!(rt; all_fail(&rt, rt.alloc(), &mut sink)?);
     Ok(())
 }
 
@@ -388,63 +452,93 @@ const NO_FORMS: [&[&str]; 8] = [
     &["live", "1", "1", "1"],
 ];
 
-/// They are to be answered by Usage.
-fn expect_usage<R: Threads + Wait + Sync + Abort>(
+/// Whether they are answered by Usage.
+fn are_no_forms<R: Threads + Wait + Sync>(
     rt: &R,
     alloc: Global,
-    source: &mut WholeSource,
-    sink: &mut MemSink,
-) -> Result<(), AllocError> {
+    source: &mut Feed<'_>,
+    sink: &mut Drain,
+) -> Result<bool, AllocError> {
     for form in &NO_FORMS {
-        let end = run(rt, alloc, form, source, sink)?;
-        assert!(rt; end == Status::Usage, "{form:?}");
+        if run(rt, alloc, form, source, sink)? != Status::Usage {
+            return Ok(false);
+        }
     }
     // Where one thread alone is asked for, `live` is no form.
-    let end = run_alone(alloc, &["live", "1", "1"], source, sink)?;
-    assert!(rt; end == Status::Usage);
-    Ok(())
+    Ok(run_alone(alloc, &["live", "1", "1"], source, sink)? == Status::Usage)
 }
 
-#[test]
-fn words_that_are_no_run(rt: HostRuntime) -> Result<(), Fail> {
-    let mut source = WholeSource::new(rt.alloc(), b"config\n")?;
-    let mut sink = MemSink::new(rt.alloc(), &[])?;
-    expect_usage(&rt, rt.alloc(), &mut source, &mut sink)?;
-    assert!(rt; sink.bytes().is_empty());
-    // Nothing was read: the script is there yet.
-    let form = ["live", "1", "1"];
-    let end = run(&rt, rt.alloc(), &form, &mut source, &mut sink)?;
-    assert_eq!(rt; end, Status::Ok);
-    Ok(())
+/// Whether they write nothing and read nothing: the script is there yet.
+fn leave_script<R: Threads + Wait + Sync>(
+    rt: &R,
+    alloc: Global,
+    source: &mut Feed<'_>,
+    sink: &mut Drain,
+) -> Result<bool, AllocError> {
+    if !are_no_forms(rt, alloc, source, sink)? || !sink.bytes().is_empty() {
+        return Ok(false);
+    }
+    Ok(run(rt, alloc, &["live", "1", "1"], source, sink)? == Status::Ok)
 }
 
-/// Runs the program on this script: how it ends, and how many bytes it writes.
-fn end_of<R: Threads + Wait + Sync>(
+/// The same of a script that is there.
+fn words_leave_script<R: Threads + Wait + Sync>(
+    rt: &R,
+    alloc: Global,
+    sink: &mut Drain,
+) -> Result<bool, AllocError> {
+    let mut source = Feed::new(b"config\n", 0, false);
+    leave_script(rt, alloc, &mut source, sink)
+}
+
+/// Scripts with an order on line 3 that no thread takes.
+const NO_ORDERS: [&[u8]; 3] = [
+    b"config nodes=2\nup 1\ndeliver 1\n",
+    b"config\n\npump 1\n",
+    b"# No write of a store fails.\nconfig\nfailwrite a kept\n",
+];
+
+/// Whether this script is refused for its third line, and nothing is written.
+fn is_refused<R: Threads + Wait + Sync>(
     rt: &R,
     alloc: Global,
     script: &[u8],
-) -> Result<(Status, usize), AllocError> {
-    let mut source = WholeSource::new(alloc, script)?;
-    let mut sink = MemSink::new(alloc, &[])?;
-    let end = run(rt, alloc, &["live", "2000", "7"], &mut source, &mut sink)?;
-    Ok((end, sink.bytes().len()))
-}
-
-#[test]
-fn orders_that_no_thread_takes(rt: HostRuntime) -> Result<(), Fail> {
-    let scripts: [&[u8]; 3] = [
-        b"config nodes=2\nup 1\ndeliver 1\n",
-        b"config\n\npump 1\n",
-        b"# No write of a store fails.\nconfig\nfailwrite a kept\n",
-    ];
+    sink: &mut Drain,
+) -> Result<bool, AllocError> {
+    let end = run_script(rt, alloc, &["live", "2000", "7"], script, sink)?;
     let refused = Status::Refused {
         line: 3,
         why: Why::WrongMode,
     };
-    for script in &scripts {
-        let (end, written) = end_of(&rt, rt.alloc(), script)?;
-        assert_eq!(rt; end, refused);
-        assert_eq!(rt; written, 0);
+    Ok(end == refused && sink.bytes().is_empty())
+}
+
+/// Whether all these are.
+fn are_refused<R: Threads + Wait + Sync>(
+    rt: &R,
+    alloc: Global,
+    sink: &mut Drain,
+) -> Result<bool, AllocError> {
+    for script in &NO_ORDERS {
+        if !is_refused(rt, alloc, script, sink)? {
+            return Ok(false);
+        }
     }
+    Ok(true)
+}
+
+/// Whether words that are no run write nothing, and neither do such scripts.
+fn are_no_runs<R: Threads + Wait + Sync>(
+    rt: &R,
+    alloc: Global,
+    sink: &mut Drain,
+) -> Result<bool, AllocError> {
+    Ok(are_refused(rt, alloc, sink)? && words_leave_script(rt, alloc, sink)?)
+}
+
+#[test]
+fn what_is_no_run(rt: HostRuntime) -> Result<(), Fail> {
+    let mut sink = Drain::new(rt.alloc());
+    assert!(rt; are_no_runs(&rt, rt.alloc(), &mut sink)?);
     Ok(())
 }

@@ -1,7 +1,7 @@
 //! `log` and `resume` over a disk in memory: known images, a crash before each call, and calls that fail in turn.
 ghost use Rattle.std.specs.Prelude.{◌<◌};
 
-use crate::fixtures::{run_on, run_script};
+use crate::fixtures::{Drain, Feed, run_on, run_script};
 use crate::stored::{
     FIRST_COMMAND, FIRST_LOG, FIRST_TEXT, MOVED_COMMAND, OTHER_COMMAND, RESUMED_EMPTY,
     RESUMED_GRANT, RESUMED_QUEUED,
@@ -10,7 +10,6 @@ use disk_log::MemDisk;
 use std::alloc::{AllocError, Global};
 use std::process::Abort;
 use std::test::Fail;
-use yard_io::{MemSink, WholeSource};
 use yard_top::Status;
 
 /// More calls than any run here makes.
@@ -22,9 +21,9 @@ fn end_on(
     word: &str,
     script: &[u8],
     disk: &mut MemDisk,
-    sink: &mut MemSink,
+    sink: &mut Drain,
 ) -> Result<Status, AllocError> {
-    let mut source = WholeSource::new(alloc, script)?;
+    let mut source = Feed::new(script, 0, false);
     run_on(alloc, &[word], &mut source, sink, disk)
 }
 
@@ -35,9 +34,10 @@ fn ran(
     script: &[u8],
     disk: &mut MemDisk,
     text: &[u8],
+    sink: &mut Drain,
 ) -> Result<(Status, bool), AllocError> {
-    let mut sink = MemSink::new(alloc, &[])?;
-    let end = end_on(alloc, word, script, disk, &mut sink)?;
+    sink.restart(0, false);
+    let end = end_on(alloc, word, script, disk, sink)?;
     Ok((end, sink.bytes() == text))
 }
 
@@ -129,38 +129,45 @@ fn is_left(disk: &MemDisk, image: &[u8]) -> Result<bool, AllocError> {
     Ok(left.as_slice() == image)
 }
 
-/// Carries a case out: how it ends, whether it writes its text, and whether it leaves this image.
-fn carried_out(
+/// Carries a case out over a disk: whether it comes to its status and its text.
+fn comes_out_on(
     alloc: Global,
-    case: Case<'_>,
-    image: &[u8],
-) -> Result<(Status, bool, bool), AllocError> {
-    let (word, script, before, _, text) = case;
-    let mut disk = MemDisk::new(alloc, before, &[])?;
-    let (end, is_text) = ran(alloc, word, script, &mut disk, text)?;
-    let is_left = is_left(&disk, image)?;
-    Ok((end, is_text, is_left))
+    case: &Case<'_>,
+    disk: &mut MemDisk,
+    sink: &mut Drain,
+) -> Result<bool, AllocError> {
+    let (end, is_text) = ran(alloc, case.0, case.1, disk, case.4, sink)?;
+    Ok(end == case.3 && is_text)
 }
 
-/// A case is to come to its status and its text, and to leave this image.
-fn expect_case(
-    rt: &(impl Abort + AllocGlobal),
-    case: Case<'_>,
+/// Whether it does over what the disk has, and leaves this image.
+fn comes_out(
+    alloc: Global,
+    case: &Case<'_>,
     image: &[u8],
-) -> Result<(), AllocError> {
-    let (end, is_text, is_left) = carried_out(rt.alloc(), case, image)?;
-    assert_eq!(rt; end, case.3);
-    assert!(rt; is_text && is_left);
-    Ok(())
+    sink: &mut Drain,
+) -> Result<bool, AllocError> {
+    let mut disk = MemDisk::new(alloc, case.2, &[])?;
+    Ok(comes_out_on(alloc, case, &mut disk, sink)? && is_left(&disk, image)?)
+}
+
+/// What makes the first log.
+const FIRST: Case<'static> = ("log", FIRST_COMMAND, b"", Status::Ok, FIRST_TEXT);
+
+/// Whether each case does, of which the first alone alters the disk.
+fn all_come_out(alloc: Global, sink: &mut Drain) -> Result<bool, AllocError> {
+    for case in &CASES {
+        if !comes_out(alloc, case, case.2, sink)? {
+            return Ok(false);
+        }
+    }
+    comes_out(alloc, &FIRST, FIRST_LOG, sink)
 }
 
 #[test]
 fn known_logs(rt: HostRuntime) -> Result<(), Fail> {
-    let first: Case<'_> = ("log", FIRST_COMMAND, b"", Status::Ok, FIRST_TEXT);
-    expect_case(&rt, first, FIRST_LOG)?;
-    for case in &CASES {
-        expect_case(&rt, *case, case.2)?;
-    }
+    let mut sink = Drain::new(rt.alloc());
+    assert!(rt; all_come_out(rt.alloc(), &mut sink)?);
     Ok(())
 }
 
@@ -213,10 +220,11 @@ fn resumed(
     script: &[u8],
     image: &[u8],
     confirmed: &[u8],
+    sink: &mut Drain,
 ) -> Result<Option<usize>, AllocError> {
+    sink.restart(0, false);
     let mut disk = MemDisk::new(alloc, image, &[])?;
-    let mut sink = MemSink::new(alloc, &[])?;
-    let end = end_on(alloc, "resume", script, &mut disk, &mut sink)?;
+    let end = end_on(alloc, "resume", script, &mut disk, sink)?;
     Ok(report_in(end, sink.bytes(), confirmed))
 }
 
@@ -228,6 +236,7 @@ fn crashed(
     call: u32,
     torn: &[u8],
     confirmed: &[u8],
+    sink: &mut Drain,
 ) -> Result<Option<usize>, AllocError>
     requires { 0 < call }
 {
@@ -235,8 +244,11 @@ fn crashed(
         return Ok(None);
     }
     let image = disk.image(call, torn)?;
-    resumed(alloc, script, image.as_slice(), confirmed)
+    resumed(alloc, script, image.as_slice(), confirmed, sink)
 }
+
+/// The bytes that may be any, of three kinds.
+const TORN: [&[u8]; 3] = [&[0; 256], &[1; 256], &[]];
 
 /// The same for three kinds of bytes, each with at least this report: which the last one has.
 fn crashed_before(
@@ -246,12 +258,13 @@ fn crashed_before(
     call: u32,
     confirmed: &[u8],
     least: usize,
+    sink: &mut Drain,
 ) -> Result<Option<usize>, AllocError>
     requires { 0 < call }
 {
     let mut last = least;
-    for torn in [&[0; 256][..], &[1; 256], &[]] {
-        match crashed(alloc, script, disk, call, torn, confirmed)? {
+    for torn in &TORN {
+        match crashed(alloc, script, disk, call, torn, confirmed, sink)? {
             Some(report) if least <= report => last = report,
             _ => return Ok(None),
         }
@@ -259,50 +272,59 @@ fn crashed_before(
     Ok(Some(last))
 }
 
-/// The same before each call in turn: what was there is there ever after. Err: the call with which it wasn't.
+/// The same before each call in turn, where what was there is there ever after: which report comes first at the end.
 fn crashed_in_turn(
     alloc: Global,
     script: &[u8],
     disk: &MemDisk,
     confirmed: &[u8],
-) -> Result<Result<usize, u32>, AllocError> {
+    sink: &mut Drain,
+) -> Result<Option<usize>, AllocError> {
     let mut before = 0;
     for call in 1..MOST_CALLS {
         if call as usize > disk.calls().saturating_add(1) {
             break;
         }
-        match crashed_before(alloc, script, disk, call, confirmed, before)? {
+        match crashed_before(alloc, script, disk, call, confirmed, before, sink)? {
             Some(report) => before = report,
-            None => return Ok(Err(call)),
+            None => return Ok(None),
         }
     }
-    Ok(Ok(before))
+    Ok(Some(before))
 }
 
-/// Logs a script, and crashes before each call: which report comes first at the end. Err: the call with which a
-/// crash came to something else, 0 where the script wasn't logged.
+/// Logs a script, and crashes before each call: which report comes first at the end.
 fn last_report(
     alloc: Global,
     script: &[u8],
     confirmed: &[u8],
-) -> Result<Result<usize, u32>, AllocError> {
+    sink: &mut Drain,
+) -> Result<Option<usize>, AllocError> {
     let mut disk = MemDisk::new(alloc, &[], &[])?;
-    match ran(alloc, "log", script, &mut disk, &[])? {
-        (Status::Ok, _) => crashed_in_turn(alloc, script, &disk, confirmed),
-        _ => Ok(Err(0)),
+    match ran(alloc, "log", script, &mut disk, &[], sink)? {
+        (Status::Ok, _) => crashed_in_turn(alloc, script, &disk, confirmed, sink),
+        _ => Ok(None),
     }
+}
+
+/// The end of a text of one command, and of two.
+const ONE_CONFIRMED: &[u8] = b"queue 1 c1 queued 1 confirmed 1\nend\n";
+
+const TWO_CONFIRMED: &[u8] = b"queue 1 c1 queued 2 confirmed 2\nend\n";
+
+/// Whether the last reports of two scripts confirm their commands.
+fn all_are_confirmed(alloc: Global, sink: &mut Drain) -> Result<bool, AllocError> {
+    Ok(
+        last_report(alloc, FIRST_COMMAND, ONE_CONFIRMED, sink)? == Some(2)
+            && last_report(alloc, MOVED_COMMAND, TWO_CONFIRMED, sink)? == Some(4),
+    )
 }
 
 /// A crash before each call: what was there is there ever after.
 #[test]
 fn each_crash(rt: HostRuntime) -> Result<(), Fail> {
-    let scripts: [(&[u8], usize, &[u8]); 2] = [
-        (FIRST_COMMAND, 2, b"queue 1 c1 queued 1 confirmed 1\nend\n"),
-        (MOVED_COMMAND, 4, b"queue 1 c1 queued 2 confirmed 2\nend\n"),
-    ];
-    for (script, last, confirmed) in &scripts {
-        assert_eq!(rt; last_report(rt.alloc(), script, confirmed)?, Ok(*last));
-    }
+    let mut sink = Drain::new(rt.alloc());
+    assert!(rt; all_are_confirmed(rt.alloc(), &mut sink)?);
     Ok(())
 }
 
@@ -312,7 +334,7 @@ fn end_at_call(
     word: &str,
     image: &[u8],
     done: u32,
-    sink: &mut MemSink,
+    sink: &mut Drain,
 ) -> Result<(Status, usize), AllocError>
     requires { done < 1000 }
 {
@@ -321,77 +343,97 @@ fn end_at_call(
     Ok((end, disk.calls()))
 }
 
-/// The same: how it ends, and whether it writes this text and makes no further call where it ends well, and else
-/// writes a front of it.
+/// Whether a run wrote this text and made no further call where it ended well, and else wrote a front of it and
+/// ended by the disk's fault; and whether it ended well. None where it did something else.
+fn judged(end: Status, is_all: bool, bytes: &[u8], text: &[u8]) -> Option<bool> {
+    match end {
+        Status::Ok if is_all && bytes == text => Some(true),
+        Status::DiskFault if text.starts_with(bytes) => Some(false),
+        _ => None,
+    }
+}
+
+/// Whether a run ends well where the call after so many fails; None where it does something else than it is to.
 fn fail_call(
     alloc: Global,
     word: &str,
     image: &[u8],
     text: &[u8],
     done: u32,
-) -> Result<(Status, bool), AllocError>
+    sink: &mut Drain,
+) -> Result<Option<bool>, AllocError>
     requires { done < 1000 }
 {
-    let mut sink = MemSink::new(alloc, &[])?;
-    let (end, calls) = end_at_call(alloc, word, image, done, &mut sink)?;
-    if end == Status::Ok {
-        return Ok((end, sink.bytes() == text && calls == done as usize));
-    }
-    Ok((end, text.starts_with(sink.bytes())))
+    sink.restart(0, false);
+    let (end, calls) = end_at_call(alloc, word, image, done, sink)?;
+    Ok(judged(end, calls == done as usize, sink.bytes(), text))
 }
 
-/// Runs a form over this image again and again, and each time the next call of the disk fails, until none does: how
-/// many did. Err: how many calls went before the one that failed otherwise.
-fn count_calls(
+/// Runs a form over this image again and again, and each time the next call of the disk fails, until none does:
+/// whether each run does what it is to.
+fn fail_in_turn(
     alloc: Global,
     word: &str,
     image: &[u8],
     text: &[u8],
-) -> Result<Result<u32, u32>, AllocError> {
+    sink: &mut Drain,
+) -> Result<bool, AllocError> {
     for done in 0..MOST_CALLS {
-        match fail_call(alloc, word, image, text, done)? {
-            (Status::Ok, true) => return Ok(Ok(done)),
-            (Status::DiskFault, true) => {}
-            _ => return Ok(Err(done)),
+        match fail_call(alloc, word, image, text, done, sink)? {
+            Some(false) => {}
+            end => return Ok(end.is_some()),
         }
     }
-    Ok(Err(MOST_CALLS))
+    Ok(false)
+}
+
+/// Whether each run of two forms does.
+fn all_fail_in_turn(alloc: Global, sink: &mut Drain) -> Result<bool, AllocError> {
+    Ok(
+        fail_in_turn(alloc, "log", b"", FIRST_TEXT, sink)?
+            && fail_in_turn(alloc, "resume", CLOSED_AT_98, RESUMED_QUEUED, sink)?,
+    )
 }
 
 #[test]
 fn each_call_fails(rt: HostRuntime) -> Result<(), Fail> {
-    let logged = count_calls(rt.alloc(), "log", b"", FIRST_TEXT)?;
-    assert!(rt; logged.is_ok(), "{logged:?}");
-    let resumed = count_calls(rt.alloc(), "resume", CLOSED_AT_98, RESUMED_QUEUED)?;
-    assert!(rt; resumed.is_ok(), "{resumed:?}");
+    let mut sink = Drain::new(rt.alloc());
+    assert!(rt; all_fail_in_turn(rt.alloc(), &mut sink)?);
     Ok(())
-}
-
-/// How many calls a run makes of a disk that has a log.
-fn calls_of(alloc: Global, word: &str, script: &[u8]) -> Result<usize, AllocError> {
-    let mut disk = MemDisk::new(alloc, FIRST_LOG, &[1])?;
-    ran(alloc, word, script, &mut disk, &[])?;
-    Ok(disk.calls())
 }
 
 /// Words that use no disk leave it alone, and a script that is refused does.
-#[test]
-fn no_call_is_made(rt: HostRuntime) -> Result<(), Fail> {
-    let cases: [(&str, &[u8]); 3] = [
-        ("replay", FIRST_COMMAND),
-        ("log", b"config\nupgrade\n"),
-        ("resume", b"config\nreshard 1\n"),
-    ];
-    for (word, script) in &cases {
-        assert!(rt; calls_of(rt.alloc(), word, script)? == 0, "{word}");
+const WITHOUT_DISK: [(&str, &[u8]); 3] = [
+    ("replay", FIRST_COMMAND),
+    ("log", b"config\nupgrade\n"),
+    ("resume", b"config\nreshard 1\n"),
+];
+
+/// Whether a run makes no call of a disk that has a log.
+fn is_left_alone(
+    alloc: Global,
+    word: &str,
+    script: &[u8],
+    sink: &mut Drain,
+) -> Result<bool, AllocError> {
+    let mut disk = MemDisk::new(alloc, FIRST_LOG, &[1])?;
+    ran(alloc, word, script, &mut disk, &[], sink)?;
+    Ok(disk.calls() == 0)
+}
+
+/// Whether none of these does, and another word is no form.
+fn are_left_alone(alloc: Global, sink: &mut Drain) -> Result<bool, AllocError> {
+    for (word, script) in &WITHOUT_DISK {
+        if !is_left_alone(alloc, word, script, sink)? {
+            return Ok(false);
+        }
     }
-    Ok(())
+    Ok(run_script(alloc, &["resumes"], FIRST_COMMAND, sink)? == Status::Usage)
 }
 
 #[test]
-fn a_word_more_is_no_form(rt: HostRuntime) -> Result<(), Fail> {
-    let mut sink = MemSink::new(rt.alloc(), &[])?;
-    let end = run_script(rt.alloc(), &["resumes"], FIRST_COMMAND, &mut sink)?;
-    assert_eq!(rt; end, Status::Usage);
+fn no_call_is_made(rt: HostRuntime) -> Result<(), Fail> {
+    let mut sink = Drain::new(rt.alloc());
+    assert!(rt; are_left_alone(rt.alloc(), &mut sink)?);
     Ok(())
 }

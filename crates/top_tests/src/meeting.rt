@@ -43,6 +43,11 @@ pub(crate) struct Meeting {
 }
 
 impl Meeting {
+    /// At no turn.
+    pub(crate) fn free() -> Meeting {
+        Meeting::at(1, 0)
+    }
+
     /// At the turns from this one to that.
     pub(crate) fn at(from: u32, to: u32) -> Meeting {
         Meeting {

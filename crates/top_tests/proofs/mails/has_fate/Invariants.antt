@@ -1,7 +1,7 @@
 use Rattle.std.specs.Prelude.{[], false}
 use Rattle.yard_model.specs.declared.event.Kind.TheVariants as kind
 use Rattle.node_runner.specs.Parcels.{no_table}
-use Rattle.live_tests.proofs.mails.a_packet_has_its_fate.Given as goal
+use Rattle.top_tests.proofs.mails.has_fate.Given as goal
 
 abbrev pub ghosts-came : goal.ghosts-came
 ghosts-came g a = record {

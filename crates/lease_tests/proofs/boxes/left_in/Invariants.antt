@@ -1,5 +1,5 @@
 use Rattle.std.proofs.Common.{◌≡◌}
-use Rattle.live_tests.proofs.mails.taken.Given as goal
+use Rattle.lease_tests.proofs.boxes.left_in.Given as goal
 
 abbrev pub invariant-loop-count : goal.invariant-loop-count
 invariant-loop-count g l = record { belongs : l.pass.tables ≡ l.boxes.tables; own : l.own ≡ l.pass.node }

@@ -1,5 +1,5 @@
 //! What no clause says: that the workers of a busy run let no packet go because they couldn't show what it needs.
-use behaviour_kinds::Counter;
+use behaviour_by_kind::ByKind;
 use node_runner::run_counted;
 use script_text::{Mode, read_script};
 use shard_store::Stores;
@@ -9,7 +9,7 @@ use std::sync::atomic::{AtomicU64, Ordering};
 use std::test::Fail;
 use std::thread::Threads;
 use yard_io::Gate;
-use yard_model::{Charter, Kind, Lists, NodeNo, ProducerNo, QueueEntry};
+use yard_model::{Charter, Lists, NodeNo, ProducerNo, QueueEntry};
 
 /// Four nodes come up, with a producer on each.
 const FIRST: &[u8] = b"config nodes=4 shards=8 producers=4 window=2 buffer=3 snapshot=3
@@ -149,22 +149,17 @@ fn is_any_confirmed(stores: &Stores) -> bool {
     false
 }
 
-/// How many packets a run of a script of counters lets go, and whether a producer was told that a command of it is
-/// recorded; None for another kind. It may wait.
+/// How many packets a run of the script lets go, and whether a producer was told that a command of it is recorded.
 fn run<R: Threads + Wait + Sync>(
     rt: &R,
     alloc: Global,
     charter: &Charter,
     seed: u32,
-) -> Result<Option<(u64, bool)>, AllocError> {
-    match charter.config().kind {
-        Kind::Counter => {
-            let gate = Together::new();
-            let outcome = run_counted(rt, alloc, charter, Counter::new(), TURNS, seed, &gate)?;
-            Ok(Some((outcome.unshown, is_any_confirmed(&outcome.stores))))
-        }
-        _ => Ok(None),
-    }
+) -> Result<(u64, bool), AllocError> {
+    let gate = Together::new();
+    let behaviour = ByKind::new(charter.config().kind);
+    let outcome = run_counted(rt, alloc, charter, behaviour, TURNS, seed, &gate)?;
+    Ok((outcome.unshown, is_any_confirmed(&outcome.stores)))
 }
 
 /// The charter of the script.
@@ -174,12 +169,23 @@ fn charter_of(alloc: Global) -> Result<Charter, Fail> {
     Ok(charter)
 }
 
+/// Whether each seed's run lets nothing go, and confirms something.
+fn let_nothing_go<R: Threads + Wait + Sync>(
+    rt: &R,
+    alloc: Global,
+    charter: &Charter,
+) -> Result<bool, AllocError> {
+    for seed in 0..SEEDS {
+        if run(rt, alloc, charter, seed)? != (0, true) {
+            return Ok(false);
+        }
+    }
+    Ok(true)
+}
+
 #[test]
 fn nothing_is_let_go(rt: HostRuntime) -> Result<(), Fail> {
     let charter = charter_of(rt.alloc())?;
-    for seed in 0..SEEDS {
-        let outcome = run(&rt, rt.alloc(), &charter, seed)?;
-        assert_eq!(rt; outcome, Some((0, true)), "seed {seed}");
-    }
+    assert!(rt; let_nothing_go(&rt, rt.alloc(), &charter)?);
     Ok(())
 }

@@ -2,5 +2,6 @@
 #![tactic(auto)]
 
 mod journal;
+mod past;
 
 pub use journal::Journal;

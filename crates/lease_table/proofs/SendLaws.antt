@@ -5,6 +5,8 @@ use Rattle.std.proofs.Crossing as heap
 use Rattle.std.proofs.MapsCrossing as maps
 use Rattle.coordinator_state.specs.contracts.store.CoordStore as coordinator
 use Rattle.durable_queue.specs.contracts.store.QueueStore as queue
+use Rattle.entity_journal.specs.contracts.past.Past as past
+use Rattle.entity_journal.proofs.SendLaws.{past_sync}
 use Rattle.shard_store.specs.contracts.shelf.ShardStore as shelf
 use Rattle.shard_store.specs.contracts.store.Store as store
 use Rattle.shard_store.proofs.SendLaws.{store_send}
@@ -22,7 +24,7 @@ pub note_send : IsSend note.the_row
 note_send = let s : IsSend store.the_row = store_send in search (heap.crosses, maps.crosses, sendable, seat.the_send) depth 100 fits 100000
 
 shelf_sync : IsSync shelf.the_field.row
-shelf_sync = search (heap.crosses, maps.crosses, sendable) depth 100 fits 100000
+shelf_sync = let p : IsSync past.the_row = past_sync in search (heap.crosses, maps.crosses, sendable) depth 100 fits 100000
 
 coordinator_sync : IsSync coordinator.the_field.row
 coordinator_sync = search (heap.crosses, maps.crosses, sendable) depth 100 fits 100000

@@ -45,7 +45,7 @@ take_then zero n xs = rw zero-add refl
 take_then (suc i) n [] = take-nil n ∙ sym (take-nil (suc i + n))
 take_then (suc i) n (x ∷ xs) = rw suc-add (ap (λ l. x ∷ l) (take_then i n xs))
 
-rest_is : {A : Type 0} (i : ℕ) (xs : List A) → take (length xs - i) (drop i xs) ≡ drop i xs
+pub rest_is : {A : Type 0} (i : ℕ) (xs : List A) → take (length xs - i) (drop i xs) ≡ drop i xs
 rest_is i xs = let long : length (drop i xs) ≡ length xs - i = length-drop i xs in take_all (length xs - i) (drop i xs) (omega arith)
 
 pub rest_length : {A : Type 0} (i : ℕ) (xs : List A) → length (take (length xs - i) (drop i xs)) ≡ length xs - i

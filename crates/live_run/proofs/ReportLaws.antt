@@ -1,17 +1,18 @@
 -- The report, one entity and one pair after the other, of what the stores keep.
 use Rattle.std.proofs.Common.{◌≡◌, ◌≤◌, ◌<◌, ℕ, zero, suc, ◌+◌, ◌-◌, List, [], ◌∷◌, ◌++◌, length, take, drop, sym, ap, ◌∙◌, refl, subst, arith, true, false}
-use Rattle.std.specs.Prelude.{Bool, ◌==◌, ◌&&◌, ◌||◌, codes, cond, decimal, filter, IsErr, nat_le, nat_lt, Option, Some, Result, slice_index_or}
+use Rattle.std.specs.Prelude.{Bool, ◌==◌, ◌&&◌, ◌||◌, codes, cond, decimal, filter, fold, IsErr, nat_le, nat_lt, Option, Some, Result, slice_index_or}
 use Rattle.std.specs.List.{flat_map, list_all, list_any}
 use Rattle.std.proofs.lemmas.Bool.Decides.{nat_tests}
-use Rattle.std.proofs.lemmas.List.{append-nil, append_assoc, get_or_default, take-append-drop, take_more}
+use Rattle.std.proofs.lemmas.List.{append-nil, append_assoc, drop_all, drop_more, get_or-drop, get_or_default, length-drop, take-append-drop, take_more}
 use Rattle.std.proofs.lemmas.Grind.{flat_map-append}
-use Rattle.plain_laws.proofs.Booleans.{both}
+use Rattle.plain_laws.proofs.Booleans.{and_both, both}
 use Rattle.plain_laws.proofs.Names.{any_more, name_itself}
 use Rattle.yard_model.specs.declared.event.Kind.{Kind}
 use Rattle.yard_model.specs.declared.fact.Fact.{Fact}
 use Rattle.yard_model.specs.declared.incarnation.Slot.TheVariants as slot
 use Rattle.yard_model.specs.declared.packet.Record.{Record}
-use Rattle.yard_model.specs.Behaviour.{folded}
+use Rattle.yard_model.specs.declared.state.State.{State}
+use Rattle.yard_model.specs.Behaviour.{after_record, apply, are_applicable, folded}
 use Rattle.yard_model.specs.Genuine.{is_slot_of}
 use Rattle.yard_model.specs.Lawful.{is_of_shard}
 use Rattle.yard_model.specs.Script.{Script, Setting, is_name, names_in, setting}
@@ -29,7 +30,7 @@ use Rattle.live_laws.proofs.Closed.{list_there}
 use Rattle.run_parts.specs.Writing.{Sunk, Took}
 use Rattle.run_parts.specs.declared.writing.WriteError.TheVariants as write_error
 use Rattle.run_parts.proofs.WritingLaws.{front_both, front_more, front_same, took_both, took_same}
-use Rattle.trace_text.specs.Foldable.{is_foldable, is_foldable_shard}
+use Rattle.trace_text.specs.Foldable.{are_foldable, is_foldable, is_foldable_shard}
 use Rattle.trace_text.specs.Parts.{queue_part, shard_part}
 use Rattle.trace_text.specs.Places.{tally_of}
 use Rattle.trace_text.specs.Rows.{queue_rows, tally_text}
@@ -62,20 +63,60 @@ head_of k s e records = line (codes "entity" ∷ e ∷ codes "shard" ∷ decimal
 abbrev pub records_of : List Record → Bytes
 records_of records = flat_map (λ x. line (codes "record" ∷ record_words x)) records
 
-entity_is : (c : Script) (k : Kind) (s : ℕ) (e : List ℕ) (records : List Record) → (length records == 0) ≡ false → k ≡ c.config.kind → shard_of (setting c) e ≡ s → head_of k s e records ++ records_of records ≡ entity_lines (setting c) e records
-entity_is c k s e [] some kind is = cc
+entity_is : (c : Script) (k : Kind) (s : ℕ) (e : List ℕ) (records : List Record) → (length records ≡ 0 → ⊥) → k ≡ c.config.kind → shard_of (setting c) e ≡ s → head_of k s e records ++ records_of records ≡ entity_lines (setting c) e records
+entity_is c k s e [] some kind is = absurd (some refl)
 entity_is c k s e (r ∷ rs) some kind is =
     ap (λ n. head_of k n e (r ∷ rs) ++ records_of (r ∷ rs)) (sym is) ∙ ap (λ (j : Kind). head_of j (shard_of (setting c) e) e (r ∷ rs) ++ records_of (r ∷ rs)) kind
 
-pub entity_put : {A X : Type 0} (c : Script) (k : Kind) (s : ℕ) (e : List ℕ) (records : List Record) (r : Result A X) (x y z : Sunk) → (length records == 0) ≡ false → k ≡ c.config.kind → shard_of (setting c) e ≡ s
-    → Took (head_of k s e records) x y → Puts (records_of records) r y z → Puts (entity_lines (setting c) e records) r x z
-entity_put c k s e records r x y z some kind is head rest = puts_same r _ _ x z (entity_is c k s e records some kind is) (puts_on r (head_of k s e records) (records_of records) x y z head rest)
+-- with so many records, that lead to this state
+abbrev pub stated_of : ℕ → List ℕ → ℕ → State → Bytes
+stated_of s e n st = line (codes "entity" ∷ e ∷ codes "shard" ∷ decimal s ∷ codes "records" ∷ decimal n ∷ codes "state" ∷ state_text st ∷ [])
 
-pub entity_began : {A X : Type 0} (c : Script) (k : Kind) (s : ℕ) (e : List ℕ) (records : List Record) (r : Result A X) (x y : Sunk) → (length records == 0) ≡ false → k ≡ c.config.kind → shard_of (setting c) e ≡ s → IsErr r
-    → Began (head_of k s e records) x y → Puts (entity_lines (setting c) e records) r x y
-entity_began c k s e records r x y some kind is failed head =
+head_is : (k : Kind) (s : ℕ) (e : List ℕ) (records : List Record) (n : ℕ) (st : State) → n ≡ length records → st ≡ folded k records → stated_of s e n st ≡ head_of k s e records
+head_is k s e records n st count state = ap (λ m. stated_of s e m st) count ∙ ap (λ y. stated_of s e (length records) y) state
+
+pub entity_put : {A X : Type 0} (c : Script) (k : Kind) (s : ℕ) (e : List ℕ) (records : List Record) (n : ℕ) (st : State) (r : Result A X) (x y z : Sunk) → n ≡ length records → st ≡ folded k records → (n ≡ 0 → ⊥) → k ≡ c.config.kind → shard_of (setting c) e ≡ s
+    → Took (stated_of s e n st) x y → Puts (records_of records) r y z → Puts (entity_lines (setting c) e records) r x z
+entity_put c k s e records n st r x y z count state some kind is head rest =
+    puts_same r _ _ x z (entity_is c k s e records (λ none. some (count ∙ none)) kind is)
+    (puts_on r (head_of k s e records) (records_of records) x y z (took_same _ _ x y (head_is k s e records n st count state) head) rest)
+
+pub entity_began : {A X : Type 0} (c : Script) (k : Kind) (s : ℕ) (e : List ℕ) (records : List Record) (n : ℕ) (st : State) (r : Result A X) (x y : Sunk) → n ≡ length records → st ≡ folded k records → (n ≡ 0 → ⊥) → k ≡ c.config.kind → shard_of (setting c) e ≡ s → IsErr r
+    → Began (stated_of s e n st) x y → Puts (entity_lines (setting c) e records) r x y
+entity_began c k s e records n st r x y count state some kind is failed head =
     puts_err r (entity_lines (setting c) e records) x y failed
-    (front_same _ _ write_error.Failed x y (entity_is c k s e records some kind is) (front_more (head_of k s e records) (records_of records) write_error.Failed x y head))
+    (front_same _ _ write_error.Failed x y (entity_is c k s e records (λ none. some (count ∙ none)) kind is)
+    (front_more (head_of k s e records) (records_of records) write_error.Failed x y (front_same _ _ write_error.Failed x y (head_is k s e records n st count state) head)))
+
+-- The state that records lead to.
+
+pub fold_may : (st : State) (records : List Record) (i : ℕ) (r : Record) → i < length records → r ≡ slice_index_or records i r → are_foldable st (drop i records) ≡ true → are_applicable st r.events ≡ true
+fold_may st records i r h read may =
+    let more : drop i records ≡ r ∷ drop (i + 1) records = drop_more records i r h ∙ ap (λ (x : Record). x ∷ drop (i + 1) records) (sym read) in
+    (and_both (are_applicable st r.events) (are_foldable (after_record st r) (drop (i + 1) records)) (subst (λ l. are_foldable st l ≡ true) more may)).0
+
+-- one record more
+pub fold_next : (st new whole : State) (records : List Record) (i : ℕ) (r : Record) → i < length records → r ≡ slice_index_or records i r → are_foldable st (drop i records) ≡ true → fold after_record st (drop i records) ≡ whole → new ≡ fold apply st r.events
+    → (are_foldable new (drop (i + 1) records) ≡ true) × (fold after_record new (drop (i + 1) records) ≡ whole)
+fold_next st new whole records i r h read may value step =
+    let more : drop i records ≡ r ∷ drop (i + 1) records = drop_more records i r h ∙ ap (λ (x : Record). x ∷ drop (i + 1) records) (sym read) in
+    let parts : (are_applicable st r.events ≡ true) × (are_foldable (after_record st r) (drop (i + 1) records) ≡ true) =
+    and_both (are_applicable st r.events) (are_foldable (after_record st r) (drop (i + 1) records)) (subst (λ l. are_foldable st l ≡ true) more may) in (
+      subst (λ s. are_foldable s (drop (i + 1) records) ≡ true) (sym step) parts.1,
+      ap (λ s. fold after_record s (drop (i + 1) records)) step ∙ (sym (ap (fold after_record st) more) ∙ value),
+    )
+
+-- and none
+pub fold_done : (st whole : State) (records : List Record) (i : ℕ) → length records ≤ i → fold after_record st (drop i records) ≡ whole → st ≡ whole
+fold_done st whole records i past value = sym (ap (fold after_record st) (drop_all i records past)) ∙ value
+
+-- Lines of the items from a place on, with one more.
+
+pub lines_more : {A : Type 0} (f : A → Bytes) (xs : List A) (n i : ℕ) (x : A) (part new : Bytes) → n + i < length xs → x ≡ slice_index_or xs (n + i) x → part ≡ flat_map f (take i (drop n xs)) → new ≡ part ++ f x → new ≡ flat_map f (take (i + 1) (drop n xs))
+lines_more f xs n i x part new h is so_far grown =
+    let long : length (drop n xs) ≡ length xs - n = length-drop n xs in
+    let here : x ≡ slice_index_or (drop n xs) i x = is ∙ sym (get_or-drop n xs i x) in
+    grown ∙ (ap (λ l. l ++ f x) so_far ∙ (ap (λ y. flat_map f (take i (drop n xs)) ++ f y) here ∙ each_more f (drop n xs) i x (omega (arith, h, long))))
 
 -- What the stores keep.
 

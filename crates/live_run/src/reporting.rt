@@ -1,6 +1,6 @@
 //! The report of stores, written in pieces: the journal of each entity and the counts of each pair are at hand in
 //! them, so no memory is wanted. The only error is a failed write, and nothing is flushed.
-ghost use Rattle.std.specs.Prelude.{◌≡◌, ℕ, ◌+◌, ◌<◌, ◌≤◌, ◌∷◌, [], IsTrue, Some, codes, decimal, length, map, slice_index_or};
+ghost use Rattle.std.specs.Prelude.{◌≡◌, ℕ, ◌+◌, ◌<◌, ◌≤◌, ◌∷◌, [], IsTrue, Some, codes, decimal, drop, length, map, slice_index_or, take};
 ghost use Rattle.std.specs.List.{flat_map};
 ghost use Rattle.yard_model.specs.Behaviour.{empty_state, folded};
 ghost use Rattle.yard_model.specs.Lawful.{is_of_shard};
@@ -8,6 +8,7 @@ ghost use Rattle.yard_model.specs.Script.{Script, names_in, setting};
 ghost use Rattle.yard_model.specs.Setting.{names_of, producers, shard_of, shards};
 ghost use Rattle.yard_model.specs.SlotReads.{journal};
 ghost use Rattle.yard_model.specs.Text.{entity_lines, line, record_words, report, state_text};
+ghost use Rattle.shard_store.specs.Shelved.{IsThere};
 ghost use Rattle.shard_store.specs.declared.store.Store.TheVariants as store;
 ghost use Rattle.shard_store.specs.Stores.{AreHomes, lists_at};
 ghost use Rattle.trace_text.specs.Foldable.{are_foldable, is_foldable, is_foldable_in_all, is_foldable_shard};
@@ -20,9 +21,9 @@ ghost use Rattle.live_run.specs.Written.{Puts};
 use crate::writing::write_piece;
 use durable_queue::QueueStore;
 use shard_store::{ShardStore, Store};
-use trace_text::{CELLS, put_entity, put_pair, put_record_lines};
+use trace_text::{CELLS, Piece, RECORD_CELLS, apply_events, put_entity, put_pair, put_record_line};
 use yard_io::{Failed, Sink};
-use yard_model::{Charter, EntityName, Kind, ProducerNo, Record, ShardNo};
+use yard_model::{Charter, EntityName, Kind, ProducerNo, ShardNo, State};
 
 /// Writes the report of the stores at these places. These are the names of each shard.
 pub(crate) fn write_report<K: Sink>(
@@ -119,7 +120,7 @@ fn write_each_entity<K: Sink>(
     Ok(())
 }
 
-/// The entity of this name, whose journal is at hand.
+/// The entity of this name, whose records the store has at hand; nothing where it has none.
 fn write_kept_entity<K: Sink>(
     charter: &Charter,
     s: ShardNo,
@@ -135,63 +136,126 @@ fn write_kept_entity<K: Sink>(
         (record { taken = K.taken sink.old; flushed = K.flushed sink.old; faults = K.faults sink.old })
         (record { taken = K.taken sink.new; flushed = K.flushed sink.new; faults = K.faults sink.new }) }
 {
-    write_entity(charter, s, name, store.journal(name).tail(0), sink)
+    write_entity(charter, s, name, store, store.place(name), sink)
 }
 
-/// An entity with these records; nothing where it has none.
+/// The same, of the name at this place.
 fn write_entity<K: Sink>(
     charter: &Charter,
     s: ShardNo,
     name: &EntityName,
-    records: &[Record],
+    store: &ShardStore,
+    place: usize,
     sink: &mut K,
 ) -> Result<(), Failed>
     requires shard { shard_of (setting charter.now) name.now ≡ s }
-    requires foldable { IsTrue (are_foldable (empty_state charter.now.config.kind) records.now) }
-    ensures { Puts (entity_lines (setting charter.now) name.now records.now) result
+    requires place { IsThere store.now place name.now }
+    requires foldable { IsTrue (are_foldable (empty_state charter.now.config.kind) (journal name.now store.now.entries)) }
+    ensures { Puts (entity_lines (setting charter.now) name.now (journal name.now store.now.entries)) result
         (record { taken = K.taken sink.old; flushed = K.flushed sink.old; faults = K.faults sink.old })
         (record { taken = K.taken sink.new; flushed = K.flushed sink.new; faults = K.faults sink.new }) }
 {
-    if records.is_empty() {
+    let count = store.journal_at(place, name).len();
+    if count == 0 {
         return Ok(());
     }
-    write_entity_head(charter.config().kind, s, name, records, sink)?;
-    write_records(records, sink)
+    let state = state_of(charter.config().kind, store, place, name, count);
+    write_entity_head(s, name, count, &state, sink)?;
+    write_records(store, place, name, count, sink)
+}
+
+/// The state that the records of an entity lead to, of which there are so many.
+fn state_of(kind: Kind, store: &ShardStore, place: usize, name: &EntityName, count: u32) -> State
+    requires place { IsThere store.now place name.now }
+    requires count { count ≡ length (journal name.now store.now.entries) }
+    requires foldable { IsTrue (are_foldable (empty_state kind) (journal name.now store.now.entries)) }
+    ensures { result ≡ folded kind (journal name.now store.now.entries) }
+{
+    let mut state = State::empty(kind);
+    for k in 0..count {
+        let written = store.record_at(place, name, k);
+        apply_events(&mut state, written.events.as_slice());
+    }
+    state
 }
 
 fn write_entity_head<K: Sink>(
-    kind: Kind,
     s: ShardNo,
     name: &EntityName,
-    records: &[Record],
+    count: u32,
+    state: &State,
     sink: &mut K,
 ) -> Result<(), Failed>
-    requires { IsTrue (are_foldable (empty_state kind) records.now) }
-    ensures { Puts (line (codes "entity" ∷ name.now ∷ codes "shard" ∷ decimal s ∷ codes "records" ∷ decimal (length records.now) ∷ codes "state" ∷ state_text (folded kind records.now) ∷ [])) result
+    ensures { Puts (line (codes "entity" ∷ name.now ∷ codes "shard" ∷ decimal s ∷ codes "records" ∷ decimal count ∷ codes "state" ∷ state_text state.now ∷ [])) result
         (record { taken = K.taken sink.old; flushed = K.flushed sink.old; faults = K.faults sink.old })
         (record { taken = K.taken sink.new; flushed = K.flushed sink.new; faults = K.faults sink.new }) }
 {
     let mut cells = [0; CELLS];
-    let end = put_entity(&mut cells, kind, s, name, records);
+    let end = put_entity(&mut cells, s, name, count, state);
     write_piece(sink, &cells[..end])
 }
 
-fn write_records<K: Sink>(records: &[Record], sink: &mut K) -> Result<(), Failed>
-    ensures { Puts (flat_map (λ x. line (codes "record" ∷ record_words x)) records.now) result
+/// The records of an entity, of which there are so many.
+fn write_records<K: Sink>(
+    store: &ShardStore,
+    place: usize,
+    name: &EntityName,
+    count: u32,
+    sink: &mut K,
+) -> Result<(), Failed>
+    requires place { IsThere store.now place name.now }
+    requires count { count ≡ length (journal name.now store.now.entries) }
+    ensures { Puts (flat_map (λ x. line (codes "record" ∷ record_words x)) (journal name.now store.now.entries)) result
         (record { taken = K.taken sink.old; flushed = K.flushed sink.old; faults = K.faults sink.old })
         (record { taken = K.taken sink.new; flushed = K.flushed sink.new; faults = K.faults sink.new }) }
 {
     let mut cells = [0; CELLS];
     let mut done = 0;
-    for _ in 0..records.len() {
-        if done >= records.len() {
+    for _ in 0..count {
+        if done >= count {
             return Ok(());
         }
-        let piece = put_record_lines(&mut cells, &records[done..]);
+        let piece = put_records(&mut cells, store, place, name, done, count);
         write_piece(sink, &cells[..piece.end])?;
-        done += piece.count;
+        done += piece.count as u32;
     }
     Ok(())
+}
+
+/// Spells the lines of the records of an entity but the first `from`, as many as there is room for;
+/// there are `count` records in all.
+fn put_records(
+    cells: &mut [u8],
+    store: &ShardStore,
+    place: usize,
+    name: &EntityName,
+    from: u32,
+    count: u32,
+) -> Piece
+    requires room { 2048 ≤ length cells.old }
+    requires place { IsThere store.now place name.now }
+    requires count { count ≡ length (journal name.now store.now.entries) }
+    requires from { from ≤ count }
+    ensures items { take result.end cells.new ≡ flat_map (λ x. line (codes "record" ∷ record_words x)) (take result.count (drop from (journal name.now store.now.entries))) }
+    ensures end { result.end ≤ length cells.new }
+    ensures count { from + result.count ≤ count }
+    ensures some { from < count → 0 < result.count }
+{
+    let mut end = 0;
+    for i in 0..count - from {
+        if cells.len() - end < RECORD_CELLS {
+            return Piece {
+                count: i as usize,
+                end,
+            };
+        }
+        let written = store.record_at(place, name, from + i);
+        end = put_record_line(cells, end, written);
+    }
+    Piece {
+        count: (count - from) as usize,
+        end,
+    }
 }
 
 /// The pairs of all queues.

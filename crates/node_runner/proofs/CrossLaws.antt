@@ -14,6 +14,8 @@ use Rattle.yard_model.specs.contracts.charter.Sending as sending
 use Rattle.yard_model.specs.contracts.event.Command as command
 use Rattle.coordinator_state.specs.contracts.store.CoordStore as coordinator
 use Rattle.durable_queue.specs.contracts.store.QueueStore as queue
+use Rattle.entity_journal.specs.contracts.past.Past as past
+use Rattle.entity_journal.proofs.SendLaws.{past_sync}
 use Rattle.shard_store.specs.contracts.shelf.ShardStore as shelf
 use Rattle.shard_store.specs.contracts.store.Store as store
 use Rattle.shard_store.proofs.SendLaws.{store_send}
@@ -28,7 +30,7 @@ use Rattle.node_runner.specs.contracts.roster.Roster as roster
 use Rattle.node_runner.specs.contracts.run.Job as job
 
 shelf_sync : IsSync shelf.the_field.row
-shelf_sync = search (heap.crosses, maps.crosses, sendable) depth 100 fits 100000
+shelf_sync = let p : IsSync past.the_row = past_sync in search (heap.crosses, maps.crosses, sendable) depth 100 fits 100000
 
 coordinator_sync : IsSync coordinator.the_field.row
 coordinator_sync = search (heap.crosses, maps.crosses, sendable) depth 100 fits 100000

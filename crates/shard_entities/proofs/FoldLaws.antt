@@ -1,14 +1,13 @@
 -- A recovery: in a list that is lawful by itself each journal leads to a state, from its beginning or from a snapshot on. (As in the proofs of the top call.)
-use Rattle.std.proofs.Common.{◌≡◌, ℕ, ◌+◌, ◌<◌, sym, ap, ◌∙◌, refl, subst, drop, true≢false}
+use Rattle.std.proofs.Common.{◌≡◌, ℕ, ◌+◌, ◌<◌, ◌≤◌, sym, ap, ◌∙◌, refl, subst, drop, true≢false}
 use Rattle.std.specs.List.{list_any}
 use Rattle.yard_laws.proofs.Owned.{shard_to}
 use Rattle.std.specs.Prelude.{Bool, true, false, zero, suc, ◌==◌, ◌&&◌, ◌||◌, List, [], ◌∷◌, ◌++◌, length, fold, take, slice_index_or, if◌then◌else◌}
-use Rattle.std.proofs.lemmas.List.{drop_more}
+use Rattle.std.proofs.lemmas.List.{drop_all, drop_more}
 use Rattle.std.proofs.lemmas.List.Sums.{fold-append}
 use Rattle.std.proofs.Math.Bool.{and-true, and_assoc}
 use Rattle.yard_model.specs.declared.event.Decision.{Decision}
 use Rattle.yard_model.specs.declared.event.Kind.{Kind}
-use Rattle.yard_model.specs.declared.event.Kind.TheVariants as kind
 use Rattle.yard_model.specs.declared.fact.Fact.{Fact}
 use Rattle.yard_model.specs.declared.fact.Fact.TheVariants as fact
 use Rattle.yard_model.specs.declared.incarnation.Slot.TheVariants as slot
@@ -93,17 +92,6 @@ goes_on k st (r ∷ rs) (suc m) valid may =
     let rest : GoesOn k (after_record st r) rs m = goes_on k (after_record st r) rs m (valid_after_all k st r.events valid parts.0) parts.1 in
     record { valid = rest.valid; may = rest.may; value = rest.value }
 
--- one record more
-pub replay_next : (k : Kind) (st new start : State) (records : List Record) (i : ℕ) (d : Record) → i < length records → are_foldable st (drop i records) ≡ true → fold after_record st (drop i records) ≡ fold after_record start records → new ≡ fold apply st (slice_index_or records i d).events
-    → (are_foldable new (drop (i + 1) records) ≡ true) × (fold after_record new (drop (i + 1) records) ≡ fold after_record start records)
-replay_next k st new start records i d h may value step =
-    let more : drop i records ≡ slice_index_or records i d ∷ drop (i + 1) records = drop_more records i d h in
-    let parts : (are_applicable st (slice_index_or records i d).events ≡ true) × (are_foldable (after_record st (slice_index_or records i d)) (drop (i + 1) records) ≡ true) =
-    and_both (are_applicable st (slice_index_or records i d).events) _ (subst (λ l. are_foldable st l ≡ true) more may) in (
-      subst (λ s. are_foldable s (drop (i + 1) records) ≡ true) (sym step) parts.1,
-      ap (λ s. fold after_record s (drop (i + 1) records)) step ∙ (sym (ap (fold after_record st) more) ∙ value),
-    )
-
 pub replay_may : (st : State) (records : List Record) (i : ℕ) (d : Record) → i < length records → are_foldable st (drop i records) ≡ true → are_applicable st (slice_index_or records i d).events ≡ true
 replay_may st records i d h may = (and_both (are_applicable st (slice_index_or records i d).events) _ (subst (λ l. are_foldable st l ≡ true) (drop_more records i d h) may)).0
 
@@ -122,9 +110,19 @@ from_snapshot c s e list m x commands decisions ok lawful saved =
 pub replay_may_read : (st : State) (records : List Record) (i : ℕ) (r : Record) → i < length records → r ≡ slice_index_or records i r → are_foldable st (drop i records) ≡ true → are_applicable st r.events ≡ true
 replay_may_read st records i r h read may = ap (λ (x : Record). are_applicable st x.events) read ∙ replay_may st records i r h may
 
-pub replay_next_read : (st new start : State) (records : List Record) (i : ℕ) (r : Record) → i < length records → r ≡ slice_index_or records i r → are_foldable st (drop i records) ≡ true → fold after_record st (drop i records) ≡ fold after_record start records → new ≡ fold apply st r.events
-    → (are_foldable new (drop (i + 1) records) ≡ true) × (fold after_record new (drop (i + 1) records) ≡ fold after_record start records)
-replay_next_read st new start records i r h read may value step = replay_next kind.Counter st new start records i r h may value (step ∙ ap (λ (x : Record). fold apply st x.events) read)
+-- one record more
+pub replay_to : (st new whole : State) (records : List Record) (i : ℕ) (r : Record) → i < length records → r ≡ slice_index_or records i r → are_foldable st (drop i records) ≡ true → fold after_record st (drop i records) ≡ whole → new ≡ fold apply st r.events
+    → (are_foldable new (drop (i + 1) records) ≡ true) × (fold after_record new (drop (i + 1) records) ≡ whole)
+replay_to st new whole records i r h read may value step =
+    let more : drop i records ≡ r ∷ drop (i + 1) records = drop_more records i r h ∙ ap (λ (x : Record). x ∷ drop (i + 1) records) (sym read) in
+    let parts : (are_applicable st r.events ≡ true) × (are_foldable (after_record st r) (drop (i + 1) records) ≡ true) = and_both (are_applicable st r.events) _ (subst (λ l. are_foldable st l ≡ true) more may) in (
+      subst (λ s. are_foldable s (drop (i + 1) records) ≡ true) (sym step) parts.1,
+      ap (λ s. fold after_record s (drop (i + 1) records)) step ∙ (sym (ap (fold after_record st) more) ∙ value),
+    )
+
+-- and none
+pub replay_done : (st whole : State) (records : List Record) (i : ℕ) → length records ≤ i → fold after_record st (drop i records) ≡ whole → st ≡ whole
+replay_done st whole records i past value = sym (ap (fold after_record st) (drop_all i records past)) ∙ value
 
 -- from a state on, with these records
 pub record Leads (k : Kind) (st : State) (rest : List Record) (whole : State) : Type 0 where

@@ -1,5 +1,5 @@
 //! Recovery: from the latest snapshot and the records after it.
-ghost use Rattle.std.specs.Prelude.{◌≡◌, ℕ, ◌+◌, ◌*◌, ◌<◌, ◌≤◌, List, [], ◌∷◌, ◌++◌, length, fold, IsTrue, true, None, slice_index_or};
+ghost use Rattle.std.specs.Prelude.{◌≡◌, ℕ, ◌+◌, ◌*◌, ◌<◌, ◌≤◌, List, [], ◌∷◌, ◌++◌, drop, length, fold, IsTrue, true, None, slice_index_or};
 ghost use Rattle.std.specs.List.{list_all};
 ghost use Rattle.yard_model.specs.Behaviour.{folded, is_valid, after_record};
 ghost use Rattle.yard_model.specs.Entities.{cell, entries, hosted, entities_after, activate, deliver, recovered, remember};
@@ -20,7 +20,7 @@ use behaviour_core::{Behaviour, apply_all};
 use consumer_ctl::Stash;
 use shard_store::ShardStore;
 use yard_model::laws::{command_law, decision_law};
-use yard_model::{Message, Out, Phase, Record, State};
+use yard_model::{Message, Out, Phase, State};
 
 /// What a journal leads to.
 #[derive(Clone, Copy)]
@@ -183,25 +183,43 @@ fn recovered_from<B: Behaviour>(behaviour: &B, store: &ShardStore, place: &Place
     match store.latest_at(place.inner, &place.entity) {
         Some(snapshot) => Recovery {
             records,
-            state: replayed(behaviour, &snapshot.state, journal.tail(snapshot.at)),
+            state: replayed(
+                behaviour,
+                &snapshot.state,
+                store,
+                place,
+                snapshot.at,
+                records,
+            ),
         },
         None => Recovery {
             records,
-            state: replayed(behaviour, &behaviour.empty(), journal.tail(0)),
+            state: replayed(behaviour, &behaviour.empty(), store, place, 0, records),
         },
     }
 }
 
-/// The state after these records, oldest first, which lead on from a state.
-fn replayed<B: Behaviour>(behaviour: &B, state: &State, records: &[Record]) -> State
+/// The state after the records of an entity but the first `from`, oldest first, which lead on from a
+/// state; there are `count` in all.
+fn replayed<B: Behaviour>(
+    behaviour: &B,
+    state: &State,
+    store: &ShardStore,
+    place: &Place,
+    from: u32,
+    count: u32,
+) -> State
     requires state { IsTrue (is_valid (B.kind_of behaviour.now) state.now) }
-    requires records { IsTrue (are_foldable state.now records.now) }
-    ensures value { result ≡ fold after_record state.now records.now }
+    requires place { IsThere store.now place.now.inner place.now.entity }
+    requires count { count ≡ length (journal place.now.entity store.now.entries) }
+    requires records { IsTrue (are_foldable state.now (drop from (journal place.now.entity store.now.entries))) }
+    ensures value { result ≡ fold after_record state.now (drop from (journal place.now.entity store.now.entries)) }
     ensures valid { IsTrue (is_valid (B.kind_of behaviour.now) result) }
 {
     let mut current = *state;
-    for record in records {
-        apply_all(behaviour, &mut current, record.events.as_slice());
+    for k in from..count {
+        let written = store.record_at(place.inner, &place.entity, k);
+        apply_all(behaviour, &mut current, written.events.as_slice());
     }
     current
 }

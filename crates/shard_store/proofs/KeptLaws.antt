@@ -15,13 +15,14 @@ use Rattle.yard_model.specs.declared.fact.Fact.TheVariants as fact
 use Rattle.yard_model.specs.declared.packet.Record.{Record}
 use Rattle.yard_model.specs.Script.{Script, is_name}
 use Rattle.yard_model.specs.SlotReads.{journal, journal_step, last_snapshot, snapshot_step, is_remembered, remembered_step}
-use Rattle.yard_model.specs.Spared.{Spared}
+use Rattle.entity_journal.specs.Journal.{Journaled}
 use Rattle.entity_snapshot.specs.declared.snapshot.Snapshot.{Snapshot}
 use Rattle.entity_snapshot.specs.Kept.{Kept, last_of}
 use Rattle.shard_store.specs.Planned.{sent_to}
-use Rattle.shard_store.specs.Reshaped.{AreEach}
+use Rattle.shard_store.specs.Reshaped.{AreEach, IsJournalIn}
 use Rattle.shard_store.specs.Shelved.{no_journal, no_snapshots, name_at, IsJournal, IsSnapshot, IsLatest, AreKept, latest}
 use Rattle.shard_store.proofs.DifferentLaws.{another_name, name_itself}
+use Rattle.shard_store.proofs.PlacedLaws.{journal_still, journal_grows}
 
 same : (n p : ℕ) → (n == p) ≡ true → n ≡ p
 same n p e = grind (arith, nat_tests)
@@ -35,7 +36,7 @@ pub record IsOfNone (f : Fact) : Type 0 where
   pub snapshot_is : (e : List ℕ) (old : ℕ) → snapshot_step e old f ≡ old
   pub mark_is : (e : List ℕ) (old : Bool) → remembered_step e old f ≡ old
 
-journal_more : (e : List ℕ) (list : List Fact) (f : Fact) → journal e (list ++ f ∷ []) ≡ journal_step e (journal e list) f
+pub journal_more : (e : List ℕ) (list : List Fact) (f : Fact) → journal e (list ++ f ∷ []) ≡ journal_step e (journal e list) f
 journal_more e list f = fold-append (journal_step e) [] list (f ∷ [])
 
 snapshot_more : (e : List ℕ) (list : List Fact) (f : Fact) → last_snapshot e (list ++ f ∷ []) ≡ snapshot_step e (last_snapshot e list) f
@@ -44,13 +45,13 @@ snapshot_more e list f = fold-append (snapshot_step e) 0 list (f ∷ [])
 mark_more : (e : List ℕ) (list : List Fact) (f : Fact) → is_remembered e (list ++ f ∷ []) ≡ remembered_step e (is_remembered e list) f
 mark_more e list f = fold-append (remembered_step e) false list (f ∷ [])
 
-pub kept_none : (c : Script) (names : List (List ℕ)) (list : List Fact) (journals : List (Spared Record)) (snapshots : List Kept) (marks : List Bool) (f : Fact) → IsOfNone f
+pub kept_none : (c : Script) (names : List (List ℕ)) (list : List Fact) (journals : List Journaled) (snapshots : List Kept) (marks : List Bool) (f : Fact) → IsOfNone f
     → AreKept c names list journals snapshots marks → AreKept c names (list ++ f ∷ []) journals snapshots marks
 kept_none c names list journals snapshots marks f none k = record {
   journals_there = k.journals_there;
   snapshots_there = k.snapshots_there;
   marks_there = k.marks_there;
-  journal_is = λ i within. subst (λ rs. IsJournal rs (sent_to (name_at names i) c.orders) (slice_index_or journals i no_journal)) (sym (same_journal i)) (k.journal_is i within);
+  journal_is = λ i within. journal_still (name_at names i) list f (sent_to (name_at names i) c.orders) (slice_index_or journals i no_journal) (same_journal i) (k.journal_is i within);
   latest_is = λ i within. subst (λ rs. IsLatest c.config.kind rs (last_snapshot (name_at names i) (list ++ f ∷ [])) (slice_index_or snapshots i no_snapshots)) (sym (same_journal i))
       (subst (λ m. IsLatest c.config.kind (journal (name_at names i) list) m (slice_index_or snapshots i no_snapshots)) (sym (snapshot_more (name_at names i) list f ∙ none.snapshot_is (name_at names i) (last_snapshot (name_at names i) list))) (k.latest_is i within));
   mark_is = λ i within. k.mark_is i within ∙ sym (mark_more (name_at names i) list f ∙ none.mark_is (name_at names i) (is_remembered (name_at names i) list));
@@ -87,11 +88,11 @@ latest_still kind records r m kept k = (k.0, at (latest kept) k.1)
 pub journal_wrote : (x e : List ℕ) (list : List Fact) (r : Record) (b : Bool) → is_name x e ≡ b → journal e (list ++ fact.Wrote x r ∷ []) ≡ cond b (journal e list ++ r ∷ []) (journal e list)
 journal_wrote x e list r b h = journal_more e list (fact.Wrote x r) ∙ ap (λ t. cond t (journal e list ++ r ∷ []) (journal e list)) h
 
-pub kept_wrote : (c : Script) (names : List (List ℕ)) (list : List Fact) (journals : List (Spared Record)) (snapshots : List Kept) (marks : List Bool) (x : List ℕ) (r : Record) (k : ℕ) (new : Spared Record)
+pub kept_wrote : (c : Script) (names : List (List ℕ)) (list : List Fact) (journals : List Journaled) (snapshots : List Kept) (marks : List Bool) (x : List ℕ) (r : Record) (k : ℕ) (new : Journaled)
     → IsStrictlySortedBy (slice_cmp nat_cmp) names → k < length names → name_at names k ≡ x
-    → new.items ≡ (slice_index_or journals k no_journal).items ++ r ∷ [] → new.spare + 1 ≡ (slice_index_or journals k no_journal).spare
+    → new.items ≡ (slice_index_or journals k no_journal).items ++ r ∷ [] → new.places ≡ (slice_index_or journals k no_journal).places ++ length list ∷ [] → new.spare + 1 ≡ (slice_index_or journals k no_journal).spare
     → AreKept c names list journals snapshots marks → AreKept c names (list ++ fact.Wrote x r ∷ []) (slice_set journals k new) snapshots marks
-kept_wrote c names list journals snapshots marks x r k new sorted inside it items less kept = record {
+kept_wrote c names list journals snapshots marks x r k new sorted inside it items places less kept = record {
   journals_there = length-set journals k new ∙ kept.journals_there;
   snapshots_there = kept.snapshots_there;
   marks_there = kept.marks_there;
@@ -100,21 +101,19 @@ kept_wrote c names list journals snapshots marks x r k new sorted inside it item
   mark_is = λ i within. kept.mark_is i within ∙ sym (mark_more (name_at names i) list (fact.Wrote x r));
 }
   where
-    journal_at : (i : ℕ) → i < length names → (b : Bool) → (i == k) ≡ b → IsJournal (journal (name_at names i) (list ++ fact.Wrote x r ∷ [])) (sent_to (name_at names i) c.orders) (slice_index_or (slice_set journals k new) i no_journal)
+    journal_at : (i : ℕ) → i < length names → (b : Bool) → (i == k) ≡ b → IsJournal (name_at names i) (list ++ fact.Wrote x r ∷ []) (sent_to (name_at names i) c.orders) (slice_index_or (slice_set journals k new) i no_journal)
     journal_at i within true e =
         let here : i ≡ k = same i k e in
-        let named : is_name x (name_at names i) ≡ true = ap (is_name x) (ap (name_at names) here ∙ it) ∙ name_itself x in
-        let old : IsJournal (journal (name_at names i) list) (sent_to (name_at names i) c.orders) (slice_index_or journals i no_journal) = kept.journal_is i within in
+        let at_x : name_at names i ≡ x = ap (name_at names) here ∙ it in
+        let old : IsJournal x list (sent_to x c.orders) (slice_index_or journals k no_journal) = subst (λ n. IsJournal n list (sent_to n c.orders) (slice_index_or journals k no_journal)) it (kept.journal_is k inside) in
         let found : slice_index_or (slice_set journals k new) i no_journal ≡ new = ap (λ n. slice_index_or (slice_set journals k new) n no_journal) here ∙ get_or-set_same journals k new no_journal (omega (arith, kept.journals_there)) in
-        let was : new.spare + 1 ≡ (slice_index_or journals i no_journal).spare = less ∙ ap (λ n. (slice_index_or journals n no_journal).spare) (sym here) in
-        subst (IsJournal (journal (name_at names i) (list ++ fact.Wrote x r ∷ [])) (sent_to (name_at names i) c.orders)) (sym found) (record {
-          records_are = items ∙ (ap (λ n. (slice_index_or journals n no_journal).items ++ r ∷ []) (sym here) ∙ (ap (λ rs. rs ++ r ∷ []) old.records_are ∙ sym (journal_wrote x (name_at names i) list r true named)));
-          room_is = subst (λ rs. sent_to (name_at names i) c.orders ≤ length rs + new.spare) (sym (journal_wrote x (name_at names i) list r true named)) (omega (arith, old.room_is, was, length-append (journal (name_at names i) list) (r ∷ [])));
-        })
+        subst (IsJournal (name_at names i) (list ++ fact.Wrote x r ∷ []) (sent_to (name_at names i) c.orders)) (sym found)
+        (subst (λ n. IsJournal n (list ++ fact.Wrote x r ∷ []) (sent_to n c.orders) new) (sym at_x)
+        (journal_grows x list r (sent_to x c.orders) (slice_index_or journals k no_journal) new (journal_wrote x x list r true (name_itself x)) items places less old))
     journal_at i within false e =
         let apart : is_name x (name_at names i) ≡ false = another_name names x k i sorted inside within it (other i k e) in
-        subst (IsJournal (journal (name_at names i) (list ++ fact.Wrote x r ∷ [])) (sent_to (name_at names i) c.orders)) (sym (get_or-set_other journals k i new no_journal (other i k e)))
-        (subst (λ rs. IsJournal rs (sent_to (name_at names i) c.orders) (slice_index_or journals i no_journal)) (sym (journal_wrote x (name_at names i) list r false apart)) (kept.journal_is i within))
+        subst (IsJournal (name_at names i) (list ++ fact.Wrote x r ∷ []) (sent_to (name_at names i) c.orders)) (sym (get_or-set_other journals k i new no_journal (other i k e)))
+        (journal_still (name_at names i) list (fact.Wrote x r) (sent_to (name_at names i) c.orders) (slice_index_or journals i no_journal) (journal_wrote x (name_at names i) list r false apart) (kept.journal_is i within))
 
     latest_at : (i : ℕ) → i < length names → (b : Bool) → (i == k) ≡ b → IsLatest c.config.kind (journal (name_at names i) (list ++ fact.Wrote x r ∷ [])) (last_snapshot (name_at names i) (list ++ fact.Wrote x r ∷ [])) (slice_index_or snapshots i no_snapshots)
     latest_at i within true e =
@@ -142,7 +141,7 @@ last_is n xs x some =
 snapshot_saved : (x e : List ℕ) (n : ℕ) (list : List Fact) (b : Bool) → is_name x e ≡ b → last_snapshot e (list ++ fact.Snapshot x n ∷ []) ≡ cond b n (last_snapshot e list)
 snapshot_saved x e n list b h = snapshot_more e list (fact.Snapshot x n) ∙ ap (λ t. cond t n (last_snapshot e list)) h
 
-pub kept_saved : (c : Script) (names : List (List ℕ)) (list : List Fact) (journals : List (Spared Record)) (snapshots : List Kept) (marks : List Bool) (x : List ℕ) (n k : ℕ) (s : Snapshot) (new : Kept)
+pub kept_saved : (c : Script) (names : List (List ℕ)) (list : List Fact) (journals : List Journaled) (snapshots : List Kept) (marks : List Bool) (x : List ℕ) (n k : ℕ) (s : Snapshot) (new : Kept)
     → IsStrictlySortedBy (slice_cmp nat_cmp) names → k < length names → name_at names k ≡ x
     → new.snapshots ≡ last_of (slice_index_or snapshots k no_snapshots).keep ((slice_index_or snapshots k no_snapshots).snapshots ++ s ∷ []) → new.keep ≡ (slice_index_or snapshots k no_snapshots).keep
     → IsSnapshot c.config.kind (journal x list) n s
@@ -151,7 +150,7 @@ kept_saved c names list journals snapshots marks x n k s new sorted inside it sa
   journals_there = kept.journals_there;
   snapshots_there = length-set snapshots k new ∙ kept.snapshots_there;
   marks_there = kept.marks_there;
-  journal_is = λ i within. subst (λ rs. IsJournal rs (sent_to (name_at names i) c.orders) (slice_index_or journals i no_journal)) (sym (journal_more (name_at names i) list (fact.Snapshot x n))) (kept.journal_is i within);
+  journal_is = λ i within. journal_still (name_at names i) list (fact.Snapshot x n) (sent_to (name_at names i) c.orders) (slice_index_or journals i no_journal) (journal_more (name_at names i) list (fact.Snapshot x n)) (kept.journal_is i within);
   latest_is = λ i within. subst (λ rs. IsLatest c.config.kind rs (last_snapshot (name_at names i) (list ++ fact.Snapshot x n ∷ [])) (slice_index_or (slice_set snapshots k new) i no_snapshots)) (sym (journal_more (name_at names i) list (fact.Snapshot x n))) (latest_at i within (i == k) refl);
   mark_is = λ i within. kept.mark_is i within ∙ sym (mark_more (name_at names i) list (fact.Snapshot x n));
 }
@@ -180,14 +179,14 @@ pub record Marks (x : List ℕ) (mark : Bool) (f : Fact) : Type 0 where
   pub snapshot_is : (e : List ℕ) (old : ℕ) → snapshot_step e old f ≡ old
   pub mark_is : (e : List ℕ) (old : Bool) → remembered_step e old f ≡ cond (is_name x e) mark old
 
-pub kept_marked : (c : Script) (names : List (List ℕ)) (list : List Fact) (journals : List (Spared Record)) (snapshots : List Kept) (marks : List Bool) (x : List ℕ) (k : ℕ) (mark : Bool) (f : Fact)
+pub kept_marked : (c : Script) (names : List (List ℕ)) (list : List Fact) (journals : List Journaled) (snapshots : List Kept) (marks : List Bool) (x : List ℕ) (k : ℕ) (mark : Bool) (f : Fact)
     → IsStrictlySortedBy (slice_cmp nat_cmp) names → k < length names → name_at names k ≡ x → Marks x mark f
     → AreKept c names list journals snapshots marks → AreKept c names (list ++ f ∷ []) journals snapshots (slice_set marks k mark)
 kept_marked c names list journals snapshots marks x k mark f sorted inside it is kept = record {
   journals_there = kept.journals_there;
   snapshots_there = kept.snapshots_there;
   marks_there = length-set marks k mark ∙ kept.marks_there;
-  journal_is = λ i within. subst (λ rs. IsJournal rs (sent_to (name_at names i) c.orders) (slice_index_or journals i no_journal)) (sym (same_journal i)) (kept.journal_is i within);
+  journal_is = λ i within. journal_still (name_at names i) list f (sent_to (name_at names i) c.orders) (slice_index_or journals i no_journal) (same_journal i) (kept.journal_is i within);
   latest_is = λ i within. subst (λ rs. IsLatest c.config.kind rs (last_snapshot (name_at names i) (list ++ f ∷ [])) (slice_index_or snapshots i no_snapshots)) (sym (same_journal i))
       (subst (λ m. IsLatest c.config.kind (journal (name_at names i) list) m (slice_index_or snapshots i no_snapshots)) (sym (snapshot_more (name_at names i) list f ∙ is.snapshot_is (name_at names i) (last_snapshot (name_at names i) list))) (kept.latest_is i within));
   mark_is = λ i within. mark_at i within (i == k) refl;
@@ -210,7 +209,7 @@ kept_marked c names list journals snapshots marks x k mark f sorted inside it is
 
 -- Nothing yet.
 
-pub kept_new : (c : Script) (names : List (List ℕ)) (journals : List (Spared Record)) → 0 < c.config.keep → AreEach no_journal (λ i. IsJournal [] (sent_to (name_at names i) c.orders)) journals (length names)
+pub kept_new : (c : Script) (names : List (List ℕ)) (journals : List Journaled) → 0 < c.config.keep → AreEach no_journal (IsJournalIn [] c.orders names) journals (length names)
     → AreKept c names [] journals (replicate (length names) (record { snapshots = []; keep = c.config.keep })) (replicate (length names) false)
 kept_new c names journals some js = record {
   journals_there = js.count;

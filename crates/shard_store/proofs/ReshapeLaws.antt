@@ -1,11 +1,11 @@
 -- The lists of stores that go over to another number of shards, and what is at hand of each name.
 use Rattle.std.proofs.Common.{◌≡◌, ℕ, zero, suc, ◌+◌, ◌<◌, ◌≤◌, List, length, sym, ap, subst, ◌∙◌, refl, true, false, arith, length-append}
-use Rattle.std.specs.Prelude.{Bool, [], ◌∷◌, ◌++◌, ◌==◌, ◌&&◌, nat_lt, cond, fold, filter, map, take, drop, max, slice_index_or, Option, None, is_some}
+use Rattle.std.specs.Prelude.{Bool, [], ◌∷◌, ◌++◌, ◌==◌, ◌&&◌, nat_lt, cond, fold, filter, map, drop, max, slice_index_or, Option, None, is_some}
 use Rattle.std.specs.List.{list_all, flat_map}
 use Rattle.std.specs.List.Sorted.{IsStrictlySortedBy}
 use Rattle.std.specs.Ordering.{nat_cmp}
 use Rattle.std.specs.Cmp.Lexicographic.{slice_cmp}
-use Rattle.std.proofs.lemmas.List.{get_or_append_left, get_or_at, get_or_default, map-append, append-nil, append_assoc, drop_all, drop_more, take_more, length-take-le}
+use Rattle.std.proofs.lemmas.List.{get_or_append_left, get_or_at, get_or_default, map-append, append-nil, append_assoc, drop_all, drop_more}
 use Rattle.std.proofs.lemmas.List.Sums.{fold-append, fold_push}
 use Rattle.plain_laws.proofs.Booleans.{true_is_not_false, and_both, same_number, below, not_below, is_below, all_filter}
 use Rattle.plain_laws.proofs.Names.{all_names}
@@ -15,7 +15,6 @@ use Rattle.yard_model.specs.declared.fact.Fact.{Fact}
 use Rattle.yard_model.specs.declared.fact.Fact.TheVariants as fact
 use Rattle.yard_model.specs.declared.incarnation.Incarnation.{Incarnation}
 use Rattle.yard_model.specs.declared.incarnation.Slot.TheVariants as slot
-use Rattle.yard_model.specs.declared.packet.Record.{Record}
 use Rattle.yard_model.specs.Entry.{shard_fact}
 use Rattle.yard_model.specs.Era.{is_of_name, entries_of, base}
 use Rattle.yard_model.specs.Genuine.{is_brought}
@@ -25,14 +24,12 @@ use Rattle.yard_model.specs.Setting.{shard_of, names_of, set_shards}
 use Rattle.yard_model.specs.Shard.{shard}
 use Rattle.yard_model.specs.SlotLists.{SlotLists, shard_list}
 use Rattle.yard_model.specs.SlotReads.{epoch, holder_step, journal, journal_step, last_snapshot, snapshot_step, is_remembered, remembered_step}
-use Rattle.yard_model.specs.Spared.{Spared}
-use Rattle.entity_journal.specs.Journal.{AreNumbered}
+use Rattle.entity_journal.specs.Journal.{Journaled}
 use Rattle.entity_snapshot.specs.Kept.{Kept}
 use Rattle.era_laws.proofs.ShapeLaws.{Reads, journal_reads, base_same, reshaped_list}
 use Rattle.era_laws.proofs.ReshapeLaws.{snapshot_reads, remembered_reads, shard_begun}
-use Rattle.shard_store.specs.Reshaped.{slot_lists, list_of, next_lists, MayGoOver, is_entry_of, AreEach, IsJournalOf, IsLatestOf, IsMarkOf}
-use Rattle.shard_store.specs.Planned.{sent_to}
-use Rattle.shard_store.specs.Shelved.{no_journal, no_snapshots, name_at, IsJournal, IsLatest, IsShelf}
+use Rattle.shard_store.specs.Reshaped.{slot_lists, list_of, next_lists, MayGoOver, is_entry_of, AreEach, IsJournalIn, IsLatestOf, IsMarkOf, AreCarried}
+use Rattle.shard_store.specs.Shelved.{no_journal, no_snapshots, name_at, IsLatest, IsShelf}
 use Rattle.shard_store.specs.Stores.{Shelves}
 
 -- Something of each place.
@@ -181,11 +178,30 @@ carried_same x n k s e g reads z brought of within =
     ∙ (reads (fold g z (list s)) (fact.Resharded s n k) refl
     ∙ (ap (λ t. fold g z (list t)) (sym of) ∙ base_same x.script n (slot_lists x) e g reads z brought)))
 
+of_this_shard : (x : Shelves) (n s : ℕ) (names : List (List ℕ)) → names ≡ names_of (setting (with_shards n x.script)) s → (i : ℕ) → i < length names → shard n (name_at names i) ≡ s
+of_this_shard x n s names are i h =
+    same_number (shard n (name_at names i)) s (all_at of_it names i (name_at names i) (ap (list_all of_it) are ∙ kept_all of_it (names_in x.script.orders)) h (get_or_default names i [] (name_at names i) h))
+  where
+    of_it : List ℕ → Bool
+    of_it e = shard n e == s
+
+brought_at : (x : Shelves) (n s : ℕ) (names : List (List ℕ)) → names ≡ names_of (setting (with_shards n x.script)) s → (i : ℕ) → i < length names → is_brought x.script (name_at names i) ≡ true
+brought_at x n s names are i h = all_at (is_brought x.script) names i (name_at names i) (all_brought x.script (with_shards n x.script) n s names refl are) h (get_or_default names i [] (name_at names i) h)
+
+journal_carried : (x : Shelves) (n k s : ℕ) (names : List (List ℕ)) (entries : List Fact) → s < n → names ≡ names_of (setting (with_shards n x.script)) s → entries ≡ shard_list (next_lists x n k) s
+    → (i : ℕ) → i < length names → journal (name_at names i) entries ≡ journal (name_at names i) (list_of x (name_at names i))
+journal_carried x n k s names entries within are is i h =
+    let e : List ℕ = name_at names i in
+    ap (journal e) is ∙ carried_same x n k s e (journal_step e) (journal_reads e) [] (brought_at x n s names are i h) (of_this_shard x n s names are i h) within
+
+pub journals_carried : (x : Shelves) (c : Script) (k s : ℕ) (names : List (List ℕ)) (entries : List Fact) → MayGoOver x c k → s < c.config.shards → names ≡ names_of (setting c) s → entries ≡ shard_list (next_lists x c.config.shards k) s → AreCarried x names entries
+journals_carried x c k s names entries over within are is = journal_carried x c.config.shards k s names entries within (are ∙ ap (λ y. names_of (setting y) s) over.script_is) is
+
 -- The store of a shard.
 
-shelf_by : (x : Shelves) (n k s : ℕ) (names : List (List ℕ)) (entries : List Fact) (journals : List (Spared Record)) (snapshots : List Kept) (marks : List Bool) → ((t : ℕ) → epoch (shard_list (slot_lists x) t) ≤ k) → ((t : ℕ) → own x.script (slot.Shard t) (shard_list (slot_lists x) t) ≡ true)
+shelf_by : (x : Shelves) (n k s : ℕ) (names : List (List ℕ)) (entries : List Fact) (journals : List Journaled) (snapshots : List Kept) (marks : List Bool) → ((t : ℕ) → epoch (shard_list (slot_lists x) t) ≤ k) → ((t : ℕ) → own x.script (slot.Shard t) (shard_list (slot_lists x) t) ≡ true)
     → s < n → names ≡ names_of (setting (with_shards n x.script)) s → IsStrictlySortedBy (slice_cmp nat_cmp) names → length names ≤ 1000 → entries ≡ shard_list (next_lists x n k) s
-    → AreEach no_journal (IsJournalOf x names) journals (length names) → AreEach no_snapshots (IsLatestOf x names) snapshots (length names) → AreEach false (IsMarkOf x names) marks (length names)
+    → AreEach no_journal (IsJournalIn entries x.script.orders names) journals (length names) → AreEach no_snapshots (IsLatestOf x names) snapshots (length names) → AreEach false (IsMarkOf x names) marks (length names)
     → IsShelf (record { script = with_shards n x.script; shard = s; entries = entries; spare = 0 }) s names journals snapshots marks
 shelf_by x n k s names entries journals snapshots marks low own_are within are sorted few is js ss ms = record {
   own_is = ap (own (with_shards n x.script) (slot.Shard s)) (is ∙ reshaped_list (setting x.script) n k (slot_lists x) s within) ∙ shard_begun x.script n s k (slot_lists x) own_are low;
@@ -198,24 +214,21 @@ shelf_by x n k s names entries journals snapshots marks low own_are within are s
     journals_there = js.count;
     snapshots_there = ss.count;
     marks_there = ms.count;
-    journal_is = λ i h. subst (λ rs. IsJournal rs (sent_to (name_at names i) x.script.orders) (slice_index_or journals i no_journal)) (sym (journal_is i h)) (js.each i h);
+    journal_is = js.each;
     latest_is = λ i h. subst (λ rs. IsLatest x.script.config.kind rs (last_snapshot (name_at names i) entries) (slice_index_or snapshots i no_snapshots)) (sym (journal_is i h))
         (subst (λ m. IsLatest x.script.config.kind (journal (name_at names i) (list_of x (name_at names i))) m (slice_index_or snapshots i no_snapshots)) (sym (snapshot_is i h)) (ss.each i h));
     mark_is = λ i h. ms.each i h ∙ sym (mark_is i h);
   };
 }
   where
-    of_it : List ℕ → Bool
-    of_it e = shard n e == s
-
     of_shard : (i : ℕ) → i < length names → shard n (name_at names i) ≡ s
-    of_shard i h = same_number (shard n (name_at names i)) s (all_at of_it names i (name_at names i) (ap (list_all of_it) are ∙ kept_all of_it (names_in x.script.orders)) h (get_or_default names i [] (name_at names i) h))
+    of_shard i h = of_this_shard x n s names are i h
 
     brought : (i : ℕ) → i < length names → is_brought x.script (name_at names i) ≡ true
-    brought i h = all_at (is_brought x.script) names i (name_at names i) (all_brought x.script (with_shards n x.script) n s names refl are) h (get_or_default names i [] (name_at names i) h)
+    brought i h = brought_at x n s names are i h
 
     journal_is : (i : ℕ) → i < length names → journal (name_at names i) entries ≡ journal (name_at names i) (list_of x (name_at names i))
-    journal_is i h = let e : List ℕ = name_at names i in ap (journal e) is ∙ carried_same x n k s e (journal_step e) (journal_reads e) [] (brought i h) (of_shard i h) within
+    journal_is i h = journal_carried x n k s names entries within are is i h
 
     snapshot_is : (i : ℕ) → i < length names → last_snapshot (name_at names i) entries ≡ last_snapshot (name_at names i) (list_of x (name_at names i))
     snapshot_is i h = let e : List ℕ = name_at names i in ap (last_snapshot e) is ∙ carried_same x n k s e (snapshot_step e) (snapshot_reads e) 0 (brought i h) (of_shard i h) within
@@ -223,26 +236,15 @@ shelf_by x n k s names entries journals snapshots marks low own_are within are s
     mark_is : (i : ℕ) → i < length names → is_remembered (name_at names i) entries ≡ is_remembered (name_at names i) (list_of x (name_at names i))
     mark_is i h = let e : List ℕ = name_at names i in ap (is_remembered e) is ∙ carried_same x n k s e (remembered_step e) (remembered_reads e) false (brought i h) (of_shard i h) within
 
-pub shelf_begun : (x : Shelves) (c : Script) (k s ls spare : ℕ) (names : List (List ℕ)) (entries : List Fact) (journals : List (Spared Record)) (snapshots : List Kept) (marks : List Bool) → MayGoOver x c k
+pub shelf_begun : (x : Shelves) (c : Script) (k s ls spare : ℕ) (names : List (List ℕ)) (entries : List Fact) (journals : List Journaled) (snapshots : List Kept) (marks : List Bool) → MayGoOver x c k
     → s < c.config.shards → names ≡ names_of (setting c) s → IsStrictlySortedBy (slice_cmp nat_cmp) names → length names ≤ 1000 → ls ≡ s → spare ≡ 0 → entries ≡ shard_list (next_lists x c.config.shards k) s
-    → AreEach no_journal (IsJournalOf x names) journals (length names) → AreEach no_snapshots (IsLatestOf x names) snapshots (length names) → AreEach false (IsMarkOf x names) marks (length names)
+    → AreEach no_journal (IsJournalIn entries x.script.orders names) journals (length names) → AreEach no_snapshots (IsLatestOf x names) snapshots (length names) → AreEach false (IsMarkOf x names) marks (length names)
     → IsShelf (record { script = c; shard = s; entries = entries; spare = spare }) ls names journals snapshots marks
 shelf_begun x c k s ls spare names entries journals snapshots marks over within are sorted few same none is js ss ms =
     subst (λ (t : ℕ). IsShelf (record { script = c; shard = s; entries = entries; spare = spare }) t names journals snapshots marks) (sym same)
     (subst (λ (t : ℕ). IsShelf (record { script = c; shard = s; entries = entries; spare = t }) s names journals snapshots marks) (sym none)
     (subst (λ (y : Script). IsShelf (record { script = y; shard = s; entries = entries; spare = 0 }) s names journals snapshots marks) (sym over.script_is)
     (shelf_by x c.config.shards k s names entries journals snapshots marks over.low over.own_are within (are ∙ ap (λ y. names_of (setting y) s) over.script_is) sorted few is js ss ms)))
-
--- A journal, copied.
-
-pub next_number : (records : List Record) (i : ℕ) (r : Record) (done : List Record) → AreNumbered records → i < length records → r ≡ slice_index_or records i r → done ≡ take i records → r.number ≡ length done + 1
-next_number records i r done k within at_is is =
-    let long : length done ≡ i = ap length is ∙ length-take-le i records (omega arith) in
-    ap (λ (y : Record). y.number) at_is ∙ (k.each i r within ∙ ap (λ n. n + 1) (sym long))
-
-pub copied_more : (records : List Record) (i : ℕ) (r : Record) (done new : List Record) → i < length records → r ≡ slice_index_or records i r → done ≡ take i records → new ≡ done ++ r ∷ [] → new ≡ take (i + 1) records
-copied_more records i r done new within at_is is grown =
-    grown ∙ (ap (λ l. l ++ r ∷ []) is ∙ (ap (λ y. take i records ++ y ∷ []) at_is ∙ sym (take_more records i r within)))
 
 -- The greatest epoch.
 

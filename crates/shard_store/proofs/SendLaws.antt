@@ -3,13 +3,15 @@ use denote.Enum.Declared as enum
 use denote.Param.Send.{IsSend, enum_send, recorded_send, sendable}
 use Rattle.std.proofs.Crossing as heap
 use Rattle.std.proofs.MapsCrossing as maps
+use Rattle.entity_journal.specs.contracts.past.Past as past
+use Rattle.entity_journal.proofs.SendLaws.{past_send}
 use Rattle.shard_store.specs.contracts.shelf.ShardStore as shelf
 use Rattle.shard_store.specs.contracts.store.Store as store
 use Rattle.coordinator_state.specs.contracts.store.CoordStore as coordinator
 use Rattle.durable_queue.specs.contracts.store.QueueStore as queue
 
 shelf_send : IsSend shelf.the_field.row
-shelf_send = search (heap.crosses, maps.crosses, sendable) depth 100 fits 100000
+shelf_send = let p : IsSend past.the_row = past_send in search (heap.crosses, maps.crosses, sendable) depth 100 fits 100000
 
 coordinator_send : IsSend coordinator.the_field.row
 coordinator_send = search (heap.crosses, maps.crosses, sendable) depth 100 fits 100000

@@ -1,6 +1,6 @@
 -- A shard's store with one entry more.
 use Rattle.std.proofs.Common.{◌≡◌, ℕ, ◌+◌, ◌-◌, ◌<◌, ◌≤◌, List, length, sym, ap, subst, ◌∙◌, refl, true, false, arith, true≢false, length-append}
-use Rattle.std.specs.Prelude.{fold, if◌then◌else◌, Bool, [], ◌∷◌, ◌++◌, ◌==◌, ◌&&◌, ◌||◌, not, nat_lt, cond, take, filter, max, slice_set, slice_index_or, replicate, ◌↔◌, IsTrue}
+use Rattle.std.specs.Prelude.{fold, if◌then◌else◌, Bool, [], ◌∷◌, ◌++◌, ◌==◌, ◌&&◌, ◌||◌, not, nat_lt, cond, take, filter, slice_set, slice_index_or, replicate, ◌↔◌, IsTrue}
 use Rattle.std.specs.List.{list_any}
 use Rattle.std.specs.List.Sorted.{IsStrictlySortedBy}
 use Rattle.std.specs.Ordering.{nat_cmp}
@@ -21,11 +21,11 @@ use Rattle.yard_model.specs.Lawful.{own, is_held, is_leased, is_entry, is_of_sha
 use Rattle.yard_model.specs.Script.{Script, IsScript, is_name, setting, versions}
 use Rattle.yard_model.specs.Setting.{shard_of, names_of}
 use Rattle.yard_model.specs.SlotReads.{epoch, journal, journal_step, position, last_snapshot, is_remembered}
-use Rattle.yard_model.specs.Spared.{Spared}
+use Rattle.entity_journal.specs.Journal.{Journaled}
 use Rattle.entity_snapshot.specs.declared.snapshot.Snapshot.{Snapshot}
 use Rattle.entity_snapshot.specs.Kept.{Kept, last_of}
 use Rattle.shard_store.specs.Planned.{sent_to}
-use Rattle.shard_store.specs.Reshaped.{AreEach}
+use Rattle.shard_store.specs.Reshaped.{AreEach, IsJournalIn}
 use Rattle.shard_store.specs.Shelf.{Shelf, slot_of, may}
 use Rattle.shard_store.specs.Shelved.{no_journal, no_snapshots, name_at, IsSnapshot, IsNamed, IsThere, IsJournal, AreKept, IsShelf}
 use Rattle.yard_model.proofs.FollowLaws.{own_more}
@@ -92,15 +92,15 @@ among_names s names e are of =
     ap (list_any (is_name e)) are ∙ any_picked (λ n. shard_of (setting s.script) n == s.shard) e (setting s.script).names m.1 m.0
 
 -- the place of a name among the shard's names is one among the names that are kept
-pub named : {s v : Shelf} {ls : ℕ} {names : List (List ℕ)} {journals : List (Spared Record)} {snapshots : List Kept} {marks : List Bool} (e : List ℕ) (i : ℕ) → IsShelf s ls names journals snapshots marks → s ≡ v → IsThere v i e → IsNamed names i e
+pub named : {s v : Shelf} {ls : ℕ} {names : List (List ℕ)} {journals : List Journaled} {snapshots : List Kept} {marks : List Bool} (e : List ℕ) (i : ℕ) → IsShelf s ls names journals snapshots marks → s ≡ v → IsThere v i e → IsNamed names i e
 named {s} {v} e i k seen there = subst (λ ns. IsNamed ns i e) (ap (λ (x : Shelf). names_of (setting x.script) x.shard) (sym seen) ∙ sym k.names_are) there
 
-pub there : {s v : Shelf} {ls : ℕ} {names : List (List ℕ)} {journals : List (Spared Record)} {snapshots : List Kept} {marks : List Bool} (e : List ℕ) (i : ℕ) → IsShelf s ls names journals snapshots marks → s ≡ v → i < length names → name_at names i ≡ e → IsThere v i e
+pub there : {s v : Shelf} {ls : ℕ} {names : List (List ℕ)} {journals : List Journaled} {snapshots : List Kept} {marks : List Bool} (e : List ℕ) (i : ℕ) → IsShelf s ls names journals snapshots marks → s ≡ v → i < length names → name_at names i ≡ e → IsThere v i e
 there {s} {v} {ls} {names} e i k seen within it = subst (λ ns. IsNamed ns i e) (k.names_are ∙ ap (λ (x : Shelf). names_of (setting x.script) x.shard) seen) (record { within = within; it = it })
 
 -- One entry more.
 
-pub shelf_next : (s : Shelf) {ls new_shard : ℕ} {names : List (List ℕ)} {journals new_journals : List (Spared Record)} {snapshots new_snapshots : List Kept} {marks new_marks : List Bool} {entries : List Fact} {spare : ℕ} (f : Fact)
+pub shelf_next : (s : Shelf) {ls new_shard : ℕ} {names : List (List ℕ)} {journals new_journals : List Journaled} {snapshots new_snapshots : List Kept} {marks new_marks : List Bool} {entries : List Fact} {spare : ℕ} (f : Fact)
     → IsShelf s ls names journals snapshots marks → may s f ≡ true → entries ≡ s.entries ++ f ∷ [] → spare ≡ s.spare - 1 → new_shard ≡ ls
     → AreKept s.script names (s.entries ++ f ∷ []) new_journals new_snapshots new_marks
     → IsShelf (record { script = s.script; shard = s.shard; entries = entries; spare = spare }) new_shard names new_journals new_snapshots new_marks
@@ -115,7 +115,7 @@ shelf_next s {ls} {new_shard} {names} {journals} {new_journals} {snapshots} {new
 }
 
 -- of a grant, whose epoch and slot are told by the list
-pub shelf_granted : (s : Shelf) {ls new_shard n : ℕ} {names : List (List ℕ)} {journals : List (Spared Record)} {snapshots : List Kept} {marks : List Bool} {entries : List Fact} {spare : ℕ} (who : Incarnation)
+pub shelf_granted : (s : Shelf) {ls new_shard n : ℕ} {names : List (List ℕ)} {journals : List Journaled} {snapshots : List Kept} {marks : List Bool} {entries : List Fact} {spare : ℕ} (who : Incarnation)
     → SameSlot → IsShelf s ls names journals snapshots marks → is_held s.entries ≡ false → is_node s.script who ≡ true → n ≡ epoch s.entries + 1
     → entries ≡ s.entries ++ fact.Granted (slot.Shard ls) n who ∷ [] → spare ≡ s.spare - 1 → new_shard ≡ ls
     → IsShelf (record { script = s.script; shard = s.shard; entries = entries; spare = spare }) new_shard names journals snapshots marks
@@ -124,7 +124,7 @@ shelf_granted s {ls} {new_shard} {n} {names} {journals} {snapshots} {marks} {ent
     let next : may s f ≡ true = ap (λ x. may s (fact.Granted (slot.Shard x) n who)) k.list_is ∙ (ap (λ i. may s (fact.Granted (slot_of s) i who)) now ∙ may_grant s who same_slot free node) in
     shelf_next s f k next e less shard (kept_none s.script names s.entries journals snapshots marks f (record { journal_is = λ x old. refl; snapshot_is = λ x old. refl; mark_is = λ x old. refl }) k.kept_is)
 
-pub shelf_freed : (s : Shelf) {ls new_shard : ℕ} {names : List (List ℕ)} {journals : List (Spared Record)} {snapshots : List Kept} {marks : List Bool} {entries : List Fact} {spare : ℕ} (why : Cause)
+pub shelf_freed : (s : Shelf) {ls new_shard : ℕ} {names : List (List ℕ)} {journals : List Journaled} {snapshots : List Kept} {marks : List Bool} {entries : List Fact} {spare : ℕ} (why : Cause)
     → SameSlot → IsShelf s ls names journals snapshots marks → is_held s.entries ≡ true
     → entries ≡ s.entries ++ fact.Freed (slot.Shard ls) (epoch s.entries) why ∷ [] → spare ≡ s.spare - 1 → new_shard ≡ ls
     → IsShelf (record { script = s.script; shard = s.shard; entries = entries; spare = spare }) new_shard names journals snapshots marks
@@ -148,27 +148,51 @@ may_write s e r m =
     let n : _ × _ = and_both (r.number == length (journal e s.entries) + 1) (list_any (λ v. is_decided v s.script (journal e s.entries) r) (versions s.script)) b.1 in
     record { of = (and_both (is_of_shard s.script s.shard e) (is_producer s.script r.producer) b.0).0; number = (Decides-eqb r.number (length (journal e s.entries) + 1)).0 n.0 }
 
-pub journal_there : (s : Shelf) {ls : ℕ} {names : List (List ℕ)} {journals : List (Spared Record)} {snapshots : List Kept} {marks : List Bool} (e : List ℕ) (k : ℕ) (j : Spared Record)
+pub journal_there : (s : Shelf) {ls : ℕ} {names : List (List ℕ)} {journals : List Journaled} {snapshots : List Kept} {marks : List Bool} (e : List ℕ) (k : ℕ) (j : Journaled)
     → IsShelf s ls names journals snapshots marks → k < length names → name_at names k ≡ e → j ≡ slice_index_or journals k j → (slice_index_or journals k no_journal ≡ j) × (j.items ≡ journal e s.entries)
 journal_there s {ls} {names} {journals} e k j shelf inside it is =
     let here : slice_index_or journals k no_journal ≡ j = get_or_default journals k no_journal j (omega (arith, inside, shelf.kept_is.journals_there)) ∙ sym is in
-    (here, ap (λ (x : Spared Record). x.items) (sym here) ∙ ((shelf.kept_is.journal_is k inside).records_are ∙ ap (λ x. journal x s.entries) it))
+    (here, ap (λ (x : Journaled). x.items) (sym here) ∙ ((shelf.kept_is.journal_is k inside).records_are ∙ ap (λ x. journal x s.entries) it))
 
-pub journal_number : (s : Shelf) {ls : ℕ} {names : List (List ℕ)} {journals : List (Spared Record)} {snapshots : List Kept} {marks : List Bool} (e : List ℕ) (r : Record) (k : ℕ) (j : Spared Record)
+-- some record of a journal that has one
+pub some_of : (rs : List Record) (k : ℕ) → k < length rs → Record
+some_of [] k h = absurd (omega (arith, h))
+some_of (r ∷ rs) k h = r
+
+-- what stands at a place of the list
+pub record IsWritten (list : List Fact) (p : ℕ) (e : List ℕ) (r : Record) : Type 0 where
+  pub within : p < length list
+  pub it : (f : Fact) → slice_index_or list p f ≡ fact.Wrote e r
+
+-- at that of a record of a journal, its entry
+pub written_at : (s : Shelf) {ls : ℕ} {names : List (List ℕ)} {journals : List Journaled} {snapshots : List Kept} {marks : List Bool} (e : List ℕ) (i k p : ℕ) (j : Journaled) (d : Record)
+    → IsShelf s ls names journals snapshots marks → i < length names → name_at names i ≡ e → j ≡ slice_index_or journals i j → k < length (journal e s.entries) → p ≡ slice_index_or j.places k 0
+    → IsWritten s.entries p e (slice_index_or (journal e s.entries) k d)
+written_at s {ls} {names} {journals} e i k p j d shelf inside it is within at =
+    let here : slice_index_or journals i no_journal ≡ j = (journal_there s e i j shelf inside it is).0 in
+    let kept : IsJournal e s.entries (sent_to e s.script.orders) j =
+    subst (IsJournal e s.entries (sent_to e s.script.orders)) here (subst (λ n. IsJournal n s.entries (sent_to n s.script.orders) (slice_index_or journals i no_journal)) it (shelf.kept_is.journal_is i inside)) in
+    let some : k < length j.items = subst (λ (l : List Record). k < length l) (sym kept.records_are) within in
+    record {
+      within = subst (λ n. n < length s.entries) (sym at) (kept.places_are.within k some);
+      it = λ f. ap (λ n. slice_index_or s.entries n f) at ∙ (kept.places_are.it k d f some ∙ ap (λ (l : List Record). fact.Wrote e (slice_index_or l k d)) kept.records_are);
+    }
+
+pub journal_number : (s : Shelf) {ls : ℕ} {names : List (List ℕ)} {journals : List Journaled} {snapshots : List Kept} {marks : List Bool} (e : List ℕ) (r : Record) (k : ℕ) (j : Journaled)
     → IsShelf s ls names journals snapshots marks → may s (fact.Wrote e r) ≡ true → k < length names → name_at names k ≡ e → j ≡ slice_index_or journals k j → r.number ≡ length j.items + 1
 journal_number s e r k j shelf m inside it is = (may_write s e r m).number ∙ ap (λ rs. length rs + 1) (sym (journal_there s e k j shelf inside it is).1)
 
-pub shelf_wrote : (s : Shelf) {ls new_shard : ℕ} {names : List (List ℕ)} {journals : List (Spared Record)} {snapshots : List Kept} {marks : List Bool} {entries : List Fact} {spare : ℕ} (e : List ℕ) (r : Record) (k : ℕ) (old new : Spared Record)
+pub shelf_wrote : (s : Shelf) {ls new_shard : ℕ} {names : List (List ℕ)} {journals : List Journaled} {snapshots : List Kept} {marks : List Bool} {entries : List Fact} {spare : ℕ} (e : List ℕ) (r : Record) (k : ℕ) (old new : Journaled)
     → IsShelf s ls names journals snapshots marks → may s (fact.Wrote e r) ≡ true → k < length names → name_at names k ≡ e → old ≡ slice_index_or journals k old
-    → new.items ≡ old.items ++ r ∷ [] → new.spare + 1 ≡ old.spare
+    → new.items ≡ old.items ++ r ∷ [] → new.places ≡ old.places ++ length s.entries ∷ [] → new.spare + 1 ≡ old.spare
     → entries ≡ s.entries ++ fact.Wrote e r ∷ [] → spare ≡ s.spare - 1 → new_shard ≡ ls
     → IsShelf (record { script = s.script; shard = s.shard; entries = entries; spare = spare }) new_shard names (slice_set journals k new) snapshots marks
-shelf_wrote s {ls} {new_shard} {names} {journals} {snapshots} {marks} e r k old new shelf m inside it was items less is one shard =
+shelf_wrote s {ls} {new_shard} {names} {journals} {snapshots} {marks} e r k old new shelf m inside it was items places less is one shard =
     let here : slice_index_or journals k no_journal ≡ old = (journal_there s e k old shelf inside it was).0 in
     shelf_next s (fact.Wrote e r) shelf m is one shard
-    (kept_wrote s.script names s.entries journals snapshots marks e r k new shelf.sorted inside it (items ∙ ap (λ (x : Spared Record). x.items ++ r ∷ []) (sym here)) (less ∙ ap (λ (x : Spared Record). x.spare) (sym here)) shelf.kept_is)
+    (kept_wrote s.script names s.entries journals snapshots marks e r k new shelf.sorted inside it (items ∙ ap (λ (x : Journaled). x.items ++ r ∷ []) (sym here)) (places ∙ ap (λ (x : Journaled). x.places ++ length s.entries ∷ []) (sym here)) (less ∙ ap (λ (x : Journaled). x.spare) (sym here)) shelf.kept_is)
 
-pub shelf_saved : (s : Shelf) {ls new_shard : ℕ} {names : List (List ℕ)} {journals : List (Spared Record)} {snapshots : List Kept} {marks : List Bool} {entries : List Fact} {spare : ℕ} (e : List ℕ) (n k : ℕ) (j : Spared Record) (p : Snapshot) (old new : Kept)
+pub shelf_saved : (s : Shelf) {ls new_shard : ℕ} {names : List (List ℕ)} {journals : List Journaled} {snapshots : List Kept} {marks : List Bool} {entries : List Fact} {spare : ℕ} (e : List ℕ) (n k : ℕ) (j : Journaled) (p : Snapshot) (old new : Kept)
     → IsShelf s ls names journals snapshots marks → is_held s.entries ≡ true → is_of_shard s.script s.shard e ≡ true → last_snapshot e s.entries < length (journal e s.entries) → k < length names → name_at names k ≡ e → j ≡ slice_index_or journals k j → n ≡ length j.items → old ≡ slice_index_or snapshots k old
     → new.snapshots ≡ last_of old.keep (old.snapshots ++ p ∷ []) → new.keep ≡ old.keep
     → p.at ≡ n → p.state ≡ folded s.script.config.kind (journal e s.entries) → ((q : ℕ) → 0 < q → q ≤ 32 → slice_index_or p.positions (q - 1) 0 ≡ position q j.items)
@@ -193,7 +217,7 @@ shelf_saved s {ls} {new_shard} {names} {journals} {snapshots} {marks} {entries} 
 
 -- A mark.
 
-pub shelf_remembered : (s : Shelf) {ls new_shard : ℕ} {names : List (List ℕ)} {journals : List (Spared Record)} {snapshots : List Kept} {marks new_marks : List Bool} {entries : List Fact} {spare : ℕ} (e : List ℕ) (k : ℕ)
+pub shelf_remembered : (s : Shelf) {ls new_shard : ℕ} {names : List (List ℕ)} {journals : List Journaled} {snapshots : List Kept} {marks new_marks : List Bool} {entries : List Fact} {spare : ℕ} (e : List ℕ) (k : ℕ)
     → IsShelf s ls names journals snapshots marks → is_held s.entries ≡ true → is_of_shard s.script s.shard e ≡ true → is_remembered e s.entries ≡ false → k < length names → name_at names k ≡ e
     → new_marks ≡ slice_set marks k true → entries ≡ s.entries ++ fact.Remembered e ∷ [] → spare ≡ s.spare - 1 → new_shard ≡ ls
     → IsShelf (record { script = s.script; shard = s.shard; entries = entries; spare = spare }) new_shard names journals snapshots new_marks
@@ -201,7 +225,7 @@ shelf_remembered s {ls} {new_shard} {names} {journals} {snapshots} {marks} {new_
     shelf_next s (fact.Remembered e) shelf (may_remember s e held of new) is one shard (subst (AreKept s.script names (s.entries ++ fact.Remembered e ∷ []) journals snapshots) (sym marked)
     (kept_marked s.script names s.entries journals snapshots marks e k true (fact.Remembered e) shelf.sorted inside it (record { journal_is = λ x old. refl; snapshot_is = λ x old. refl; mark_is = λ x old. refl }) shelf.kept_is))
 
-pub shelf_forgotten : (s : Shelf) {ls new_shard : ℕ} {names : List (List ℕ)} {journals : List (Spared Record)} {snapshots : List Kept} {marks new_marks : List Bool} {entries : List Fact} {spare : ℕ} (e : List ℕ) (k : ℕ)
+pub shelf_forgotten : (s : Shelf) {ls new_shard : ℕ} {names : List (List ℕ)} {journals : List Journaled} {snapshots : List Kept} {marks new_marks : List Bool} {entries : List Fact} {spare : ℕ} (e : List ℕ) (k : ℕ)
     → IsShelf s ls names journals snapshots marks → is_held s.entries ≡ true → is_of_shard s.script s.shard e ≡ true → is_remembered e s.entries ≡ true → k < length names → name_at names k ≡ e
     → new_marks ≡ slice_set marks k false → entries ≡ s.entries ++ fact.Forgotten e ∷ [] → spare ≡ s.spare - 1 → new_shard ≡ ls
     → IsShelf (record { script = s.script; shard = s.shard; entries = entries; spare = spare }) new_shard names journals snapshots new_marks
@@ -217,9 +241,9 @@ keep_above c k = at_least (and_both _ (is_in 1 10 c.config.keep) k.config).1
     at_least : is_in 1 10 c.config.keep ≡ true → 0 < c.config.keep
     at_least e = grind (arith, nat_tests)
 
-pub shelf_new : (c : Script) (s n : ℕ) (names : List (List ℕ)) (journals : List (Spared Record)) (snapshots : List Kept) (marks : List Bool) → IsScript c → s < c.config.shards
+pub shelf_new : (c : Script) (s n : ℕ) (names : List (List ℕ)) (journals : List Journaled) (snapshots : List Kept) (marks : List Bool) → IsScript c → s < c.config.shards
     → names ≡ names_of (setting c) s → IsStrictlySortedBy (slice_cmp nat_cmp) names → length names ≤ 1000 → n ≡ length names
-    → AreEach no_journal (λ i. IsJournal [] (sent_to (name_at names i) c.orders)) journals (length names) → snapshots ≡ replicate n (record { snapshots = []; keep = c.config.keep }) → marks ≡ replicate n false
+    → AreEach no_journal (IsJournalIn [] c.orders names) journals (length names) → snapshots ≡ replicate n (record { snapshots = []; keep = c.config.keep }) → marks ≡ replicate n false
     → IsShelf (record { script = c; shard = s; entries = []; spare = 0 }) s names journals snapshots marks
 shelf_new c s n names journals snapshots marks script inside names_are sorted few count js ss ms = record {
   own_is = refl;
@@ -233,7 +257,7 @@ shelf_new c s n names journals snapshots marks script inside names_are sorted fe
       (kept_new c names journals (keep_above c script) js));
 }
 
-pub shelf_reserved : (s : Shelf) {ls new_shard : ℕ} {names : List (List ℕ)} {journals : List (Spared Record)} {snapshots : List Kept} {marks : List Bool} {entries : List Fact} {spare : ℕ}
+pub shelf_reserved : (s : Shelf) {ls new_shard : ℕ} {names : List (List ℕ)} {journals : List Journaled} {snapshots : List Kept} {marks : List Bool} {entries : List Fact} {spare : ℕ}
     → IsShelf s ls names journals snapshots marks → entries ≡ s.entries → new_shard ≡ ls
     → IsShelf (record { script = s.script; shard = s.shard; entries = entries; spare = spare }) new_shard names journals snapshots marks
 shelf_reserved s {ls} {new_shard} {names} {journals} {snapshots} {marks} k same_list shard = record {
@@ -247,7 +271,7 @@ shelf_reserved s {ls} {new_shard} {names} {journals} {snapshots} {marks} k same_
 }
 
 -- there is room for a record that may come next
-pub journal_room : (s : Shelf) {ls : ℕ} {names : List (List ℕ)} {journals : List (Spared Record)} {snapshots : List Kept} {marks : List Bool} (e : List ℕ) (r : Record) (k : ℕ) (j : Spared Record)
+pub journal_room : (s : Shelf) {ls : ℕ} {names : List (List ℕ)} {journals : List Journaled} {snapshots : List Kept} {marks : List Bool} (e : List ℕ) (r : Record) (k : ℕ) (j : Journaled)
     → IsShelf s ls names journals snapshots marks → may s (fact.Wrote e r) ≡ true → k < length names → name_at names k ≡ e → j ≡ slice_index_or journals k j → 0 < j.spare
 journal_room s {ls} {names} {journals} e r k j shelf m inside it is =
     let next : List Fact = s.entries ++ fact.Wrote e r ∷ [] in
@@ -255,7 +279,7 @@ journal_room s {ls} {names} {journals} e r k j shelf m inside it is =
     let grown : journal e next ≡ journal e s.entries ++ r ∷ [] = journal_wrote e e s.entries r true (name_itself e) in
     let more : length (journal e next) ≡ length (journal e s.entries) + 1 = ap length grown ∙ length-append (journal e s.entries) (r ∷ []) in
     let here : slice_index_or journals k no_journal ≡ j = (journal_there s e k j shelf inside it is).0 in
-    let room : sent_to e s.script.orders ≤ length (journal e s.entries) + j.spare = subst (λ (x : Spared Record). sent_to e s.script.orders ≤ length (journal e s.entries) + x.spare) here (subst (λ n. sent_to n s.script.orders ≤ length (journal n s.entries) + (slice_index_or journals k no_journal).spare) it (shelf.kept_is.journal_is k inside).room_is) in
+    let room : sent_to e s.script.orders ≤ length (journal e s.entries) + j.spare = subst (λ (x : Journaled). sent_to e s.script.orders ≤ length (journal e s.entries) + x.spare) here (subst (λ n. sent_to n s.script.orders ≤ length (journal n s.entries) + (slice_index_or journals k no_journal).spare) it (shelf.kept_is.journal_is k inside).room_is) in
     omega (arith, few, more, room)
 
 -- there are no more records than entries

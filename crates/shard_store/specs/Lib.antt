@@ -4,3 +4,4 @@ pub mod Reshaped
 pub mod Shelf
 pub mod Shelved
 pub mod Stores
+pub mod Written

@@ -5,7 +5,7 @@ use Rattle.yard_model.specs.declared.fact.Fact.{Fact}
 use Rattle.yard_model.specs.declared.fact.Fact.TheVariants as fact
 use Rattle.yard_model.specs.declared.incarnation.Slot.{Slot}
 use Rattle.yard_model.specs.declared.incarnation.Slot.TheVariants as slot
-use Rattle.yard_model.specs.declared.packet.Record.{Record}
+use Rattle.yard_model.specs.declared.charter.Line.{Line}
 use Rattle.yard_model.specs.Entry.{shard_fact}
 use Rattle.yard_model.specs.Era.{is_of_name, reshaped}
 use Rattle.yard_model.specs.Lawful.{own, is_held}
@@ -13,7 +13,7 @@ use Rattle.yard_model.specs.Script.{Script, setting, with_shards}
 use Rattle.yard_model.specs.Setting.{shard_of}
 use Rattle.yard_model.specs.SlotLists.{SlotLists, shard_list}
 use Rattle.yard_model.specs.SlotReads.{epoch, journal, last_snapshot, is_remembered}
-use Rattle.yard_model.specs.Spared.{Spared}
+use Rattle.entity_journal.specs.Journal.{Journaled}
 use Rattle.yard_model.specs.Trace.{list_at}
 use Rattle.entity_snapshot.specs.Kept.{Kept}
 use Rattle.shard_store.specs.declared.store.Store.{Store}
@@ -53,10 +53,15 @@ pub record AreEach {A : Type 0} (d : A) (P : ℕ → A → Type 0) (xs : List A)
   pub count : length xs ≡ n
   pub each : (i : ℕ) → i < n → P i (slice_index_or xs i d)
 
--- of each name, what is read of it in the list of its shard
+-- of each name, its journal in this list, with room for all that is sent to it by these orders
+abbrev pub IsJournalIn : List Fact → List Line → List (List ℕ) → ℕ → Journaled → Type 0
+IsJournalIn list orders names i j = IsJournal (name_at names i) list (sent_to (name_at names i) orders) j
 
-abbrev pub IsJournalOf : Shelves → List (List ℕ) → ℕ → Spared Record → Type 0
-IsJournalOf x names i j = IsJournal (journal (name_at names i) (list_of x (name_at names i))) (sent_to (name_at names i) x.script.orders) j
+-- each name has the journal in this list that it has in that of its shard
+abbrev pub AreCarried : Shelves → List (List ℕ) → List Fact → Type 0
+AreCarried x names list = (i : ℕ) → i < length names → journal (name_at names i) list ≡ journal (name_at names i) (list_of x (name_at names i))
+
+-- of each name, what is read of it in the list of its shard
 
 abbrev pub IsLatestOf : Shelves → List (List ℕ) → ℕ → Kept → Type 0
 IsLatestOf x names i k = IsLatest x.script.config.kind (journal (name_at names i) (list_of x (name_at names i))) (last_snapshot (name_at names i) (list_of x (name_at names i))) k

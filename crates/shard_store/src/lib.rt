@@ -11,6 +11,7 @@ mod reshape;
 mod shelf;
 mod store;
 mod stores;
+mod written;
 
 pub use shelf::ShardStore;
 pub use store::{Store, StoreRef};

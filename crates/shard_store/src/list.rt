@@ -140,6 +140,13 @@ impl SlotList {
         self.entries.push_reserved(entry);
     }
 
+    /// How many entries there are.
+    pub(crate) fn len(&self) -> u32
+        ensures { result ≡ length self.now.entries }
+    {
+        self.entries.len() as u32
+    }
+
     /// The epoch of the last grant, 0 before.
     pub(crate) fn epoch(&self) -> u32
         ensures { result ≡ epoch self.now.entries }

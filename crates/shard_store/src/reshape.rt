@@ -3,6 +3,7 @@ ghost use Rattle.std.specs.Prelude.{◌≡◌, ℕ, ◌+◌, ◌<◌, ◌≤◌,
 ghost use Rattle.std.specs.List.{list_all, flat_map};
 ghost use Rattle.yard_model.specs.declared.fact.Fact.TheVariants as fact;
 ghost use Rattle.yard_model.specs.declared.incarnation.Slot.TheVariants as slot;
+ghost use Rattle.yard_model.specs.declared.packet.Record.{Record};
 ghost use Rattle.yard_model.specs.Entry.{shard_fact};
 ghost use Rattle.yard_model.specs.Era.{entries_of as named_entries, reshaped};
 ghost use Rattle.yard_model.specs.Genuine.{is_brought};
@@ -12,17 +13,20 @@ ghost use Rattle.yard_model.specs.Setting.{names_of};
 ghost use Rattle.yard_model.specs.SlotLists.{shard_list};
 ghost use Rattle.yard_model.specs.SlotReads.{journal, last_snapshot};
 ghost use Rattle.yard_model.specs.World.{greatest_epoch};
+ghost use Rattle.entity_journal.specs.Journal.{AreNumbered};
 ghost use Rattle.shard_store.specs.Planned.{sent_to};
-ghost use Rattle.shard_store.specs.Reshaped.{slot_lists, next_lists, MayGoOver, is_entry_of, AreEach, IsJournalOf, IsLatestOf, IsMarkOf, IsAfter, IsAfterAt, going_on, is_of_shards};
+ghost use Rattle.shard_store.specs.Reshaped.{slot_lists, next_lists, MayGoOver, is_entry_of, AreEach, IsJournalIn, IsLatestOf, IsMarkOf, AreCarried, IsAfter, IsAfterAt, going_on, is_of_shards};
 ghost use Rattle.shard_store.specs.Shelved.{no_journal, no_snapshots, IsJournal, IsLatest};
+ghost use Rattle.shard_store.specs.Written.{is_record_of, wrote_in, IsNext, IsMore};
 ghost use Rattle.shard_store.specs.Stores.{AreHomes, lists_at, slot_at, script_of, slot_of, entries_of, entries_at};
 
 use crate::list::SlotList;
 use crate::name_table::NameTable;
 use crate::names::Names;
-use crate::shelf::ShardStore;
+use crate::shelf::{ShardStore, new_journal};
 use crate::store::Store;
 use crate::stores::{Parts, SPARE, Stores};
+use crate::written::{has_record_of, record_in};
 use coordinator_state::CoordStore;
 use durable_queue::QueueStore;
 use entity_journal::Journal;
@@ -129,7 +133,7 @@ fn shelf_after(
 {
     let names = Names::of_shard(alloc, charter, table, s)?;
     let list = list_after(alloc, stores, charter, &names, s, epoch)?;
-    let journals = journals_of(alloc, stores, table, names.as_slice())?;
+    let journals = journals_of(alloc, stores, table, names.as_slice(), &list)?;
     let snapshots = snapshots_of(alloc, stores, names.as_slice(), charter.config().keep)?;
     let remembered = marks_of(alloc, stores, names.as_slice())?;
     Ok(ShardStore::begun(charter, list, names, journals, snapshots, remembered, s))
@@ -199,54 +203,82 @@ fn is_of(entry: &ShardEntry, name: &EntityName) -> bool
     }
 }
 
-/// The journals of these names, with room for all that is sent to them. The only error is want of
-/// memory.
+/// The journals of these names in their shard's list from here on, with room for all that is sent to
+/// them. The only error is want of memory.
 fn journals_of(
     alloc: Global,
     stores: &Stores,
     table: &NameTable,
     names: &[EntityName],
+    list: &SlotList,
 ) -> Result<Vec<Journal>, AllocError>
     requires names { list_all (is_brought stores.now.script) names.now ≡ true }
     requires table { table.now.orders ≡ stores.now.script.orders }
-    ensures { IfOk result (λ v. AreEach no_journal (IsJournalOf stores.now names.now) v.items (length names.now)) }
+    requires carried { AreCarried stores.now names.now list.now.entries }
+    ensures { IfOk result (λ v. AreEach no_journal (IsJournalIn list.now.entries stores.now.script.orders names.now) v.items (length names.now)) }
 {
     let mut journals = Vec::new(alloc);
     for name in names {
-        let journal = journal_in(alloc, stores.store_of(name), name, table.sends_to(name))?;
+        let journal = journal_in(
+            alloc,
+            stores.store_of(name),
+            name,
+            table.sends_to(name),
+            list,
+        )?;
         journals.push(journal)?;
     }
     Ok(journals)
 }
 
-/// A journal of the same records as that of an entity, with room for so many in all as are sent to it.
-/// The only error is want of memory.
+/// The journal of a name in a list, of the same records as in its store, with room for so many in all
+/// as are sent to it. The only error is want of memory.
 fn journal_in(
     alloc: Global,
     store: &ShardStore,
     name: &EntityName,
     room: u32,
+    list: &SlotList,
 ) -> Result<Journal, AllocError>
     requires name { IsTrue (is_of_shard store.now.script store.now.shard name.now) }
     requires room { room ≡ sent_to name.now store.now.script.orders }
-    ensures { IfOk result (IsJournal (journal name.now store.now.entries) room) }
+    requires same { journal name.now list.now.entries ≡ journal name.now store.now.entries }
+    ensures { IfOk result (IsJournal name.now list.now.entries room) }
 {
     store.entries();
-    journal_of(alloc, store.journal(name), room)
+    store.journal(name).len();
+    journal_of(alloc, name, room, list)
 }
 
-/// A journal of the same records, with room for so many in all. The only error is want of memory.
-fn journal_of(alloc: Global, journal: &Journal, room: u32) -> Result<Journal, AllocError>
-    requires { length journal.now.items ≤ room }
-    ensures { IfOk result (IsJournal journal.now.items room) }
+/// The journal of a name, read off a list, with room for so many records in all. The only error is
+/// want of memory.
+fn journal_of(
+    alloc: Global,
+    name: &EntityName,
+    room: u32,
+    list: &SlotList,
+) -> Result<Journal, AllocError>
+    requires numbered { AreNumbered (journal name.now list.now.entries) }
+    requires room { length (journal name.now list.now.entries) ≤ room }
+    ensures { IfOk result (IsJournal name.now list.now.entries room) }
 {
-    journal.len();
-    let mut same = Journal::new(alloc);
-    same.reserve(room)?;
-    for entry in journal.tail(0) {
-        same.append(*entry);
+    let entries = list.entries();
+    let mut journal = new_journal(alloc, room)?;
+    for place in 0..entries.len() {
+        add_record(&mut journal, name, &entries[place], place as u32);
     }
-    Ok(same)
+    Ok(journal)
+}
+
+/// Adds the record at this place, where it is one of that name, to the name's journal.
+fn add_record(journal: &mut Journal, name: &EntityName, entry: &ShardEntry, place: u32)
+    requires { (d : Record) → is_record_of name.now entry.now ≡ true → IsNext (wrote_in entry.now d) journal.old }
+    ensures more { (d : Record) → is_record_of name.now entry.now ≡ true → IsMore (wrote_in entry.now d) place journal.old journal.new }
+    ensures none { is_record_of name.now entry.now ≡ false → journal.new ≡ journal.old }
+{
+    if has_record_of(entry, name) {
+        journal.append(record_in(entry), place);
+    }
 }
 
 /// The latest snapshot of each of these names. The only error is want of memory.

@@ -8,15 +8,15 @@ ghost use Rattle.std.specs.List.{list_all};
 ghost use Rattle.yard_model.specs.Genuine.{is_node, is_brought};
 ghost use Rattle.yard_model.specs.Lawful.{own, is_held, is_of_shard};
 ghost use Rattle.yard_model.specs.SlotReads.{epoch, journal, last_snapshot, is_remembered};
-ghost use Rattle.shard_store.specs.Planned.{sent_to};
-ghost use Rattle.shard_store.specs.Reshaped.{AreEach};
+ghost use Rattle.shard_store.specs.Reshaped.{AreEach, IsJournalIn};
 ghost use Rattle.shard_store.specs.Shelf.{Shelf, slot_of, may, with_entry};
-ghost use Rattle.shard_store.specs.Shelved.{IsJournal, IsSnapshot, IsThere, IsShelf, name_at, no_journal};
+ghost use Rattle.shard_store.specs.Shelved.{IsSnapshot, IsThere, IsShelf, no_journal};
 
 use crate::list::SlotList;
 use crate::name_table::NameTable;
 use crate::names::Names;
 use crate::positions::positions_of;
+use crate::written::record_in;
 use entity_journal::Journal;
 use entity_snapshot::{Positions, Snapshot, Snapshots};
 use remember_store::Remembered;
@@ -29,7 +29,8 @@ use yard_model::{Cause, Charter, EntityName, Incarnation, Record, ShardEntry, Sh
 /// The store of one shard, of the charter that it was made for; seen as that charter's script, the
 /// shard, the list of the shard's slot as facts, and a spare: so many entries more take no memory.
 /// The list is lawful by itself: the type keeps it. The journal, the snapshots and the mark of each
-/// of the shard's names are at hand, and no call looks through the list.
+/// of the shard's names are at hand, and no call looks through the list. Of each record the journal
+/// has the place in the list, where it is read.
 #[derive(Drop)]
 pub struct ShardStore {
     script: Ghost<Charter>,
@@ -218,7 +219,8 @@ impl ShardStore {
         requires next { IsTrue (may self.old (fact.Wrote entity.now entry.now)) }
         ensures { self.new ≡ with_entry self.old (fact.Wrote entity.now entry.now) }
     {
-        self.journals[place].append_copy(entry);
+        let at = self.list.len();
+        self.journals[place].append(entry, at);
         self.list.write(ShardEntry::Wrote(*entity, *entry));
     }
 
@@ -329,6 +331,27 @@ impl ShardStore {
         &self.journals[place]
     }
 
+    /// The record of an entity of this shard before which there are `k` others.
+    pub fn record_of(&self, entity: &EntityName, k: u32) -> &Record
+        requires name { IsTrue (is_of_shard self.now.script self.now.shard entity.now) }
+        requires within { k < length (journal entity.now self.now.entries) }
+        ensures { result.now ≡ slice_index_or (journal entity.now self.now.entries) k result.now }
+    {
+        self.record_at(self.names.place(entity), entity, k)
+    }
+
+    /// The same, of the entity at this place.
+    pub fn record_at(&self, place: usize, entity: &EntityName, k: u32) -> &Record
+        requires place { IsThere self.now place entity.now }
+        requires within { k < length (journal entity.now self.now.entries) }
+        ensures { result.now ≡ slice_index_or (journal entity.now self.now.entries) k result.now }
+    {
+        let _entity = *entity;
+        let at = self.journals[place].place(k);
+        let entries = self.list.entries();
+        record_in(&entries[at as usize])
+    }
+
     /// The latest snapshot of an entity of this shard, with the state and the counts of the records
     /// before it; None exactly where there is none.
     pub fn latest(&self, entity: &EntityName) -> Option<&Snapshot>
@@ -373,7 +396,7 @@ fn new_journals(
     names: &[EntityName],
 ) -> Result<Vec<Journal>, AllocError>
     requires { list_all (is_brought table.now) names.now ≡ true }
-    ensures { IfOk result (λ v. AreEach no_journal (λ i. IsJournal [] (sent_to (name_at names.now i) table.now.orders)) v.items (length names.now)) }
+    ensures { IfOk result (λ v. AreEach no_journal (IsJournalIn [] table.now.orders names.now) v.items (length names.now)) }
 {
     let mut journals = Vec::with_capacity(alloc, names.len())?;
     for name in names {
@@ -384,8 +407,10 @@ fn new_journals(
 }
 
 /// An empty journal with room for so many records. The only error is want of memory.
-fn new_journal(alloc: Global, room: u32) -> Result<Journal, AllocError>
-    ensures { IfOk result (IsJournal [] room) }
+pub(crate) fn new_journal(alloc: Global, room: u32) -> Result<Journal, AllocError>
+    ensures items { IfOk result (λ j. j.items ≡ []) }
+    ensures places { IfOk result (λ j. j.places ≡ []) }
+    ensures room { IfOk result (λ j. room ≤ j.spare) }
 {
     let mut journal = Journal::new(alloc);
     journal.reserve(room)?;

@@ -111,7 +111,8 @@ fn put_record_in_more(cells: &mut Vec<u8>, at: usize, written: &Record) -> Resul
     Ok(put_record_line(cells.as_mut_slice(), at, written))
 }
 
-pub(crate) fn put_record_line(cells: &mut [u8], at: usize, written: &Record) -> usize
+/// Spells the line of a record, behind these cells; where it ends.
+pub fn put_record_line(cells: &mut [u8], at: usize, written: &Record) -> usize
     requires { at + 268 ≤ length cells.old }
     ensures items { take result cells.new ≡ take at cells.old ++ line (codes "record" ∷ record_words written.now) }
     ensures end { result ≤ at + 268 }
@@ -136,7 +137,7 @@ pub(crate) fn state_after(kind: Kind, records: &[&Record]) -> State
 
 /// The state goes on by a record's events.
 #[tactic(auto, using(crate::proofs::FoldLaws::applicable_first, crate::proofs::FoldLaws::applicable_next))]
-pub(crate) fn apply_events(state: &mut State, events: &[Event])
+pub fn apply_events(state: &mut State, events: &[Event])
     requires { IsTrue (are_applicable state.old events.now) }
     ensures { state.new ≡ fold apply state.old events.now }
 {

@@ -30,11 +30,12 @@ mod slots;
 mod text_rows;
 mod values;
 
+pub use entities::{apply_events, put_record_line};
 pub use facts::{push_fact, push_facts};
 pub use parts::{ReportNames, count_of_parts, parts_law};
 pub use pieces::{CELLS, Piece, put_coordinator_lines, put_head, put_queue_lines, put_shard_lines};
 pub use report::{push_json, push_report, report_value};
-pub use report_pieces::{put_entity, put_pair, put_record_lines};
+pub use report_pieces::{RECORD_CELLS, put_entity, put_pair};
 pub use shards::names_by_shard;
 pub use sheet::Sheet;
 pub use slots::push_lists;

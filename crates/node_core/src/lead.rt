@@ -117,7 +117,7 @@ fn take(
 {
     match holder_in(&answer) {
         Some(node) => {
-            discard(answer);
+            drop(answer);
             out.push(Item::Fact(Fact::Held(Slot::Coordinator, *who, node)));
         }
         None => begin(alloc, charter, who, answer, coordinator, out),
@@ -133,10 +133,6 @@ pub(crate) fn holder_in(answer: &Acquire) -> Option<NodeNo>
         Acquire::Held(node) => Some(*node),
     }
 }
-
-/// An answer that is read is let go: by itself, so that who reads it owns nothing then.
-#[inline(always)]
-pub(crate) fn discard(_answer: Acquire) {}
 
 /// The slot is granted: it is told, and the coordinator begins.
 fn begin(

@@ -26,7 +26,7 @@ ghost use Rattle.node_core.specs.Taken.{IsGranted};
 ghost use Rattle.node_core.specs.Went.{Went};
 
 use crate::actors::Actors;
-use crate::lead::{discard, holder_in};
+use crate::lead::holder_in;
 use actor_laws::messages::genuine_is_message;
 use actor_laws::producer::{producer_keeps, producer_routes};
 use behaviour_core::Behaviour;
@@ -354,7 +354,7 @@ impl<B: Behaviour + Drop> Actors<B> {
     {
         match holder_in(&answer) {
             Some(node) => {
-                discard(answer);
+                drop(answer);
                 self.tell_queue_held(p, node, out);
             }
             None => self.hold_granted(p, answer, out),

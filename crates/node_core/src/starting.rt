@@ -14,7 +14,7 @@ ghost use Rattle.node_core.specs.Taken.{IsGranted};
 ghost use Rattle.node_core.specs.Started.{take_shard, asks_start, IsShardGrant, IsShardGrantOf, StartLeaves, TookShard, Hosts};
 
 use crate::actors::Actors;
-use crate::lead::{discard, holder_in};
+use crate::lead::holder_in;
 use behaviour_core::Behaviour;
 use shard_lease::{Acquire, Leases};
 use shard_store::{ShardStore, Store};
@@ -65,7 +65,7 @@ impl<B: Behaviour + Drop> Actors<B> {
     {
         match holder_in(&answer) {
             Some(node) => {
-                discard(answer);
+                drop(answer);
                 self.tell_held(s, node, out);
             }
             None => self.host_granted(s, answer, out),

@@ -1,6 +1,6 @@
 -- The names of a script, each with its place: one name more.
-use Rattle.std.proofs.Common.{◌≡◌, ◌≢◌, ℕ, ◌+◌, ◌<◌, ◌≤◌, List, [], ◌∷◌, ◌++◌, length, length-append, map, replicate, sym, ap, subst, ◌∙◌, refl, true, false, true≢false, arith, get_or-set_same, get_or-set_other}
-use Rattle.std.specs.Prelude.{Result, Ok, Err, IsErr, IfOk, OnOk, Bool, zero, suc, ◌==◌, ◌||◌, nat_lt, cond, filter, take, Option, None, slice_set, slice_index_or}
+use Rattle.std.proofs.Common.{◌≡◌, ◌≢◌, ℕ, ◌+◌, ◌<◌, ◌≤◌, List, [], ◌∷◌, ◌++◌, length, length-append, map, replicate, sym, ap, subst, ◌∙◌, refl, true, false, arith, get_or-set_same, get_or-set_other}
+use Rattle.std.specs.Prelude.{Bool, zero, suc, ◌==◌, ◌||◌, nat_lt, cond, filter, take, Option, None, slice_set, slice_index_or}
 use Rattle.std.specs.List.{list_any}
 use Rattle.std.specs.Option.{option_map}
 use Rattle.std.specs.List.Sorted.{IsStrictlySortedBy}
@@ -174,15 +174,6 @@ next c k names spots new counts x s i j script inv are sorted within x_is shard_
       subst (AreFirst c (k + 1)) (sym pushed) (first_more c k spots counts (record { shard = s; inner = slice_index_or counts i 0 }) (subst (IsStrictlySortedBy (slice_cmp nat_cmp)) are sorted) inv.0 inv.1 inside here (ap (λ n. slice_index_or counts n 0) i_is) lt fits),
       subst (λ n. AreCounts c (k + 1) (slice_set counts n (slice_index_or counts i 0 + 1))) (sym j_is) (counts_more c k counts s (slice_index_or counts i 0) inv.1 inside here fits (ap (λ n. slice_index_or counts n 0) i_is)),
     )
-
--- where nothing is made, nothing is said of it
-pub if_failed : {T E : Type 0} (r : Result T E) (P : T → Type 0) → IsErr r → IfOk r P
-if_failed (Ok x) P failed = absurd (true≢false (sym failed))
-if_failed (Err y) P failed = tt
-
-pub on_failed : {T E : Type 0} (r : Result T E) (P : Type 0) → IsErr r → OnOk r P
-on_failed (Ok x) P failed = absurd (true≢false (sym failed))
-on_failed (Err y) P failed = tt
 
 -- all names were passed
 pub all_passed : (c : Script) (at : ℕ) (names : List (List ℕ)) → names ≡ (setting c).names → length names ≤ at → at ≤ length names → at ≡ length (setting c).names

@@ -21,13 +21,12 @@ ghost use Rattle.shard_entities.specs.Ready.{IsReady, AreReady};
 ghost use Rattle.shard_entities.specs.Settled.{IsSettled};
 ghost use Rattle.shard_entities.specs.Placed.{IsPlace};
 
-use crate::beginning::{none_hosted, none_started};
 use crate::cells::Cells;
 use crate::counts::count_out;
 use crate::hosting::{Ending, Hosting, reserve_in};
 use crate::place::Place;
 use crate::places::{Places, shard_at};
-use crate::restless::note;
+use crate::restless::{none_restless, note};
 use place_set::PlaceSet;
 use shard_store::ShardStore;
 use std::alloc::{AllocError, Global};
@@ -111,20 +110,23 @@ impl Shards {
     {
         let config = *charter.config();
         let count = charter.names().len();
-        let unhosted = none_hosted(alloc, config.shards)?;
-        let unstarted = none_started(alloc, count, &config, places)?;
+        let places = places.share()?;
+        let cells = Cells::new(alloc, count, config.producers, config.window)?;
+        let hosted = none_hosted(alloc, config.shards)?;
+        let existing = none_counted(alloc, config.shards)?;
+        let restless = none_restless(alloc, &places)?;
         Ok(Shards {
             script: Snapshot::of(charter),
             who,
             version,
             config,
-            places: unstarted.places,
-            cells: unstarted.cells,
-            hosted: unhosted.hosted,
+            places,
+            cells,
+            hosted,
             running: ShardSet::empty(),
-            existing: unhosted.existing,
+            existing,
             touched: ShardSet::empty(),
-            restless: unstarted.restless,
+            restless,
             holds: PhantomData,
         })
     }
@@ -409,6 +411,25 @@ impl Shards {
     {
         self.config.window
     }
+}
+
+/// No shard is hosted.
+fn none_hosted(alloc: Global, shards: u8) -> Result<Vec<Option<Hosting>>, AllocError>
+    ensures { IfOk result (λ v. v.items ≡ replicate shards None) }
+{
+    let mut hosted = Vec::with_capacity(alloc, shards as usize)?;
+    for _ in 0..shards {
+        hosted.push_reserved(None);
+    }
+    Ok(hosted)
+}
+
+/// No entity of any shard exists.
+fn none_counted(alloc: Global, shards: u8) -> Result<Vec<u32>, AllocError>
+    ensures { IfOk result (λ v. v.items ≡ replicate shards 0) }
+{
+    let existing = vec![in alloc; 0u32; shards as usize]?;
+    Ok(existing)
 }
 
 /// Which of these shards are hosted.

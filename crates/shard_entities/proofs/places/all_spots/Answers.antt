@@ -1,9 +1,10 @@
 use Rattle.std.proofs.Common.{◌≤◌, ◌<◌, length, subst, sym, arith, refl, slice_index_or, ◌≡◌, ap, ◌∙◌}
+use Rattle.std.proofs.lemmas.Result.{IfOk-from_err}
 use Rattle.yard_model.specs.declared.charter.Config.{Config}
 use Rattle.yard_model.specs.Script.{names_in}
 use Rattle.yard_model.specs.Shard.{shard}
 use Rattle.shard_entities.specs.Placed.{AreFirst, AreCounts}
-use Rattle.shard_entities.proofs.PlacesLaws.{next, count_fits, all_passed, if_failed, on_failed, first_of, counts_of, shards_most, shards_some}
+use Rattle.shard_entities.proofs.PlacesLaws.{next, count_fits, all_passed, first_of, counts_of, shards_most, shards_some}
 use Rattle.shard_entities.proofs.places.all_spots.Goals as goal
 
 pub loop-at-init : goal.loop-at-init
@@ -36,16 +37,16 @@ pub bounds-counts-get-in-loop-at : goal.bounds-counts-get-in-loop-at
 bounds-counts-get-in-loop-at c = subst (λ n. n < 128) (sym c.get-in-loop-at.ensures.value) c.get-in-loop-at.ensures.range
 
 pub returns-in_err-spots-clause-spots : goal.returns-in_err-spots-clause-spots
-returns-in_err-spots-clause-spots c = if_failed c.from_residual.result _ c.from_residual.ensures.0
+returns-in_err-spots-clause-spots c = IfOk-from_err c.from_residual.result _ c.from_residual.ensures.0
 
 pub returns-in_err-spots-clause-counts : goal.returns-in_err-spots-clause-counts
-returns-in_err-spots-clause-counts c = on_failed c.from_residual.result _ c.from_residual.ensures.0
+returns-in_err-spots-clause-counts c = IfOk-from_err c.from_residual.result _ c.from_residual.ensures.0
 
 pub returns-in_err-push-clause-spots : goal.returns-in_err-push-clause-spots
-returns-in_err-push-clause-spots c = if_failed c.from_residual-in_err-push.result _ c.from_residual-in_err-push.ensures.0
+returns-in_err-push-clause-spots c = IfOk-from_err c.from_residual-in_err-push.result _ c.from_residual-in_err-push.ensures.0
 
 pub returns-in_err-push-clause-counts : goal.returns-in_err-push-clause-counts
-returns-in_err-push-clause-counts c = on_failed c.from_residual-in_err-push.result _ c.from_residual-in_err-push.ensures.0
+returns-in_err-push-clause-counts c = IfOk-from_err c.from_residual-in_err-push.result _ c.from_residual-in_err-push.ensures.0
 
 pub returns-clause-spots : goal.returns-clause-spots
 returns-clause-spots c = subst (λ n. AreFirst c.args.charter.now n c.loop-at.spots.items) (all_passed c.args.charter.now c.loop-at.at c.names-names.result.now c.names-names.ensures.value c.loop-at-test.false c.loop-at.auto.at-end) c.loop-at.invariant.0

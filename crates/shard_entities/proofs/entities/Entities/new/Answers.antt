@@ -1,8 +1,8 @@
 use Rattle.std.proofs.Common.{ap, replicate, subst, sym, ◌∙◌}
+use Rattle.std.proofs.lemmas.Result.{IfOk-from_err}
 use Rattle.yard_model.specs.declared.charter.Config.{Config}
 use Rattle.shard_entities.specs.Lodged.{Lodged}
 use Rattle.shard_entities.specs.Settled.{IsSettled}
-use Rattle.shard_entities.proofs.PlacesLaws.{if_failed}
 use Rattle.shard_entities.proofs.SettleLaws.{new_settled}
 use Rattle.shard_entities.proofs.entities.Entities.new.Goals as goal
 
@@ -13,10 +13,10 @@ pub new-requires-2-clause-places : goal.new-requires-2-clause-places
 new-requires-2-clause-places c = c.requires.places
 
 pub returns-in_err-pending : goal.returns-in_err-pending
-returns-in_err-pending c = if_failed c.from_residual.result _ c.from_residual.ensures.0
+returns-in_err-pending c = IfOk-from_err c.from_residual.result _ c.from_residual.ensures.0
 
 pub returns-in_err-shards : goal.returns-in_err-shards
-returns-in_err-shards c = if_failed c.from_residual-in_err-shards.result _ c.from_residual-in_err-shards.ensures.0
+returns-in_err-shards c = IfOk-from_err c.from_residual-in_err-shards.result _ c.from_residual-in_err-shards.ensures.0
 
 pub invariant_of-result : goal.invariant_of-result
 invariant_of-result c = record {

@@ -1,6 +1,6 @@
 use Rattle.std.proofs.Common.{◌≡◌, ◌≤◌, replicate, None}
 use Rattle.std.specs.Prelude.{vec_capacity}
-use Rattle.shard_entities.proofs.beginning.no_hostings.Given as goal
+use Rattle.shard_entities.proofs.shards.none_hosted.Given as goal
 
 abbrev pub invariant-loop : goal.invariant-loop
 invariant-loop l = record {

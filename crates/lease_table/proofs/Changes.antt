@@ -1,5 +1,5 @@
 -- A step that changes one slot and one view keeps the rule.
-use Rattle.std.proofs.Common.{◌≡◌, ◌≢◌, ℕ, ◌+◌, ◌<◌, ◌^◌, ◌⊎◌, ⊎_elim, List, length, set, sym, ap, ◌∙◌, subst}
+use Rattle.std.proofs.Common.{◌≡◌, ◌≢◌, ℕ, ◌<◌, ◌^◌, ◌⊎◌, ⊎_elim, List, length, set, sym, ap, ◌∙◌, subst}
 use Rattle.std.specs.Prelude.{slice_index, Option, Some}
 use mathlib.Core.Option as maybe
 use lib.ListN.{get_elem?}
@@ -12,7 +12,7 @@ use Rattle.shard_lease.specs.Meaning.{Begins}
 use Rattle.lease_table.specs.declared.View.{View}
 use Rattle.lease_table.specs.Lists.{seen_at, Has}
 use Rattle.yard_model.specs.Words.{at}
-use Rattle.lease_table.specs.Rule.{TableState, IsFree, LeasedTo, IsSlot, Holds, IsView, IsTable}
+use Rattle.lease_table.specs.Rule.{TableState, IsFree, LeasedTo, IsSlot, Holds, IsView, IsTable, head_at}
 use Rattle.lease_table.proofs.Places.{same_or_not, begins_on, there_inside}
 
 abbrev pub Homes : Type 0
@@ -24,7 +24,7 @@ at_state ws hs vs = record { words = ws; homes = hs; views = vs }
 -- nothing happened at the slot j
 pub record Same (c : Script) (s : TableState) (ws : List ℕ) (hs : Homes) (old new : ℕ → List Fact) (j : ℕ) : Type 0 where
   pub owner : slice_index ws j ≡ slice_index s.words j
-  pub head : slice_index ws (slot_count c + j) ≡ slice_index s.words (slot_count c + j)
+  pub head : slice_index ws (head_at (slot_count c) j) ≡ slice_index s.words (head_at (slot_count c) j)
   pub home : get_elem? hs j ≡ get_elem? s.homes j
   pub hist : new j ≡ old j
 
@@ -88,7 +88,7 @@ module _ (c : Script) (s : TableState) (id : ℕ) (v w : View) (ws : List ℕ) (
 
 -- the slot k alone changes, and it is free or leased to a number of this seat
 pub changes : (c : Script) (s : TableState) (r : IsTable c s) (id : ℕ) (v w : View) (k : ℕ) (ws : List ℕ) (hs : Homes) (hist' : ℕ → List Fact) → get_elem? s.views id ≡ maybe.some v
-    → length ws ≡ slot_count c + slot_count c → ((j : ℕ) → j < slot_count c → j ≢ k → Same c s ws hs r.hist hist' j) → w.numbers ≡ v.numbers → ((j : ℕ) → j ≢ k → at w.held j ≡ at v.held j)
+    → length ws ≡ head_at (slot_count c) (slot_count c) → ((j : ℕ) → j < slot_count c → j ≢ k → Same c s ws hs r.hist hist' j) → w.numbers ≡ v.numbers → ((j : ℕ) → j ≢ k → at w.held j ≡ at v.held j)
     → ((j : ℕ) → j < slot_count c → Begins (r.hist j) (hist' j)) → (k < slot_count c → (slice_index s.words k ≡ 0) ⊎ (r.seat (slice_index s.words k) ≡ id))
     → (k < slot_count c → IsSlot c (at_state ws hs (set s.views id w)) r.seat k (hist' k)) → IsView c (at_state ws hs (set s.views id w)) hist' r.seat id w → AreConfirmed c hist'
     → IsTable c (at_state ws hs (set s.views id w))

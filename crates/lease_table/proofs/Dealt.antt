@@ -1,8 +1,7 @@
 -- The passes that a new table deals.
-use Rattle.std.proofs.Common.{false, ◌≡◌, ℕ, zero, suc, ◌+◌, ◌-◌, ◌<◌, ◌≤◌, ◌^◌, true, List, [], ◌∷◌, ◌++◌, length, map, replicate, refl, sym, ap, ◌∙◌, subst, arith, append_assoc, length-append, get_or, true≢false}
+use Rattle.std.proofs.Common.{false, ◌≡◌, ℕ, zero, suc, ◌+◌, ◌-◌, ◌<◌, ◌≤◌, ◌^◌, true, List, [], ◌∷◌, ◌++◌, length, map, replicate, refl, sym, ap, ◌∙◌, subst, arith, append_assoc, length-append, get_or, true≢false, flat_map, ◌*◌}
 use Rattle.plain_laws.proofs.Booleans.{get_replicate, below, all_get}
 use Rattle.std.specs.Prelude.{Option, None, Some, reverse}
-use Rattle.std.proofs.Math.ListN.{get_or-map}
 use Rattle.std.proofs.lemmas.List.{length-map, map-append, reverse-append, length-replicate, get_or_append_left, get_or-append-add}
 use Rattle.std.specs.List.{list_all}
 use mathlib.Core.Option as maybe
@@ -14,9 +13,10 @@ use Rattle.shard_store.specs.declared.store.Store.{Store}
 use Rattle.shard_store.specs.Stores.{slot_at, entries_of, entries_in, entries_at, IsHome, IsThere, AreHomes}
 use Rattle.lease_table.specs.Lists.{Has}
 use Rattle.yard_model.specs.Words.{at, numbers}
-use Rattle.lease_table.specs.Rule.{down, IsTable}
+use Rattle.lease_table.specs.Rule.{down, IsTable, head_at}
 use Rattle.lease_table.specs.Tells.{SeatState, fresh_view, opening_view, first_of, rest_of, dealt_left, dealt_right}
-use Rattle.lease_table.specs.Leasing.{Pass, pass, counted, IsPass, fresh, dealt_from, dealt_on, dealt, Idle, Ready, words_of, length_in, is_short, lists_in}
+use Rattle.lease_table.specs.Leasing.{Pass, pass, counted, IsPass, fresh, dealt_from, dealt_on, dealt, Idle, Ready, words_of, length_in, line_of, is_short, lists_in}
+use Rattle.lease_table.proofs.Heads.{length_lines, first_of_line}
 use Rattle.lease_table.proofs.Places.{down-le, not_some}
 use Rattle.lease_table.proofs.Seats.{got_at, begins}
 use Rattle.yard_model.specs.Lawful.{is_held}
@@ -129,8 +129,8 @@ at_later n k ys = ap (λ (z : ℕ). get_or (replicate n 0 ++ ys) (z + k) 0) (sym
 pub length_lists : (xs : List (Option Store)) → length (lists_in xs) ≡ length xs
 length_lists xs = length-map xs entries_in
 
-wide_words : (c : Script) (xs : List (Option Store)) → length xs ≡ slot_count c → length (words_of (length xs) xs) ≡ slot_count c + slot_count c
-wide_words c xs long = length-append (replicate (length xs) 0) (map length_in xs) ∙ ap (λ (n : ℕ). n + length (map length_in xs)) (length-replicate (length xs) 0 ∙ long) ∙ ap (λ (n : ℕ). (slot_count c) + n) (length-map xs length_in ∙ long)
+pub wide_words : (c : Script) (xs : List (Option Store)) → length xs ≡ slot_count c → length (words_of (length xs) xs) ≡ head_at (slot_count c) (slot_count c)
+wide_words c xs long = length-append (replicate (length xs) 0) (flat_map line_of xs) ∙ (let zeros : List ℕ = replicate (length xs) 0 in let one : length zeros ≡ length xs = length-replicate (length xs) 0 in let two : length (flat_map line_of xs) ≡ length xs * 8 = length_lines xs in omega (arith, one, two, long))
 
 record Home (c : Script) (k : ℕ) (o : Option Store) : Type 0 where
   pub store : Store
@@ -152,8 +152,8 @@ opens c xs ws homes ready short is = subst (λ (l : List ℕ). IsTable c (openin
       there = got_at xs k (omega arith) ∙ ap maybe.some t.is;
       rests = record { log = refl; spare = t.home.spare_is free; script = t.home.script_is; slot = t.home.slot_is; closed = free };
       own = subst (λ (l : List Fact). Fits c k l) log (ready.own k lt);
-      free = at_zeros (length xs) k (map length_in xs) (omega arith);
-      head = ap (λ (n : ℕ). get_or (words_of (length xs) xs) (n + k) 0) (sym long) ∙ at_later (length xs) k (map length_in xs) ∙ get_or-map length_in xs k None ∙ ap length log;
+      free = at_zeros (length xs) k (flat_map line_of xs) (omega arith);
+      head = ap (λ (n : ℕ). get_or (words_of (length xs) xs) (head_at n k) 0) (sym long) ∙ at_later (length xs) (k * 8) (flat_map line_of xs) ∙ first_of_line xs k ∙ ap length log;
       few = subst (λ (l : List Fact). length l < 2 ^ 32) log (below (length_in (at xs k)) 4294967296 (all_get is_short xs k None short refl));
     })
     ready.confirmed)

@@ -1,5 +1,5 @@
 -- How seats are made and joined.
-use Rattle.std.proofs.Common.{arith, ◌≡◌, ◌≢◌, ℕ, zero, suc, ◌+◌, ◌<◌, ◌^◌, ◌⊎◌, inl, inr, ⊎_elim, List, [], ◌∷◌, ◌++◌, length, set, replicate, refl, sym, ap, ◌∙◌, subst, true≢false, length-set}
+use Rattle.std.proofs.Common.{arith, ◌≡◌, ◌≢◌, ℕ, zero, suc, ◌<◌, ◌^◌, ◌⊎◌, inl, inr, ⊎_elim, List, [], ◌∷◌, ◌++◌, length, set, replicate, refl, sym, ap, ◌∙◌, subst, true≢false, length-set}
 use Rattle.plain_laws.proofs.Booleans.{get_replicate}
 use Rattle.std.specs.Prelude.{slice_index, Option, None, Some}
 use mathlib.Core.Option as maybe
@@ -16,7 +16,7 @@ use Rattle.lease_table.specs.declared.View.{View}
 use Rattle.lease_table.specs.Lists.{seen_at, Has}
 use Rattle.yard_model.specs.Words.{at}
 use Rattle.std.specs.Prelude.{slice_index_or}
-use Rattle.lease_table.specs.Rule.{TableState, IsFree, LeasedTo, IsView, IsTable}
+use Rattle.lease_table.specs.Rule.{TableState, IsFree, LeasedTo, IsView, IsTable, head_at}
 use Rattle.shard_store.specs.Stores.{entries_in, entries_at}
 use Rattle.lease_table.specs.Leasing.{lists_in}
 use Rattle.lease_table.specs.Tells.{opening_view, first_of, rest_of, dealt_left, dealt_right, noted, gathered, united, spent_view}
@@ -233,7 +233,7 @@ pub record Lies (c : Script) (ws : List ℕ) (xs : List (Option Store)) (k : ℕ
   pub rests : IsFree c k (entries_of store) store
   pub own : Fits c k (entries_of store)
   pub free : slice_index ws k ≡ 0
-  pub head : slice_index ws (slot_count c + k) ≡ length (entries_of store)
+  pub head : slice_index ws (head_at (slot_count c) k) ≡ length (entries_of store)
   pub few : length (entries_of store) < 2 ^ 32
 
 pub at_got : (l : List (Option Store)) (k : ℕ) (x : Option Store) → get_elem? l k ≡ maybe.some x → at l k ≡ x
@@ -255,7 +255,7 @@ at_lists [] j = refl
 at_lists (x ∷ xs) zero = refl
 at_lists (x ∷ xs) (suc j) = at_lists xs j
 
-pub begins : (c : Script) (ws : List ℕ) (xs : List (Option Store)) → IsScript c → length ws ≡ slot_count c + slot_count c → ((k : ℕ) → k < slot_count c → Lies c ws xs k) → AreConfirmed c (entries_at xs) → IsTable c (opening ws xs (opening_view c (lists_in xs)))
+pub begins : (c : Script) (ws : List ℕ) (xs : List (Option Store)) → IsScript c → length ws ≡ head_at (slot_count c) (slot_count c) → ((k : ℕ) → k < slot_count c → Lies c ws xs k) → AreConfirmed c (entries_at xs) → IsTable c (opening ws xs (opening_view c (lists_in xs)))
 begins c ws xs script wide lies told =
     let hist : ℕ → List Fact = entries_at xs in let first : View = opening_view c (lists_in xs) in record {
       script = script;

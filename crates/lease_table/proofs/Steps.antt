@@ -1,6 +1,6 @@
 -- The steps that keep the rule: claim, free, publish and look.
 use Rattle.shard_store.specs.Stores.{slot_at}
-use Rattle.std.proofs.Common.{◌≡◌, ◌≢◌, ℕ, ◌+◌, ◌-◌, ◌<◌, ◌≤◌, ◌^◌, ◌⊎◌, inl, inr, ⊎_elim, List, [], ◌∷◌, length, set, refl, sym, ap, ◌∙◌, subst, arith, true, false, eqb, length-set}
+use Rattle.std.proofs.Common.{◌≡◌, ◌≢◌, ℕ, ◌-◌, ◌<◌, ◌≤◌, ◌^◌, ◌⊎◌, inl, inr, ⊎_elim, List, [], ◌∷◌, length, set, refl, sym, ap, ◌∙◌, subst, arith, true, false, eqb, length-set, ◌/◌}
 use Rattle.std.proofs.lemmas.List.{set-get_or, get_or-set_same, get_or-set_other}
 use Rattle.std.specs.Prelude.{slice_index, Option, None, Some}
 use mathlib.Core.Option as maybe
@@ -16,9 +16,10 @@ use Rattle.shard_lease.specs.Meaning.{Begins, confirms}
 use Rattle.lease_table.specs.declared.View.{View}
 use Rattle.lease_table.specs.Lists.{seen_at, Has}
 use Rattle.yard_model.specs.Words.{at}
-use Rattle.lease_table.specs.Rule.{TableState, IsFree, LeasedTo, IsSlot, IsView, IsTable}
+use Rattle.lease_table.specs.Rule.{TableState, IsFree, LeasedTo, IsSlot, IsView, IsTable, head_at}
 use Rattle.lease_table.specs.Tells.{SeatState, won, missed, published, freed, looked, Won, Missed, Claimed, Published, Freed, Looked}
 use Rattle.plain_laws.proofs.Lists.{some_is}
+use Rattle.lease_table.proofs.Heads.{which_head}
 use Rattle.lease_table.proofs.Records.{recorded_begins, home_inside}
 use Rattle.yard_model.specs.Lawful.{own}
 use Rattle.lease_table.specs.Fits.{home_of, AreConfirmed}
@@ -43,12 +44,12 @@ module _ (c : Script) (s : TableState) (r : IsTable c s) (id : ℕ) (m : SeatSta
       → Gives c s k id m (Won m.0 m.1 k) node
   wins k node live lt wide some_node has may helds seens free =
       let sl = r.slots k lt in let h = r.hist k in let x = sl.free free in let w : View = won m.0 k h in let ws : List ℕ = set s.words k node in let hs : Homes = set s.homes k maybe.none in
-      let me = r.views id m.0 here in let is : m.0.charter ≡ c = me.charter live in let long : length s.words ≡ slot_count c + slot_count c = r.wide in
+      let me = r.views id m.0 here in let is : m.0.charter ≡ c = me.charter live in let long : length s.words ≡ head_at (slot_count c) (slot_count c) = r.wide in
       let word_here : slice_index ws k ≡ node = get_or-set_same s.words k node 0 (omega arith) in
       let to : r.seat node ≡ id = me.numbers node has in
       let same : (j : ℕ) → j < slot_count c → j ≢ k → Same c s ws hs r.hist r.hist j = λ j lj n. record {
         owner = get_or-set_other s.words k j node 0 n;
-        head = get_or-set_other s.words k (slot_count c + j) node 0 (λ e. omega arith);
+        head = get_or-set_other s.words k (head_at (slot_count c) j) node 0 (λ e. omega arith);
         home = set_else s.homes k j maybe.none n;
         hist = refl;
       } in
@@ -56,7 +57,7 @@ module _ (c : Script) (s : TableState) (r : IsTable c s) (id : ℕ) (m : SeatSta
       let held_now : at w.held k ≡ Some h = get_or-set_same m.0.held k (Some h) None (omega arith) in
       let seen_now : seen_at w.seen k ≡ h = get_or-set_same m.0.seen k h [] (omega arith) in
       let slot : IsSlot c (at_state ws hs (set s.views id w)) r.seat k h = record {
-        head = get_or-set_other s.words k (slot_count c + k) node 0 (λ e. omega arith) ∙ sl.head;
+        head = get_or-set_other s.words k (head_at (slot_count c) k) node 0 (λ e. omega arith) ∙ sl.head;
         few = sl.few;
         own = sl.own;
         free = λ e. absurd (some_node (sym word_here ∙ e));
@@ -131,13 +132,13 @@ claims c slots id m k node live is lt some_node has may none helds seens s r wid
     (λ hit. let g = wins c s r id m here k node live lt (wide ∙ is) some_node has may helds seens hit in (g.0, g.1, g.2, g.3, record { hit = λ _. g.4; miss = λ e. absurd (e hit) }))
     (λ miss. let g = misses c s r id m here k live lt none miss in (g.0, g.1, g.2, g.3, record { hit = λ e. absurd (miss e); miss = λ _. g.4 }))
 
-pub looks : (c : Script) (slots id : ℕ) (m : SeatState) (k : ℕ) → slots ≡ slot_count c → k < slot_count c → Allows (IsTable c) slots id m (slots + k) (λ n. n) (Looked (step slots (slots + k) 0 0 maybe.none) m)
+pub looks : (c : Script) (slots id : ℕ) (m : SeatState) (k : ℕ) → slots ≡ slot_count c → k < slot_count c → Allows (IsTable c) slots id m (head_at slots k) (λ n. n) (Looked (step slots (head_at slots k) 0 0 maybe.none) m)
 looks c slots id m k is lt s r wide here _ =
-    let i : ℕ = slots + k in let n : ℕ = slice_index s.words i in
-    let head : n ≡ length (r.hist k) = ap (λ (z : ℕ). slice_index s.words (z + k)) is ∙ (r.slots k lt).head in
+    let i : ℕ = head_at slots k in let n : ℕ = slice_index s.words i in
+    let head : n ≡ length (r.hist k) = ap (λ (z : ℕ). slice_index s.words (head_at z k)) is ∙ (r.slots k lt).head in
     let least : length (seen_at m.0.seen k) ≤ n = let b = begins_length _ _ ((r.views id m.0 here).seen k lt) in omega arith in
     let few : n < 2 ^ 32 = subst (λ (z : ℕ). z < 2 ^ 32) (sym head) (r.slots k lt).few in
-    let which : slots + k - slots ≡ k = omega arith in (
+    let which : (head_at slots k - slots) / 8 ≡ k = which_head slots k in (
       looked m.0 n,
       keeps,
       tt,
@@ -150,16 +151,16 @@ Announced m new w y = let a : SeatState = (w, m.1) in let b : SeatState = (publi
 
 -- one store of the head word
 pub publishes : (c : Script) (slots id : ℕ) (m : SeatState) (k : ℕ) (old new : List Fact) → ((e : List ℕ) (p n : ℕ) → confirms e p n new ≡ true → (confirms e p n old ≡ true) ⊎ (recorded e p n (seen_at m.0.seen (home_of c e)) ≡ true)) → slots ≡ slot_count c → at m.0.held k ≡ Some old → length m.0.held ≡ slot_count c → length m.0.seen ≡ slot_count c → Begins old new → Fits c k new → length new < 2 ^ 32
-    → Allows (IsTable c) slots id m (slots + k) (λ _. length new) (λ _. Published new (step slots (slots + k) (length new) 0 maybe.none) m (length new))
+    → Allows (IsTable c) slots id m (head_at slots k) (λ _. length new) (λ _. Published new (step slots (head_at slots k) (length new) 0 maybe.none) m (length new))
 publishes c slots id m k old new vouched is has helds seens more own short s r wide here _ =
-    let me = r.views id m.0 here in let o = me.held k old has in let lt : k < slot_count c = o.inside in let sl = r.slots k lt in let long : length s.words ≡ slot_count c + slot_count c = r.wide in
-    let i : ℕ = slots + k in let w : View = published m.0 k new in let ws : List ℕ = set s.words i (length new) in
+    let me = r.views id m.0 here in let o = me.held k old has in let lt : k < slot_count c = o.inside in let sl = r.slots k lt in let long : length s.words ≡ head_at (slot_count c) (slot_count c) = r.wide in
+    let i : ℕ = head_at slots k in let w : View = published m.0 k new in let ws : List ℕ = set s.words i (length new) in
     let hist' : ℕ → List Fact = edit r.hist k new in let now : hist' k ≡ new = edit_here r.hist k new in
-    let i_is : i ≡ slot_count c + k = omega arith in
+    let i_is : i ≡ head_at (slot_count c) k = omega arith in
     let owners : (j : ℕ) → j < slot_count c → slice_index ws j ≡ slice_index s.words j = λ j lj. get_or-set_other s.words i j (length new) 0 (λ e. omega arith) in
     let same : (j : ℕ) → j < slot_count c → j ≢ k → Same c s ws s.homes r.hist hist' j = λ j lj n. record {
       owner = owners j lj;
-      head = get_or-set_other s.words i (slot_count c + j) (length new) 0 (λ e. omega arith);
+      head = get_or-set_other s.words i (head_at (slot_count c) j) (length new) 0 (λ e. omega arith);
       home = refl;
       hist = edit_else r.hist k new j n;
     } in
@@ -207,26 +208,26 @@ publishes c slots id m k old new vouched is has helds seens more own short s r w
             seen = seen_now;
           })
           (λ _. subst (λ (l : List Fact). Begins l (hist' k)) (sym seen_now) (begins_here (hist' k)))) shown,
-      subst (λ (y : ℕ). Announced m new w y) (let e : k ≡ slots + k - slots = omega arith in e) (refl, subst (λ (l : List Fact). Begins l new) (sym (o.seen ∙ sym old_is)) more),
+      subst (λ (y : ℕ). Announced m new w y) (sym (which_head slots k)) (refl, subst (λ (l : List Fact). Begins l new) (sym (o.seen ∙ sym old_is)) more),
     )
 
 -- one store of the owner word, which also gives the slot back
 pub frees : (c : Script) (slots id : ℕ) (m : SeatState) (k : ℕ) (h : List Fact) (x : Store) (cs : List (ℕ × Option Store)) → slots ≡ slot_count c → at m.0.held k ≡ Some h → length m.0.held ≡ slot_count c → m.1 ≡ (k, Some x) ∷ cs → IsFree c k h x
     → Allows (IsTable c) slots id m k (λ _. 0) (λ _. Freed (step slots k 0 0 maybe.none) m 0)
 frees c slots id m k h x cs is has helds carried rests s r wide here _ =
-    let me = r.views id m.0 here in let o = me.held k h has in let lt : k < slot_count c = o.inside in let sl = r.slots k lt in let long : length s.words ≡ slot_count c + slot_count c = r.wide in
+    let me = r.views id m.0 here in let o = me.held k h has in let lt : k < slot_count c = o.inside in let sl = r.slots k lt in let long : length s.words ≡ head_at (slot_count c) (slot_count c) = r.wide in
     let w : View = freed m.0 k in let ws : List ℕ = set s.words k 0 in let hs : Homes = set s.homes k (maybe.some (Some x)) in
     let word_here : slice_index ws k ≡ 0 = get_or-set_same s.words k 0 0 (omega arith) in
     let same : (j : ℕ) → j < slot_count c → j ≢ k → Same c s ws hs r.hist r.hist j = λ j lj n. record {
       owner = get_or-set_other s.words k j 0 0 n;
-      head = get_or-set_other s.words k (slot_count c + j) 0 0 (λ e. omega arith);
+      head = get_or-set_other s.words k (head_at (slot_count c) j) 0 0 (λ e. omega arith);
       home = set_else s.homes k j (maybe.some (Some x)) n;
       hist = refl;
     } in
     let grows : (j : ℕ) → j < slot_count c → Begins (r.hist j) (r.hist j) = λ j _. begins_here (r.hist j) in
     let none_now : at w.held k ≡ None = get_or-set_same m.0.held k None None (omega arith) in
     let slot : IsSlot c (at_state ws hs (set s.views id w)) r.seat k (r.hist k) = record {
-      head = get_or-set_other s.words k (slot_count c + k) 0 0 (λ e. omega arith) ∙ sl.head;
+      head = get_or-set_other s.words k (head_at (slot_count c) k) 0 0 (λ e. omega arith) ∙ sl.head;
       few = sl.few;
       own = sl.own;
       free = λ _. (x, set_here s.homes k (maybe.some (Some x)) (omega arith), subst (λ (l : List Fact). IsFree c k l x) o.whole rests);

@@ -1,5 +1,5 @@
 -- What a contract sees of a pass, and what the calls say.
-use Rattle.std.specs.Prelude.{◌≡◌, ◌≢◌, ℕ, suc, ◌+◌, ◌<◌, ◌≤◌, ◌⊎◌, Bool, true, false, nat_lt, List, [], ◌∷◌, ◌++◌, length, Option, None, Some, map, replicate, is_some, eqb}
+use Rattle.std.specs.Prelude.{◌≡◌, ◌≢◌, ℕ, suc, ◌+◌, ◌<◌, ◌≤◌, ◌⊎◌, Bool, true, false, nat_lt, List, [], ◌∷◌, ◌++◌, length, Option, None, Some, map, flat_map, replicate, is_some, eqb}
 use Rattle.std.specs.List.{list_any, list_all}
 use Rattle.atomic_table.specs.Seated.{TableId}
 use Rattle.atomic_table.specs.Table.{Me}
@@ -169,8 +169,13 @@ length_in o = length (entries_in o)
 abbrev pub is_short : Option Store → Bool
 is_short o = nat_lt (length_in o) 4294967296
 
+-- a head, and what lies behind it on its cache line
+abbrev pub line_of : Option Store → List ℕ
+line_of o = length_in o ∷ replicate 7 0
+
+-- the words of a new table: no slot has an owner
 abbrev pub words_of : ℕ → List (Option Store) → List ℕ
-words_of n xs = replicate n 0 ++ map length_in xs
+words_of n xs = replicate n 0 ++ flat_map line_of xs
 
 -- the pass of the node n holds nothing
 pub record Idle (z : TableId) (c : Script) (n : ℕ) (p : Pass) : Type 0 where

@@ -1,6 +1,7 @@
 -- The rule of the lease table.
--- The word k is the owner of the slot k, 0 or a node's number, and the word slots + k the length of its list.
-use Rattle.std.specs.Prelude.{◌≡◌, ◌≢◌, ℕ, zero, suc, ◌+◌, ◌<◌, ◌≤◌, ◌^◌, true, false, List, [], ◌∷◌, length, slice_index, Option, Some}
+-- The word k is the owner of the slot k, 0 or a node's number. The length of its list is a word behind those: the heads lie 8 words apart, each on a
+-- cache line of its own, and no other word there is read.
+use Rattle.std.specs.Prelude.{◌≡◌, ◌≢◌, ℕ, zero, suc, ◌+◌, ◌*◌, ◌<◌, ◌≤◌, ◌^◌, true, false, List, [], ◌∷◌, length, slice_index, Option, Some}
 use mathlib.Core.Option as maybe
 use lib.ListN.{get_elem?}
 use Rattle.atomic_table.specs.Table.{State}
@@ -17,6 +18,10 @@ use Rattle.yard_model.specs.Words.{at}
 
 abbrev pub TableState : Type 0
 TableState = State (Option Store) View
+
+-- where the head of the slot k stands, in a table of so many slots
+abbrev pub head_at : ℕ → ℕ → ℕ
+head_at slots k = slots + k * 8
 
 -- the nodes' numbers, n and then those below it
 abbrev pub down : ℕ → List ℕ
@@ -45,7 +50,7 @@ pub record LeasedTo (c : Script) (s : TableState) (seat : ℕ → ℕ) (k : ℕ)
   pub admitted : admits c n (slot_at c.config k) ≡ true
 
 pub record IsSlot (c : Script) (s : TableState) (seat : ℕ → ℕ) (k : ℕ) (h : List Fact) : Type 0 where
-  pub head : slice_index s.words (slot_count c + k) ≡ length h
+  pub head : slice_index s.words (head_at (slot_count c) k) ≡ length h
   pub few : length h < 2 ^ 32
   pub own : Fits c k h
   pub free : slice_index s.words k ≡ 0 → AtHome c s k h
@@ -72,6 +77,6 @@ pub record IsTable (c : Script) (s : TableState) : Type 0 where
   pub hist : ℕ → List Fact
   pub seat : ℕ → ℕ
   pub confirmed : AreConfirmed c hist
-  pub wide : length s.words ≡ slot_count c + slot_count c
+  pub wide : length s.words ≡ head_at (slot_count c) (slot_count c)
   pub slots : (k : ℕ) → k < slot_count c → IsSlot c s seat k (hist k)
   pub views : (id : ℕ) (v : View) → get_elem? s.views id ≡ maybe.some v → IsView c s hist seat id v

@@ -1,5 +1,5 @@
 -- What the steps tell.
-use Rattle.std.specs.Prelude.{◌≡◌, ◌≢◌, ℕ, ◌+◌, ◌-◌, ◌<◌, ◌≤◌, ◌^◌, true, false, List, [], ◌∷◌, ◌++◌, length, Option, None, Some, replicate, nat_lt, if◌then◌else◌}
+use Rattle.std.specs.Prelude.{◌≡◌, ◌≢◌, ℕ, ◌+◌, ◌-◌, ◌/◌, ◌<◌, ◌≤◌, ◌^◌, true, false, List, [], ◌∷◌, ◌++◌, length, Option, None, Some, replicate, nat_lt, if◌then◌else◌}
 use Rattle.atomic_table.specs.Table.{Me, Step, rest}
 use Rattle.yard_model.specs.Script.{Script}
 use Rattle.yard_model.specs.declared.fact.Fact.{Fact}
@@ -12,6 +12,10 @@ use Rattle.lease_table.specs.declared.View.{View}
 use Rattle.lease_table.specs.Lists.{seen_at, Has}
 use Rattle.std.specs.Prelude.{slice_set}
 use Rattle.lease_table.specs.Rule.{IsFree, down}
+
+-- the slot of which a head is
+abbrev pub slot_of_head : Step (Option Store) → ℕ
+slot_of_head s = (s.word - s.slots) / 8
 
 abbrev pub SeatState : Type 0
 SeatState = Me (Option Store) View
@@ -59,14 +63,14 @@ pub record Claimed (s : Step (Option Store)) (m : SeatState) (found : ℕ) (m' :
   pub miss : found ≢ 0 → Missed m.0 m.1 s.word found m'
 
 abbrev pub Published : List Fact → Step (Option Store) → SeatState → ℕ → SeatState → Type 0
-Published h s m found m' = (m' ≡ (published m.0 (s.word - s.slots) h, m.1)) × Begins (seen_at m.0.seen (s.word - s.slots)) h
+Published h s m found m' = (m' ≡ (published m.0 (slot_of_head s) h, m.1)) × Begins (seen_at m.0.seen (slot_of_head s)) h
 
 abbrev pub Freed : Step (Option Store) → SeatState → ℕ → SeatState → Type 0
 Freed s m found m' = m' ≡ (freed m.0 s.word, rest m.1)
 
 pub record Looked (s : Step (Option Store)) (m : SeatState) (found : ℕ) (m' : SeatState) : Type 0 where
   pub now : m' ≡ (looked m.0 found, m.1)
-  pub least : length (seen_at m.0.seen (s.word - s.slots)) ≤ found
+  pub least : length (seen_at m.0.seen (slot_of_head s)) ≤ found
   pub few : found < 2 ^ 32
 
 abbrev pub first_of : List ℕ → ℕ
@@ -114,4 +118,4 @@ abbrev pub TiedAt : SeatState → SeatState → ℕ → Type 0
 TiedAt m m' k = (m' ≡ (tied m.0 k, m.1)) × Begins (seen_at m.0.seen k) (longest (seen_at m.0.seen k) (seen_at m.0.olds k)) × ((y : List Fact) → Has y (seen_at m.0.olds k) → Begins y (longest (seen_at m.0.seen k) (seen_at m.0.olds k)))
 
 abbrev pub Tied : Step (Option Store) → SeatState → ℕ → SeatState → Type 0
-Tied s m found m' = TiedAt m m' (s.word - s.slots)
+Tied s m found m' = TiedAt m m' (slot_of_head s)

@@ -10,6 +10,7 @@ ghost use Rattle.lease_table.specs.Tells.{Claimed, published, looked, noted, uni
 ghost use Rattle.lease_table.specs.Leasing.{MayAct, Answers, MayPublish, Met};
 ghost use Rattle.shard_store.specs.Stores.{entries_of_ref, slot_at};
 ghost use Rattle.lease_table.specs.Belongs.{id_of, charter_of};
+ghost use Rattle.lease_table.specs.Rule.{head_at};
 
 use crate::View;
 use crate::pass::{LeasePass, Note};
@@ -21,7 +22,19 @@ use shard_store::{Store, StoreRef};
 use std::marker::Brand;
 use yard_model::{Incarnation, NodeNo};
 
+/// So many words lie on a cache line.
+pub(crate) const LINE: usize = 8;
+
 impl LeaseTable {
+    /// Where the head of a slot stands: nodes that publish lists of neighbouring slots don't wait for one another's lines.
+    #[inline(always)]
+    fn head(&self, slot: usize) -> usize
+        requires { slot < slot_count (charter_of self.now) }
+        ensures { result ≡ head_at (slot_count (charter_of self.now)) slot }
+    {
+        self.slots + slot * LINE
+    }
+
     /// One compare-exchange of the owner word; what it found.
     fn claim(&self, seat: &mut Seat<Option<Store>, View>, node: NodeNo, slot: usize) -> u64
         requires table { seat.old.table_id ≡ id_of self.now }
@@ -77,7 +90,7 @@ impl LeaseTable {
     {
         self.table
             .shared
-            .store::<Publishes<B>>(seat, self.slots + slot, store.len() as u64)
+            .store::<Publishes<B>>(seat, self.head(slot), store.len() as u64)
     }
 
     /// One store of the slot's head.
@@ -104,7 +117,7 @@ impl LeaseTable {
         let found = self
             .table
             .shared
-            .load::<Looks>(&mut pass.seat, self.slots + slot);
+            .load::<Looks>(&mut pass.seat, self.head(slot));
         count_of(found)
     }
 
@@ -145,7 +158,7 @@ impl LeaseTable {
         } = pass;
         let Note { seat: other } = note;
         self.table.shared.join_seat::<Unites>(&mut seat, other);
-        self.table.shared.load::<Ties>(&mut seat, self.slots + slot);
+        self.table.shared.load::<Ties>(&mut seat, self.head(slot));
         LeasePass {
             seat,
             order,

@@ -12,6 +12,7 @@ ghost use Rattle.lease_table.specs.Belongs.{id_of, charter_of};
 ghost use Rattle.lease_table.specs.Left.{left_of};
 
 use crate::View;
+use crate::calls::LINE;
 use crate::pass::LeasePass;
 use crate::plays::{About, Deals};
 use crate::table::LeaseTable;
@@ -54,15 +55,15 @@ fn entries_of(store: &Option<Store>) -> u32
     }
 }
 
-/// The words of a new table: no owner, and how long each list is.
+/// The words of a new table: no owner, and how long each list is, on a cache line of its own.
 fn heads(alloc: Global, places: &[Option<Store>]) -> Result<Vec<u64>, AllocError>
     ensures words { IfOk result (λ v. v.items ≡ words_of (length places.now) places.now) }
     ensures short { IfOk result (λ v. list_all is_short places.now ≡ true) }
 {
     let mut words = Vec::from_elem(alloc, 0u64, places.len())?;
-    words.reserve(places.len())?;
+    words.reserve(places.len() * LINE)?;
     for store in places {
-        words.push(entries_of(store) as u64)?;
+        words.extend_from_slice(&[entries_of(store) as u64, 0, 0, 0, 0, 0, 0, 0])?;
     }
     Ok(words)
 }

@@ -1,13 +1,13 @@
 use Rattle.lease_table.specs.Fits.{slot_count}
 use Rattle.plain_laws.proofs.Booleans.{get_replicate}
-use Rattle.std.proofs.Common.{◌≤◌, ℕ, List, length, sym, arith, None, ◌++◌, ◌≡◌, ◌<◌, ◌+◌, ◌-◌, [], ap, ◌∙◌}
+use Rattle.std.proofs.Common.{◌≤◌, ℕ, List, length, sym, arith, None, ◌++◌, ◌≡◌, ◌<◌, ◌-◌, [], ap, ◌∙◌}
 use Rattle.lease_table.specs.declared.View.{View}
 use Rattle.lease_table.specs.Belongs.{id_of}
 use Rattle.yard_model.specs.declared.charter.Config.{Config}
 use Rattle.yard_model.specs.declared.fact.Fact.{Fact}
 use Rattle.lease_table.specs.Tells.{SeatState, fresh_view}
 use Rattle.lease_table.specs.Leasing.{pass, dealt_from, fresh}
-use Rattle.lease_table.specs.Rule.{down}
+use Rattle.lease_table.specs.Rule.{down, head_at}
 use Rattle.yard_model.specs.Words.{at}
 use Rattle.lease_table.proofs.Records.{some_nodes}
 use Rattle.lease_table.proofs.Seats.{deals}
@@ -26,7 +26,7 @@ loop-left-init c =
 pub split_seat-other-requires : goal.split_seat-other-requires
 split_seat-other-requires c =
     let d = c.loop-left.invariant in let z = c.args.self.now.sized in
-    let a : c.args.self.now.table.shared.table_id.words ≡ slot_count c.args.self.now.charter.value + slot_count c.args.self.now.charter.value = z.0 in let b : 0 < slot_count c.args.self.now.charter.value = z.5 in (
+    let a : c.args.self.now.table.shared.table_id.words ≡ head_at (slot_count c.args.self.now.charter.value) (slot_count c.args.self.now.charter.value) = z.0 in let b : 0 < slot_count c.args.self.now.charter.value = z.5 in (
       d.table,
       omega arith,
       deals _ _ c.loop-left.seat.me.0 c.loop-left.left (down (c.loop-left.left - 1)) (ap (λ (m : SeatState). m.0.numbers) d.me ∙ down_split c.loop-left.left d.some) (down_apart c.loop-left.left d.some)

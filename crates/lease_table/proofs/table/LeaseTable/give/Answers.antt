@@ -1,7 +1,7 @@
 use Rattle.lease_table.specs.Fits.{slot_count}
-use Rattle.std.proofs.Common.{arith, ◌≡◌, ◌+◌, ◌<◌, sym, ap, ◌∙◌, subst}
+use Rattle.std.proofs.Common.{arith, ◌≡◌, ◌<◌, sym, ap, ◌∙◌, subst}
 use Rattle.yard_model.specs.Script.{Script}
-use Rattle.lease_table.specs.Rule.{IsFree}
+use Rattle.lease_table.specs.Rule.{IsFree, head_at}
 use Rattle.lease_table.proofs.Steps.{frees}
 use Rattle.lease_table.proofs.table.LeaseTable.give.Goals as goal
 
@@ -11,7 +11,7 @@ store-requires c =
     let z = c.args.self.now.sized in
     let wide : slot_count c.args.self.now.charter.value ≡ slot_count t.key.charter.value = ap (λ (y : Script). slot_count y) (sym z.2) in
     let lt : c.args.slot < slot_count c.args.self.now.charter.value = c.requires.slot in
-    let words : t.table_id.words ≡ slot_count c.args.self.now.charter.value + slot_count c.args.self.now.charter.value = z.0 in
+    let words : t.table_id.words ≡ head_at (slot_count c.args.self.now.charter.value) (slot_count c.args.self.now.charter.value) = z.0 in
     let r = c.requires.rests in (
       c.requires.table,
       omega arith,

@@ -17,19 +17,24 @@ use lease_table::{LeasePass, LeaseTable, Note};
 use post_box::{BoxPass, PostBox};
 use std::alloc::{AllocError, Global};
 use std::sync::Wait;
+use std::sync::atomic::AtomicU64;
 use std::thread;
+use std::time::Duration;
 use yard_model::{Charter, NodeNo, Packet};
 
 /// How often a worker lets other threads go first before it takes it that nothing is answered now.
-const LOOKS: u32 = 8;
+const LOOKS: u32 = 32;
 
 /// How often it waits so in vain before it takes another parcel.
-const PATIENCE: u8 = 16;
+const PATIENCE: u8 = 64;
+
+/// For so many microseconds a worker rests where a box hands back what it posts.
+const REST: u64 = 10;
 
 /// The pass of a worker at the boxes, its draws, the parcels that it is to post after the next turn, which boxes were
-/// full when it looked last, whether its own was empty then, whether the one that it counted last handed back what it
-/// had to post, whether it posted something after the last turn, how often it may still wait for an answer, and how
-/// many packets it let go because it couldn't show what they need.
+/// full when it looked last, whether its own was empty then, whether one handed back what it had to post after the last
+/// turn, the word at which it rests then, whether it posted something after that turn, how often it may still wait for
+/// an answer, and how many packets it let go because it couldn't show what they need.
 #[derive(Drop)]
 pub struct Mail<J: Run> {
     pub(crate) pass: BoxPass<Parcel<J>>,
@@ -38,6 +43,7 @@ pub struct Mail<J: Run> {
     full: [bool; 16],
     was_empty: bool,
     is_blocked: bool,
+    rest: AtomicU64,
     has_asked: bool,
     patience: u8,
     pub(crate) unshown: u64,
@@ -56,6 +62,7 @@ impl<J: Run> Mail<J> {
             full: [false; 16],
             was_empty: false,
             is_blocked: false,
+            rest: AtomicU64::new(0),
             has_asked: false,
             patience: PATIENCE,
             unshown: 0,
@@ -138,26 +145,41 @@ impl<J: Run> Mail<J> {
         parcel
     }
 
-    /// Where a box handed back what was to be posted, other threads may go first, so that its node empties it.
+    /// Where a box handed back what was to be posted, its node takes first what lies there. It may wait.
     #[inline(always)]
-    fn make_way(&mut self)
+    fn make_way<R: Wait>(&mut self, rt: &R, boxes: &PostBox<Parcel<J>>)
+        requires belongs { self.old.pass.tables ≡ boxes.now.tables }
         ensures { self.new.pass ≡ self.old.pass }
     {
         if self.is_blocked {
             self.is_blocked = false;
-            thread::yield_now();
+            self.take_rest(rt, boxes);
         }
     }
 
-    /// Posts what is held, in the order in which it was kept back. Other threads may go first, where a box was full. It
-    /// may wait.
+    /// The worker rests a moment, unless its own box is half full: two whose boxes are full don't wait for one another.
+    /// It may wait.
+    #[inline(never)]
+    fn take_rest<R: Wait>(&mut self, rt: &R, boxes: &PostBox<Parcel<J>>)
+        requires belongs { self.old.pass.tables ≡ boxes.now.tables }
+        ensures { self.new.pass ≡ self.old.pass }
+    {
+        let own = self.pass.node();
+        let count = boxes.count(rt, &mut self.pass, own);
+        if count < boxes.capacity() as usize / 2 {
+            self.rest.park_timeout(rt, 0, Duration::from_micros(REST));
+        }
+    }
+
+    /// Posts what is held, in the order in which it was kept back. Where a box was full, its node may go first. It may
+    /// wait.
     #[inline(always)]
     pub fn release<R: Wait>(&mut self, rt: &R, boxes: &PostBox<Parcel<J>>)
         requires belongs { self.old.pass.tables ≡ boxes.now.tables }
         requires nodes { length boxes.now.tables ≡ J.script.config.nodes }
         ensures kept { IsSameHolder self.old.pass self.new.pass }
     {
-        self.make_way();
+        self.make_way(rt, boxes);
         if self.held.is_empty() {
             return;
         }
@@ -193,7 +215,7 @@ impl<J: Run> Mail<J> {
         let count = boxes.count(rt, &mut self.pass, to);
         let is_full = is_all(count, boxes.capacity());
         self.full[place] = is_full;
-        self.is_blocked = is_full;
+        self.is_blocked = self.is_blocked || is_full;
         is_full
     }
 
@@ -217,9 +239,11 @@ impl<J: Run> Mail<J> {
     {
         let to = node_to::<J>(packet);
         let place = to.get() as usize - 1;
-        self.full[place] = boxes
+        let is_full = boxes
             .post(rt, &mut self.pass, to, Parcel::new(*packet, note))
             .is_err();
+        self.full[place] = is_full;
+        self.is_blocked = self.is_blocked || is_full;
     }
 
     /// Keeps a packet back, with a note that has seen the record where it confirms something: it is posted after the next

@@ -1,7 +1,7 @@
 -- The tie: what was seen of a slot becomes the longest of what was seen and of what joins brought.
 use Rattle.lease_table.specs.Fits.{slot_count}
 use Rattle.std.proofs.lemmas.List.{get_or-set_same, get_or-set_other}
-use Rattle.std.proofs.Common.{◌≡◌, ◌≢◌, ℕ, zero, suc, ◌-◌, ◌<◌, ◌≤◌, inl, inr, ⊎_elim, Bool, true, false, List, [], ◌∷◌, length, set, refl, sym, ap, ◌∙◌, subst, arith, ◌/◌}
+use Rattle.std.proofs.Common.{◌≡◌, ◌≢◌, ℕ, zero, suc, ◌<◌, ◌≤◌, inl, inr, ⊎_elim, Bool, true, false, List, [], ◌∷◌, length, set, refl, sym, ap, ◌∙◌, subst, arith}
 use Rattle.std.proofs.lemmas.List.{set-get_or}
 use Rattle.std.proofs.lemmas.Bool.Decides.{nat_tests}
 use Rattle.std.specs.Prelude.{nat_lt, if◌then◌else◌}
@@ -13,9 +13,8 @@ use Rattle.shard_lease.specs.Meaning.{Begins}
 use Rattle.lease_table.specs.declared.View.{View}
 use Rattle.lease_table.specs.Lists.{seen_at, Has}
 use Rattle.std.specs.Prelude.{slice_set}
-use Rattle.lease_table.specs.Rule.{IsView, IsTable, head_at}
+use Rattle.lease_table.specs.Rule.{IsView, IsTable}
 use Rattle.lease_table.specs.Tells.{SeatState, longest, tied, Tied}
-use Rattle.lease_table.proofs.Heads.{which_head}
 use Rattle.lease_table.proofs.Places.{begins_here, begins_on, begins_length, begins_both}
 use Rattle.lease_table.proofs.Changes.{at_state, Same, changes, own_view}
 
@@ -69,16 +68,15 @@ fewer (o ∷ os) (suc k) (suc j) y h = fewer os k j y h
 abbrev Told : SeatState → View → ℕ → Type 0
 Told m w z = let n : SeatState = (w, m.1) in let t : SeatState = (tied m.0 z, m.1) in (n ≡ t) × Begins (seen_at m.0.seen z) (longest (seen_at m.0.seen z) (seen_at m.0.olds z)) × ((y : List Fact) → Has y (seen_at m.0.olds z) → Begins y (longest (seen_at m.0.seen z) (seen_at m.0.olds z)))
 
-pub ties : (c : Script) (slots id : ℕ) (m : SeatState) (k : ℕ) → slots ≡ slot_count c → k < slot_count c → length m.0.seen ≡ slot_count c → Allows (IsTable c) slots id m (head_at slots k) (λ n. n) (Tied (step slots (head_at slots k) 0 0 maybe.none) m)
+pub ties : (c : Script) (slots id : ℕ) (m : SeatState) (k : ℕ) → slots ≡ slot_count c → k < slot_count c → length m.0.seen ≡ slot_count c → Allows (IsTable c) slots id m k (λ n. n) (Tied (step slots k 0 0 maybe.none) m)
 ties c slots id m k is lt seens s r wide here _ =
-    let i : ℕ = head_at slots k in let me = r.views id m.0 here in let w : View = tied m.0 k in
+    let me = r.views id m.0 here in let w : View = tied m.0 k in
     let old : List Fact = seen_at m.0.seen k in let os : List (List Fact) = seen_at m.0.olds k in let l = is_longest old os (r.hist k) (me.seen k lt) (me.olds k lt) in
     let same : (j : ℕ) → j < slot_count c → j ≢ k → Same c s s.words s.homes r.hist r.hist j = λ j lj n. record { owner = refl; head = refl; home = refl; hist = refl } in
     let same' : (j : ℕ) → j < slot_count c → j ≢ (slot_count c) → Same c s s.words s.homes r.hist r.hist j = λ j lj n. record { owner = refl; head = refl; home = refl; hist = refl } in
     let grows : (j : ℕ) → j < slot_count c → Begins (r.hist j) (r.hist j) = λ j _. begins_here (r.hist j) in
     let no_slot : slot_count c < slot_count c → ⊥ = λ (h : slot_count c < slot_count c). omega arith in
     let seen_now : seen_at w.seen k ≡ longest old os = get_or-set_same m.0.seen k (longest old os) [] (omega arith) in
-    let which : (head_at slots k - slots) / 8 ≡ k = which_head slots k in
     let view : IsView c (at_state s.words s.homes (set s.views id w)) r.hist r.seat id w =
     own_view c s id m.0 w k s.words s.homes r.hist r.hist r.seat me refl refl refl (λ j n. refl) (λ j n. get_or-set_other m.0.seen k j (longest old os) [] n) (λ j y h. fewer m.0.olds k j y h) same grows
     (λ x e. let o = me.held k x e in record {
@@ -92,7 +90,7 @@ ties c slots id m k is lt seens s r wide here _ =
       w,
       keeps,
       tt,
-      subst (λ (ws : List ℕ). IsTable c (at_state ws s.homes (set s.views id w))) (sym (set-get_or s.words i 0))
+      subst (λ (ws : List ℕ). IsTable c (at_state ws s.homes (set s.views id w))) (sym (set-get_or s.words k 0))
           (changes c s r id m.0 w (slot_count c) s.words s.homes r.hist here r.wide same' refl (λ j _. refl) grows (λ h. absurd (no_slot h)) (λ h. absurd (no_slot h)) view r.confirmed),
-      subst (λ (z : ℕ). Told m w z) (sym which) (refl, l.first, l.each),
+      (refl, l.first, l.each),
     )

@@ -118,4 +118,4 @@ abbrev pub TiedAt : SeatState → SeatState → ℕ → Type 0
 TiedAt m m' k = (m' ≡ (tied m.0 k, m.1)) × Begins (seen_at m.0.seen k) (longest (seen_at m.0.seen k) (seen_at m.0.olds k)) × ((y : List Fact) → Has y (seen_at m.0.olds k) → Begins y (longest (seen_at m.0.seen k) (seen_at m.0.olds k)))
 
 abbrev pub Tied : Step (Option Store) → SeatState → ℕ → SeatState → Type 0
-Tied s m found m' = TiedAt m m' (slot_of_head s)
+Tied s m found m' = TiedAt m m' s.word

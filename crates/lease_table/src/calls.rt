@@ -158,7 +158,8 @@ impl LeaseTable {
         } = pass;
         let Note { seat: other } = note;
         self.table.shared.join_seat::<Unites>(&mut seat, other);
-        self.table.shared.load::<Ties>(&mut seat, self.head(slot));
+        // (of the owner word, which few write: any step of the table shows it)
+        self.table.shared.load::<Ties>(&mut seat, slot);
         LeasePass {
             seat,
             order,

@@ -1,15 +1,12 @@
 use Rattle.lease_table.specs.Fits.{slot_count}
-use Rattle.std.proofs.Common.{arith, ◌≡◌, ◌<◌, ◌-◌, ℕ, length, sym, ap, ◌∙◌, subst, ◌/◌}
-use mathlib.Core.Option.{none}
-use Rattle.atomic_table.specs.Table.{step, Allows}
+use Rattle.std.proofs.Common.{arith, ◌≡◌, ◌<◌, length, sym, ap, ◌∙◌}
 use Rattle.yard_model.specs.Script.{Script}
 use Rattle.lease_table.specs.declared.View.{View}
 use Rattle.yard_model.specs.Words.{at}
-use Rattle.lease_table.specs.Rule.{IsTable, head_at}
-use Rattle.lease_table.specs.Tells.{SeatState, Tied, TiedAt, united}
+use Rattle.lease_table.specs.Rule.{head_at}
+use Rattle.lease_table.specs.Tells.{SeatState, united}
 use Rattle.lease_table.specs.Leasing.{Pass}
 use Rattle.lease_table.proofs.Seats.{joins}
-use Rattle.lease_table.proofs.Heads.{which_head}
 use Rattle.lease_table.proofs.Ties.{ties}
 use Rattle.lease_table.proofs.United.{united_ok, tied_ok, met}
 use Rattle.lease_table.proofs.table.LeaseTable.meet_at.Goals as goal
@@ -29,7 +26,6 @@ pub load-requires : goal.load-requires
 load-requires c =
     let t = c.args.self.now.table.shared in let z = c.args.self.now.sized in let m : SeatState = c.join_seat.new.seat.me in
     let ok = united_ok _ _ c.join_seat.new.seat.me c.note.inside.seat.me.0 _ _ c.pass.invariant c.join_seat.ensures.2 in
-    let place : head_at t.table_id.slots c.args.slot ≡ c.head.result = ap (λ (z : ℕ). head_at z c.args.slot) z.1 ∙ sym c.head.ensures in
     let slots : t.table_id.slots ≡ c.args.self.now.slots = z.1 ∙ sym z.6 in
     let run : c.args.self.now.slots ≡ slot_count c.args.self.now.charter.value = z.6 in
     let key : t.table_id.slots ≡ slot_count t.key.charter.value = z.1 ∙ ap (λ (y : Script). slot_count y) (sym z.2) in
@@ -38,8 +34,7 @@ load-requires c =
     let charter : slot_count c.pass.inside.charter.value ≡ slot_count c.args.self.now.charter.value = ap (λ (y : Script). slot_count y) (sym c.pass.invariant.charter) ∙ ap (λ (p : Pass). (slot_count p.view.charter)) c.pass.view_is ∙ ap (λ (y : Script). slot_count y) c.requires.charter in (
       c.join_seat.ensures.0 ∙ ap (λ (p : Pass). p.table) c.pass.view_is ∙ c.requires.table.0,
       omega arith,
-      subst (λ (w : ℕ). Allows (IsTable t.key.charter.value) t.table_id.slots c.join_seat.new.seat.id m w (λ n. n) (Tied (step t.table_id.slots w 0 0 none) m)) place
-          (ties t.key.charter.value t.table_id.slots c.join_seat.new.seat.id m c.args.slot key (omega arith) (ok.seens ∙ charter ∙ sym z.1 ∙ key)),
+      ties t.key.charter.value t.table_id.slots c.join_seat.new.seat.id m c.args.slot key (omega arith) (ok.seens ∙ charter ∙ sym z.1 ∙ key),
     )
 
 pub invariant_of-result : goal.invariant_of-result
@@ -54,7 +49,4 @@ returns-clause-met c =
     let lt : c.args.slot < slot_count c.args.self.now.charter.value = c.requires.slot in
     let seens : length m.0.seen ≡ slot_count c.pass.inside.charter.value = ok.seens in let oldss : length m.0.olds ≡ slot_count c.pass.inside.charter.value = ok.oldss in
     let e = c.load.ensures.2 in
-    let z = c.args.self.now.sized in
-    let which : (c.head.result - c.args.self.now.table.shared.table_id.slots) / 8 ≡ c.args.slot = ap (λ (i : ℕ). (i - c.args.self.now.table.shared.table_id.slots) / 8) (c.head.ensures ∙ ap (λ (n : ℕ). head_at n c.args.slot) (sym z.1)) ∙ which_head c.args.self.now.table.shared.table_id.slots c.args.slot in
-    let t = subst (λ (z : ℕ). TiedAt c.join_seat.new.seat.me c.load.new.seat.me z) which e in
-    met m c.join_seat.new.seat.me c.load.new.seat.me c.args.pass.view c.args.note.view c.args.slot mv (ap (λ (x : SeatState). x.0) c.join_seat.ensures.2 ∙ ap (λ (w : View). united m.0 w) wv) (omega arith) (omega arith) t.0 t.1 t.2
+    met m c.join_seat.new.seat.me c.load.new.seat.me c.args.pass.view c.args.note.view c.args.slot mv (ap (λ (x : SeatState). x.0) c.join_seat.ensures.2 ∙ ap (λ (w : View). united m.0 w) wv) (omega arith) (omega arith) e.0 e.1 e.2

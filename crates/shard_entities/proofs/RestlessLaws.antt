@@ -1,6 +1,7 @@
 -- Which entities recover or stop, as one of them goes on; and what a tick passes over.
 use Rattle.std.proofs.Common.{◌≡◌, ◌≢◌, ℕ, ◌+◌, ◌<◌, ◌≤◌, List, [], ◌++◌, ◌-◌, length, map, drop, replicate, sym, ap, subst, ◌∙◌, refl, true, false, arith, true≢false, get_or-set_same, get_or-set_other}
 use Rattle.std.specs.Prelude.{Bool, zero, suc, ◌==◌, Option, None, Some, IfSome, IfNone, slice_set, slice_index_or}
+use Rattle.std.specs.List.{flat_map}
 use Rattle.std.specs.List.Sorted.{IsStrictlySortedBy}
 use Rattle.std.specs.Ordering.{nat_cmp}
 use Rattle.std.specs.Cmp.Lexicographic.{slice_cmp}
@@ -14,12 +15,13 @@ use Rattle.yard_model.specs.declared.input.Phase.{Phase}
 use Rattle.yard_model.specs.declared.input.Phase.TheVariants as phase
 use Rattle.yard_model.specs.declared.packet.Body.TheVariants as body
 use Rattle.yard_model.specs.declared.packet.Message.{Message}
-use Rattle.yard_model.specs.Entities.{Entities, Cell, cell, cell_in, new_cell, phase_step, remind_by}
+use Rattle.yard_model.specs.Entities.{Entities, Cell, cell, cell_in, new_cell, phase_step, remind_by, tick_entities}
 use Rattle.yard_model.specs.declared.out.Item.{Item}
 use Rattle.yard_model.specs.Move.{Move, told, post}
 use Rattle.yard_model.specs.Spared.{Spared}
 use Rattle.yard_model.specs.Script.{Script, setting, is_name}
 use Rattle.yard_model.specs.Setting.{shard_of, names_of, place}
+use Rattle.yard_model.specs.Words.{numbers}
 use Rattle.plain_laws.proofs.Booleans.{get_replicate}
 use Rattle.plain_laws.proofs.Names.{name_itself}
 use Rattle.place_set.specs.Places.{Places, is_in}
@@ -36,7 +38,7 @@ use Rattle.shard_entities.proofs.LodgedLaws.{is_same, is_other, placed, cell_at}
 use Rattle.name_index.proofs.NameLaws.{another_name}
 use Rattle.shard_entities.proofs.OrderLaws.{apart_shards, apart_places, ends_before, picked_passes, shard_few}
 use Rattle.shard_entities.proofs.PlacesLaws.{new_cells}
-use Rattle.shard_entities.proofs.TickLaws.{of_names, names_next, room_next}
+use Rattle.shard_entities.proofs.TickLaws.{of_names, of_shard, names_next, room_next}
 
 abbrev pub rests : Celled → Bool
 rests x = is_restless x.cell.phase
@@ -206,3 +208,30 @@ next_silent {c} {version} {who} {config} {places} {cells} {items} {running} {v} 
 
 pub first_room : (l a b : List Move) (spare : ℕ) → l ≡ a ++ b → length l ≤ spare → length a ≤ spare
 first_room l a b spare cut room = let both : length a + length b ≤ spare = room_next l a b spare cut room in omega (arith, both)
+
+-- Where no place is in the set, no shard is told anything.
+
+shards_silent : (st : Entities) (n s : ℕ) → ((j : ℕ) → s ≤ j → j < s + n → of_shard st j ≡ []) → flat_map (of_shard st) (numbers s n) ≡ []
+shards_silent st zero s none = refl
+shards_silent st (suc n) s none =
+    ap (λ l. l ++ flat_map (of_shard st) (numbers (s + 1) n)) (none s (omega arith) (omega arith))
+    ∙ shards_silent st n (s + 1) (λ j up low. none j (omega (arith, up)) (omega (arith, low)))
+
+pub tick_silent : {c : Script} {version : ℕ} {who : Incarnation} {config : Config} {places : Script} {cells : List Celled} {items : List (Option Hosting)} {running : ℕ} {v : Lodged} {marked : Places} {total next : ℕ}
+    → IsLodged c version who config places cells items running → AreRestless (setting c) (map cell_of cells) marked → lodged c version who items cells ≡ v → total ≡ start_of (setting places) places.config.shards → ((k : ℕ) → 0 ≤ k → k < next → is_in marked k ≡ false) → total ≤ next
+    → tick_entities v.state ≡ []
+tick_silent {c} {version} {who} {config} {places} {cells} {items} {running} {v} {marked} {total} {next} t k seen all none most =
+    subst (λ (v : Lodged). tick_entities v.state ≡ []) seen (shards_silent st c.config.shards 0 (λ s up low. one s (omega (arith, low))))
+  where
+    st : Entities
+    st = (lodged c version who items cells).state
+
+    whole : total ≡ start_of (setting c) c.config.shards
+    whole = all ∙ ap (λ (x : Script). start_of (setting x) x.config.shards) t.places_are
+
+    one : (s : ℕ) → s < c.config.shards → of_shard st s ≡ []
+    one s below =
+        let far : start_of (setting c) s + length (names_of (setting c) s) ≤ start_of (setting c) c.config.shards = ends_before (setting c) s c.config.shards below in
+        names_passed st (names_of (setting c) s) 0 (length (names_of (setting c) s)) (omega arith) (omega arith)
+        (λ j up low. sym (k.each s j below low) ∙ none (start_of (setting c) s + j) (omega arith) (omega (arith, low, far, whole, most)))
+        ∙ names_end st (names_of (setting c) s) (length (names_of (setting c) s)) (omega arith)

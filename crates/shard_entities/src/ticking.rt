@@ -1,5 +1,5 @@
 //! The tick.
-ghost use Rattle.std.specs.Prelude.{◌≡◌, ℕ, ◌+◌, ◌<◌, ◌≤◌, false, List, [], ◌∷◌, length};
+ghost use Rattle.std.specs.Prelude.{◌≡◌, ℕ, ◌+◌, ◌<◌, ◌≤◌, true, false, List, [], ◌∷◌, length};
 ghost use Rattle.std.specs.List.{flat_map};
 ghost use Rattle.yard_model.specs.Entities.{cell, entities_of, remind_by, tick_entities};
 ghost use Rattle.shard_entities.specs.Lodged.{given};
@@ -16,6 +16,25 @@ use yard_model::{Body, Out, Phase, ShardNo};
 impl Shards {
     /// Each entity that recovers is asked for its journal again, and each that stops is told so again.
     pub(crate) fn tick(&self, out: &mut Out)
+        requires room { length (tick_entities self.now.state) ≤ out.old.spare }
+        ensures { out.new ≡ given out.old (tick_entities self.now.state) }
+    {
+        if self.none_is_restless() {
+            return;
+        }
+        self.remind_all(out);
+    }
+
+    /// No entity recovers or stops: at nearly every tick it is so.
+    fn none_is_restless(&self) -> bool
+        ensures { result ≡ true → tick_entities self.now.state ≡ [] }
+    {
+        self.places.total() <= self.restless.next(0)
+    }
+
+    /// Those of all shards.
+    #[inline(never)]
+    fn remind_all(&self, out: &mut Out)
         requires room { length (tick_entities self.now.state) ≤ out.old.spare }
         ensures { out.new ≡ given out.old (tick_entities self.now.state) }
     {

@@ -4,7 +4,7 @@ use Rattle.yard_model.specs.Entities.{tick_entities}
 use Rattle.yard_model.specs.Words.{numbers}
 use Rattle.shard_entities.specs.Lodged.{given}
 use Rattle.shard_entities.proofs.TickLaws.{of_shard}
-use Rattle.shard_entities.proofs.shards.Shards.tick.Given as goal
+use Rattle.shard_entities.proofs.shards.Shards.remind_all.Given as goal
 
 abbrev pub invariant-loop-s : goal.invariant-loop-s
 invariant-loop-s l = record {

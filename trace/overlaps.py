@@ -1,5 +1,5 @@
 #!/usr/bin/env python3
-"""Says which texts of these pictures a line crosses, or another text: draw/overlaps.py PICTURE.svg ..
+"""Says which texts of these pictures a line crosses, or another text: trace/overlaps.py PICTURE.svg ..
 
 Status 0 where there is none, 1 otherwise. It reads the SVG that `draw.py` writes, by itself: texts as boxes, as
 wide as a monospace font makes them, and paths as their straight pieces. Bars are left out: their texts stand on them.

@@ -1,8 +1,8 @@
 #!/usr/bin/env python3
 """Draws a trace as an SVG sequence diagram.
 
-    ./run.sh replay < SCRIPT | draw/draw.py > PICTURE.svg
-    (cat SCRIPT; echo trace; ./run.sh replay < SCRIPT) | draw/draw.py > PICTURE.svg
+    ./run.sh replay < SCRIPT | trace/draw.py > PICTURE.svg
+    (cat SCRIPT; echo trace; ./run.sh replay < SCRIPT) | trace/draw.py > PICTURE.svg
 
 Standard input is a trace, as `sharder replay` prints it (with its report or without), or a script, a line
 `trace` and the trace; then each order is shown with its text. Lines that begin with `#` are passed over.

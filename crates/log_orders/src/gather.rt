@@ -1,5 +1,5 @@
 //! The facts of an order that belong to a slot's list.
-ghost use Rattle.std.specs.Prelude.{◌≡◌, OnOk};
+ghost use Rattle.std.specs.Prelude.{◌≡◌, OnErr, OnOk};
 ghost use Rattle.log_orders.specs.Orders.{belongs};
 ghost use Rattle.log_orders.specs.Gathered.{Gathers, GathersOne};
 
@@ -24,9 +24,11 @@ fn belongs(fact: &Fact) -> bool
     }
 }
 
-/// One fact more. The only error is want of memory, as which an entry that no log can have counts too.
-fn gather_one(batch: &mut Batch, fact: &Fact) -> Result<(), AllocError>
-    ensures { OnOk result (GathersOne batch.old fact.now batch.new) }
+/// One fact more: its line, if it belongs to a slot's list. The only error is want of memory, as which an entry that
+/// no log can have counts too; then nothing changes.
+pub fn enter(batch: &mut Batch, fact: &Fact) -> Result<(), AllocError>
+    ensures ok { OnOk result (GathersOne batch.old fact.now batch.new) }
+    ensures err { OnErr result (batch.new ≡ batch.old) }
 {
     if !belongs(fact) {
         return Ok(());
@@ -45,7 +47,7 @@ pub(crate) fn gather(batch: &mut Batch, facts: &[Fact]) -> Result<(), AllocError
 {
     batch.clear();
     for fact in facts {
-        gather_one(batch, fact)?;
+        enter(batch, fact)?;
     }
     Ok(())
 }

@@ -5,4 +5,5 @@
 mod gather;
 mod orders;
 
-pub use orders::{CommitFault, commit_order};
+pub use gather::enter;
+pub use orders::{CommitFault, commit_batch, commit_order};

@@ -22,7 +22,7 @@ code_of (status.LogForeign batch) = 11
 -- nothing where the whole text was written
 abbrev pub complaint : Status → Bytes
 complaint status.Ok = []
-complaint status.Usage = codes "usage: sharder solo or replay [json] or live TURNS SEED or bulk NUMBER or log or resume or pull or daemon COUNT"
+complaint status.Usage = codes "usage: sharder solo or replay [json] or live TURNS SEED or bulk NUMBER or log or resume or apply or pull or daemon COUNT"
 complaint (status.Refused line why) = codes "sharder: line " ++ decimal line ++ codes ": reason " ++ decimal (number_of why)
 complaint status.ReadFault = codes "sharder: read fault"
 complaint status.WriteFault = codes "sharder: write fault"

@@ -17,11 +17,12 @@ form_of_word w =
     else if pointwise nat_eq w (codes "pull") then Some form.Pull
     else None
 
--- with a disk at hand there are `log` and `resume` too
+-- with a disk at hand there are `log`, `resume` and `apply` too
 abbrev pub disk_form_of_word : List ℕ → Option Form
 disk_form_of_word w =
     if pointwise nat_eq w (codes "log") then Some form.Log
     else if pointwise nat_eq w (codes "resume") then Some form.Resume
+    else if pointwise nat_eq w (codes "apply") then Some form.Apply
     else form_of_word w
 
 -- `bulk` and a number from 1 to 1,000
@@ -58,7 +59,7 @@ form_in (w ∷ v ∷ []) = form_of_words (string_bytes w) (string_bytes v)
 form_in (w ∷ v ∷ u ∷ []) = form_of_three (string_bytes w) (string_bytes v) (string_bytes u)
 form_in (w ∷ v ∷ u ∷ t ∷ ws) = None
 
--- those with a disk at hand: `log` and `resume` too
+-- those with a disk at hand: `log`, `resume` and `apply` too
 abbrev pub form_on : List (String Global) → Option Form
 form_on [] = None
 form_on (w ∷ []) = disk_form_of_word (string_bytes w)
@@ -83,6 +84,7 @@ abbrev pub is_bare : Form → Bool
 is_bare (form.Live n s) = false
 is_bare form.Log = false
 is_bare form.Resume = false
+is_bare form.Apply = false
 is_bare f = true
 
 -- where a form's script is from: the input, read as a script of a command, or a number
@@ -96,6 +98,7 @@ from_of form.Pull = script_from.Input mode.Pull
 from_of (form.Daemon n) = script_from.Input mode.Daemon
 from_of form.Log = script_from.Input mode.Log
 from_of form.Resume = script_from.Input mode.Log
+from_of form.Apply = script_from.Input mode.Log
 
 -- the numbers that have a script are 1 to 1,000
 abbrev pub is_there : ScriptFrom → Bool

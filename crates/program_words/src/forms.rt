@@ -30,6 +30,8 @@ pub enum Form {
     Log,
     /// `resume`
     Resume,
+    /// `apply`
+    Apply,
 }
 
 /// Where the script of a form is from.
@@ -53,7 +55,7 @@ impl Form {
             Form::Live { .. } => ScriptFrom::Input(Mode::Live),
             Form::Pull => ScriptFrom::Input(Mode::Pull),
             Form::Daemon(_) => ScriptFrom::Input(Mode::Daemon),
-            Form::Log | Form::Resume => ScriptFrom::Input(Mode::Log),
+            Form::Log | Form::Resume | Form::Apply => ScriptFrom::Input(Mode::Log),
         }
     }
 }
@@ -111,6 +113,8 @@ fn disk_form_of_word(word: &str) -> Option<Form>
         Some(Form::Log)
     } else if word == "resume" {
         Some(Form::Resume)
+    } else if word == "apply" {
+        Some(Form::Apply)
     } else {
         form_of_word(word)
     }

@@ -22,6 +22,9 @@ const HELP: &str = "sharder: a cluster of sharded, event-sourced entities with r
   sharder resume       reads a script and sharder.log, and writes the report of what
                        the log has; then goes on from there until every send is
                        recorded and confirmed, and writes each slot's list and the report
+  sharder apply        reads a script, and brings sharder.log up to it: carries out each
+                       send that isn't recorded and confirmed there, puts that on disk as
+                       one batch, and then writes the report of what is on disk
   sharder pull         reads a script of jobs and workers, plays it one step after the
                        other, and writes the trace and what became of each job
   sharder daemon COUNT plays a script of orders and pings in the same way, of COUNT

@@ -7,7 +7,7 @@ use std::fmt;
 
 /// The forms of the command line.
 const USAGE: &str =
-    "usage: sharder solo or replay [json] or live TURNS SEED or bulk NUMBER or log or resume or pull or daemon COUNT";
+    "usage: sharder solo or replay [json] or live TURNS SEED or bulk NUMBER or log or resume or apply or pull or daemon COUNT";
 
 /// How a run of the program ends.
 #[derive(Clone, Copy, Debug, PartialEq, Eq)]
@@ -40,14 +40,14 @@ pub enum Status {
     DiskFault,
     /// Under `log`: there is a log already. Nothing was written.
     LogThere,
-    /// Under `resume`: the open gate at this place of the log isn't followed by a whole batch and a gate.
+    /// Under `resume` and `apply`: the open gate at this place of the log isn't followed by a whole batch and a gate.
     /// Nothing was written.
     LogDamaged {
         /// How many bytes stand before the gate.
         at: u64,
     },
-    /// Under `resume`: this batch of the log has an entry that no run of the script leaves there. Nothing was
-    /// written.
+    /// Under `resume` and `apply`: this batch of the log has an entry that no run of the script leaves there. Nothing
+    /// was written.
     LogForeign {
         /// The batch, from 1.
         batch: u32,

@@ -1,3 +1,3 @@
-mod FreedLaws
-mod ResumeLaws
+pub mod FreedLaws
+pub mod ResumeLaws
 mod SpellLaws

@@ -28,7 +28,7 @@ fn end_on(
 }
 
 /// The same, and whether it writes this text.
-fn ran(
+pub(crate) fn ran(
     alloc: Global,
     word: &str,
     script: &[u8],
@@ -42,7 +42,7 @@ fn ran(
 }
 
 /// A word, a script, what the disk has, and the status and the text that come of it.
-type Case<'a> = (&'a str, &'a [u8], &'a [u8], Status, &'a [u8]);
+pub(crate) type Case<'a> = (&'a str, &'a [u8], &'a [u8], Status, &'a [u8]);
 
 /// The log of the first command, with the gate of its last batch closed.
 const CLOSED_AT_98: &[u8] = b"\x01\x00\x00\x00)granted coordinator 1 1.1
@@ -120,7 +120,7 @@ const CASES: [Case<'static>; 10] = [
 ];
 
 /// Whether this is what a crash leaves after all calls, of which there were few.
-fn is_left(disk: &MemDisk, image: &[u8]) -> Result<bool, AllocError> {
+pub(crate) fn is_left(disk: &MemDisk, image: &[u8]) -> Result<bool, AllocError> {
     let calls = disk.calls();
     if calls >= 1_000 {
         return Ok(false);
@@ -130,7 +130,7 @@ fn is_left(disk: &MemDisk, image: &[u8]) -> Result<bool, AllocError> {
 }
 
 /// Carries a case out over a disk: whether it comes to its status and its text.
-fn comes_out_on(
+pub(crate) fn comes_out_on(
     alloc: Global,
     case: &Case<'_>,
     disk: &mut MemDisk,
@@ -248,7 +248,7 @@ fn crashed(
 }
 
 /// The bytes that may be any, of three kinds.
-const TORN: [&[u8]; 3] = [&[0; 256], &[1; 256], &[]];
+pub(crate) const TORN: [&[u8]; 3] = [&[0; 256], &[1; 256], &[]];
 
 /// The same for three kinds of bytes, each with at least this report: which the last one has.
 fn crashed_before(
@@ -332,6 +332,7 @@ fn each_crash(rt: HostRuntime) -> Result<(), Fail> {
 fn end_at_call(
     alloc: Global,
     word: &str,
+    script: &[u8],
     image: &[u8],
     done: u32,
     sink: &mut Drain,
@@ -339,7 +340,7 @@ fn end_at_call(
     requires { done < 1000 }
 {
     let mut disk = MemDisk::new(alloc, image, &[done + 1])?;
-    let end = end_on(alloc, word, FIRST_COMMAND, &mut disk, sink)?;
+    let end = end_on(alloc, word, script, &mut disk, sink)?;
     Ok((end, disk.calls()))
 }
 
@@ -357,6 +358,7 @@ fn judged(end: Status, is_all: bool, bytes: &[u8], text: &[u8]) -> Option<bool> 
 fn fail_call(
     alloc: Global,
     word: &str,
+    script: &[u8],
     image: &[u8],
     text: &[u8],
     done: u32,
@@ -365,21 +367,22 @@ fn fail_call(
     requires { done < 1000 }
 {
     sink.restart(0, false);
-    let (end, calls) = end_at_call(alloc, word, image, done, sink)?;
+    let (end, calls) = end_at_call(alloc, word, script, image, done, sink)?;
     Ok(judged(end, calls == done as usize, sink.bytes(), text))
 }
 
 /// Runs a form over this image again and again, and each time the next call of the disk fails, until none does:
 /// whether each run does what it is to.
-fn fail_in_turn(
+pub(crate) fn fail_in_turn(
     alloc: Global,
     word: &str,
+    script: &[u8],
     image: &[u8],
     text: &[u8],
     sink: &mut Drain,
 ) -> Result<bool, AllocError> {
     for done in 0..MOST_CALLS {
-        match fail_call(alloc, word, image, text, done, sink)? {
+        match fail_call(alloc, word, script, image, text, done, sink)? {
             Some(false) => {}
             end => return Ok(end.is_some()),
         }
@@ -390,8 +393,15 @@ fn fail_in_turn(
 /// Whether each run of two forms does.
 fn all_fail_in_turn(alloc: Global, sink: &mut Drain) -> Result<bool, AllocError> {
     Ok(
-        fail_in_turn(alloc, "log", b"", FIRST_TEXT, sink)?
-            && fail_in_turn(alloc, "resume", CLOSED_AT_98, RESUMED_QUEUED, sink)?,
+        fail_in_turn(alloc, "log", FIRST_COMMAND, b"", FIRST_TEXT, sink)?
+            && fail_in_turn(
+                alloc,
+                "resume",
+                FIRST_COMMAND,
+                CLOSED_AT_98,
+                RESUMED_QUEUED,
+                sink,
+            )?,
     )
 }
 
@@ -403,10 +413,11 @@ fn each_call_fails(rt: HostRuntime) -> Result<(), Fail> {
 }
 
 /// Words that use no disk leave it alone, and a script that is refused does.
-const WITHOUT_DISK: [(&str, &[u8]); 3] = [
+const WITHOUT_DISK: [(&str, &[u8]); 4] = [
     ("replay", FIRST_COMMAND),
     ("log", b"config\nupgrade\n"),
     ("resume", b"config\nreshard 1\n"),
+    ("apply", b"config\ngo\n"),
 ];
 
 /// Whether a run makes no call of a disk that has a log.

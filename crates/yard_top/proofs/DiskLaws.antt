@@ -1,19 +1,26 @@
 -- How a run over a disk ends, from what became of it.
 use Rattle.std.proofs.Common.{◌≡◌, ◌<◌, ◌≤◌, ℕ, List, [], ◌∷◌, length, refl, sym, subst, ap, ◌∙◌, arith, inl, inr}
-use Rattle.std.specs.Prelude.{Bool, true, Option, Some, None, IfSome, ◌⊎◌, take}
+use Rattle.std.specs.Prelude.{Bool, true, Option, Some, None, IfSome, IsTrue, ◌⊎◌, take}
+use Rattle.yard_io.specs.Told.{TakesFront, followed_by}
+use Rattle.yard_io.proofs.ToldLemmas.{front_whole}
 use Rattle.script_text.specs.Reading.{Reading, Refused, Spelled, reading}
 use Rattle.script_text.specs.declared.fault.Mode.TheVariants as mode
+use Rattle.script_text.specs.declared.fault.Why.{Why}
 use Rattle.yard_model.specs.declared.fact.Fact.{Fact}
 use Rattle.yard_model.specs.Script.{Script}
+use Rattle.yard_model.specs.Text.{Bytes}
 use Rattle.yard_model.specs.World.{trace_of}
 use Rattle.run_parts.specs.Stops.{stop_in}
-use Rattle.disk_log.specs.Images.{SameNow}
+use Rattle.disk_log.specs.Images.{Images, IsTimed, SameNow}
 use Rattle.disk_log.specs.Spelled.{Spells}
 use Rattle.log_resume.specs.Restored.{are_taken, entries}
+use Rattle.log_orders.proofs.GatherLaws.{leaves_none}
+use Rattle.apply_run.specs.Applying.{Applied, GoesOnAs, StaysAs}
+use Rattle.program_words.specs.declared.forms.ScriptFrom.TheVariants as script_from
 use Rattle.program_words.specs.declared.status.Status.{Status}
 use Rattle.program_words.specs.declared.status.Status.TheVariants as status
-use Rattle.yard_top.specs.Disks.{IsLogged, LogEndsAs, Platter, ResumeEnds, Resumed}
-use Rattle.yard_top.specs.Ends.{CameScript, Streams, end_of, most_read}
+use Rattle.yard_top.specs.Disks.{AppliedSome, ApplyEnds, ApplyEndsAs, IfNoScript, IsLogged, LogEndsAs, Platter, ResumeEnds, Resumed}
+use Rattle.yard_top.specs.Ends.{CameScript, EndsEarly, Streams, end_of, most_read}
 
 -- `log`.
 
@@ -73,3 +80,81 @@ resume_ends tells old new disk after s (inr e) ok failed content images falls = 
   never_falls = falls;
   complete = λ none same told. let rose : old.write_faults < new.write_faults = failed e in let level : new.write_faults ≡ old.write_faults = none.1 in absurd (omega (arith, rose, level));
 })
+
+-- `apply`.
+
+-- nothing was done
+pub stays_same : (content : List ℕ) (images : Images) → IsTimed images → StaysAs content images images
+stays_same content images timed = λ log n had. leaves_none images timed had.crash
+
+no_script : (c : Script) (line : ℕ) (why : Why) (r : Reading) → r ≡ Refused line why → r ≡ Spelled c → ⊥
+no_script c line why r e s = let both : Refused line why ≡ Spelled c = sym e ∙ s in cc
+
+-- there is no script to go on with
+early_complete : (content : List ℕ) (had has : Option (List ℕ)) (faults after : ℕ) (s : Status) → EndsEarly (script_from.Input mode.Log) had has faults after s → after ≡ faults
+    → IfSome had (λ xs. (c : Script) (logged : List (List Fact)) → reading mode.Log (take most_read xs) ≡ Spelled c → Spells content logged → are_taken c (entries logged) ≡ true → (s ≡ status.Ok) ⊎ (s ≡ status.OutOfMemory))
+early_complete content None has faults after s early level = tt
+early_complete content (Some xs) has faults after (status.Refused line why) early level = λ c logged spelled t u.
+    absurd (no_script c line why (reading mode.Log (take most_read xs)) (ap (reading mode.Log) (sym early.came.bytes_are) ∙ early.refused) spelled)
+early_complete content (Some xs) has faults after status.ReadFault early level = λ c logged spelled t u. absurd (omega (arith, early, level))
+early_complete content (Some xs) has faults after status.OutOfMemory early level = λ c logged spelled t u. inr refl
+
+early_ends : (tells : Bool) (old new : Streams) (disk : Platter) (s : Status) → IsTimed disk.images → EndsEarly (script_from.Input mode.Log) old.left new.left old.read_faults new.read_faults s → ApplyEndsAs tells old new disk disk s
+early_ends tells old new disk (status.Refused line why) timed early = tt
+early_ends tells old new disk status.ReadFault timed early = tt
+early_ends tells old new disk status.OutOfMemory timed early = λ told. stays_same disk.content disk.images timed
+
+pub apply_early : (tells : Bool) (old new : Streams) (disk : Platter) (s : Status) → IsTimed disk.images → new.taken ≡ old.taken → EndsEarly (script_from.Input mode.Log) old.left new.left old.read_faults new.read_faults s
+    → ApplyEnds tells old new disk disk s
+apply_early tells old new disk s timed unwritten early = record {
+  any_moment = λ told. inl (stays_same disk.content disk.images timed);
+  at_exit = inl unwritten;
+  ends = early_ends tells old new disk s timed early;
+  never_falls = omega arith;
+  complete = λ none same told. early_complete disk.content old.left new.left old.read_faults new.read_faults s early none.0;
+}
+
+-- its text was written, or a write failed
+pub apply_ends : (tells : Bool) (old new : Streams) (disk after : Platter) (c : Script) (s : Status) (text : Bytes) → CameScript mode.Log old.left new.left c → Applied tells disk.content after.images c text
+    → (IsTrue tells → GoesOnAs disk.content disk.images after.images c) → disk.faults ≤ after.faults → (s ≡ status.Ok) ⊎ (s ≡ status.WriteFault)
+    → (s ≡ status.Ok → new.taken.bytes ≡ followed_by old.taken.bytes text) → (s ≡ status.WriteFault → (old.write_faults < new.write_faults) × TakesFront old.taken.bytes new.taken.bytes text)
+    → ApplyEnds tells old new disk after s
+apply_ends tells old new disk after c s text came applied goes falls (inl e) ok failed = subst (ApplyEnds tells old new disk after) (sym e) (record {
+  any_moment = λ told. inr (c, came, goes told);
+  at_exit = inr (record { script = c; came = came; text = text; applied = applied; begun = front_whole _ _ _ (ok e) });
+  ends = record { script = c; came = came; text = text; applied = applied; written = ok e };
+  never_falls = falls;
+  complete = λ none same told. all_ok old.left disk.content;
+})
+apply_ends tells old new disk after c s text came applied goes falls (inr e) ok failed =
+    let some : AppliedSome tells old new disk after = record { script = c; came = came; text = text; applied = applied; begun = (failed e).1 } in
+    subst (ApplyEnds tells old new disk after) (sym e) (record {
+      any_moment = λ told. inr (c, came, goes told);
+      at_exit = inr some;
+      ends = some;
+      never_falls = falls;
+      complete = λ none same told. let rose : old.write_faults < new.write_faults = (failed e).0 in let level : new.write_faults ≡ old.write_faults = none.1 in absurd (omega (arith, rose, level));
+    })
+
+-- a fact where there is no script is one always
+pub if_no_script : {P : Type 0} (s : Status) → P → IfNoScript s P
+if_no_script status.Ok p = tt
+if_no_script status.Usage p = p
+if_no_script (status.Refused line why) p = p
+if_no_script status.ReadFault p = p
+if_no_script status.WriteFault p = tt
+if_no_script status.OutOfMemory p = tt
+if_no_script (status.WireFull line) p = tt
+if_no_script status.DiskFault p = tt
+if_no_script status.LogThere p = tt
+if_no_script (status.LogDamaged at) p = tt
+if_no_script (status.LogForeign batch) p = tt
+
+-- there was one
+pub script_there : {P : Type 0} (s : Status) → (s ≡ status.Ok) ⊎ (s ≡ status.WriteFault) → IfNoScript s P
+script_there s (inl e) = subst (λ x. IfNoScript x _) (sym e) tt
+script_there s (inr e) = subst (λ x. IfNoScript x _) (sym e) tt
+
+pub script_ended : {P : Type 0} (stop : Option ℕ) (s : Status) → s ≡ end_of stop → IfNoScript s P
+script_ended None s e = subst (λ x. IfNoScript x _) (sym e) tt
+script_ended (Some line) s e = subst (λ x. IfNoScript x _) (sym e) tt

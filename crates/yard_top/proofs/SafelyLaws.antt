@@ -39,6 +39,7 @@ of_form (form.Live n s) stop had has before after w = tt
 of_form form.Pull stop had has before after w = tt
 of_form (form.Daemon n) stop had has before after w = tt
 of_form form.Resume stop had has before after w = tt
+of_form form.Apply stop had has before after w = tt
 
 of_some : (f : Form) (old new : Streams) (s : Status) → EndsAs f old new s → IsSafely (Some f) old new s
 of_some f old new status.Ok e = of_form f None old.left new.left old.taken new.taken e

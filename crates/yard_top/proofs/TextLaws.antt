@@ -21,6 +21,7 @@ ran_out (form.Bulk n) c old new alone some = some
 ran_out (form.Live n s) c old new alone some = cc
 ran_out form.Log c old new alone some = cc
 ran_out form.Resume c old new alone some = cc
+ran_out form.Apply c old new alone some = cc
 ran_out form.Pull c old new alone some = some
 ran_out (form.Daemon n) c old new alone some = some
 
@@ -47,6 +48,7 @@ wrote_front (form.Bulk n) c had has old new came some = inr (record { script = c
 wrote_front (form.Live n s) c had has old new came none = none.taken_is
 wrote_front form.Log c had has old new came some = inr (record { script = c; came = came; text = some.text; is_text = some.is_text; begun = some.front.front })
 wrote_front form.Resume c had has old new came none = none.taken_is
+wrote_front form.Apply c had has old new came none = none.taken_is
 wrote_front form.Pull c had has old new came some = inr (record { script = c; came = came; text = some.text; is_text = some.is_text; begun = some.front.front })
 wrote_front (form.Daemon n) c had has old new came some = inr (record { script = c; came = came; text = some.text; is_text = some.is_text; begun = some.front.front })
 
@@ -60,3 +62,4 @@ flushed_stays form.Pull c old new some = some.front.flushed_is
 flushed_stays (form.Daemon n) c old new some = some.front.flushed_is
 flushed_stays form.Log c old new some = some.front.flushed_is
 flushed_stays form.Resume c old new none = none.flushed_is
+flushed_stays form.Apply c old new none = none.flushed_is

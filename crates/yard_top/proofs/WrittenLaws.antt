@@ -45,6 +45,7 @@ written f c stop text old new s came stops is_text bytes flushed holds ends = by
 carried : (f : Form) (c : Script) (s : Status) (stop : Option ℕ) → stop ≡ stops_at f c → s ≡ end_of stop → IsCarriedOut f c s
 carried form.Log c s stop at e = tt
 carried form.Resume c s stop at e = tt
+carried form.Apply c s stop at e = tt
 carried form.Solo c s stop at e = inl (e ∙ ap end_of at)
 carried form.Replay c s stop at e = inl (e ∙ ap end_of at)
 carried form.ReplayJson c s stop at e = inl (e ∙ ap end_of at)

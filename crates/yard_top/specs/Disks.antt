@@ -1,6 +1,6 @@
--- What `log` and `resume` do with a disk, and what a crash leaves of it.
+-- What `log`, `resume` and `apply` do with a disk, and what a crash leaves of it.
 use Rattle.std.specs.Prelude.{◌≡◌, ◌<◌, ◌≤◌, ◌⊎◌, ℕ, Bool, true, List, [], length, take, Option, Some, IfSome, IsTrue}
-use Rattle.yard_io.specs.Told.{followed_by}
+use Rattle.yard_io.specs.Told.{TakesFront, followed_by}
 use Rattle.script_text.specs.Reading.{Spelled, reading}
 use Rattle.script_text.specs.declared.fault.Mode.TheVariants as mode
 use Rattle.yard_model.specs.declared.fact.Fact.{Fact}
@@ -12,6 +12,7 @@ use Rattle.disk_log.specs.Spelled.{IsDamaged, Spells, SpellsPrefix}
 use Rattle.log_resume.specs.Restored.{are_taken, entries}
 use Rattle.logged_lines.specs.Logged.{IsFresh, LogEnds, batches_of}
 use Rattle.resume_run.specs.ResumeText.{IsForeignLog, Resumes}
+use Rattle.apply_run.specs.Applying.{Applied, GoesOnAs, StaysAs}
 use Rattle.run_parts.specs.Stops.{stop_in}
 use Rattle.program_words.specs.declared.forms.Form.{Form}
 use Rattle.program_words.specs.declared.forms.Form.TheVariants as form
@@ -27,6 +28,11 @@ pub record Platter : Type 1 where
 
 abbrev pub platter : List ℕ → Images → ℕ → Platter
 platter content images faults = record { content = content; images = images; faults = faults }
+
+-- nothing of it was changed
+pub record IsKept (disk after : Platter) : Type 0 where
+  pub content_stays : after.content ≡ disk.content
+  pub images_stay : SameNow disk.images after.images
 
 -- `log`.
 
@@ -45,7 +51,7 @@ AtExit old new after =
 -- the ends that a disk gives
 abbrev pub LogEndsAs : Bool → Streams → Streams → Platter → Platter → Status → Type 0
 LogEndsAs tells old new disk after status.DiskFault = (disk.faults < after.faults) × Began form.Log old.left new.left old.taken new.taken
-LogEndsAs tells old new disk after status.LogThere = (IsTrue tells → 0 < length disk.content) × IsUnwritten old new
+LogEndsAs tells old new disk after status.LogThere = (IsTrue tells → 0 < length disk.content) × IsUnwritten old new × IsKept disk after
 LogEndsAs tells old new disk after (status.LogDamaged at) = ⊥
 LogEndsAs tells old new disk after (status.LogForeign batch) = ⊥
 LogEndsAs tells old new disk after s = Unit {0}
@@ -94,14 +100,75 @@ pub record ResumeEnds (tells : Bool) (old new : Streams) (disk after : Platter) 
       → IfSome old.left (λ xs. (c : Script) (logged : List (List Fact)) → reading mode.Log (take most_read xs) ≡ Spelled c → Spells disk.content logged
       → are_taken c (entries logged) ≡ true → (s ≡ status.Ok) ⊎ (s ≡ status.OutOfMemory))
 
--- what a form does with a disk: `log` and `resume` alone use one
+-- `apply`.
+
+-- there is a script; each crash leaves the log with the run's batch, in which each send of the script is queued, recorded once and in order, and confirmed; and what was written and flushed is the report of that
+pub record AppliedAll (tells : Bool) (old new : Streams) (disk after : Platter) : Type 0 where
+  pub script : Script
+  pub came : CameScript mode.Log old.left new.left script
+  pub text : Bytes
+  pub applied : Applied tells disk.content after.images script text
+  pub written : new.taken.bytes ≡ followed_by old.taken.bytes text
+
+-- the same, of which a front was written
+pub record AppliedSome (tells : Bool) (old new : Streams) (disk after : Platter) : Type 0 where
+  pub script : Script
+  pub came : CameScript mode.Log old.left new.left script
+  pub text : Bytes
+  pub applied : Applied tells disk.content after.images script text
+  pub begun : TakesFront old.taken.bytes new.taken.bytes text
+
+-- a crash at any moment leaves what one might have left before, or, of the script that came, that with the run's batch
+abbrev pub ApplyMoment : Streams → Streams → Platter → Platter → Type 0
+ApplyMoment old new disk after =
+    StaysAs disk.content disk.images after.images
+    ⊎ ((c : Script) × CameScript mode.Log old.left new.left c × GoesOnAs disk.content disk.images after.images c)
+
+-- where anything was written, each crash leaves all of it
+abbrev pub ApplyExit : Bool → Streams → Streams → Platter → Platter → Type 0
+ApplyExit tells old new disk after = IsUnwritten old new ⊎ AppliedSome tells old new disk after
+
+-- a crash leaves what one might have left before, and the disk has the bytes that it had
+pub record IsAsItWas (tells : Bool) (disk after : Platter) : Type 0 where
+  pub content_stays : IsTrue tells → after.content ≡ disk.content
+  pub stays : IsTrue tells → StaysAs disk.content disk.images after.images
+
+abbrev pub ApplyEndsAs : Bool → Streams → Streams → Platter → Platter → Status → Type 0
+ApplyEndsAs tells old new disk after status.Ok = AppliedAll tells old new disk after
+ApplyEndsAs tells old new disk after status.WriteFault = AppliedSome tells old new disk after
+ApplyEndsAs tells old new disk after status.OutOfMemory = IsTrue tells → StaysAs disk.content disk.images after.images
+ApplyEndsAs tells old new disk after status.DiskFault = (disk.faults < after.faults) × IsUnwritten old new
+ApplyEndsAs tells old new disk after status.LogThere = ⊥
+ApplyEndsAs tells old new disk after (status.LogDamaged at) = (IsTrue tells → IsDamaged disk.content at) × IsUnwritten old new × IsAsItWas tells disk after
+ApplyEndsAs tells old new disk after (status.LogForeign batch) = IsOfAnother tells old new disk.content batch × IsUnwritten old new × IsAsItWas tells disk after
+ApplyEndsAs tells old new disk after s = Unit {0}
+
+pub record ApplyEnds (tells : Bool) (old new : Streams) (disk after : Platter) (s : Status) : Type 0 where
+  pub any_moment : IsTrue tells → ApplyMoment old new disk after
+  pub at_exit : ApplyExit tells old new disk after
+  pub ends : ApplyEndsAs tells old new disk after s
+  pub never_falls : disk.faults ≤ after.faults
+  pub complete : NoneRose old new → after.faults ≡ disk.faults → IsTrue tells
+      → IfSome old.left (λ xs. (c : Script) (logged : List (List Fact)) → reading mode.Log (take most_read xs) ≡ Spelled c → Spells disk.content logged
+      → are_taken c (entries logged) ≡ true → (s ≡ status.Ok) ⊎ (s ≡ status.OutOfMemory))
+
+-- what a form does with a disk: `log`, `resume` and `apply` alone use one
 abbrev pub OnDisk : Option Form → Bool → Streams → Streams → Platter → Platter → Status → Type 0
 OnDisk (Some form.Log) tells old new disk after s = LogEnded tells old new disk after s
 OnDisk (Some form.Resume) tells old new disk after s = ResumeEnds tells old new disk after s
+OnDisk (Some form.Apply) tells old new disk after s = ApplyEnds tells old new disk after s
 OnDisk o tells old new disk after s = Unit {0}
 
 -- a fact for words that use no disk
 abbrev pub IfNoDisk : Option Form → Type 0 → Type 0
 IfNoDisk (Some form.Log) P = Unit {0}
 IfNoDisk (Some form.Resume) P = Unit {0}
+IfNoDisk (Some form.Apply) P = Unit {0}
 IfNoDisk o P = P
+
+-- a fact where there is no script to carry out
+abbrev pub IfNoScript : Status → Type 0 → Type 0
+IfNoScript status.Usage P = P
+IfNoScript (status.Refused line why) P = P
+IfNoScript status.ReadFault P = P
+IfNoScript s P = Unit {0}

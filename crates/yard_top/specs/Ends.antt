@@ -5,11 +5,11 @@ use Rattle.script_text.specs.Reading.{Reading, Spelled, Refused, reading}
 use Rattle.script_text.specs.declared.fault.Mode.{Mode}
 use Rattle.script_text.specs.declared.fault.Why.{Why}
 use Rattle.yard_model.specs.declared.fact.Fact.{Fact}
-use Rattle.yard_model.specs.Script.{Script}
+use Rattle.yard_model.specs.Script.{Script, setting}
 use Rattle.yard_model.specs.Replay.{replay_text}
 use Rattle.yard_model.specs.Safe.{safe}
 use Rattle.yard_model.specs.Solo.{solo_text}
-use Rattle.yard_model.specs.Text.{Bytes}
+use Rattle.yard_model.specs.Text.{Bytes, report}
 use Rattle.yard_model.specs.World.{trace_of}
 use Rattle.play_laws.specs.SafeText.{SafeText}
 use Rattle.bulk_gen.specs.Bulk.{bulk_script}
@@ -25,6 +25,7 @@ use Rattle.live_run.specs.LiveText.{LiveText}
 use Rattle.replay_run.specs.Replays.{replay_json}
 use Rattle.replay_run.specs.Settling.{EachSettles}
 use Rattle.resume_run.specs.ResumeText.{ResumeText}
+use Rattle.apply_laws.specs.Applied.{lists_in, log_after}
 use Rattle.solo_run.specs.Sound.{IsSound, solo_journal}
 use Rattle.run_parts.specs.Stops.{stop_in}
 use Rattle.program_words.specs.Forms.{from_of}
@@ -37,7 +38,7 @@ use Rattle.program_words.specs.declared.status.Status.TheVariants as status
 
 -- What a form is to do.
 
--- this is the text that it writes of a script; of `live`, one of the texts; of `resume`, that of some log
+-- this is the text that it writes of a script; of `live`, one of the texts; of `resume` and `apply`, that of some log
 abbrev pub IsText : Form → Script → Bytes → Type 0
 IsText form.Solo c text = text ≡ solo_text c
 IsText form.Replay c text = text ≡ replay_text c
@@ -48,8 +49,9 @@ IsText form.Pull c text = text ≡ pull_text c
 IsText (form.Daemon n) c text = text ≡ daemon_text n c
 IsText form.Log c text = text ≡ replay_text c
 IsText form.Resume c text = (log : List (List Fact)) × ResumeText c log text
+IsText form.Apply c text = (log : List (List Fact)) × (text ≡ report (setting c) (lists_in c (log_after c log)))
 
--- what is so of what it writes: each journal is sound; the trace is safe, what is printed is the text of a safe trace, and each settle comes to its end; each job is at one worker at most, and is done before it is confirmed; each instance is live at one node at most; of `live` and `resume` the text says all
+-- what is so of what it writes: each journal is sound; the trace is safe, what is printed is the text of a safe trace, and each settle comes to its end; each job is at one worker at most, and is done before it is confirmed; each instance is live at one node at most; of `live` and `resume` the text says all, of `apply` what stands on the disk
 abbrev pub Holds : Form → Script → Type 0
 Holds form.Solo c = (e : List ℕ) → IsSound c e (solo_journal c e)
 Holds form.Replay c = SafeText c (replay_text c) × IsTrue (safe c (trace_of c)) × EachSettles c
@@ -60,6 +62,7 @@ Holds form.Pull c = IsTrue (pull_safe c (pull_trace c))
 Holds (form.Daemon n) c = DaemonHolds n c
 Holds form.Log c = SafeText c (replay_text c) × IsTrue (safe c (trace_of c)) × EachSettles c
 Holds form.Resume c = Unit {0}
+Holds form.Apply c = Unit {0}
 
 -- the line with which it stops, where a packet too many would be posted
 abbrev pub stops_at : Form → Script → Option ℕ
@@ -72,6 +75,7 @@ stops_at form.Pull c = stop_in (pull_trace c)
 stops_at (form.Daemon n) c = stop_in (trace_of (expanded n c))
 stops_at form.Log c = stop_in (trace_of c)
 stops_at form.Resume c = None
+stops_at form.Apply c = None
 
 -- the most bytes that are read of an input: one more than a script may have
 abbrev pub most_read : ℕ
@@ -159,10 +163,11 @@ pub record Began (f : Form) (had has : Option (List ℕ)) (before after : Taken)
   pub is_text : IsText f script text
   pub begun : TakesFront before.bytes after.bytes text
 
--- nothing was written, or a front of the text of a script; of `live` and `resume` nothing
+-- nothing was written, or a front of the text of a script; of `live`, `resume` and `apply` nothing
 abbrev pub WroteFront : Form → Option (List ℕ) → Option (List ℕ) → Taken → Taken → Type 0
 WroteFront (form.Live n s) had has before after = after.bytes ≡ before.bytes
 WroteFront form.Resume had has before after = after.bytes ≡ before.bytes
+WroteFront form.Apply had has before after = after.bytes ≡ before.bytes
 WroteFront f had has before after = (after.bytes ≡ before.bytes) ⊎ Began f had has before after
 
 -- how a run ends whose text was written
@@ -174,6 +179,7 @@ end_of (Some line) = status.WireFull line
 abbrev pub IsOfDisk : Form → Type 0
 IsOfDisk form.Log = Unit {0}
 IsOfDisk form.Resume = Unit {0}
+IsOfDisk form.Apply = Unit {0}
 IsOfDisk f = ⊥
 
 -- How a run of a form ends, status by status.
@@ -215,6 +221,7 @@ NoneRose old new = (new.read_faults ≡ old.read_faults) × (new.write_faults �
 abbrev pub IsCarriedOut : Form → Script → Status → Type 0
 IsCarriedOut form.Log script s = Unit {0}
 IsCarriedOut form.Resume script s = Unit {0}
+IsCarriedOut form.Apply script s = Unit {0}
 IsCarriedOut f script s = (s ≡ end_of (stops_at f script)) ⊎ (s ≡ status.OutOfMemory)
 
 -- what is no script is answered by its first fault, or there is no memory

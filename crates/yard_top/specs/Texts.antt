@@ -27,10 +27,11 @@ pub record TookNone (old new : Sunk) : Type 0 where
   pub flushed_is : new.flushed ≡ old.flushed
   pub faults_are : old.faults ≤ new.faults
 
--- there was no memory: a front was taken, and of `live` and `resume` nothing
+-- there was no memory: a front was taken, and of `live`, `resume` and `apply` nothing
 abbrev pub RanOut : Form → Script → Sunk → Sunk → Type 0
 RanOut (form.Live n s) c old new = TookNone old new
 RanOut form.Resume c old new = TookNone old new
+RanOut form.Apply c old new = TookNone old new
 RanOut f c old new = TookSome f c error.OutOfMemory old new
 
 -- what an answer says

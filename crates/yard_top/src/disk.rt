@@ -1,4 +1,4 @@
-//! `log` and `resume`: the forms that work on a disk.
+//! `log`, `resume` and `apply`: the forms that work on a disk.
 ghost use Rattle.std.specs.Prelude.{◌≡◌, ◌<◌, ◌≤◌, ◌⊎◌, Some, IsTrue};
 ghost use Rattle.yard_model.specs.Replay.{replay_text};
 ghost use Rattle.yard_model.specs.Safe.{safe};
@@ -7,11 +7,12 @@ ghost use Rattle.play_laws.specs.SafeText.{SafeText};
 ghost use Rattle.replay_run.specs.Settling.{EachSettles};
 ghost use Rattle.program_words.specs.declared.forms.Form.TheVariants as form;
 ghost use Rattle.yard_io.specs.Told.{TakesFront, count_of, followed_by};
-ghost use Rattle.yard_top.specs.Disks.{LogEnded, ResumeEnds, platter};
+ghost use Rattle.yard_top.specs.Disks.{ApplyEnds, IfNoScript, LogEnded, ResumeEnds, platter};
 ghost use Rattle.yard_top.specs.Ends.{EndsAs, IsComplete, NoneFell, streams};
 
 use crate::script::read_charter;
 use crate::text::end_of;
+use apply_run::apply_text;
 use disk_log::Disk;
 use logged_lines::LogError;
 use play_laws::play::{replay_is_safe, trace_is_safe};
@@ -45,6 +46,7 @@ pub(crate) fn run_log<S: Source, K: Sink, D: Disk>(
         (streams (S.left source.old) (S.faults source.old) (K.taken sink.old) (K.flushed sink.old) (K.faults sink.old))
         (streams (S.left source.new) (S.faults source.new) (K.taken sink.new) (K.flushed sink.new) (K.faults sink.new))
         (platter (D.content disk.old) (D.images disk.old) (D.faults disk.old)) (platter (D.content disk.new) (D.images disk.new) (D.faults disk.new)) result }
+    ensures untouched { IfNoScript result (disk.new ≡ disk.old) }
 {
     let charter = match read_charter(alloc, Mode::Log, source) {
         Ok(charter) => charter,
@@ -96,13 +98,14 @@ pub(crate) fn run_resume<S: Source, K: Sink, D: Disk>(
         (streams (S.left source.old) (S.faults source.old) (K.taken sink.old) (K.flushed sink.old) (K.faults sink.old))
         (streams (S.left source.new) (S.faults source.new) (K.taken sink.new) (K.flushed sink.new) (K.faults sink.new))
         (platter (D.content disk.old) (D.images disk.old) (D.faults disk.old)) (platter (D.content disk.new) (D.images disk.new) (D.faults disk.new)) result }
+    ensures untouched { IfNoScript result (disk.new ≡ disk.old) }
 {
     let charter = match read_charter(alloc, Mode::Log, source) {
         Ok(charter) => charter,
         Err(status) => return status,
     };
     match resume_text(alloc, &charter, disk) {
-        Ok(text) => write_resumed(text.as_slice(), sink),
+        Ok(text) => write_text(text.as_slice(), sink),
         Err(ResumeError::Failed) => Status::DiskFault,
         Err(ResumeError::OutOfMemory) => Status::OutOfMemory,
         Err(ResumeError::Damaged { at }) => Status::LogDamaged { at },
@@ -110,8 +113,44 @@ pub(crate) fn run_resume<S: Source, K: Sink, D: Disk>(
     }
 }
 
-/// Writes and flushes the text of a log.
-fn write_resumed<K: Sink>(text: &[u8], sink: &mut K) -> Status
+/// Carries `apply` out: gets its script, brings the log on the disk up to it, and writes the report of what is on the
+/// disk then.
+pub(crate) fn run_apply<S: Source, K: Sink, D: Disk>(
+    alloc: Global,
+    source: &mut S,
+    sink: &mut K,
+    disk: &mut D,
+) -> Status
+    ensures ends { EndsAs form.Apply
+        (streams (S.left source.old) (S.faults source.old) (K.taken sink.old) (K.flushed sink.old) (K.faults sink.old))
+        (streams (S.left source.new) (S.faults source.new) (K.taken sink.new) (K.flushed sink.new) (K.faults sink.new)) result }
+    ensures complete { IsComplete (Some form.Apply)
+        (streams (S.left source.old) (S.faults source.old) (K.taken sink.old) (K.flushed sink.old) (K.faults sink.old))
+        (streams (S.left source.new) (S.faults source.new) (K.taken sink.new) (K.flushed sink.new) (K.faults sink.new)) result }
+    ensures faults { NoneFell
+        (streams (S.left source.old) (S.faults source.old) (K.taken sink.old) (K.flushed sink.old) (K.faults sink.old))
+        (streams (S.left source.new) (S.faults source.new) (K.taken sink.new) (K.flushed sink.new) (K.faults sink.new)) }
+    ensures on_disk { ApplyEnds D.tells
+        (streams (S.left source.old) (S.faults source.old) (K.taken sink.old) (K.flushed sink.old) (K.faults sink.old))
+        (streams (S.left source.new) (S.faults source.new) (K.taken sink.new) (K.flushed sink.new) (K.faults sink.new))
+        (platter (D.content disk.old) (D.images disk.old) (D.faults disk.old)) (platter (D.content disk.new) (D.images disk.new) (D.faults disk.new)) result }
+    ensures untouched { IfNoScript result (disk.new ≡ disk.old) }
+{
+    let charter = match read_charter(alloc, Mode::Log, source) {
+        Ok(charter) => charter,
+        Err(status) => return status,
+    };
+    match apply_text(alloc, &charter, disk) {
+        Ok(text) => write_text(text.as_slice(), sink),
+        Err(ResumeError::Failed) => Status::DiskFault,
+        Err(ResumeError::OutOfMemory) => Status::OutOfMemory,
+        Err(ResumeError::Damaged { at }) => Status::LogDamaged { at },
+        Err(ResumeError::Foreign { batch }) => Status::LogForeign { batch },
+    }
+}
+
+/// Writes and flushes a text.
+fn write_text<K: Sink>(text: &[u8], sink: &mut K) -> Status
     ensures ok { result ≡ Status.Ok →
         (K.taken sink.new ≡ followed_by (K.taken sink.old) text.now) × (K.flushed sink.new ≡ count_of (K.taken sink.new)) }
     ensures failed { result ≡ Status.WriteFault → (K.faults sink.old < K.faults sink.new) × TakesFront (K.taken sink.old) (K.taken sink.new) text.now }

@@ -37,7 +37,7 @@ pub fn write_form<K: Sink>(
         Form::Replay => write_replay(alloc, charter, sink),
         Form::ReplayJson => write_json(alloc, charter, sink),
         Form::Bulk(number) => write_bulk(alloc, &charter, number, sink),
-        Form::Live { .. } | Form::Log | Form::Resume => unreachable!(),
+        Form::Live { .. } | Form::Log | Form::Resume | Form::Apply => unreachable!(),
         Form::Pull => write_pull(alloc, &charter, sink),
         Form::Daemon(count) => write_daemon(alloc, &charter, count, sink),
     }

@@ -1,11 +1,11 @@
 //! The top call.
 ghost use Rattle.std.specs.Prelude.{◌≡◌, true, Some, IsTrue};
 ghost use Rattle.program_words.specs.Forms.{alone_on, form_in, form_on, from_of, is_bare, is_counted, is_there};
-ghost use Rattle.yard_top.specs.Disks.{IfNoDisk, OnDisk, platter};
+ghost use Rattle.yard_top.specs.Disks.{IfNoDisk, IfNoScript, OnDisk, platter};
 ghost use Rattle.yard_top.specs.Ends.{EndsAs, EndsOf, IfNumber, IsComplete, NoneFell, ReadsNoMore, streams};
 ghost use Rattle.yard_top.specs.Safely.{IsSafely};
 
-use crate::disk::{run_log, run_resume};
+use crate::disk::{run_apply, run_log, run_resume};
 use crate::live::write_live;
 use crate::script::{charter_of, read_charter};
 use crate::text::{end_of, write_form};
@@ -30,7 +30,9 @@ use yard_io::{Gate, Sink, Source};
 /// settles what they leave, and writes the lists of all slots and their report. It may wait, and no
 /// other form does. `log` does as `replay`, with what each order does to the slots' lists on the disk
 /// before a line of it is written. `resume` reads a script and such a disk, and writes the report of what
-/// is logged; then it goes on from there until all is settled, and writes the lists and their report.
+/// is logged; then it goes on from there until all is settled, and writes the lists and their report. `apply`
+/// brings such a disk up to the script that it reads: what each send that isn't recorded and confirmed brings
+/// about is committed as one batch, and then the report of what is on the disk is written.
 /// `pull` reads a script of jobs, and of workers that ask for work, plays it, and writes the trace as it
 /// arises, and what became of each job. `daemon` reads a script of orders and pings, each of which sends to
 /// so many numbered instances, plays it as `replay` does, and writes after each line which instances are
@@ -65,24 +67,27 @@ pub fn sharder_on<R: Threads + Wait + Sync, S: Source, K: Sink, G: Gate + Sync, 
     ensures faults { NoneFell
         (streams (S.left source.old) (S.faults source.old) (K.taken sink.old) (K.flushed sink.old) (K.faults sink.old))
         (streams (S.left source.new) (S.faults source.new) (K.taken sink.new) (K.flushed sink.new) (K.faults sink.new)) }
-    // What `log` and `resume` do with the disk, and what a crash leaves of it.
+    // What `log`, `resume` and `apply` do with the disk, and what a crash leaves of it.
     ensures on_disk { OnDisk (form_on words.now) D.tells
         (streams (S.left source.old) (S.faults source.old) (K.taken sink.old) (K.flushed sink.old) (K.faults sink.old))
         (streams (S.left source.new) (S.faults source.new) (K.taken sink.new) (K.flushed sink.new) (K.faults sink.new))
         (platter (D.content disk.old) (D.images disk.old) (D.faults disk.old)) (platter (D.content disk.new) (D.images disk.new) (D.faults disk.new)) result }
     ensures no_disk { IfNoDisk (form_on words.now) (disk.new ≡ disk.old) }
+    // Where there is no script, no call of the disk is made.
+    ensures untouched { IfNoScript result (disk.new ≡ disk.old) }
 {
     match disk_form_of(words) {
         None => Status::Usage,
         Some(Form::Live { turns, seed }) => run_threads(rt, alloc, turns, seed, source, sink, gate),
         Some(Form::Log) => run_log(alloc, source, sink, disk),
         Some(Form::Resume) => run_resume(alloc, source, sink, disk),
+        Some(Form::Apply) => run_apply(alloc, source, sink, disk),
         Some(form) => run(alloc, form, source, sink),
     }
 }
 
-/// Runs the program on these words as `sharder_on` does, where no disk is at hand: `log` and `resume` are no
-/// forms here.
+/// Runs the program on these words as `sharder_on` does, where no disk is at hand: `log`, `resume` and `apply`
+/// are no forms here.
 #[tactic(auto, using(crate::proofs::SafelyLaws::safely))]
 pub fn sharder<R: Threads + Wait + Sync, S: Source, K: Sink, G: Gate + Sync>(
     rt: &R,
@@ -146,17 +151,20 @@ pub fn sharder_alone<S: Source, K: Sink, D: Disk>(
     ensures faults { NoneFell
         (streams (S.left source.old) (S.faults source.old) (K.taken sink.old) (K.flushed sink.old) (K.faults sink.old))
         (streams (S.left source.new) (S.faults source.new) (K.taken sink.new) (K.flushed sink.new) (K.faults sink.new)) }
-    // What `log` and `resume` do with the disk, and what a crash leaves of it.
+    // What `log`, `resume` and `apply` do with the disk, and what a crash leaves of it.
     ensures on_disk { OnDisk (alone_on words.now) D.tells
         (streams (S.left source.old) (S.faults source.old) (K.taken sink.old) (K.flushed sink.old) (K.faults sink.old))
         (streams (S.left source.new) (S.faults source.new) (K.taken sink.new) (K.flushed sink.new) (K.faults sink.new))
         (platter (D.content disk.old) (D.images disk.old) (D.faults disk.old)) (platter (D.content disk.new) (D.images disk.new) (D.faults disk.new)) result }
     ensures no_disk { IfNoDisk (alone_on words.now) (disk.new ≡ disk.old) }
+    // Where there is no script, no call of the disk is made.
+    ensures untouched { IfNoScript result (disk.new ≡ disk.old) }
 {
     match alone_form_of(words) {
         None => Status::Usage,
         Some(Form::Log) => run_log(alloc, source, sink, disk),
         Some(Form::Resume) => run_resume(alloc, source, sink, disk),
+        Some(Form::Apply) => run_apply(alloc, source, sink, disk),
         Some(form) => run(alloc, form, source, sink),
     }
 }

@@ -1,0 +1,11 @@
+//! `apply`: a log is brought up to a script. What each send of the script that isn't recorded and confirmed yet brings
+//! about is committed as one batch; what is so then stands in `specs/Applying.antt`.
+#![tactic(auto)]
+
+mod apply;
+mod carry;
+mod entered;
+
+pub use apply::apply_text;
+pub use carry::carry_out;
+pub use entered::Entered;

@@ -8,6 +8,8 @@ use Rattle.yard_model.specs.World.{settled_from}
 use Rattle.disk_log.specs.Images.{Images, LeavesOnly}
 use Rattle.disk_log.specs.Spelled.{Spells, SpellsPrefix}
 use Rattle.log_resume.specs.Restored.{are_taken, entries, restored}
+use Rattle.resume_run.specs.declared.fault.ResumeError.{ResumeError}
+use Rattle.resume_run.specs.declared.fault.ResumeError.TheVariants as error
 use Rattle.grow_laws.specs.Once.{EachOnce}
 use Rattle.apply_laws.specs.Applied.{frees, is_done, lists_in, log_after}
 
@@ -47,3 +49,10 @@ GoesOnAs content old new c = (log : List (List Fact)) (n : ℕ) → Had content 
 -- or without it
 abbrev pub StaysAs : List ℕ → Images → Images → Type 0
 StaysAs content old new = (log : List (List Fact)) (n : ℕ) → Had content old log n → LeavesOnly old new (SpellsPrefix log n)
+
+-- the log is damaged, or of another script
+abbrev pub IsRefusal : ResumeError → Type 0
+IsRefusal error.Failed = ⊥
+IsRefusal error.OutOfMemory = ⊥
+IsRefusal (error.Damaged at) = Unit {0}
+IsRefusal (error.Foreign batch) = Unit {0}

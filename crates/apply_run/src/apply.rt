@@ -12,7 +12,7 @@ ghost use Rattle.log_resume.specs.Restored.{IsForeign, are_taken, entries};
 ghost use Rattle.resume_run.specs.declared.fault.ResumeError.{ResumeError as ResumeErrorValue};
 ghost use Rattle.resume_run.specs.ResumeText.{IsForeignLog};
 ghost use Rattle.apply_laws.specs.Applied.{lists_in, log_after};
-ghost use Rattle.apply_run.specs.Applying.{Applied, GoesOnAs, Holds, StaysAs, told_behind};
+ghost use Rattle.apply_run.specs.Applying.{Applied, GoesOnAs, Holds, IsRefusal, StaysAs, told_behind};
 
 use crate::carry::carry_out;
 use crate::entered::Entered;
@@ -46,6 +46,7 @@ pub fn apply_text<D: Disk>(
     ensures any_moment { IsTrue D.tells → GoesOnAs (D.content disk.old) (D.images disk.old) (D.images disk.new) charter.now }
     ensures stays { (e : ResumeErrorValue) → result ≡ Err e → (e ≡ ResumeError.Failed → ⊥) → IsTrue D.tells →
         StaysAs (D.content disk.old) (D.images disk.old) (D.images disk.new) }
+    ensures content { (e : ResumeErrorValue) → result ≡ Err e → IsRefusal e → IsTrue D.tells → D.content disk.new ≡ D.content disk.old }
     ensures damaged { (at : ℕ) → result ≡ Err (ResumeError.Damaged at) → IsTrue D.tells → IsDamaged (D.content disk.old) at }
     ensures foreign { (k : ℕ) → result ≡ Err (ResumeError.Foreign k) → IsForeignLog D.tells (D.content disk.old) charter.now k }
     ensures cause { result ≡ Err ResumeError.Failed → D.faults disk.old < D.faults disk.new }
@@ -66,6 +67,7 @@ fn apply_on<D: Disk>(alloc: Global, charter: &Charter, disk: &mut D) -> Result<V
     ensures any_moment { IsTrue D.tells → GoesOnAs (D.content disk.old) (D.images disk.old) (D.images disk.new) charter.now }
     ensures stays { (e : ResumeErrorValue) → result ≡ Err e → (e ≡ ResumeError.Failed → ⊥) → IsTrue D.tells →
         StaysAs (D.content disk.old) (D.images disk.old) (D.images disk.new) }
+    ensures content { (e : ResumeErrorValue) → result ≡ Err e → IsRefusal e → IsTrue D.tells → D.content disk.new ≡ D.content disk.old }
     ensures damaged { (at : ℕ) → result ≡ Err (ResumeError.Damaged at) → IsTrue D.tells → IsDamaged (D.content disk.old) at }
     ensures foreign { (k : ℕ) → result ≡ Err (ResumeError.Foreign k) → IsForeignLog D.tells (D.content disk.old) charter.now k }
     ensures cause { result ≡ Err ResumeError.Failed → D.faults disk.old < D.faults disk.new }

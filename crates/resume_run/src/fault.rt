@@ -1,9 +1,12 @@
 //! Why nothing was resumed.
 ghost use Rattle.std.specs.Prelude.{◌≡◌};
 ghost use Rattle.resume_run.specs.Faults.{of_log, of_reading};
+ghost use Rattle.resume_run.specs.declared.fault.ResumeError.TheVariants as error;
 
 use disk_log::ReadLogFault;
 use log_resume::ResumeFault;
+use std::alloc::AllocError;
+use yard_io::Failed;
 
 /// Why there is no text of a log.
 #[derive(Clone, Copy, Debug, PartialEq, Eq)]
@@ -22,6 +25,22 @@ pub enum ResumeError {
         /// The batch.
         batch: u32,
     },
+}
+
+impl From<Failed> for ResumeError {
+    ghost from_gives = { λ _ e. e ≡ error.Failed };
+
+    fn from(_: Failed) -> ResumeError {
+        ResumeError::Failed
+    }
+}
+
+impl From<AllocError> for ResumeError {
+    ghost from_gives = { λ _ e. e ≡ error.OutOfMemory };
+
+    fn from(_: AllocError) -> ResumeError {
+        ResumeError::OutOfMemory
+    }
 }
 
 impl From<ReadLogFault> for ResumeError {

@@ -8,7 +8,7 @@ use Rattle.logged_lines.specs.Told.{WritesLog}
 use Rattle.run_parts.specs.Writing.{Sunk}
 use Rattle.yard_top.specs.Disks.{platter}
 use Rattle.yard_top.specs.Ends.{streams}
-use Rattle.yard_top.proofs.DiskLaws.{all_logged, all_there, all_without_memory, log_ended}
+use Rattle.yard_top.proofs.DiskLaws.{all_logged, all_there, all_without_memory, if_no_script, log_ended, script_ended}
 use Rattle.yard_top.proofs.WrittenLaws.{written}
 use Rattle.yard_top.proofs.disk.run_log.Goals as goal
 
@@ -60,7 +60,11 @@ returns-in-Err-There-clause-on_disk g c =
     let same : old ≡ new = subst (λ e. WritesLog {A = Option ℕ} (replay_text c.in-Ok.charter) (Err e) old new) c.in-Err-There.field-0-is c.in-Err-There.ensures.wrote in record {
       any_moment = λ told only. inr (c.in-Ok.charter, c.in-Ok.ensures.script, c.write_log.ensures.any_moment told only);
       at_exit = λ told fresh. inr (c.in-Ok.charter, c.in-Ok.ensures.script, c.write_log.ensures.at_exit told fresh);
-      ends = (λ told. c.write_log.ensures.there is told, ap (λ (s : Sunk). record { bytes = s.taken; flushed = s.flushed }) (sym same));
+      ends = (
+        λ told. c.write_log.ensures.there is told,
+        ap (λ (s : Sunk). record { bytes = s.taken; flushed = s.flushed }) (sym same),
+        record { content_stays = (c.write_log.ensures.untouched is).bytes; images_stay = (c.write_log.ensures.untouched is).now },
+      );
       never_falls = c.write_log.ensures.disk_faults;
       complete = λ none level told. all_there (g.S.Source.left c.args.source.now) (g.D.Disk.content c.args.disk.now) (c.write_log.ensures.there is told);
     }
@@ -73,3 +77,9 @@ returns-in-Err-OutOfMemory-clause-on_disk g c = record {
   never_falls = c.write_log.ensures.disk_faults;
   complete = λ none same told. all_without_memory (g.S.Source.left c.args.source.now) (g.D.Disk.content c.args.disk.now);
 }
+
+pub returns-in-Ok-flush-clause-untouched : goal.returns-in-Ok-flush-clause-untouched
+returns-in-Ok-flush-clause-untouched g c = script_ended c.in-Ok-write_log.stop c.end_of.result c.end_of.ensures
+
+pub returns-in-Err-clause-untouched : goal.returns-in-Err-clause-untouched
+returns-in-Err-clause-untouched g c = if_no_script c.in-Err.status refl

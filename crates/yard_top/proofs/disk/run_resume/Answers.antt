@@ -1,7 +1,7 @@
-use Rattle.std.proofs.Common.{◌∙◌, ap}
+use Rattle.std.proofs.Common.{◌∙◌, ap, refl}
 use Rattle.yard_top.specs.Disks.{platter}
 use Rattle.yard_top.specs.Ends.{streams}
-use Rattle.yard_top.proofs.DiskLaws.{resume_ends}
+use Rattle.yard_top.proofs.DiskLaws.{if_no_script, resume_ends, script_there}
 use Rattle.yard_io.specs.Told.{followed_by}
 use Rattle.yard_top.proofs.disk.run_resume.Goals as goal
 
@@ -21,3 +21,9 @@ returns-in-Ok-resume_text-clause-on_disk g c = resume_ends g.D.Disk.tells
     })
     (λ failed. (c.write_text.ensures.failed failed).0)
     c.resume_text.ensures.untouched.bytes c.resume_text.ensures.untouched.now c.resume_text.ensures.never_falls
+
+pub returns-in-Ok-resume_text-clause-untouched : goal.returns-in-Ok-resume_text-clause-untouched
+returns-in-Ok-resume_text-clause-untouched g c = script_there c.write_text.result c.write_text.ensures.either
+
+pub returns-in-Err-clause-untouched : goal.returns-in-Err-clause-untouched
+returns-in-Err-clause-untouched g c = if_no_script c.in-Err.status refl

@@ -32,9 +32,10 @@ module _ (tells : Bool) (content : List ℕ) (old mid : Ahead) (filled : Filled 
         let whole : drop old.place content ≡ bytes ++ rest = ap (λ k. drop k content) (sym filled.place) ∙ ((filled.ahead.front told).1 ∙ ap (λ (l : List ℕ). l ++ rest) (sym hand)) in
         front_is gate bytes rest (drop old.place content) some is whole ∙ ap (λ (l : List ℕ). gate ∷ l) (drop-drop 1 old.place content)
 
-    pub closed_there : (facts : List Fact) → gate ≡ 0 → ClosedMore tells content old facts facts
+    pub closed_there : (facts : List Fact) → gate ≡ 0 → ClosedMore tells content old mid facts facts
     closed_there facts zero = record {
       same = refl;
+      place = filled.place;
       gate = λ told. (drop (old.place + 1) content, gate_is told ∙ ap (λ g. g ∷ drop (old.place + 1) content) zero);
     }
 
@@ -49,7 +50,7 @@ module _ (tells : Bool) (content : List ℕ) (old mid : Ahead) (filled : Filled 
             batch = b.are.batch;
             ahead = b.are.ahead;
             size = b.are.size ∙ filled.size;
-            later = omega (arith, b.are.later, filled.place);
+            place = omega (arith, b.are.place, filled.place);
             within = b.are.within;
             frame = λ told. ap (λ k. drop (k + 1) after) (sym filled.place) ∙ b.are.frame told;
           };

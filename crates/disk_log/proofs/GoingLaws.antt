@@ -1,54 +1,67 @@
 -- Batches that are read one after the other.
-use Rattle.std.proofs.Common.{◌≡◌, ℕ, ◌+◌, ◌-◌, ◌<◌, Bool, true, false, List, [], length, map, drop, refl, sym, ap, subst, arith}
+use Rattle.std.proofs.Common.{◌≡◌, ℕ, ◌+◌, ◌-◌, ◌<◌, Bool, true, false, List, [], ◌∷◌, ◌++◌, length, map, drop, refl, sym, ◌∙◌, ap, subst, arith}
 use Rattle.std.specs.Prelude.{IsTrue, if◌then◌else◌}
-use Rattle.std.proofs.lemmas.List.{length-drop}
+use Rattle.std.proofs.lemmas.List.{length-drop, map_push}
 use Rattle.plain_laws.proofs.Booleans.{true_is_not_false}
 use Rattle.yard_model.specs.declared.fact.Fact.{Fact}
+use Rattle.disk_log.specs.Images.{Images, Only}
 use Rattle.disk_log.specs.Spelled.{lines, AreBatches, Spells, Opens, IsDamaged}
 use Rattle.disk_log.specs.Window.{Ahead, IsAhead, Closed, Opened, IsBadGate}
-use Rattle.disk_log.proofs.SpellLaws.{are_more, more_batches, spells_all}
+use Rattle.disk_log.specs.Rest.{gated, Rests}
+use Rattle.disk_log.specs.Opening.{EndsAt}
+use Rattle.disk_log.proofs.FrameLaws.{front_of, gated_front, holds_of, length-gated_push, opens_says}
+use Rattle.disk_log.proofs.SpellLaws.{are_more, more_batches}
 
 -- so far these batches were read; a gate is at hand, or there was a closed one
 pub record Going (tells : Bool) (content : List ℕ) (w : Ahead) (batches : List (List Fact)) (more : Bool) : Type 0 where
   pub are : AreBatches batches
+  pub far : w.place ≡ length (gated (map lines batches))
   pub ahead : more ≡ true → IsAhead tells content w
   pub there : more ≡ true → w.place < w.size
-  pub opens : IsTrue tells → more ≡ true → Opens (map lines batches) content (drop w.place content)
-  pub spells : IsTrue tells → more ≡ false → Spells content batches
+  pub opens : IsTrue tells → Opens (map lines batches) content (drop w.place content)
+  pub shut : IsTrue tells → more ≡ false → (rest : List ℕ) × (drop w.place content ≡ 0 ∷ rest)
 
-pub begins : (tells : Bool) (content : List ℕ) (size : ℕ) → 1 < size → (IsTrue tells → size ≡ length content) → Going tells content (record { size = size; place = 0; bytes = [] }) [] true
-begins tells content size long is = record {
-  are = tt;
-  ahead = λ more. record { within = omega arith; size = is; front = λ told. (content, refl) };
-  there = λ more. omega (arith, long);
-  opens = λ told more. refl;
-  spells = λ told more. absurd (true_is_not_false more);
-}
-
-pub begun_with : (tells : Bool) (content : List ℕ) (size : ℕ) (w : Ahead) (batches : List (List Fact)) → 1 < size → (IsTrue tells → size ≡ length content) → w ≡ record { size = size; place = 0; bytes = [] } → batches ≡ []
+pub begins : (tells : Bool) (content : List ℕ) (w : Ahead) (batches : List (List Fact)) → 1 < w.size → (IsTrue tells → w.size ≡ length content) → w.place ≡ 0 → w.bytes ≡ [] → batches ≡ []
     → Going tells content w batches true
-begun_with tells content size w batches long is at_first none =
-    subst (λ v. Going tells content v batches true) (sym at_first) (subst (λ bs. Going tells content (record { size = size; place = 0; bytes = [] }) bs true) (sym none) (begins tells content size long is))
+begins tells content w batches long is first none no_batch = record {
+  are = subst AreBatches (sym no_batch) tt;
+  far = first ∙ ap (λ (bs : List (List Fact)). length (gated (map lines bs))) (sym no_batch);
+  ahead = λ more. record { within = omega (arith, first, ap length none, long); size = is; front = λ told. (content, here ∙ ap (λ (l : List ℕ). l ++ content) (sym none)) };
+  there = λ more. omega (arith, first, long);
+  opens = λ told. subst (λ (bs : List (List Fact)). Opens (map lines bs) content (drop w.place content)) (sym no_batch) (sym here);
+  shut = λ told more. absurd (true_is_not_false more);
+}
+  where
+    here : drop w.place content ≡ content
+    here = ap (λ (k : ℕ). drop k content) first
 
 module _ (tells : Bool) (content : List ℕ) (w : Ahead) (batches : List (List Fact)) (going : Going tells content w batches true) where
   pub goes_on : (new : Ahead) (more : List (List Fact)) → Opened tells content w new batches more → Going tells content new more true
   goes_on new more o = record {
     are = subst AreBatches (sym o.more_are) (are_more batches o.facts going.are o.read.batch);
+    far = omega (arith, o.read.place, going.far, grown);
     ahead = λ is. o.read.ahead;
     there = λ is. o.read.within;
-    opens = λ told is. subst (λ bs. Opens (map lines bs) content (drop new.place content)) (sym o.more_are)
-        (more_batches batches o.facts content (drop w.place content) (drop (w.place + 1) content) (drop new.place content) (o.gate told).0 (o.gate told).2 (o.gate told).1 (going.opens told refl)
+    opens = λ told. subst (λ bs. Opens (map lines bs) content (drop new.place content)) (sym o.more_are)
+        (more_batches batches o.facts content (drop w.place content) (drop (w.place + 1) content) (drop new.place content) (o.gate told).0 (o.gate told).2 (o.gate told).1 (going.opens told)
         (record { batch = o.read.batch; frame = o.read.frame told; gate = omega (arith, length-drop new.place content, o.read.within, o.read.ahead.size told) }));
-    spells = λ told is. absurd (true_is_not_false is);
+    shut = λ told is. absurd (true_is_not_false is);
   }
+    where
+      grown : length (gated (map lines more)) ≡ length (gated (map lines batches)) + (length (lines o.facts) + 5)
+      grown =
+          ap (λ (bs : List (List Fact)). length (gated (map lines bs))) o.more_are
+          ∙ (ap (λ (ts : List (List ℕ)). length (gated ts)) (map_push lines batches o.facts) ∙ length-gated_push (map lines batches) (lines o.facts))
 
-  pub ends : (new : Ahead) (more : List (List Fact)) → Closed tells content w batches more → Going tells content new more false
+  pub ends : (new : Ahead) (more : List (List Fact)) → Closed tells content w new batches more → Going tells content new more false
   ends new more c = record {
     are = subst AreBatches (sym c.same) going.are;
+    far = c.place ∙ (going.far ∙ ap (λ (bs : List (List Fact)). length (gated (map lines bs))) (sym c.same));
     ahead = λ is. absurd (true_is_not_false (sym is));
     there = λ is. absurd (true_is_not_false (sym is));
-    opens = λ told is. absurd (true_is_not_false (sym is));
-    spells = λ told is. subst (λ bs. Spells content bs) (sym c.same) (spells_all batches content (drop w.place content) (c.gate told).0 (c.gate told).1 going.are (going.opens told refl));
+    opens = λ told. subst (λ (k : ℕ). Opens (map lines more) content (drop k content)) (sym c.place)
+        (subst (λ (bs : List (List Fact)). Opens (map lines bs) content (drop w.place content)) (sym c.same) (going.opens told));
+    shut = λ told is. ((c.gate told).0, ap (λ (k : ℕ). drop k content) c.place ∙ (c.gate told).1);
   }
 
   pub is_damaged : (at : ℕ) → IsTrue tells → 1 < length content → IsBadGate content w.place at → IsDamaged content at
@@ -57,7 +70,7 @@ module _ (tells : Bool) (content : List ℕ) (w : Ahead) (batches : List (List F
     batches_are = going.are;
     gate = bad.gate;
     rest = drop (w.place + 1) content;
-    opens = subst (Opens (map lines batches) content) bad.here (going.opens told refl);
+    opens = subst (Opens (map lines batches) content) bad.here (going.opens told);
     is_open = bad.is_open;
     place = omega (arith, bad.same, ap length bad.here, length-drop w.place content, going.there refl, (going.ahead refl).size told);
     long = long;
@@ -68,17 +81,55 @@ module _ (tells : Bool) (content other : List ℕ) (w : Ahead) (batches : List (
   begun : Going tells content w batches true
   begun = subst (Going tells content w batches) open_was going
 
-  pub stepped : (new : Ahead) (more : List (List Fact)) (b : Bool) → (b ≡ true → Opened tells other w new batches more) → (b ≡ false → Closed tells other w batches more) → Going tells content new more b
+  pub stepped : (new : Ahead) (more : List (List Fact)) (b : Bool) → (b ≡ true → Opened tells other w new batches more) → (b ≡ false → Closed tells other w new batches more) → Going tells content new more b
   stepped new more true o c = goes_on tells content w batches begun new more (subst (λ xs. Opened tells xs w new batches more) same (o refl))
-  stepped new more false o c = ends tells content w batches begun new more (subst (λ xs. Closed tells xs w batches more) same (c refl))
+  stepped new more false o c = ends tells content w batches begun new more (subst (λ xs. Closed tells xs w new batches more) same (c refl))
 
   pub falls : (new : Ahead) (more : List (List Fact)) (b : Bool) → (b ≡ true → Opened tells other w new batches more)
       → (if b then new.size - new.place + 1 else 0) < (if was then w.size - w.place + 1 else 0)
   falls new more b o = subst (λ v. (if b then new.size - new.place + 1 else 0) < (if v then w.size - w.place + 1 else 0)) (sym open_was) (by b o)
     where
       by : (d : Bool) → (d ≡ true → Opened tells other w new batches more) → (if d then new.size - new.place + 1 else 0) < w.size - w.place + 1
-      by true p = let r = (p refl).read in omega (arith, r.later, r.within, r.size, begun.there refl)
+      by true p = let r = (p refl).read in omega (arith, r.place, r.within, r.size, begun.there refl)
       by false p = omega arith
 
   pub breaks : (at : ℕ) → IsTrue tells → 1 < length content → IsBadGate other w.place at → IsDamaged content at
   breaks at told long bad = is_damaged tells content w batches begun at told long (subst (λ xs. IsBadGate xs w.place at) same bad)
+
+-- all batches were read
+pub ended : (tells : Bool) (content : List ℕ) (w : Ahead) (batches : List (List Fact)) (more : Bool) → Going tells content w batches more → more ≡ false → EndsAt tells content w.place batches
+ended tells content w batches more going none = record {
+  are = going.are;
+  far = going.far;
+  shut = λ told. let s = going.shut told none in (s.0, subst (Opens (map lines batches) content) s.1 (going.opens told));
+}
+
+pub ended_spells : (tells : Bool) (content : List ℕ) (end : ℕ) (batches : List (List Fact)) → EndsAt tells content end batches → IsTrue tells → Spells content batches
+ended_spells tells content end batches e told = record {
+  batches_are = e.are;
+  texts = holds_of (map lines batches) content (opens_says (map lines batches) content (e.shut told).0 (e.shut told).1);
+}
+
+-- the log goes on there
+pub ended_rests : (tells : Bool) (content after : List ℕ) (images : Images) (end : ℕ) (batches : List (List Fact)) → EndsAt tells content end batches → after ≡ content → (IsTrue tells → Only content images)
+    → Rests tells end after images (map lines batches)
+ended_rests true content after images end batches e same durable =
+    let texts = map lines batches in
+    let s = e.shut refl in
+    let f = front_of texts content (0 ∷ s.0) s.1 in
+    record {
+      front = f.front;
+      rest = s.0;
+      gate = omega (arith, e.far, f.long);
+      opens = f.opens;
+      bytes = λ told. same ∙ f.whole;
+      durable = λ told. subst (λ (l : List ℕ). Only l images) (sym same) (durable told);
+    }
+ended_rests false content after images end batches e same durable = record {
+  front = gated (map lines batches);
+  rest = [];
+  gate = e.far;
+  opens = gated_front (map lines batches);
+  bytes = λ told. absurd (true_is_not_false (sym told));
+  durable = λ told. absurd (true_is_not_false (sym told));
+}

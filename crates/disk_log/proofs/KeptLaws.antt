@@ -51,8 +51,9 @@ none_kept ends facts no_ends none =
     subst (λ es. AreKept es facts) (sym no_ends) (subst (AreKept []) (sym none) (record { rise = refl; batches = tt; few = omega arith }))
 
 -- a closed gate, of what is kept
-pub closed : (tells : Bool) (content : List ℕ) (old : Ahead) (ends : List ℕ) (facts more : List Fact) → ClosedMore tells content old facts more → Closed tells content old (cut 0 ends facts) (cut 0 ends more)
-closed tells content old ends facts more c = record { same = ap (cut 0 ends) c.same; gate = c.gate }
+pub closed : (tells : Bool) (content : List ℕ) (old new : Ahead) (ends : List ℕ) (facts more : List Fact) → ClosedMore tells content old new facts more
+    → Closed tells content old new (cut 0 ends facts) (cut 0 ends more)
+closed tells content old new ends facts more c = record { same = ap (cut 0 ends) c.same; place = c.place; gate = c.gate }
 
 module _ (tells : Bool) (content : List ℕ) (old new : Ahead) (ends later : List ℕ) (facts more : List Fact) (kept : AreKept ends facts) (o : OpenedMore tells content old new facts more) (later_are : later ≡ ends ++ length more ∷ []) where
   with_it : cut 0 later more ≡ cut 0 ends facts ++ o.batch.read ∷ []

@@ -6,6 +6,7 @@ pub mod CommitLaws
 mod MediaLaws
 mod ReplayLaws
 pub mod SpellLaws
+pub mod OnceLaws
 pub mod LineLaws
 pub mod ReadLaws
 pub mod GoingLaws

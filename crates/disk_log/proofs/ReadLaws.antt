@@ -300,7 +300,7 @@ batch_read tells content n old mid new facts ahead s size place r = record {
   batch = record { entries = r.entries; some = omega (arith, r.text_size, s.some); fits = omega (arith, r.text_size, s.fits) };
   ahead = r.ahead;
   size = r.size ∙ size;
-  later = omega (arith, r.place, place);
+  place = omega (arith, r.place, place, r.text_size);
   within = omega (arith, r.place, place, r.size, size, s.room);
   frame = λ told. batch_frame tells content old ahead told n facts (drop new.place content) s r.text_size (ap (λ k. drop k content) (sym place) ∙ r.text told);
 }

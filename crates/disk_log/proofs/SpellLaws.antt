@@ -11,7 +11,7 @@ use Rattle.yard_model.specs.declared.fact.Fact.{Fact}
 use Rattle.disk_log.specs.Frames.{framed, Says, Holds, IsText}
 use Rattle.disk_log.specs.Spelled.{lines, IsBatch, AreBatches, Spells, Opens, IsFollowed, IsUnfollowed, IsDamaged, SpellsPrefix}
 use Rattle.disk_log.specs.Rest.{HoldsPrefix}
-use Rattle.disk_log.proofs.FrameLaws.{holds_of}
+use Rattle.disk_log.proofs.FrameLaws.{opens_more}
 
 -- the length that a frame says
 pub frame_size : (bytes text more : List ℕ) → IsText text → bytes ≡ framed text ++ more → from_be_bytes w32 (take 4 bytes) ≡ length text
@@ -49,19 +49,10 @@ frame_found bytes n small long is fits =
       | inr past ↦ omega (arith, get_or_past (take 4 bytes) i 0 (omega (arith, past, length-take-le 4 bytes long)))
     ]
 
--- one batch more
-pub opens_more : (texts : List (List ℕ)) (text image behind : List ℕ) (gate : ℕ) → 0 < gate → Opens texts image (gate ∷ (framed text ++ behind)) → Opens (texts ++ text ∷ []) image behind
-opens_more [] text image behind gate is_open opens = (gate, behind, is_open, opens, refl)
-opens_more (t ∷ texts) text image behind gate is_open opens = (opens.0, opens.1, opens.2, opens.3, opens_more texts text opens.1 behind gate is_open opens.4)
-
 pub opens_shorter : (texts : List (List ℕ)) (image rest : List ℕ) → Opens texts image rest → length rest ≤ length image
 opens_shorter [] image rest opens = omega (arith, ap length opens)
 opens_shorter (t ∷ texts) image rest opens =
     omega (arith, opens_shorter texts opens.1 rest opens.4, ap length opens.3, length-frame t opens.1)
-
-pub opens_says : (texts : List (List ℕ)) (image rest : List ℕ) → Opens texts image (0 ∷ rest) → Says texts image
-opens_says [] image rest opens = (rest, opens)
-opens_says (t ∷ texts) image rest opens = (opens.0, opens.1, opens.2, opens.3, opens_says texts opens.1 rest opens.4)
 
 pub are_more : (batches : List (List Fact)) (facts : List Fact) → AreBatches batches → IsBatch facts → AreBatches (batches ++ facts ∷ [])
 are_more [] facts are is = (is, tt)
@@ -107,12 +98,6 @@ damaged_at batches image rest tail gate at is is_open are opens long place none 
   place = omega (arith, place, ap length is, opens_shorter (map lines batches) image rest opens);
   long = long;
   unfollowed = none;
-}
-
-pub spells_all : (batches : List (List Fact)) (image rest tail : List ℕ) → rest ≡ 0 ∷ tail → AreBatches batches → Opens (map lines batches) image rest → Spells image batches
-spells_all batches image rest tail is are opens = record {
-  batches_are = are;
-  texts = holds_of (map lines batches) image (opens_says (map lines batches) image tail (subst (Opens (map lines batches) image) is opens));
 }
 
 says_some : (texts : List (List ℕ)) (bytes : List ℕ) → Says texts bytes → 0 < length bytes

@@ -33,8 +33,9 @@ pub record BatchMore (tells : Bool) (content : List ℕ) (old new : Ahead) (fact
   pub are : ReadBatch tells content old new read
 
 -- a closed gate stood there
-pub record ClosedMore (tells : Bool) (content : List ℕ) (old : Ahead) (facts more : List Fact) : Type 0 where
+pub record ClosedMore (tells : Bool) (content : List ℕ) (old new : Ahead) (facts more : List Fact) : Type 0 where
   pub same : more ≡ facts
+  pub place : new.place ≡ old.place
   pub gate : IsTrue tells → (rest : List ℕ) × (drop old.place content ≡ 0 ∷ rest)
 
 -- an open one, and a batch behind it, whose entries stand behind those before

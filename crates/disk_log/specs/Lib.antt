@@ -9,3 +9,4 @@ pub mod Spelled
 pub mod Untold
 pub mod Window
 pub mod Kept
+pub mod Opening

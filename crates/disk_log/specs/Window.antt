@@ -83,13 +83,14 @@ pub record ReadBatch (tells : Bool) (content : List ℕ) (old new : Ahead) (fact
   pub batch : IsBatch facts
   pub ahead : IsAhead tells content new
   pub size : new.size ≡ old.size
-  pub later : old.place < new.place
+  pub place : new.place ≡ old.place + (length (lines facts) + 5)
   pub within : new.place < new.size
   pub frame : IsTrue tells → drop (old.place + 1) content ≡ framed (lines facts) ++ drop new.place content
 
 -- a closed gate stood there
-pub record Closed (tells : Bool) (content : List ℕ) (old : Ahead) (batches more : List (List Fact)) : Type 0 where
+pub record Closed (tells : Bool) (content : List ℕ) (old new : Ahead) (batches more : List (List Fact)) : Type 0 where
   pub same : more ≡ batches
+  pub place : new.place ≡ old.place
   pub gate : IsTrue tells → (rest : List ℕ) × (drop old.place content ≡ 0 ∷ rest)
 
 -- an open one, and a batch behind it

@@ -4,6 +4,7 @@ ghost use Rattle.std.specs.Int.{w32, from_be_bytes};
 ghost use Rattle.fact_lines.specs.Entries.{IsNoEntry, IsOther};
 ghost use Rattle.disk_log.specs.Spelled.{Spells, IsDamaged, IsUnfollowed};
 ghost use Rattle.disk_log.specs.Window.{IsAhead, IsUntouched, IsSize, TookFront, Passed, Closed, Opened, IsBadGate};
+ghost use Rattle.disk_log.specs.Opening.{EndsAt};
 ghost use Rattle.disk_log.specs.Kept.{AreKept, BatchMore, ClosedMore, OpenedMore, ReadMore, cut};
 
 use crate::batches::{Batches, note_end};
@@ -181,7 +182,7 @@ fn read_gated<D: Disk>(
 ) -> Result<bool, ReadLogFault>
     requires ahead { IsAhead D.tells (D.content disk.old) window.old }
     requires there { window.old.place < window.old.size }
-    ensures closed { IfOk result (λ more. more ≡ false → ClosedMore D.tells (D.content disk.old) window.old facts.old facts.new) }
+    ensures closed { IfOk result (λ more. more ≡ false → ClosedMore D.tells (D.content disk.old) window.old window.new facts.old facts.new) }
     ensures open { IfOk result (λ more. more ≡ true → OpenedMore D.tells (D.content disk.old) window.old window.new facts.old facts.new) }
     ensures damaged { (at : ℕ) → result ≡ Err (ReadLogFault.Damaged at) → IsTrue D.tells →
         IsBadGate (D.content disk.old) window.old.place at }
@@ -215,7 +216,7 @@ fn read_next<D: Disk>(
     requires there { window.old.place < window.old.size }
     requires kept { AreKept ends.old.items facts.old }
     ensures kept { IfOk result (λ more. AreKept ends.new.items facts.new) }
-    ensures closed { IfOk result (λ more. more ≡ false → Closed D.tells (D.content disk.old) window.old (cut 0 ends.old.items facts.old) (cut 0 ends.new.items facts.new)) }
+    ensures closed { IfOk result (λ more. more ≡ false → Closed D.tells (D.content disk.old) window.old window.new (cut 0 ends.old.items facts.old) (cut 0 ends.new.items facts.new)) }
     ensures open { IfOk result (λ more. more ≡ true → Opened D.tells (D.content disk.old) window.old window.new (cut 0 ends.old.items facts.old) (cut 0 ends.new.items facts.new)) }
     ensures damaged { (at : ℕ) → result ≡ Err (ReadLogFault.Damaged at) → IsTrue D.tells →
         IsBadGate (D.content disk.old) window.old.place at }
@@ -242,23 +243,28 @@ fn first_of(bytes: &[u8]) -> Option<u8>
     }
 }
 
-/// Reads all batches of an image of two bytes or more.
-fn read_batches<D: Disk>(alloc: Global, disk: &mut D, size: u64) -> Result<Batches, ReadLogFault>
-    requires long { 1 < size }
-    requires size { IsTrue D.tells → size ≡ length (D.content disk.old) }
-    ensures spelled { IfOk result (λ batches. IsTrue D.tells → Spells (D.content disk.old) batches) }
+/// Reads all batches of an image of two bytes or more. The window ends at the closed gate behind them.
+pub(crate) fn read_batches<D: Disk>(
+    alloc: Global,
+    disk: &mut D,
+    window: &mut Window,
+) -> Result<Batches, ReadLogFault>
+    requires long { 1 < window.old.size }
+    requires size { IsTrue D.tells → window.old.size ≡ length (D.content disk.old) }
+    requires first { window.old.place ≡ 0 }
+    requires none { window.old.bytes ≡ [] }
+    ensures ends { IfOk result (λ batches. EndsAt D.tells (D.content disk.old) window.new.place batches) }
     ensures damaged { (at : ℕ) → result ≡ Err (ReadLogFault.Damaged at) → IsTrue D.tells → IsDamaged (D.content disk.old) at }
     ensures untouched { IsUntouched (D.content disk.old) (D.content disk.new) (D.images disk.old) (D.images disk.new) }
     ensures cause { result ≡ Err ReadLogFault.Failed → D.faults disk.old < D.faults disk.new }
     ensures never_falls { D.faults disk.old ≤ D.faults disk.new }
 {
-    let mut window = Window::new(alloc, size)?;
     let mut line = Vec::new(alloc);
     let mut facts = Facts::new(alloc);
     let mut ends = Vec::new(alloc);
     let mut more = true;
     while more {
-        more = read_next(disk, &mut window, &mut line, &mut facts, &mut ends)?;
+        more = read_next(disk, window, &mut line, &mut facts, &mut ends)?;
     }
     Ok(Batches::of(facts, ends))
 }
@@ -277,5 +283,6 @@ pub fn read_log<D: Disk>(alloc: Global, disk: &mut D) -> Result<Batches, ReadLog
     if size <= 1 {
         return Ok(Batches::new(alloc));
     }
-    read_batches(alloc, disk, size)
+    let mut window = Window::new(alloc, size)?;
+    read_batches(alloc, disk, &mut window)
 }

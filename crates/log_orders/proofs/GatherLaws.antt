@@ -10,9 +10,9 @@ use Rattle.yard_model.specs.Text.{fact_line, fact_words, words}
 use Rattle.fact_lines.specs.Entry.{is_entry}
 use Rattle.disk_log.specs.Frames.{Holds}
 use Rattle.disk_log.specs.Images.{Images, IsTimed, LeavesOnly}
-use Rattle.disk_log.specs.Rest.{IsBeforeOrAfter, Rests, log_bytes}
+use Rattle.disk_log.specs.Rest.{IsBeforeOrAfter, Rests}
 use Rattle.disk_log.specs.Spelled.{AreBatches, IsBatch, SpellsPrefix, lines}
-use Rattle.disk_log.proofs.CommitLaws.{prefix_all}
+use Rattle.disk_log.proofs.CommitLaws.{rests_hold}
 use Rattle.disk_log.proofs.SpellLaws.{are_more}
 use Rattle.log_orders.specs.Orders.{batch_of, belongs, if_any, listed}
 use Rattle.log_orders.specs.Gathered.{Gathers, GathersOne, RestsOn}
@@ -116,9 +116,7 @@ leaves_none images timed here = record { later = omega arith; each = λ c left. 
 -- what a log at rest leaves
 pub rest_prefix : (tells : Bool) (end : ℕ) (content : List ℕ) (images : Images) (done more : List (List Fact)) → AreBatches done → Rests tells end content images (map lines done) → IsTrue tells
     → (c : List ℕ) → images.now c → SpellsPrefix (done ++ more) (length done) c
-rest_prefix tells end content images done more are rests told c now =
-    let here = prefix_all (map lines done) (length (map lines done)) c (omega arith) (rests.durable told c now ∙ ap log_bytes (sym (take_all (length (map lines done)) (map lines done) (omega arith)))) in
-    before_prefix done more c are (subst (λ l. Holds l c) (take_all here.count (map lines done) here.at_least) here.holds)
+rest_prefix tells end content images done more are rests told c now = before_prefix done more c are (rests_hold tells end content images (map lines done) rests told c now)
 
 pub long_of : (text : List ℕ) → (text ≡ [] → ⊥) → 0 < length text
 long_of [] some = absurd (some refl)

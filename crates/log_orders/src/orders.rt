@@ -66,6 +66,7 @@ pub fn commit_order<D: Disk>(
         LeavesOnly (D.images disk.old) (D.images disk.new) (SpellsPrefix (done ++ batch_of facts.now) (length done)) }
 
     ensures end { IfOk result (λ next. next ≤ log + (2 ^ 31 + 5)) }
+    ensures memory { result ≡ Err CommitFault.OutOfMemory → disk.new ≡ disk.old }
     ensures cause { result ≡ Err CommitFault.Failed → D.faults disk.old < D.faults disk.new }
     ensures never_falls { D.faults disk.old ≤ D.faults disk.new }
 {

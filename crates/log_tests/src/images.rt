@@ -58,7 +58,7 @@ fn the_bytes_of_a_log(rt: HostRuntime) -> Result<(), Fail> {
 }
 
 /// Images, and what is read of them.
-const IMAGES: [(&[u8], Came); 11] = [
+pub const IMAGES: [(&[u8], Came); 11] = [
     (WHOLE, Came::Read(4)),
     (b"", Came::Read(0)),
     (b"\x01", Came::Read(0)),

@@ -11,7 +11,7 @@ use std::alloc::{AllocError, Global};
 use yard_model::Facts;
 
 /// What each order does to the slots' lists, of a script that sends one command.
-const ORDERS: [&[u8]; 4] = [
+pub const ORDERS: [&[u8]; 4] = [
     b"granted coordinator 1 1.1\nregistered 1.1\n",
     b"granted queue:1 1 1.1\n",
     b"queued 1 c1 1 add 5\n",
@@ -22,7 +22,10 @@ confirmed 1 c1 1
 ",
 ];
 
-/// The log of these orders. Its gates stand at 0, 46, 73, 98 and 207.
+/// Where the gates of the log of these orders stand.
+pub const GATES: [usize; 5] = [0, 46, 73, 98, 207];
+
+/// That log.
 pub const WHOLE: &[u8; 208] = b"\x01\0\0\0\x29granted coordinator 1 1.1
 registered 1.1
 \x01\0\0\0\x16granted queue:1 1 1.1
@@ -53,7 +56,7 @@ fn facts(alloc: Global, text: &[u8]) -> Result<Facts, AllocError> {
 }
 
 /// Logs one more order; no log where a call failed.
-fn log_next<D: Disk>(
+pub fn log_next<D: Disk>(
     alloc: Global,
     log: Log,
     disk: &mut D,
@@ -92,14 +95,21 @@ pub fn log_all<D: Disk>(alloc: Global, disk: &mut D) -> Result<bool, AllocError>
     Ok(true)
 }
 
+/// Why a log wasn't read.
+pub fn came_of(fault: ReadLogFault) -> Result<Came, AllocError> {
+    match fault {
+        ReadLogFault::Failed => Ok(Came::Failed),
+        ReadLogFault::Damaged { at } => Ok(Came::Damaged(at)),
+        ReadLogFault::OutOfMemory => Err(AllocError),
+    }
+}
+
 /// What reading this image comes to, where the calls of these numbers fail.
 pub fn reading_of(alloc: Global, image: &[u8], fails: &[u32]) -> Result<Came, AllocError> {
     let mut disk = MemDisk::new(alloc, image, fails)?;
     match read_log(alloc, &mut disk) {
         Ok(batches) => Ok(Came::Read(batches.len())),
-        Err(ReadLogFault::Failed) => Ok(Came::Failed),
-        Err(ReadLogFault::Damaged { at }) => Ok(Came::Damaged(at)),
-        Err(ReadLogFault::OutOfMemory) => Err(AllocError),
+        Err(fault) => came_of(fault),
     }
 }
 

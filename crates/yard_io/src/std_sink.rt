@@ -1,13 +1,13 @@
 //! A sink over a writer of std's.
-ghost use Rattle.std.specs.Prelude.{◌≡◌, ℕ, ◌+◌, ◌-◌, ◌<◌, ◌≤◌, ◌^◌, min, [], length, take, IfOk, OnOk, OnErr, IfSome, IfNone, IsTrue, None};
+ghost use Rattle.std.specs.Prelude.{◌≡◌, ℕ, ◌+◌, ◌-◌, ◌<◌, ◌≤◌, ◌^◌, min, [], length, take, IfOk, OnOk, OnErr, None};
 ghost use Rattle.std.specs.Io.Buffered.{writer_buffer, writer_capacity, writer_contents, writer_inner};
 ghost use Rattle.std.specs.Io.KnownBytes.{Appends, Keeps, WriteAppends};
 
 use crate::failed::Failed;
-use crate::fault_count::FaultCount;
 use crate::sink::Sink;
+use crate::std_faults::StdFaults;
 use std::alloc::{AllocError, Global};
-use std::io::{BufWriter, ErrorKind, Write};
+use std::io::{self, BufWriter, ErrorKind, Write};
 
 /// How many bytes are gathered before they are written to the writer.
 const CAPACITY: usize = 65_536;
@@ -19,7 +19,7 @@ const CAPACITY: usize = 65_536;
 #[derive(Drop)]
 pub struct StdSink<W: Write + Drop> {
     writer: BufWriter<W>,
-    faults: FaultCount,
+    faults: StdFaults,
 }
 
 impl<W: Write + Drop> StdSink<W> {
@@ -33,7 +33,7 @@ impl<W: Write + Drop> StdSink<W> {
         match BufWriter::with_capacity(alloc, CAPACITY, writer) {
             Ok(writer) => Ok(StdSink {
                 writer,
-                faults: FaultCount::new(),
+                faults: StdFaults::new(),
             }),
             Err(_) => Err(AllocError),
         }
@@ -44,6 +44,11 @@ impl<W: Write + Drop> StdSink<W> {
         ensures { result ≡ min self.now.faults (2 ^ 64 - 1) }
     {
         self.faults.get()
+    }
+
+    /// Why the last write or flush that failed did, if one has.
+    pub fn last_error(&self) -> Option<io::Error> {
+        self.faults.last()
     }
 }
 
@@ -70,9 +75,9 @@ impl<W: Write + Drop> Sink for StdSink<W> {
         ensures no_other { IfOk result (λ _. self.new.faults ≡ self.old.faults) }
     {
         match write_retrying(&mut self.writer, piece) {
-            Some(count) => Ok(count),
-            None => {
-                self.faults.raise();
+            Ok(count) => Ok(count),
+            Err(e) => {
+                self.faults.raise(e);
                 Err(Failed)
             }
         }
@@ -92,45 +97,47 @@ impl<W: Write + Drop> Sink for StdSink<W> {
         ensures once { OnErr result (self.new.faults ≡ self.old.faults + 1) }
         ensures no_other { OnOk result (self.new.faults ≡ self.old.faults) }
     {
-        if !flush_retrying(&mut self.writer) {
-            self.faults.raise();
-            return Err(Failed);
+        match flush_retrying(&mut self.writer) {
+            Ok(()) => Ok(()),
+            Err(e) => {
+                self.faults.raise(e);
+                Err(Failed)
+            }
         }
-        Ok(())
     }
 }
 
-/// Writes once, and again where a signal interrupted the write. `None` where the writer failed, or took nothing of
+/// Writes once, and again where a signal interrupted the write. An error where the writer failed, or took nothing of
 /// a piece that has bytes.
-fn write_retrying<W: Write>(writer: &mut W, piece: &[u8]) -> Option<usize>
-    ensures within { IfSome result (λ n. n ≤ length piece.now) }
-    ensures some { IfSome result (λ n. 0 < length piece.now → 0 < n) }
-    ensures bytes { IfSome result (λ n. Appends (W.contents writer.old) (W.contents writer.new)
+fn write_retrying<W: Write>(writer: &mut W, piece: &[u8]) -> io::Result<usize>
+    ensures within { IfOk result (λ n. n ≤ length piece.now) }
+    ensures some { IfOk result (λ n. 0 < length piece.now → 0 < n) }
+    ensures bytes { IfOk result (λ n. Appends (W.contents writer.old) (W.contents writer.new)
         (take n piece.now)) }
-    ensures kept { IfNone result (Keeps (W.contents writer.old) (W.contents writer.new)) }
+    ensures kept { OnErr result (Keeps (W.contents writer.old) (W.contents writer.new)) }
 {
     for _ in 0..u64::MAX {
         match writer.write(piece) {
-            Ok(0) if !piece.is_empty() => return None,
-            Ok(count) => return Some(count),
+            Ok(0) if !piece.is_empty() => return Err(io::Error::from(ErrorKind::WriteZero)),
+            Ok(count) => return Ok(count),
             Err(e) if e.kind() == ErrorKind::Interrupted => {}
-            Err(_) => return None,
+            Err(e) => return Err(e),
         }
     }
-    None
+    Err(io::Error::from(ErrorKind::Interrupted))
 }
 
-/// Flushes, and again where a signal interrupted that. `false` where the writer failed.
-fn flush_retrying<W: Write + Drop>(writer: &mut BufWriter<W>) -> bool
-    ensures empty { IsTrue result → writer_buffer writer.new ≡ [] }
+/// Flushes, and again where a signal interrupted that. An error where the writer failed.
+fn flush_retrying<W: Write + Drop>(writer: &mut BufWriter<W>) -> io::Result<()>
+    ensures empty { OnOk result (writer_buffer writer.new ≡ []) }
     ensures bytes { Keeps (writer_contents W.contents writer.old) (writer_contents W.contents writer.new) }
 {
     for _ in 0..u64::MAX {
         match writer.flush() {
-            Ok(()) => return true,
+            Ok(()) => return Ok(()),
             Err(e) if e.kind() == ErrorKind::Interrupted => {}
-            Err(_) => return false,
+            Err(e) => return Err(e),
         }
     }
-    false
+    Err(io::Error::from(ErrorKind::Interrupted))
 }

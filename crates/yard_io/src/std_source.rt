@@ -1,11 +1,11 @@
 //! A source over a reader of std's.
-ghost use Rattle.std.specs.Prelude.{◌≡◌, ℕ, ◌+◌, ◌-◌, ◌^◌, ◌<◌, ◌≤◌, min, length, take, IfOk, OnErr, IfSome, IfNone, None};
+ghost use Rattle.std.specs.Prelude.{◌≡◌, ℕ, ◌+◌, ◌-◌, ◌^◌, ◌<◌, ◌≤◌, min, length, take, IfOk, OnErr, None};
 ghost use Rattle.std.specs.Io.KnownBytes.{Consumes, IsAtEnd, Keeps, ReadConsumes};
 
 use crate::failed::Failed;
-use crate::fault_count::FaultCount;
 use crate::source::Source;
-use std::io::{ErrorKind, Read};
+use crate::std_faults::StdFaults;
+use std::io::{self, ErrorKind, Read};
 
 /// A source over a reader, such as standard input. It tells nothing of the bytes, and counts each read that fails.
 ///
@@ -13,7 +13,7 @@ use std::io::{ErrorKind, Read};
 #[derive(Drop)]
 pub struct StdSource<R> {
     reader: R,
-    faults: FaultCount,
+    faults: StdFaults,
 }
 
 impl<R: Read> StdSource<R> {
@@ -24,7 +24,7 @@ impl<R: Read> StdSource<R> {
     {
         StdSource {
             reader,
-            faults: FaultCount::new(),
+            faults: StdFaults::new(),
         }
     }
 
@@ -33,6 +33,11 @@ impl<R: Read> StdSource<R> {
         ensures { result ≡ min self.now.faults (2 ^ 64 - 1) }
     {
         self.faults.get()
+    }
+
+    /// Why the last read that failed did, if one has.
+    pub fn last_error(&self) -> Option<io::Error> {
+        self.faults.last()
     }
 }
 
@@ -56,29 +61,29 @@ impl<R: Read> Source for StdSource<R> {
         ensures no_other { IfOk result (λ _. self.new.faults ≡ self.old.faults) }
     {
         match read_retrying(&mut self.reader, buf) {
-            Some(count) => Ok(count),
-            None => {
-                self.faults.raise();
+            Ok(count) => Ok(count),
+            Err(e) => {
+                self.faults.raise(e);
                 Err(Failed)
             }
         }
     }
 }
 
-/// Reads once, and again where a signal interrupted the read. `None` where the reader failed.
-fn read_retrying<R: Read>(reader: &mut R, buf: &mut [u8]) -> Option<usize>
-    ensures within { IfSome result (λ n. n ≤ length buf.new) }
-    ensures bytes { IfSome result (λ n. Consumes (R.remaining reader.old) (R.remaining reader.new)
+/// Reads once, and again where a signal interrupted the read. An error where the reader failed.
+fn read_retrying<R: Read>(reader: &mut R, buf: &mut [u8]) -> io::Result<usize>
+    ensures within { IfOk result (λ n. n ≤ length buf.new) }
+    ensures bytes { IfOk result (λ n. Consumes (R.remaining reader.old) (R.remaining reader.new)
         (take n buf.new)) }
-    ensures end { IfSome result (λ n. n ≡ 0 → 0 < length buf.new → IsAtEnd (R.remaining reader.new)) }
-    ensures kept { IfNone result (Keeps (R.remaining reader.old) (R.remaining reader.new)) }
+    ensures end { IfOk result (λ n. n ≡ 0 → 0 < length buf.new → IsAtEnd (R.remaining reader.new)) }
+    ensures kept { OnErr result (Keeps (R.remaining reader.old) (R.remaining reader.new)) }
 {
     for _ in 0..u64::MAX {
         match reader.read(buf) {
-            Ok(count) => return Some(count),
+            Ok(count) => return Ok(count),
             Err(e) if e.kind() == ErrorKind::Interrupted => {}
-            Err(_) => return None,
+            Err(e) => return Err(e),
         }
     }
-    None
+    Err(io::Error::from(ErrorKind::Interrupted))
 }

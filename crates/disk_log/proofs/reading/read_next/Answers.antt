@@ -10,7 +10,7 @@ returns-then-not-more-clause-kept g c = subst (AreKept c.args.ends.now.items) (s
 
 pub returns-then-not-more-clause-closed : goal.returns-then-not-more-clause-closed
 returns-then-not-more-clause-closed g c is =
-    closed g.D.Disk.tells (g.D.Disk.content c.args.disk.now) c.args.window.now c.args.ends.now.items c.args.facts.now c.read_gated.new.facts (c.in_ok-more.ensures.closed c.if-not-more.true)
+    closed g.D.Disk.tells (g.D.Disk.content c.args.disk.now) c.args.window.now c.read_gated.new.window c.args.ends.now.items c.args.facts.now c.read_gated.new.facts (c.in_ok-more.ensures.closed c.if-not-more.true)
 
 pub returns-clause-kept : goal.returns-clause-kept
 returns-clause-kept g c =

@@ -2,6 +2,7 @@ use Rattle.std.proofs.Common.{◌≡◌, ◌+◌, ◌<◌, ◌≤◌, ◌∙◌,
 use Rattle.std.specs.Prelude.{Err, slice_get, Some}
 use Rattle.std.proofs.lemmas.Result.{err_from_is_err_and}
 use Rattle.yard_model.specs.Script.{Script}
+use Rattle.disk_log.proofs.CommitLaws.{rests_at}
 use Rattle.log_orders.specs.Orders.{batches}
 use Rattle.log_orders.proofs.GatherLaws.{leaves_none}
 use Rattle.logged_lines.specs.Logged.{batches_of, orders_of}
@@ -26,7 +27,7 @@ loop-k-init g c =
       rests = record { are = tt; rests = c.requires.rests };
       leaves = λ told. leaves_none (g.D.Disk.images c.args.disk.now) (g.met.D.Disk.timed c.args.disk.now)
           (rests_prefix g.D.Disk.tells c.args.log (g.D.Disk.content c.args.disk.now) (g.D.Disk.images c.args.disk.now) [] (batches_of c.args.world.now.script) (record { are = tt; rests = c.requires.rests }) told);
-      room = omega (arith, c.requires.rests.gate);
+      room = omega (arith, rests_at g.D.Disk.tells c.args.log (g.D.Disk.content c.args.disk.now) (g.D.Disk.images c.args.disk.now) [] c.requires.rests);
       faults = omega arith;
     }
 

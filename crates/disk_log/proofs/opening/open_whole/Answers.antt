@@ -1,0 +1,17 @@
+use Rattle.std.proofs.Common.{◌∙◌, map, subst, sym}
+use Rattle.disk_log.specs.Rest.{Rests}
+use Rattle.disk_log.specs.Spelled.{lines}
+use Rattle.disk_log.proofs.GoingLaws.{ended_rests, ended_spells}
+use Rattle.disk_log.proofs.opening.open_whole.Goals as goal
+
+pub returns-clause-spelled : goal.returns-clause-spelled
+returns-clause-spelled g c told = ended_spells g.D.Disk.tells (g.D.Disk.content c.args.disk.now) c.read_batches.new.window.place c.in_ok-batches.batches c.in_ok-batches.ensures.ends told
+
+pub returns-clause-rests : goal.returns-clause-rests
+returns-clause-rests g c =
+    let after = g.D.Disk.content c.read_batches.new.disk in
+    let images = g.D.Disk.images c.read_batches.new.disk in
+    let batches = c.in_ok-batches.batches in
+    subst (λ n. Rests g.D.Disk.tells n after images (map lines batches)) (sym (c.at.ensures ∙ c.place-end.ensures))
+    (ended_rests g.D.Disk.tells (g.D.Disk.content c.args.disk.now) after images c.read_batches.new.window.place batches c.in_ok-batches.ensures.ends c.read_batches.ensures.untouched.bytes
+    (λ told d now. c.requires.durable told d ((c.read_batches.ensures.untouched.now d).0 now)))

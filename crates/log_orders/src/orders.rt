@@ -98,5 +98,5 @@ pub fn commit_batch<D: Disk>(log: Log, disk: &mut D, batch: &Batch) -> Result<Lo
     if batch.is_empty() {
         return Ok(log);
     }
-    log.commit(disk, batch)
+    Ok(log.commit(disk, batch)?)
 }

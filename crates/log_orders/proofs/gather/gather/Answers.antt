@@ -13,7 +13,7 @@ loop-fact-preserved c =
     let facts = c.args.facts.now in
     let f = c.fact-item.result in
     let longer : take (i + 1) facts ≡ take i facts ++ f ∷ [] = take_more facts i f c.loop-fact-test.true ∙ ap (λ x. take i facts ++ x ∷ []) (sym c.fact-item.is) in
-    subst (λ l. Gathers l c.enter.new.batch) (sym longer) (gathers_more (take i facts) f c.loop-fact.batch c.enter.new.batch c.loop-fact.invariant c.in_ok-enter.ensures)
+    subst (λ l. Gathers l c.enter.new.batch) (sym longer) (gathers_more (take i facts) f c.loop-fact.batch c.enter.new.batch c.loop-fact.invariant c.in_ok-enter.ensures.ok)
 
 pub returns : goal.returns
 returns c = subst (λ l. Gathers l c.loop-fact.batch) (take_all c.loop-fact.fact-index c.args.facts.now (omega (arith, c.loop-fact-test.false))) c.loop-fact.invariant

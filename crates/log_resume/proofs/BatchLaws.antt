@@ -1,6 +1,6 @@
 -- Entries that are taken one after the other, batch by batch.
 use Rattle.std.proofs.Common.{◌≡◌, ◌<◌, ◌≤◌, ℕ, zero, suc, ◌+◌, ◌-◌, sym, ap, ◌∙◌, refl, subst, arith}
-use Rattle.std.specs.Prelude.{Bool, true, false, ◌&&◌, List, [], ◌∷◌, ◌++◌, length, fold, take, drop, get_or}
+use Rattle.std.specs.Prelude.{Bool, true, false, ◌&&◌, List, [], ◌∷◌, ◌++◌, length, take, drop, get_or}
 use Rattle.std.specs.List.{list_all}
 use Rattle.std.proofs.lemmas.List.{append-nil, append_assoc, take_all, take_more, drop_more, take-append-drop}
 use Rattle.std.proofs.lemmas.List.Folds.{list_all-append}
@@ -15,7 +15,7 @@ use Rattle.yard_model.proofs.FollowLaws.{follows_more}
 use Rattle.yard_laws.proofs.Owns.{lists_more, no_lists_own}
 use Rattle.yard_laws.proofs.SafetyLaws.{lawful_of}
 use Rattle.fact_lines.specs.Entry.{is_entry}
-use Rattle.log_resume.specs.Restored.{IsForeign, are_taken, entries, freed, has_slot, is_taken, restored, slots}
+use Rattle.log_resume.specs.Restored.{IsForeign, are_taken, entries, has_slot, is_taken}
 use Rattle.log_resume.specs.Taken.{Stands, Takes, TakesAll}
 
 false_of : (b : Bool) → (b ≡ true → ⊥) → b ≡ false
@@ -113,11 +113,6 @@ module _ (c : Script) (batches : List (List Fact)) (k : ℕ) (inside : k < lengt
     before = let same : k + 1 - 1 ≡ k = omega arith in ap (λ n. are_taken c (entries (take n batches))) same ∙ stands.each;
     with_it = ap (are_taken c) together ∙ t.no refl;
   }
-
--- what is freed behind all batches
-pub restored_of : (c : Script) (batches : List (List Fact)) (k : ℕ) (lists new : SlotLists) → length batches ≤ k → Stands c (entries (take k batches)) lists → new ≡ fold freed lists (slots c) → new ≡ restored c batches
-restored_of c batches k lists new all stands is =
-    is ∙ ap (λ l. fold freed l (slots c)) (stands.lists_are ∙ ap (lists_of (setting c)) (entries_all batches k all))
 
 -- each of a list of entries is one
 pub entry_at : (facts : List Fact) (i : ℕ) (f : Fact) → i < length facts → f ≡ get_or facts i f → list_all is_entry facts ≡ true → is_entry f ≡ true

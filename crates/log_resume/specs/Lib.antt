@@ -1,2 +1,3 @@
 pub mod Restored
 pub mod Taken
+pub mod Left

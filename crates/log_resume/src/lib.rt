@@ -2,10 +2,12 @@
 //! held freed.
 #![tactic(auto)]
 
+mod done;
 mod entry;
 mod fault;
 mod free;
+mod note;
 mod stores;
 
 pub use fault::ResumeFault;
-pub use stores::stores_of;
+pub use stores::{Restored, restore, stores_of};

@@ -49,6 +49,7 @@ pub fn tell_order<K: Sink, D: Disk>(
         OrderEnds facts.now done (K.taken sink.old) (K.taken sink.new) (D.images disk.new) }
 
     ensures end { IfOk result (λ next. next ≤ log + (2 ^ 31 + 5)) }
+    ensures memory { result ≡ Err LogError.OutOfMemory → disk.new ≡ disk.old }
     ensures never_there { IfErr result (λ e. e ≢ LogError.There) }
     ensures disk_cause { result ≡ Err LogError.Disk → D.faults disk.old < D.faults disk.new }
     ensures disk_faults { D.faults disk.old ≤ D.faults disk.new }

@@ -6,7 +6,6 @@ use Rattle.yard_model.specs.Settled.{settled}
 use Rattle.yard_model.specs.World.{all_sends, settled_from}
 use Rattle.log_resume.specs.Restored.{restored}
 use Rattle.log_orders.specs.Orders.{if_any, listed}
-
 pub use Rattle.log_resume.specs.Left.{free_if, frees, is_confirmed_all, lists_in}
 
 -- all sends of the script are queued, recorded and confirmed

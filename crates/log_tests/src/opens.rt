@@ -75,6 +75,7 @@ fn are_left(alloc: Global, image: &[u8], count: u32) -> Result<bool, AllocError>
 /// Whether it is so where this call fails, and that is told if it comes to this call.
 fn is_told(alloc: Global, image: &[u8], call: u32, count: u32) -> Result<bool, AllocError>
     requires first { 0 < call }
+    requires last { call < 10 }
     requires few { count < 8 }
 {
     let mut disk = MemDisk::new(alloc, image, &[call])?;

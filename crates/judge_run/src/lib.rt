@@ -2,6 +2,7 @@
 //! trace goes to a sink. Each status has its cause as a clause of the call.
 #![tactic(auto)]
 
+mod explain;
 mod input;
 mod sentences;
 mod status;

@@ -3,7 +3,7 @@ ghost use Rattle.std.specs.Prelude.{◌≡◌, ◌<◌, drop, IfOk, IfErr, IfSom
 ghost use Rattle.std.specs.IoError.{error_kind};
 ghost use Rattle.std.specs.declared.io.ErrorKind.TheVariants as kind;
 ghost use Rattle.program_words.specs.Forms.{form_on};
-ghost use Rattle.program_words.specs.Notices.{notice_in};
+ghost use Rattle.program_words.specs.Notices.{notice_in, text_of};
 ghost use Rattle.yard_io.specs.Told.{followed_by, count_of};
 ghost use Rattle.yard_top.specs.Disks.{platter};
 ghost use Rattle.yard_top.specs.Ends.{streams};
@@ -33,16 +33,16 @@ pub fn run<R: Threads + Wait + Sync, S: Source, K: Sink, G: Gate + Sync, D: Disk
     ensures no_words { IfErr arguments (λ e. HasNoWords
         (streams (S.left source.old) (S.faults source.old) (K.taken sink.old) (K.flushed sink.old) (K.faults sink.old))
         (streams (S.left source.new) (S.faults source.new) (K.taken sink.new) (K.flushed sink.new) (K.faults sink.new))
-        (error_kind e ≡ kind.OutOfMemory) result) }
+        (error_kind e ≡ kind.OutOfMemory) (disk.new ≡ disk.old) result) }
     // They ask for a notice.
-    ensures notice { IfOk arguments (λ all. IfSome (notice_in (drop 1 all.items)) (λ n. Noticed
+    ensures notice { IfOk arguments (λ all. IfSome (notice_in (drop 1 all.items)) (λ n. Noticed n
         (streams (S.left source.old) (S.faults source.old) (K.taken sink.old) (K.flushed sink.old) (K.faults sink.old))
-        (streams (S.left source.new) (S.faults source.new) (K.taken sink.new) (K.flushed sink.new) (K.faults sink.new)) result)) }
+        (streams (S.left source.new) (S.faults source.new) (K.taken sink.new) (K.flushed sink.new) (K.faults sink.new)) (disk.new ≡ disk.old) result)) }
     // They don't: what is done is what `sharder_on` says of the words.
     ensures ended { IfOk arguments (λ all. IfNone (notice_in (drop 1 all.items)) (Ended (form_on (drop 1 all.items)) D.tells
         (streams (S.left source.old) (S.faults source.old) (K.taken sink.old) (K.flushed sink.old) (K.faults sink.old))
         (streams (S.left source.new) (S.faults source.new) (K.taken sink.new) (K.flushed sink.new) (K.faults sink.new))
-        (platter (D.content disk.old) (D.images disk.old) (D.faults disk.old)) (platter (D.content disk.new) (D.images disk.new) (D.faults disk.new)) result)) }
+        (platter (D.content disk.old) (D.images disk.old) (D.faults disk.old)) (platter (D.content disk.new) (D.images disk.new) (D.faults disk.new)) (disk.new ≡ disk.old) result)) }
 {
     match words_of(arguments) {
         Ok(words) => run_words(rt, alloc, words.as_slice(), source, sink, gate, disk),
@@ -60,13 +60,13 @@ fn run_words<R: Threads + Wait + Sync, S: Source, K: Sink, G: Gate + Sync, D: Di
     gate: &G,
     disk: &mut D,
 ) -> Status
-    ensures notice { IfSome (notice_in words.now) (λ n. Noticed
+    ensures notice { IfSome (notice_in words.now) (λ n. Noticed n
         (streams (S.left source.old) (S.faults source.old) (K.taken sink.old) (K.flushed sink.old) (K.faults sink.old))
-        (streams (S.left source.new) (S.faults source.new) (K.taken sink.new) (K.flushed sink.new) (K.faults sink.new)) result) }
+        (streams (S.left source.new) (S.faults source.new) (K.taken sink.new) (K.flushed sink.new) (K.faults sink.new)) (disk.new ≡ disk.old) result) }
     ensures ended { IfNone (notice_in words.now) (Ended (form_on words.now) D.tells
         (streams (S.left source.old) (S.faults source.old) (K.taken sink.old) (K.flushed sink.old) (K.faults sink.old))
         (streams (S.left source.new) (S.faults source.new) (K.taken sink.new) (K.flushed sink.new) (K.faults sink.new))
-        (platter (D.content disk.old) (D.images disk.old) (D.faults disk.old)) (platter (D.content disk.new) (D.images disk.new) (D.faults disk.new)) result) }
+        (platter (D.content disk.old) (D.images disk.old) (D.faults disk.old)) (platter (D.content disk.new) (D.images disk.new) (D.faults disk.new)) (disk.new ≡ disk.old) result) }
 {
     match notice_of(words) {
         Some(notice) => tell(notice, sink),
@@ -76,7 +76,7 @@ fn run_words<R: Threads + Wait + Sync, S: Source, K: Sink, G: Gate + Sync, D: Di
 
 /// Writes a notice.
 fn tell<K: Sink>(notice: Notice, sink: &mut K) -> Status
-    ensures { IsTold (record { bytes = K.taken sink.old; flushed = K.flushed sink.old })
+    ensures { IsTold (text_of notice) (record { bytes = K.taken sink.old; flushed = K.flushed sink.old })
         (record { bytes = K.taken sink.new; flushed = K.flushed sink.new }) (K.faults sink.old) (K.faults sink.new) result }
 {
     match write_whole(notice.text().as_bytes(), sink) {

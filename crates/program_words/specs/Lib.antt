@@ -1,3 +1,4 @@
 pub mod Complaint
+pub mod Explained
 pub mod Forms
 pub mod Notices

@@ -2,11 +2,13 @@
 //! status, and a line on standard error.
 #![tactic(auto)]
 
+mod explain;
 mod forms;
 mod notice;
 mod status;
 mod words;
 
+pub use explain::{reads_script, explanation_of_reason};
 pub use forms::{Form, ScriptFrom, alone_form_of, disk_form_of, form_of};
 pub use notice::{Notice, notice_of};
 pub use status::Status;

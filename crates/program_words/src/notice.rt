@@ -1,7 +1,7 @@
 //! What the program prints of itself.
 ghost use Rattle.std.specs.Prelude.{◌≡◌, None, IfSome};
 ghost use Rattle.program_words.specs.Forms.{form_on};
-ghost use Rattle.program_words.specs.Notices.{notice_in, notice_of_word};
+ghost use Rattle.program_words.specs.Notices.{notice_in, notice_of_word, text_of};
 
 const HELP: &str = "sharder: a cluster of sharded, event-sourced entities with reliable delivery
 
@@ -45,6 +45,14 @@ many, 8 no number, 9 out of range, 10 no name, 11 more than 20000 lines, 12 more
 than 4 MiB, 13 no order of this command, 15 a second
 job of a name (pull), 16 no counters (daemon), 17 more than
 1000 pings.
+
+Examples, in a clone, with ./run.sh in the place of sharder:
+
+  sharder replay < examples/failover.txt
+  sharder live 2000 7 < examples/live.txt
+
+The program judge (./run.sh judge) says of any trace whether it is safe: judge --help.
+Read on in docs/SCRIPT.md (how to write a script), docs/TRACE.md (how to read a trace).
 ";
 
 const VERSION: &str = "sharder 0.1.0\n";
@@ -60,7 +68,9 @@ pub enum Notice {
 
 impl Notice {
     /// Its text.
-    pub fn text(self) -> &'static str {
+    pub fn text(self) -> &'static str
+        ensures { result.now ≡ text_of self }
+    {
         match self {
             Notice::Help => HELP,
             Notice::Version => VERSION,

@@ -7,7 +7,7 @@ use Rattle.program_words.specs.Notices.{text_of}
 use Rattle.program_words.specs.declared.notice.Notice.{Notice}
 use Rattle.program_words.specs.declared.status.Status.{Status}
 use Rattle.program_words.specs.declared.status.Status.TheVariants as status
-use Rattle.yard_top.specs.Disks.{IfNoDisk, OnDisk, Platter}
+use Rattle.yard_top.specs.Disks.{IfNoDisk, IfNoScript, OnDisk, Platter}
 use Rattle.yard_top.specs.Ends.{EndsOf, IsComplete, NoneFell, ReadsNoMore, Streams, Taken}
 use Rattle.yard_top.specs.Safely.{IsSafely}
 
@@ -20,6 +20,7 @@ pub record Ended (form : Option Form) (tells : Bool) (old new : Streams) (disk a
   pub faults : NoneFell old new
   pub on_disk : OnDisk form tells old new disk after result
   pub no_disk : IfNoDisk form same
+  pub untouched : IfNoScript result same
 
 -- the two ends of a notice of this text: it was written and flushed with status 0, or a write failed
 abbrev pub IsTold : Bytes → Taken → Taken → ℕ → ℕ → Status → Type 0

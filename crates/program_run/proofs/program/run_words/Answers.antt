@@ -22,5 +22,6 @@ returns-in-None-clause-ended g c =
       faults = c.sharder_on.ensures.faults;
       on_disk = c.sharder_on.ensures.on_disk;
       no_disk = c.sharder_on.ensures.no_disk;
+      untouched = c.sharder_on.ensures.untouched;
     } in
     if_none _ _ ended

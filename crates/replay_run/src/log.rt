@@ -9,6 +9,7 @@ ghost use Rattle.yard_model.specs.World.{trace_of};
 ghost use Rattle.disk_log.specs.Images.{LeavesOnly, Only};
 ghost use Rattle.disk_log.specs.Rest.{Rests};
 ghost use Rattle.disk_log.specs.Spelled.{SpellsPrefix};
+ghost use Rattle.disk_log.specs.Window.{IsUntouched};
 ghost use Rattle.log_orders.specs.Gathered.{RestsOn};
 ghost use Rattle.log_orders.specs.Orders.{batch_of};
 ghost use Rattle.logged_lines.specs.Logged.{IsFresh, LogEnds, batches_of};
@@ -54,6 +55,8 @@ pub fn write_log<K: Sink, D: Disk>(
         LogEnds charter (K.taken sink.old) (K.taken sink.new) (D.images disk.new) }
 
     ensures there { result ≡ Err LogError.There → IsTrue D.tells → 0 < length (D.content disk.old) }
+    ensures untouched { result ≡ Err LogError.There →
+        IsUntouched (D.content disk.old) (D.content disk.new) (D.images disk.old) (D.images disk.new) }
     ensures not_there { OnOk result (IsTrue D.tells → D.content disk.old ≡ []) }
     ensures disk_cause { result ≡ Err LogError.Disk → D.faults disk.old < D.faults disk.new }
     ensures disk_faults { D.faults disk.old ≤ D.faults disk.new }
@@ -92,6 +95,8 @@ fn logged<B: Behaviour + Copy + Drop, K: Sink, D: Disk>(
     ensures at_exit { IsTrue D.tells → IsFresh (D.content disk.old) (D.images disk.old) →
         LogEnds charter (K.taken sink.old) (K.taken sink.new) (D.images disk.new) }
     ensures there { result ≡ Err LogError.There → IsTrue D.tells → 0 < length (D.content disk.old) }
+    ensures untouched { result ≡ Err LogError.There →
+        IsUntouched (D.content disk.old) (D.content disk.new) (D.images disk.old) (D.images disk.new) }
     ensures not_there { OnOk result (IsTrue D.tells → D.content disk.old ≡ []) }
     ensures disk_cause { result ≡ Err LogError.Disk → D.faults disk.old < D.faults disk.new }
     ensures disk_faults { D.faults disk.old ≤ D.faults disk.new }

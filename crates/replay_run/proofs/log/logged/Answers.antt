@@ -42,6 +42,11 @@ returns-in_err-log-clause-there g c is told =
     let p = err_from_is_err_and c.from_residual-in_err-log.result c.from_residual-in_err-log.ensures.1 in
     c.in_err-log.ensures.there (ap Err (make_there _ c.from_residual-in_err-log.result (p.1 ∙ ap Err p.2) is)) told
 
+pub returns-in_err-log-clause-untouched : goal.returns-in_err-log-clause-untouched
+returns-in_err-log-clause-untouched g c is =
+    let p = err_from_is_err_and c.from_residual-in_err-log.result c.from_residual-in_err-log.ensures.1 in
+    c.in_err-log.ensures.untouched (ap Err (make_there _ c.from_residual-in_err-log.result (p.1 ∙ ap Err p.2) is))
+
 pub returns-in_err-log-clause-disk_cause : goal.returns-in_err-log-clause-disk_cause
 returns-in_err-log-clause-disk_cause g c is =
     let p = err_from_is_err_and c.from_residual-in_err-log.result c.from_residual-in_err-log.ensures.1 in

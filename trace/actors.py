@@ -55,11 +55,11 @@ class Actors:
     """Goes over the facts once. `see` gives the node that acts, None where none does."""
 
     def __init__(self) -> None:
-        self.packets: Dict[int, Packet] = {}        # the last packet of each number
+        self.posted: List[Packet] = []              # all packets, in order
+        self.packets: Dict[int, Packet] = {}        # the last one of each number
         self.holders: Dict[str, str] = {}           # the incarnation that holds, or held last, each slot
         self.gone: Set[str] = set()
         self.row = -1                               # of the last fact that was seen
-        self.is_posted = False                      # whether that is a packet's `sent`
         self._homes: Dict[str, int] = {}            # the node at which an entity lives, or lived last
         self._turn: Optional[int] = None            # the node that got the last packet of this order
         self._era = 0                               # the row of the last `reshard`
@@ -120,6 +120,7 @@ class Actors:
         else:
             packet = self._pulled(number, words)
         self.packets[number] = packet
+        self.posted.append(packet)
 
     def _pulled(self, number: int, words: Tuple[str, ...]) -> Packet:
         """A packet between a worker and the producer, who isn't named: it is at the node that holds the queue."""

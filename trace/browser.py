@@ -126,8 +126,8 @@ class Browser:
         for kind in ('keyDown', 'keyUp'):
             self.ask('Input.dispatchKeyEvent', type=kind, key=key, text=text if kind == 'keyDown' else '', modifiers=8 if shift else 0)
 
-    def picture(self, path: str) -> None:
-        data = self.ask('Page.captureScreenshot', format='png')['data']
+    def picture(self, path: str, is_whole: bool = False) -> None:
+        data = self.ask('Page.captureScreenshot', format='png', captureBeyondViewport=is_whole)['data']
         with open(path, 'wb') as file:
             file.write(base64.b64decode(str(data)))
 

@@ -96,6 +96,12 @@ function givenBy(row) {
   return found;
 }
 
+// The row of the `got`, or of the order, that a line came of; -1 where there is none.
+function causeOf(row) {
+  while (row >= 0 && kinds[row] !== 'got' && kinds[row] !== 'at') row--;
+  return row;
+}
+
 // ---- orders (or lists, or batches): each has the row at which it begins
 const headingRows = data.headings.map(it => it[0]);
 
@@ -131,27 +137,35 @@ const changedAt = (of, item, word, row) => {
   return count > 0 && history[2 * count - 2] === row;
 };
 
-// Of each item the rows at which a word of it changes, rising.
-const changes = mapped(data.histories, items => mapped(items, words => {
-  const rows = new Set();
-  for (const history of Object.values(words)) for (let n = 0; n < history.length; n += 2) rows.add(history[n]);
-  return [...rows].sort((a, b) => a - b);
-}));
+// Of each kind of item all its changes: the rows, rising, and the item that changes in each; and when each was first told of.
+const changes = mapped(data.histories, items => {
+  const all = [], firsts = [];
+  for (const item in items) {
+    const rows = new Set();
+    for (const history of Object.values(items[item])) for (let n = 0; n < history.length; n += 2) rows.add(history[n]);
+    if (rows.size) firsts.push(Math.min(...rows));
+    for (const row of rows) all.push([row, item]);
+  }
+  all.sort((a, b) => a[0] - b[0]);
+  return { rows: all.map(it => it[0]), items: all.map(it => it[1]), firsts: firsts.sort((a, b) => a - b), count: firsts.length };
+});
+
+// The kinds of items of which a word changes in a row.
+const touchedBy = row => Object.keys(changes).filter(of => changes[of].rows[countUpTo(changes[of].rows, row) - 1] === row);
 
 // The items that were told of up to a row; of more than `most` those that changed last.
-function itemsUpTo(of, row, most, isWanted) {
-  let found = [];
-  for (const item in changes[of]) {
-    const count = countUpTo(changes[of][item], row);
-    if (count && isWanted(item)) found.push([changes[of][item][count - 1], item]);
+function itemsUpTo(of, row, most, isWanted, isAll) {
+  const { rows, items, firsts } = changes[of], found = new Set();
+  const known = isAll ? countUpTo(firsts, row) : Infinity;
+  for (let n = countUpTo(rows, row) - 1; n >= 0 && found.size < known && !(isAll && found.size >= most); n--) {
+    if (!found.has(items[n]) && isWanted(items[n])) found.add(items[n]);
   }
-  const total = found.length;
-  if (total > most) found = found.sort((a, b) => b[0] - a[0]).slice(0, most);
-  return { total, items: found.map(it => it[1]).sort(byName) };
+  const last = [...found].slice(0, most).sort(byName);
+  return { total: isAll ? known : found.size, items: last };
 }
 
 const collator = new Intl.Collator('en', { numeric: true });
-const byName = (a, b) => collator.compare(a, b);
+const byName = (a, b) => a - b || collator.compare(a, b);
 
 // ---- what a line is about, for filters; read once, when first asked
 let subjects = null;

@@ -1,5 +1,5 @@
 // The sequence diagram of the lines around: a lane is a node, a row a line, an arrow a packet.
-const ROW = 22, ABOVE = 6, BELOW = 8, BAR = 7;
+const ROW = 22, ABOVE = 5, BELOW = 6, BAR = 7;
 
 function drawDiagram(row, width) {
   const first = Math.max(0, Math.min(row - ABOVE, last - ABOVE - BELOW));
@@ -65,21 +65,21 @@ function laneOf(node, x, wide, first, until, yOf) {
   return pieces.join('') + leasesOf(node, x, wide, first, until, yOf);
 }
 
-// The leases that a node holds, as bars at the edge of its lane.
+// The leases that a node holds, as bars at the edge of its lane: at most three, those first that come or go here.
 function leasesOf(node, x, wide, first, until, yOf) {
-  const pieces = [];
-  let column = 0;
+  const found = [];
   for (const slot in data.histories.slot) {
     const history = data.histories.slot[slot].holder || [];
     for (let n = Math.max(0, 2 * countUpTo(history, first, 2) - 2); n < history.length && history[n] <= until; n += 2) {
       const end = n + 2 < history.length ? history[n + 2] : last + 1;
-      if (history[n + 1] === null || history[n + 1].split('.')[0] !== node || end < first || column > 5) continue;
-      const top = history[n] < first ? 28 : yOf(history[n]), foot = end > until ? yOf(until) + ROW / 2 : yOf(end);
-      pieces.push(`<rect class="lease ${slot.split(':')[0]}" x="${x + wide / 2 - BAR - 2 - column * (BAR - 1)}" y="${top}" width="${BAR - 3}" height="${Math.max(foot - top, 2)}" rx="2"><title>${slot} is held by ${history[n + 1]}</title></rect>`);
-      column++;
+      if (history[n + 1] === null || history[n + 1].split('.')[0] !== node || end < first) continue;
+      found.push({ slot, from: history[n], end, name: history[n + 1], rank: (history[n] < first && end > until ? 2 : 0) + (slot.startsWith('shard') ? 1 : 0) });
     }
   }
-  return pieces.join('');
+  return found.sort((a, b) => a.rank - b.rank).slice(0, 3).map((it, column) => {
+    const top = it.from < first ? 28 : yOf(it.from), foot = it.end > until ? yOf(until) + ROW / 2 : yOf(it.end);
+    return `<rect class="lease ${it.slot.split(':')[0]}" x="${x + wide / 2 - BAR - 1 - column * (BAR - 1)}" y="${top}" width="${BAR - 3}" height="${Math.max(foot - top, 2)}" rx="2"><title>${it.slot} is held by ${it.name}</title></rect>`;
+  }).join('');
 }
 
 function drawArrow({ packet, got, again }, first, until, xOf, yOf, lane) {
@@ -95,7 +95,7 @@ function drawArrow({ packet, got, again }, first, until, xOf, yOf, lane) {
   const path = source === target ? `M${x} ${y}C${x - lane * 0.55} ${y} ${x - lane * 0.55} ${toY} ${toX} ${toY}`
     : `M${x} ${y}C${x + (toX - x) * 0.45} ${y} ${x + (toX - x) * 0.55} ${toY} ${toX} ${toY}`;
   const side = source === target || toX > x ? -1 : 1;
-  const tip = got.row > until ? '' : got.lost ? cross(toX, toY, 4) : `<path class="tip" d="M${toX + side * 5} ${toY}l${side * 6} -4v8z"/>`;
+  const tip = got.row > until ? '' : got.lost ? cross(toX, toY, 4.5) : `<path class="tip" d="M${toX + side * 5} ${toY}l${side * 6} -4v8z"/>`;
   return `${open}<path d="${path}"/>${tip}</g>`;
 }
 
@@ -108,15 +108,15 @@ function drawRow(at, row, textAt, xOf, yOf, wide) {
   if (kinds[at] === 'got' && packetOfRow(at)) shown += ` ${packetOfRow(at).kind}`;
   if (kinds[at] === 'at' && data.hasScript) shown += `  ${orderText(at)}`;
   const cut = shown.length > most ? `${shown.slice(0, most - 1)}…` : shown;
-  const dot = node === null ? '' : `<circle class="node-${node % 8}" cx="${xOf(String(node))}" cy="${y}" r="${at === row ? 5.5 : 4}"/>`;
+  const dot = node === null || data.lost[at] ? '' : `<circle class="node-${node % 8}" cx="${xOf(String(node))}" cy="${y}" r="${at === row ? 5.5 : 4}"/>`;
   return `<g class="row ${toneOf(at)}" data-row="${at}"><rect class="hit" x="0" y="${y - ROW / 2}" width="${wide}" height="${ROW}"/>`
     + `<text class="number" x="36" y="${y + 4}" text-anchor="end">${lineOf(at)}</text>${dot}`
     + `<text x="${textAt}" y="${y + 4}">${escaped(cut)}<title>${escaped(lines[at])}</title></text></g>`;
 }
 
 function toneOf(at) {
-  if (['wrote', 'confirmed', 'granted', 'queued', 'up', 'did'].includes(kinds[at])) return 'strong';
-  if (['gone', 'dropped', 'writefailed', 'wirefull', 'freed'].includes(kinds[at]) || data.lost[at]) return 'bad';
+  if (['wrote', 'confirmed', 'granted', 'freed', 'queued', 'up', 'did'].includes(kinds[at])) return 'strong';
+  if (['gone', 'dropped', 'writefailed', 'wirefull'].includes(kinds[at]) || data.lost[at]) return 'bad';
   if (kinds[at] === 'at') return 'heading';
   return ['sent', 'got', 'view', 'nothing'].includes(kinds[at]) ? 'quiet' : 'plain';
 }

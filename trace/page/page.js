@@ -66,17 +66,25 @@ function render() {
   $('said').textContent = '';
   $('here').href = `#${lineOf(row)}`;
   $('here').textContent = `#${lineOf(row)}`;
-  document.documentElement.style.setProperty('--at', `${100 * (row + 0.5) / (last + 1)}%`);
+  $('slot')?.style.setProperty('--at', `${100 * (row + 0.5) / (last + 1)}%`);
   if ($('diagram').parentElement.open) $('diagram').innerHTML = drawDiagram(row, $('diagram').clientWidth || 700);
-  fill('packet', packetHtml(chosenPacket(row), row));
-  $('packet-title').textContent = chosenPacket(row) ? `Packet ${chosenPacket(row).number}` : 'Packet';
-  for (const of in panes) if ($(of)) fill(of, panes[of].html(row, isItemWanted(of)));
+  fill('packet', causeHtml(row));
+  $('packet-title').textContent = causeTitle(row);
+  const touched = touchedBy(row).filter(it => $(it));
+  $('touched').innerHTML = touched.length ? `It changed: ${touched.map(it => `<button type="button" data-to="${it}">${panes[it].title}</button>`).join(', ')}` : '';
+  for (const of in panes) if ($(of)) {
+    fill(of, panes[of].html(row, isItemWanted(of), !listed));
+    $(`${of}-title`).querySelector('.badge').hidden = !touched.includes(of);
+  }
   drawList();
   if (history.replaceState && location.hash !== hashNow()) history.replaceState(null, '', hashNow());
 }
 
-// Puts a pane's text in place; what had the focus in it has it again.
+// Puts a pane's text in place, where it is another; what had the focus in it has it again.
+const standing = {};
 function fill(id, html) {
+  if (standing[id] === html) return;
+  standing[id] = html;
   const key = $(id).contains(document.activeElement) ? document.activeElement.dataset.key : null;
   $(id).innerHTML = html;
   if (key) $(id).querySelector(`[data-key="${CSS.escape(key)}"]`)?.focus({ preventScroll: true });
@@ -180,21 +188,24 @@ function pressed(event) {
 }
 
 function clicked(event) {
-  const at = event.target.closest('[data-row], [data-packet], [data-jump], [data-whole], a[href^="#"]');
+  const at = event.target.closest('[data-row], [data-packet], [data-jump], [data-whole], [data-to], [data-node]');
   if (!at) return;
+  if (at.dataset.node && !event.target.closest('summary')) return;
   if (at.dataset.row) return go(+at.dataset.row);
   if (at.dataset.packet) { now.packet = packetByRow.get(+at.dataset.packet); render(); return $('packet-title').scrollIntoView({ block: 'nearest' }); }
   if (at.dataset.jump) return stepEntity(+at.dataset.jump, at.dataset.entity);
+  if (at.dataset.to) return $(`${at.dataset.to}-title`).scrollIntoView({ block: 'start' });
+  if (at.dataset.node) { openNodes[openNodes.has(at.dataset.node) ? 'delete' : 'add'](at.dataset.node); event.preventDefault(); return render(); }
   if (at.dataset.whole) { shownWhole.add(at.dataset.whole); return render(); }
 }
 
 // ---- the beginning
 function begin() {
   document.title = data.title;
-  const frame = $('panes');
   for (const of in panes) {
     if (of !== 'wire' && !Object.keys(data.histories[of]).length || of === 'wire' && !packets.length) continue;
-    frame.insertAdjacentHTML('beforeend', `<section class="card pane-${of}" aria-labelledby="${of}-title"><h2 id="${of}-title">${panes[of].title}</h2><p class="hint">${panes[of].help}</p><div id="${of}"></div></section>`);
+    const frame = $(['node', 'slot'].includes(of) ? 'left' : 'right');
+    frame.insertAdjacentHTML('beforeend', `<section class="card pane-${of}" aria-labelledby="${of}-title"><h2 id="${of}-title">${panes[of].title}<span class="badge" hidden>changed</span></h2><p class="hint">${panes[of].help}</p><div id="${of}"></div></section>`);
   }
   $('slider').max = last;
   $('number').min = lineOf(0);

@@ -1,6 +1,8 @@
 // The panes: what stands after a row. Each word that is shown says of what it is (`data-of`, `data-item`, `data-word`).
-const MOST = 40;
+const MOST = 20;
+const FEW = 4;                      // nodes that are shown open
 const shownWhole = new Set();       // panes that show all their items
+const openNodes = new Set();
 
 const escaped = text => String(text).replace(/[&<>"]/g, it => ({ '&': '&amp;', '<': '&lt;', '>': '&gt;', '"': '&quot;' }[it]));
 const most = of => shownWhole.has(of) ? Infinity : MOST;
@@ -28,21 +30,26 @@ function ranges(numbers) {
 }
 
 // The words that begin so, without the beginning: [what stands behind it, value] in turn.
-const wordsOf = (words, beginning) => Object.entries(words).filter(it => it[0].startsWith(`${beginning}.`))
-  .map(it => [it[0].slice(beginning.length + 1), it[1]]).sort((a, b) => byName(a[0], b[0]));
+function wordsOf(words, beginning) {
+  const found = [], behind = beginning.length + 1;
+  for (const name in words) if (name.startsWith(beginning) && name[behind - 1] === '.') found.push([name.slice(behind), words[name]]);
+  return found.sort((a, b) => byName(a[0], b[0]));
+}
 
 // Homes of shards, by region: 1.1: shards 0–2.
 function homesHtml(of, item, words, row) {
   const by = {};
   for (const [shard, home] of wordsOf(words, 'home')) (by[home] ??= []).push(shard);
-  return Object.keys(by).sort(byName).map(home => {
+  const gone = Object.keys(data.histories[of][item] || {}).some(it => it.startsWith('home.') && !(it in words) && changedAt(of, item, it, row));
+  return (gone ? '<span class="changed">one less</span> ' : '') + (Object.keys(by).sort(byName).map(home => {
     const changed = by[home].some(it => changedAt(of, item, `home.${it}`, row)) ? ' changed' : '';
     return `<span class="pair${changed}" data-of="${of}" data-item="${escaped(item)}" data-word="home" data-home="${home}">${ranges(by[home])} → ${chip(home)}</span>`;
-  }).join(' ') || '<span class="none">none</span>';
+  }).join(' ') || '<span class="none">none</span>');
 }
 
 const messages = (of, item, words, beginning, row) => wordsOf(words, beginning).map(([at, text]) =>
-  `<a class="message${+at === row ? ' changed' : ''}" href="#${lineOf(+at)}" data-of="${of}" data-item="${escaped(item)}" data-word="${beginning}">${escaped(text)}</a>`).join(' ');
+  `<a class="message${+at === row ? ' changed' : ''}" href="#${lineOf(+at)}" data-of="${of}" data-item="${escaped(item)}" data-word="${beginning}" title="${messageSays(text)}">${escaped(text)}</a>`).join(' ');
+const messageSays = text => filled('command {2} of producer {0} to {1}', text.split(' '));
 
 const line = (name, html) => `<div><dt>${name}</dt><dd>${html}</dd></div>`;
 const note = (shown, total, of, what) => shown === total ? '' :
@@ -51,20 +58,22 @@ const note = (shown, total, of, what) => shown === total ? '' :
 const panes = {
   node: {
     title: 'Nodes', help: 'What each node knows. A node knows only what it was told, so views and homes may lag behind.',
-    html(row, isWanted) {
+    html(row, isWanted, isAll) {
       const holders = {};
       for (const slot in data.histories.slot) {
         const holder = wordAt(data.histories.slot[slot].holder, row);
         if (holder !== null) (holders[holder] ??= []).push(slot);
       }
-      const { items } = itemsUpTo('node', row, Infinity, isWanted);
-      return `<div class="nodes">${items.map(it => nodeHtml(it, row, holders)).join('') || empty('No node has come up yet.')}</div>`;
+      const { items } = itemsUpTo('node', row, Infinity, isWanted, isAll);
+      const isFew = items.length <= FEW || shownWhole.has('node');
+      return `<div class="nodes">${items.map(it => nodeHtml(it, row, holders, isFew)).join('') || empty('No node has come up yet.')}</div>`
+        + (isFew ? '' : '<p class="more"><button type="button" data-whole="node" data-key="whole-node">Open all</button></p>');
     },
   },
   slot: {
     title: 'Leases', help: 'Whoever holds a slot may write its list. The epoch rises with each grant. The bar is the whole trace.',
-    html(row, isWanted) {
-      const { items, total } = itemsUpTo('slot', row, most('slot'), isWanted);
+    html(row, isWanted, isAll) {
+      const { items, total } = itemsUpTo('slot', row, most('slot'), isWanted, isAll);
       const rows = items.map(it => {
         const words = itemAt('slot', it, row);
         const stopping = words.stopping ? ` <small>stops ${word('slot', it, 'stopping', row, words.stopping)}</small>` : '';
@@ -76,16 +85,16 @@ const panes = {
   },
   entity: {
     title: 'Entities', help: 'Where each lives, and what its journal comes to.',
-    html(row, isWanted) {
-      const { items, total } = itemsUpTo('entity', row, most('entity'), isWanted);
+    html(row, isWanted, isAll) {
+      const { items, total } = itemsUpTo('entity', row, most('entity'), isWanted, isAll);
       const rows = items.map(it => entityHtml(it, row));
-      return table(['entity', 'shard', 'is', 'records', 'state'], rows, 'No entity has been heard of yet.') + note(items.length, total, 'entity', 'entities');
+      return table(['entity', 'shard', 'phase', 'records', 'state'], rows, 'No entity has been heard of yet.') + note(items.length, total, 'entity', 'entities');
     },
   },
   pair: {
     title: 'Queues', help: 'By producer and entity: commands in the durable queue, those that are confirmed, and up to which number the entity has asked for more.',
-    html(row, isWanted) {
-      const { items, total } = itemsUpTo('pair', row, most('pair'), isWanted);
+    html(row, isWanted, isAll) {
+      const { items, total } = itemsUpTo('pair', row, most('pair'), isWanted, isAll);
       const rows = items.map(it => {
         const words = itemAt('pair', it, row), [producer, entity] = it.split(' ');
         const queued = words.queued ?? 0, confirmed = words.confirmed ?? 0;
@@ -109,14 +118,14 @@ const panes = {
       return '<dl>' + line('at', slot.holder ? `${chip(slot.holder)} under epoch ${slot.epoch}` : '<span class="none">nobody</span>')
         + line('regions', regions.map(it => word('coordinator', 'coordinator', `region.${it}`, row, it, chip(it) + (leaving.includes(it) ? ' <small>leaves</small>' : ''))).join(' ') || '<span class="none">none</span>')
         + line('homes', homesHtml('coordinator', 'coordinator', words, row))
-        + line('hosted', `<span data-of="coordinator" data-item="coordinator" data-word="started">${started}</span>` || '')
+        + line('started', `<span data-of="coordinator" data-item="coordinator" data-word="started">${started}</span>` || '')
         + line('open round', words.round ? `${word('coordinator', 'coordinator', 'round', row, words.round)}<ul>${moving}</ul>` : '<span class="none">none</span>') + '</dl>';
     },
   },
   job: {
     title: 'Jobs', help: 'Each goes to one worker at a time.',
-    html(row, isWanted) {
-      const { items, total } = itemsUpTo('job', row, most('job'), isWanted);
+    html(row, isWanted, isAll) {
+      const { items, total } = itemsUpTo('job', row, most('job'), isWanted, isAll);
       const rows = items.map(it => {
         const words = itemAt('job', it, row);
         return `<tr><th scope="row">${escaped(it)}</th><td>${word('job', it, 'state', row, words.state)} ${words.at ? word('job', it, 'at', row, words.at, chip(words.at)) : ''}</td><td>${word('job', it, 'dids', row, words.dids ?? 0)}</td></tr>`;
@@ -126,7 +135,7 @@ const panes = {
   },
   wire: {
     title: 'On the wire', help: 'Packets that were sent and not delivered so far. Choose one to see all of it.',
-    html(row, isWanted) {
+    html(row, isWanted, isAll) {
       const all = onTheWire(row).filter(isWanted), some = shownWhole.has('wire') ? all : all.slice(-MOST);
       const items = some.map(it => `<li><button type="button" class="packet" data-packet="${it.row}" data-key="packet-${it.row}" aria-pressed="${it === chosenPacket(row)}">`
         + `<b class="${packetForms[it.kind]?.family}">${it.number}</b> ${chip(it.from)} → ${chip(it.to)} <span>${escaped(it.text)}</span>${isUp(it.to, row) ? '' : ' <small class="bad">to nobody</small>'}</button></li>`);
@@ -144,20 +153,22 @@ function table(heads, rows, without) {
   return `<table><thead><tr>${heads.map(it => `<th scope="col">${it}</th>`).join('')}</tr></thead><tbody>${rows.join('')}</tbody></table>`;
 }
 
-function nodeHtml(node, row, holders) {
+function nodeHtml(node, row, holders, isFew) {
   const words = itemAt('node', node, row), name = words.incarnation;
   const head = `<h3><i class="node-${node % 8}"></i> Node ${node} <span>${word('node', node, 'incarnation', row, name ?? '', name ? `is up as ${name}` : 'is down')}</span></h3>`;
   if (!name) return `<article class="down">${head}</article>`;
+  if (!isFew && !openNodes.has(node)) return `<article><details data-node="${node}"><summary data-key="node-${node}">${head}</summary></details></article>`;
   const kept = messages('node', node, words, 'kept', row), asked = ranges(wordsOf(words, 'asked').map(it => it[0]));
   const held = (holders[name] || []).sort(byName), shards = held.filter(it => it.startsWith('shard:')).map(it => it.slice(6));
   const others = held.filter(it => !it.startsWith('shard:'));
-  return `<article>${head}<dl>`
+  const [open, close] = isFew ? [head, ''] : [`<details open data-node="${node}"><summary data-key="node-${node}">${head}</summary>`, '</details>'];
+  return `<article>${open}<dl>`
     + line('view', words.view ? `${word('node', node, 'view', row, words.view)}: ${word('node', node, 'members', row, words.members, chips(words.members.split(',')))}` : '<span class="none">none yet</span>')
     + line('registered with', word('node', node, 'registered', row, words.registered ?? '', chip(words.registered)) + (words.leaving ? ` <small class="bad">${word('node', node, 'leaving', row, 'yes', 'it leaves')}</small>` : ''))
     + line('homes', homesHtml('node', node, words, row))
     + line('holds', [shards.length ? `shard ${ranges(shards)}` : '', ...others].filter(Boolean).join(', ') || '<span class="none">nothing</span>')
     + (asked ? line('asks for', `shard <span data-of="node" data-item="${node}" data-word="asked">${asked}</span>`) : '')
-    + (kept ? line('keeps', kept) : '') + '</dl></article>';
+    + (kept ? line('keeps', kept) : '') + `</dl>${close}</article>`;
 }
 
 function entityHtml(name, row) {
@@ -188,13 +199,29 @@ function timeBar(slot) {
   })();
 }
 
+// Of what a line came: a packet, or an order.
+function causeHtml(row) {
+  if (chosenPacket(row)) return packetHtml(chosenPacket(row), row);
+  const cause = causeOf(row);
+  if (cause < 0) return empty('Nothing says of what this line came.');
+  if (kinds[cause] === 'got' && packetOfRow(cause)) return packetHtml(packetOfRow(cause), row);
+  return `<p class="says">${link(cause, `line ${lineOf(cause)}`)} <code>${escaped(data.hasScript ? orderText(cause) : lines[cause])}</code> gave</p><ul class="story">${rowsHtml(givenBy(cause)) || '<li>nothing</li>'}</ul>`;
+}
+
+function causeTitle(row) {
+  if (chosenPacket(row)) return `Packet ${chosenPacket(row).number}`;
+  const packet = packetOfRow(causeOf(row));
+  return packet ? `Came of packet ${packet.number}` : 'Came of an order';
+}
+
+const rowsHtml = rows => rows.slice(0, 12).map(it => `<li>${link(it, lines[it])}</li>`).join('') + (rows.length > 12 ? `<li>and ${rows.length - 12} more</li>` : '');
+
 // One packet whole: when it was sent, each delivery, and what that gave.
 function packetHtml(packet, row) {
-  if (!packet) return empty('This line is of no packet. Choose one on the wire, or a line with “sent” or “got”.');
   const gots = packet.gots.map((got, count) => {
-    const given = givenBy(got.row), shown = given.slice(0, 12).map(it => `<li>${link(it, lines[it])}</li>`).join('');
-    const gave = got.lost ? `<span class="bad">lost: ${got.lost}</span>` : given.length ? `gave<ul>${shown}</ul>` : 'gave nothing';
-    return `<li class="${got.row <= row ? '' : 'later'}">${link(got.row, `line ${lineOf(got.row)}`)} got${count ? ' once more' : ''}, ${gave}${given.length > 12 && !got.lost ? `<small>and ${given.length - 12} more</small>` : ''}</li>`;
+    const given = givenBy(got.row);
+    const gave = got.lost ? `<span class="bad">lost: ${got.lost}</span>` : given.length ? `gave<ul>${rowsHtml(given)}</ul>` : 'gave nothing';
+    return `<li class="${got.row <= row ? '' : 'later'}">${link(got.row, `line ${lineOf(got.row)}`)} got${count ? ' once more' : ''}, ${gave}</li>`;
   }).join('');
   return `<p class="says">${chip(packet.from)} → ${chip(packet.to)} “${escaped(packetSays(packet))}”</p><ol class="story"><li>${link(packet.row, `line ${lineOf(packet.row)}`)} <code>${escaped(lines[packet.row])}</code></li>${gots || '<li class="later">never got in this trace</li>'}</ol>`;
 }

@@ -68,6 +68,7 @@ class State:
     def __init__(self, trace: Trace) -> None:
         self.histories: Histories = {of: {} for of in ('node', 'slot', 'entity', 'pair', 'coordinator', 'job', 'world')}
         self.nodes: List[Optional[int]] = []
+        self.facts = trace.facts
         self.row = -1
         self.actors = Actors()
         self.is_pull = is_pulled(trace.facts)

@@ -5,16 +5,18 @@ import base64
 import json
 import os
 import shutil
+import signal
 import socket
 import struct
 import subprocess
+import sys
 import tempfile
 import time
 from typing import Dict, List, Optional
 from urllib.parse import urlparse
 
 NAMES = ('chromium', 'chromium-browser', 'google-chrome', 'google-chrome-stable')
-SECONDS = 30
+SECONDS = 300           # that a busy machine may take for one answer
 
 
 def program() -> Optional[str]:
@@ -60,8 +62,10 @@ class Browser:
     """One page of a browser; `with Browser() as it`."""
 
     def __init__(self, width: int = 1280, height: int = 900, is_dark: bool = False) -> None:
+        signal.signal(signal.SIGTERM, lambda *_: sys.exit(1))       # so that the browser ends with what started it
         self._folder = tempfile.TemporaryDirectory(ignore_cleanup_errors=True)
-        words = [str(program()), '--headless=new', '--no-sandbox', '--disable-gpu', '--no-first-run', '--disable-extensions', '--hide-scrollbars',
+        words = [str(program()), '--headless=new', '--no-sandbox', '--disable-gpu', '--no-first-run', '--disable-extensions', '--hide-scrollbars', '--mute-audio',
+                 '--disable-background-timer-throttling', '--disable-renderer-backgrounding', '--disable-backgrounding-occluded-windows',
                  f'--user-data-dir={self._folder.name}', '--remote-debugging-port=0', f'--window-size={width},{height}', 'about:blank']
         self._process = subprocess.Popen(words, stdout=subprocess.DEVNULL, stderr=subprocess.DEVNULL)
         self._count = 0
@@ -134,7 +138,11 @@ class Browser:
     def close(self) -> None:
         self._socket.close()
         self._process.terminate()
-        self._process.wait(SECONDS)
+        try:
+            self._process.wait(10)
+        except subprocess.TimeoutExpired:
+            self._process.kill()
+            self._process.wait(10)
         self._folder.cleanup()
 
     def __enter__(self) -> Browser:

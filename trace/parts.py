@@ -12,7 +12,7 @@ from facts import PARTS, Fact
 
 NUMBER, INCARNATION, NAME, STAMP, SLOT, REST = (PARTS[key] for key in ('N', 'X', 'E', 'STAMP', 'SLOT', '..'))
 TYPES: Dict[str, str] = {
-    **dict.fromkeys(('line', 'version', 'packet', 'epoch', 'node', 'shard', 'producer', 'number', 'records', 'confirmed', 'upto', 'shards',
+    **dict.fromkeys(('order', 'version', 'packet', 'epoch', 'node', 'shard', 'producer', 'number', 'records', 'confirmed', 'upto', 'shards',
                      'place'), NUMBER),
     **dict.fromkeys(('incarnation', 'from', 'to', 'home', 'region', 'origin', 'worker'), INCARNATION),
     **dict.fromkeys(('message', 'command', 'events', 'state'), REST),
@@ -22,7 +22,7 @@ TYPES: Dict[str, str] = {
 
 # the facts: their forms, and a sentence
 FACTS: Dict[str, Tuple[List[str], str]] = {
-    'at': (['{line}'], 'Line {line} of the script begins.'),
+    'at': (['{order}'], 'Line {order} of the script begins.'),
     'nothing': ([''], 'The order found nothing to do.'),
     'wirefull': ([''], 'The wire is full: the trace ends here.'),
     'settled': ([''], 'Every send so far is queued, recorded and confirmed.'),
@@ -111,6 +111,21 @@ PACKET_PATTERNS: Dict[str, Pattern[str]] = {
     kind: re.compile(source_of(f'{kind} {form}'.rstrip())) for kind, (form, _, _) in PACKETS.items()}
 
 Part = Union[str, int, List[str], Dict[str, object]]
+
+
+def json_type(name: str) -> Dict[str, object]:
+    """What a part is in JSON, as JSON Schema says it."""
+    if name == 'events':
+        return {'type': 'array', 'items': {'type': 'string'}}
+    if name == 'members':
+        return {'type': 'array', 'items': {'type': 'string', 'pattern': browser_pattern(INCARNATION)}}
+    if TYPES[name] == NUMBER:
+        return {'type': 'integer', 'minimum': 0}
+    return {'type': 'string', 'pattern': browser_pattern(TYPES[name])}
+
+
+def browser_pattern(pattern: str) -> str:
+    return f'^(?:{pattern})$'.replace(r'\d', '[0-9]')
 
 
 def parts_of(fact: Fact) -> Dict[str, Part]:

@@ -24,7 +24,7 @@ sys.path[:0] = [os.path.dirname(HERE), HERE]
 from browser import Browser, program                    # noqa: E402
 from explore import page_of                             # noqa: E402
 from sources import Source, read_source                 # noqa: E402
-from state import State, state_at                       # noqa: E402
+from state import State, words_at                       # noqa: E402
 
 MOVES = 50
 MOST_ITEMS = 20         # that a pane shows, as in panes.js
@@ -133,7 +133,7 @@ WALK = """(async moves => {
       window.addEventListener('hashchange', done, { once: true });
       if (location.hash === '#' + line) done(); else location.hash = line;
     });
-    if (way === 'key') { go(row - 1); document.dispatchEvent(new KeyboardEvent('keydown', { key: 'ArrowRight', bubbles: true })); }
+    if (way === 'key') { go(row - 1); document.activeElement.dispatchEvent(new KeyboardEvent('keydown', { key: 'ArrowRight', bubbles: true })); }
     seen.push({
       text: document.getElementById('text').textContent,
       wire: [...document.querySelectorAll('#wire [data-packet] b')].map(it => +it.textContent),
@@ -158,7 +158,7 @@ def by_item(words: List[List[str]]) -> Dict[str, Dict[str, Shown]]:
 
 def faults_at(seen: Dict[str, object], state: State, row: int) -> Iterator[str]:
     """Where a pane shows something else than stands after a row."""
-    standing, shown = state_at(state.histories, row), by_item(seen['words'])        # type: ignore[arg-type]
+    shown = by_item(seen['words'])      # type: ignore[arg-type]
     for of, should in SHOULD.items():
         begun = {item for item, words in state.histories[of].items() if any(history[0] <= row for history in words.values())}
         if of != 'coordinator' and len(begun) <= MOST_ITEMS and set(shown.get(of, ())) != begun:
@@ -166,7 +166,7 @@ def faults_at(seen: Dict[str, object], state: State, row: int) -> Iterator[str]:
         if len(begun) > MOST_ITEMS and len(shown.get(of, ())) != MOST_ITEMS:
             yield f'{of}: {len(shown.get(of, ()))} items, and not {MOST_ITEMS}'
         for item, words in shown.get(of, {}).items():
-            expected = {word: value if isinstance(value, list) else str(value) for word, value in should(standing[of].get(item, {})).items()}
+            expected = {word: value if isinstance(value, list) else str(value) for word, value in should(words_at(state.histories[of].get(item, {}), row)).items()}
             if words != expected:
                 yield f'{of} {item}: {words}, and not {expected}'
     on_wire = [packet.number for packet in state.actors.posted if packet.row <= row and not any(got.row <= row for got in packet.deliveries)]
@@ -236,7 +236,6 @@ def main() -> int:
     paths: Dict[str, str] = {}
     with tempfile.TemporaryDirectory() as folder, Browser() as page:
         for name, script, trace in cases(player):
-            print(name, file=sys.stderr)
             begun = time.process_time()
             source = read_source(trace, script)
             text, _ = page_of(source, f'A trace of {name}')

@@ -174,7 +174,7 @@ const keys = {
 };
 
 function pressed(event) {
-  const at = event.target, isField = at.matches('input:not([type=range]), select, textarea');
+  const at = event.target.closest ? event.target : document.body, isField = at.matches('input:not([type=range]), select, textarea');
   if (event.ctrlKey || event.metaKey || event.altKey || $('help').open) return;
   if (event.key === 'Escape' && at.id === 'filter') { setFilter(''); $('lines').focus(); return; }
   if (event.key === 'Enter' && at.id === 'filter') { $('lines').focus(); return; }

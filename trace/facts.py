@@ -2,7 +2,7 @@
 from __future__ import annotations
 
 import re
-from dataclasses import dataclass
+from dataclasses import dataclass, field
 from typing import Dict, List, Sequence, Tuple
 
 MOST_LINE = 1_000       # characters of a fact's line
@@ -61,6 +61,7 @@ class Trace:
     orders: Dict[int, str]      # the script's lines by number, where the input has a script
     comments: List[str]         # at the script's head, without their marks
     report_lines: int = 0       # from the line `report` on
+    shards: Dict[str, int] = field(default_factory=dict)        # of entities, as the report tells them
 
 
 def read(data: bytes) -> Trace:
@@ -74,7 +75,7 @@ def read(data: bytes) -> Trace:
     script, lines = split_script(lines)
     orders, comments = orders_of(script)
     facts, rest = facts_of(lines)
-    return Trace(facts, orders, comments, rest)
+    return Trace(facts, orders, comments, rest, shards_of(lines[len(lines) - rest:]))
 
 
 def split_script(lines: List[str]) -> Tuple[List[str], List[str]]:
@@ -118,6 +119,12 @@ def facts_of(lines: Sequence[str]) -> Tuple[List[Fact], int]:
     if not facts:
         raise NoTrace('line 1: no trace: ' + ('a report, and no fact before it' if rest else 'no line is a fact'))
     return facts, rest
+
+
+def shards_of(report: Sequence[str]) -> Dict[str, int]:
+    """The shards of the entities of a report."""
+    found = (re.fullmatch(f"entity ({PARTS['E']}) shard ({PARTS['N']}) .*", line) for line in report)
+    return {entity[1]: int(entity[2]) for entity in found if entity}
 
 
 def fact_of(number: int, line: str) -> Fact:

@@ -1,11 +1,13 @@
-"""Where everything stands: which rows and lanes, the columns of bars, the tracks of arrows."""
+"""Where everything stands: lanes, the columns of bars, the tracks of arrows."""
 from __future__ import annotations
 
 from dataclasses import dataclass
 from typing import Dict, Iterable, List, Optional, Sequence, Tuple
 
-from facts import Trace
-from story import Delivery, Packet, Row, Span, Story
+from facts import Fact, Trace
+from actors import Delivery, Packet
+from choosing import Choice, Window, choose
+from story import Row, Span, Story
 
 # in pixels
 ROW = 16                # the height of a row
@@ -19,21 +21,7 @@ LEAST_WIDTH = 520       # of a picture
 
 MOST_TRACKS = 12        # upright arrows beside one another; what comes more shares the last to become free
 MOST_BARS = 16          # leases of a node beside one another, and entities; what comes more is left out
-MOST_ROWS = 20_000      # rows of a picture; what comes more is left out
-
-
-class WrongWords(Exception):
-    """The options don't fit the trace."""
-
-
-@dataclass
-class Window:
-    """The rows that are drawn."""
-    first: int
-    last: int
-
-    def meets(self, start: int, end: Optional[int]) -> bool:
-        return start <= self.last and (end is None or end >= self.first)
+MOST_OF_ALL = 64        # of all nodes together: with more nodes each has fewer bars, and fewer tracks
 
 
 @dataclass
@@ -86,21 +74,13 @@ class Layout:
     left_out: List[str]
 
 
-def choose_window(rows: Sequence[Row], lines: Optional[Sequence[int]]) -> Window:
-    """The rows of these lines of the trace, of all without them; at most MOST_ROWS."""
-    first, last = 0, len(rows) - 1
-    if lines is not None:
-        chosen = [n for n, row in enumerate(rows) if lines[0] <= row.fact.line <= lines[1]]
-        if not chosen:
-            raise WrongWords(f'--lines {lines[0]} {lines[1]}: no fact there; the last one is in line {rows[-1].fact.line}')
-        first, last = chosen[0], chosen[-1]
-    return Window(first, min(last, first + MOST_ROWS - 1))
-
-
 def arrows_of(packets: Iterable[Packet], window: Window) -> List[Arrow]:
     """Those that are seen in the window, in the order in which the packets were sent."""
     found = []
     for packet in packets:
+        shown = [row for row in (packet.row, *(delivery.row for delivery in packet.deliveries)) if window.is_shown(row)]
+        if window.folds and not shown:
+            continue        # both its ends are folded
         if not packet.deliveries and window.meets(packet.row, packet.row):
             found.append(Arrow(packet, None, False))
         for count, delivery in enumerate(packet.deliveries):
@@ -109,22 +89,24 @@ def arrows_of(packets: Iterable[Packet], window: Window) -> List[Arrow]:
     return found
 
 
-def give_tracks(arrows: Sequence[Arrow], channel_of: Dict[Tuple[str, int], Tuple[str, int]]) -> Dict[Tuple[str, int], int]:
+def give_tracks(arrows: Sequence[Arrow], channel_of: Dict[Tuple[str, int], Tuple[str, int]], nodes: int) -> Dict[Tuple[str, int], int]:
     """Gives each arrow a track of its channel, and tells how many each channel needs."""
+    most = min(MOST_TRACKS, max(4, MOST_OF_ALL // max(nodes, 1)))
     ends: Dict[Tuple[str, int], List[int]] = {}
     for arrow in arrows:
         if arrow.delivery is None:
             continue
         taken = ends.setdefault(channel_of[arrow.channel], [])
         arrow.track = next((n for n, end in enumerate(taken) if end < arrow.packet.row), len(taken))
-        if arrow.track == MOST_TRACKS:
+        if arrow.track >= most:
             arrow.track = taken.index(min(taken))
         taken[arrow.track:arrow.track + 1] = [max([arrow.end] + taken[arrow.track:arrow.track + 1])]
     return {channel: len(taken) for channel, taken in ends.items()}
 
 
-def give_columns(spans: Sequence[Span], window: Window) -> Tuple[List[Bar], Dict[Tuple[bool, int], int], int]:
+def give_columns(spans: Sequence[Span], window: Window, nodes: int) -> Tuple[List[Bar], Dict[Tuple[bool, int], int], int]:
     """The bars; how many columns each node needs, of entities (True) and of leases; how many bars find no column."""
+    most = min(MOST_BARS, max(4, MOST_OF_ALL // max(nodes, 1)))
     bars: List[Bar] = []
     ends: Dict[Tuple[bool, int], List[Optional[int]]] = {}
     missing = 0
@@ -133,7 +115,7 @@ def give_columns(spans: Sequence[Span], window: Window) -> Tuple[List[Bar], Dict
             continue
         taken = ends.setdefault((span.kind == 'entity', span.node), [])
         column = next((n for n, end in enumerate(taken) if end is not None and end < span.start), len(taken))
-        if column == MOST_BARS:
+        if column >= most:
             missing += 1
             continue
         taken[column:column + 1] = [span.end]
@@ -165,32 +147,53 @@ def place_lanes(nodes: Sequence[int], rows: Sequence[Row], columns: Dict[Tuple[b
     return lanes, right
 
 
-def lay_out(story: Story, trace: Trace, lines: Optional[Sequence[int]]) -> Layout:
-    window = choose_window(story.rows, lines)
-    rows = story.rows[window.first:window.last + 1]
+def lay_out(story: Story, trace: Trace, choice: Choice) -> Layout:
+    window = choose(story, trace, choice)
+    rows = rows_shown(story.rows, window)
     arrows = arrows_of(story.packets, window)
-    bars, columns, missing = give_columns(story.spans, window)
-    nodes = nodes_seen(rows, arrows, story.spans, window)
+    spans = spans_shown(story.spans, choice)
+    nodes = nodes_seen(rows, arrows, spans, window)
+    bars, columns, missing = give_columns(spans, window, len(nodes))
     channels = {('own', node): ('own', node) for node in nodes}
     for before, node in zip(nodes, nodes[1:]):
         channels['left of', node] = channels['right of', before] = ('gap', before)
-    tracks = give_tracks(arrows, channels)
+    tracks = give_tracks(arrows, channels, len(nodes))
 
     lanes, right = place_lanes(nodes, rows, columns, tracks)
     return Layout(window, rows, lanes, arrows, bars, max(right + 6, LEAST_WIDTH),
-                  what_is_missing(trace, story.rows, window, missing))
+                  what_is_missing(trace, story.rows, window, rows, missing))
 
 
-def what_is_missing(trace: Trace, rows: Sequence[Row], window: Window, bars: int) -> List[str]:
+def rows_shown(rows: Sequence[Row], window: Window) -> List[Row]:
+    """A row for each place; one of dots where rows are folded."""
+    return [fold_row(rows[row].fact, window.count(place)) if place in window.folds else rows[row] for place, row in enumerate(window.places)]
+
+
+def fold_row(fact: Fact, count: int) -> Row:
+    return Row(fact, None, f'···  {count} lines', 'quiet', tooltip=f'{count} lines are folded here, from line {fact.line} on')
+
+
+def spans_shown(spans: Sequence[Span], choice: Choice) -> List[Span]:
+    """Of an entity or a shard the bars of others are left away."""
+    if choice.entity is None and choice.shard is None:
+        return list(spans)
+    return [span for span in spans if span.kind in ('up', 'coordinator', 'queue')
+            or span.kind == 'entity' and choice.entity in (None, span.labels[0])
+            or span.kind == 'shard' and (choice.shard is None or span.labels[0].split(' ')[0] == f'shard:{choice.shard}')]
+
+
+def what_is_missing(trace: Trace, rows: Sequence[Row], window: Window, shown: Sequence[Row], bars: int) -> List[str]:
     """What isn't drawn, in words."""
     said = []
     if window.first > 0:
         said.append(f'lines {rows[0].fact.line} to {rows[window.first - 1].fact.line}')
     if window.last + 1 < len(rows):
         said.append(f'lines {rows[window.last + 1].fact.line} to {rows[-1].fact.line}')
+    if window.folds:
+        said.append(f'{sum(map(window.count, window.folds))} lines that are folded')
     if bars:
-        said.append(f'{bars} bars of more than {MOST_BARS} at once at a node')
-    shortened = sum(row.is_cut for row in rows[window.first:window.last + 1])
+        said.append(f'{bars} bars of more than have room at once at a node')
+    shortened = sum(row.is_cut for row in shown)
     if shortened:
         said.append(f'the ends of texts in {shortened} rows (their tooltips have them)')
     if trace.report_lines:

@@ -5,8 +5,10 @@ from html import escape
 from typing import List, Optional, Sequence, Set, Tuple
 
 from facts import Trace, cut_off
-from layout import BAR, BAR_CHARACTER, BAR_STEP, CHARACTER, NUMBER_WIDTH, ROW, TRACK, Arrow, Lane, Layout, WrongWords
-from story import BAR_KINDS, FAMILIES, Packet, Span, Story
+from layout import BAR, BAR_CHARACTER, BAR_STEP, CHARACTER, NUMBER_WIDTH, ROW, TRACK, Arrow, Lane, Layout
+from actors import Packet
+from choosing import WrongWords
+from story import BAR_KINDS, FAMILIES, Span, Story, family_of
 
 MOST_TOLD = 60          # facts in the description for screen readers
 LABEL_ROWS = 30         # a long bar, and a lane, has its label again after so many rows
@@ -125,19 +127,21 @@ class Painter:
 
     def y(self, row: int) -> float:
         """The middle of a row; of one outside the window, the edge."""
-        row = min(max(row, self.window.first - 1), self.window.last + 1)
-        return self.top + (row - self.window.first) * ROW + ROW / 2
+        place = -1 if row < self.window.first else len(self.layout.rows) if row > self.window.last else self.window.place(row)
+        return self.top + place * ROW + ROW / 2
 
     def text_end(self, row: int) -> float:
         """Where the text of a row ends; it stands beside a node."""
         told = self.story.rows[row]
         assert told.node is not None
+        if not self.window.is_shown(row):
+            return self.layout.lanes[told.node].text_left
         return self.layout.lanes[told.node].text_left + CHARACTER * told.length
 
     def svg(self) -> str:
         legend, height = self._legend(self.bottom + 22)
         width = number_text(self.layout.width)
-        pieces = [f'<svg xmlns="http://www.w3.org/2000/svg" width="{width}" height="{height}" viewBox="0 0 {width} {height}" '
+        pieces = [f'<svg xmlns="http://www.w3.org/2000/svg" xml:space="preserve" width="{width}" height="{height}" viewBox="0 0 {width} {height}" '
                   'role="img" aria-labelledby="title description">',
                   f'<title id="title">{escape(self._title())}</title>',
                   f'<desc id="description">{escape(self._description(), quote=False)}</desc>',
@@ -220,18 +224,22 @@ class Painter:
         until = f' to {rows[span.end].fact.line}' if span.end is not None else ' on'
         return f'{span.labels[0]} {what}, node {span.node}, from line {rows[span.start].fact.line}{until}'
 
+    def _rows(self) -> List[int]:
+        """The rows that stand by themselves."""
+        return [row for place, row in enumerate(self.window.places) if place not in self.window.folds]
+
     def _label_rows(self) -> Set[int]:
         """Rows of orders in which the lanes' names stand again."""
         found, last = set(), self.window.first
-        for row in range(self.window.first, self.window.last + 1):
-            if self.story.rows[row].fact.kind == 'at' and row - last >= LABEL_ROWS:
+        for row in self._rows():
+            if self.story.rows[row].fact.kind == 'at' and self.window.place(row) - self.window.place(last) >= LABEL_ROWS:
                 found.add(row)
                 last = row
         return found
 
     def _order_lines(self) -> List[str]:
         pieces = []
-        for row in range(self.window.first, self.window.last + 1):
+        for row in self._rows():
             if self.story.rows[row].fact.kind == 'at':
                 y = number_text(self.y(row))
                 path = f'M{number_text(NUMBER_WIDTH + CHARACTER * self.story.rows[row].length + 6)} {y}'
@@ -257,7 +265,7 @@ class Painter:
             body = f'<path class="line" d="{rounded(way)}"/>'
             body += dot(*start[0]) if start else ''
             body += self._tip(arrow, *end[0]) if end else ''
-        css = f'arrow {arrow.packet.family}' + (' repeat' if arrow.again else '')
+        css = f'arrow {family_of(arrow.packet)}' + (' repeat' if arrow.again else '')
         return f'<g class="{css}"><title>{escape(self._tooltip(arrow), quote=False)}</title>{body}</g>'
 
     def _leaves(self, packet: Packet) -> float:
@@ -344,12 +352,12 @@ class Painter:
     # texts
     def _numbers(self) -> List[str]:
         """Line numbers, of every fifth line, of orders and of what is marked."""
-        return [text_at(14, self.y(n) + 3, str(row.fact.line), 'number') for n, row in enumerate(self.layout.rows, self.window.first)
-                if row.fact.line % 5 == 0 or row.fact.kind == 'at' or n == self.marked]
+        return [text_at(14, self.y(n) + 3, str(row.fact.line), 'number') for n, row in zip(self.window.places, self.layout.rows)
+                if row.fact.line % 5 == 0 or row.fact.kind == 'at' or n == self.marked or self.window.folds]
 
     def _texts(self) -> List[str]:
         pieces = []
-        for n, row in enumerate(self.layout.rows, self.window.first):
+        for n, row in zip(self.window.places, self.layout.rows):
             y = self.y(n) + 3.5
             x = NUMBER_WIDTH if row.node is None else self.layout.lanes[row.node].text_left
             pieces.append(text_at(x, y, row.shown, '' if row.tone == 'plain' else row.tone, row.tooltip, row.note, row.note_tone))
@@ -378,7 +386,7 @@ class Painter:
 
     def _signs(self) -> List[Tuple[str, str]]:
         bars = {bar.span.kind for bar in self.layout.bars}
-        families = {arrow.packet.family for arrow in self.layout.arrows}
+        families = {family_of(arrow.packet) for arrow in self.layout.arrows}
         signs = [('<rect class="life" x="2" y="-6" width="26" height="12" rx="3"/>', 'an incarnation')]
         if any(row.fact.kind == 'at' for row in self.layout.rows):
             signs.insert(0, ('<path class="order" d="M2 0H28"/>', 'an order'))

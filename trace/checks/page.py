@@ -1,0 +1,257 @@
+#!/usr/bin/env python3
+"""Looks at pages of explore.py in a headless browser: trace/checks/page.py [--pictures FOLDER] [PROGRAM]
+
+Each page is moved to fifty lines, by slider, keys and links, and each pane is compared with the state after that line as
+`state.py` has it. With PROGRAM, as ./run.sh, the traces are those of three examples and of a script of 20,000 lines, whose
+size and times are looked at too; without it, those of crates/known_replays. Where no Chromium is, a line says so.
+"""
+from __future__ import annotations
+
+import json
+import os
+import random
+import subprocess
+import sys
+import tempfile
+import time
+from typing import Dict, Iterator, List, Optional, Tuple
+
+sys.dont_write_bytecode = True
+HERE = os.path.dirname(os.path.realpath(__file__))
+TOP = os.path.dirname(os.path.dirname(HERE))
+sys.path[:0] = [os.path.dirname(HERE), HERE]
+
+from browser import Browser, program                    # noqa: E402
+from explore import page_of                             # noqa: E402
+from sources import Source, read_source                 # noqa: E402
+from state import State, words_at                       # noqa: E402
+
+MOVES = 50
+MOST_ITEMS = 20         # that a pane shows, as in panes.js
+MOST_BYTES, MOST_SECONDS, MOST_MILLISECONDS = 15_000_000, 3.0, 50.0
+# machines of checks have other work too: there a time fails the check at so many times its bound
+SLACK = 6
+KNOWN = ('rebalanced', 'coordinator_crashes', 'crash_and_return', 'node_leaves', 'more_shards', 'passivated_remembered', 'job_given_again',
+         'full_buffer', 'failed_write_lost')
+PICTURES = (('failover', 99, 1280, 900, False), ('handoff', 106, 1280, 900, True))
+
+Shown = Dict[str, object]
+
+
+def read(path: str) -> bytes:
+    with open(os.path.join(TOP, path), 'rb') as file:
+        return file.read()
+
+
+def cases(player: Optional[str]) -> Iterator[Tuple[str, bytes, bytes]]:
+    """Names, scripts and traces."""
+    if player is None:
+        for name in KNOWN:
+            yield name, read(f'crates/known_replays/data/{name}.in'), read(f'crates/known_replays/data/{name}.out')
+        return
+    sys.path.append(os.path.join(TOP, 'bench'))
+    from measure import flow
+    scripts = {name: read(f'examples/{name}.txt') for name in ('failover', 'handoff', 'coordinator_crash')}
+    scripts['flow'] = ('\n'.join(flow()) + '\n').encode()
+    for name, script in scripts.items():
+        yield name, script, subprocess.run([player, 'replay'], input=script, capture_output=True, check=True).stdout
+
+
+# ---- what the panes should show
+def ranges(numbers: List[int]) -> str:
+    found: List[str] = []
+    numbers = sorted(numbers)
+    while numbers:
+        count = 1
+        while count < len(numbers) and numbers[count] == numbers[0] + count:
+            count += 1
+        found.append(str(numbers[0]) if count == 1 else f'{numbers[0]}{", " if count == 2 else "–"}{numbers[count - 1]}')
+        numbers = numbers[count:]
+    return ', '.join(found)
+
+
+def below(words: Shown, beginning: str) -> Dict[str, object]:
+    return {word[len(beginning) + 1:]: value for word, value in words.items() if word.startswith(beginning + '.')}
+
+
+def homes(words: Shown) -> Shown:
+    by: Dict[str, List[int]] = {}
+    for shard, home in below(words, 'home').items():
+        by.setdefault(str(home), []).append(int(shard))
+    return {f'home {home}': f'{ranges(shards)} → {home}' for home, shards in by.items()}
+
+
+def of_node(words: Shown) -> Shown:
+    name = words.get('incarnation')
+    if name is None:
+        return {'incarnation': 'is down'}
+    found: Shown = {'incarnation': f'is up as {name}', 'registered': words.get('registered', '–'), **homes(words)}
+    if 'view' in words:
+        found.update(view=words['view'], members=str(words['members']).replace(',', ' '))
+    if 'leaving' in words:
+        found['leaving'] = 'it leaves'
+    if below(words, 'asked'):
+        found['asked'] = ranges([int(it) for it in below(words, 'asked')])
+    if below(words, 'kept'):
+        found['kept'] = sorted(map(str, below(words, 'kept').values()))
+    return found
+
+
+def of_entity(words: Shown) -> Shown:
+    found: Shown = {'phase': words.get('phase', 'not live'), 'records': words.get('records', 0), 'state': words.get('state', ''), 'shard': words.get('shard', '')}
+    found.update({word: words[word] for word in ('armed', 'remembered', 'snapshot', 'at') if word in words})
+    if 'remembered' in words:
+        found['remembered'] = 'remembered'
+    if below(words, 'stash'):
+        found['stash'] = sorted(map(str, below(words, 'stash').values()))
+    return found
+
+
+def of_coordinator(words: Shown) -> Shown:
+    leaving = below(words, 'leaving')
+    found: Shown = {**homes(words), 'started': ranges([int(it) for it in below(words, 'started')])}
+    found.update({f'region.{name}': name + (' leaves' if name in leaving else '') for name in below(words, 'region')})
+    found.update({f'moving.{shard}': said for shard, said in below(words, 'moving').items()})
+    if 'round' in words:
+        found['round'] = words['round']
+    return found
+
+
+SHOULD = {
+    'node': of_node, 'entity': of_entity, 'coordinator': of_coordinator,
+    'slot': lambda words: {'epoch': 0, 'holder': '–', **words},
+    'pair': lambda words: {'queued': 0, 'confirmed': 0, 'demanded': 0, **words},
+    'job': lambda words: {'dids': 0, **words},
+}
+# moves the page through rows, each in its way (a slider's, a link's, a key's), and gives what it shows at each
+WALK = """(async moves => {
+  const slider = document.getElementById('slider'), seen = [];
+  document.querySelector('[data-whole=node]')?.click();
+  for (const [way, row, line] of moves) {
+    if (way === 'slider') { slider.value = row; slider.dispatchEvent(new Event('input')); }
+    if (way === 'link') await new Promise(done => {
+      window.addEventListener('hashchange', done, { once: true });
+      if (location.hash === '#' + line) done(); else location.hash = line;
+    });
+    if (way === 'key') { go(row - 1); document.activeElement.dispatchEvent(new KeyboardEvent('keydown', { key: 'ArrowRight', bubbles: true })); }
+    seen.push({
+      text: document.getElementById('text').textContent,
+      wire: [...document.querySelectorAll('#wire [data-packet] b')].map(it => +it.textContent),
+      words: [...document.querySelectorAll('#panes [data-word]')].map(it => [it.dataset.of, it.dataset.item, it.dataset.word,
+        it.textContent.replace(/\\s+/g, ' ').trim(), it.dataset.home || '']),
+    });
+  }
+  return seen;
+})(%s)"""
+
+
+def by_item(words: List[List[str]]) -> Dict[str, Dict[str, Shown]]:
+    found: Dict[str, Dict[str, Shown]] = {}
+    for of, item, word, text, home in words:
+        shown = found.setdefault(of, {}).setdefault(item, {})
+        if word in ('kept', 'stash'):
+            shown[word] = sorted([*shown.get(word, []), text])  # type: ignore[misc]
+        else:
+            shown[f'home {home}' if home else word] = text
+    return found
+
+
+def faults_at(seen: Dict[str, object], state: State, row: int) -> Iterator[str]:
+    """Where a pane shows something else than stands after a row."""
+    shown = by_item(seen['words'])      # type: ignore[arg-type]
+    for of, should in SHOULD.items():
+        begun = {item for item, words in state.histories[of].items() if any(history[0] <= row for history in words.values())}
+        if of != 'coordinator' and len(begun) <= MOST_ITEMS and set(shown.get(of, ())) != begun:
+            yield f'{of}: {sorted(shown.get(of, ()))}, and not {sorted(begun)}'
+        if len(begun) > MOST_ITEMS and len(shown.get(of, ())) != MOST_ITEMS:
+            yield f'{of}: {len(shown.get(of, ()))} items, and not {MOST_ITEMS}'
+        for item, words in shown.get(of, {}).items():
+            expected = {word: value if isinstance(value, list) else str(value) for word, value in should(words_at(state.histories[of].get(item, {}), row)).items()}
+            if words != expected:
+                yield f'{of} {item}: {words}, and not {expected}'
+    on_wire = [packet.number for packet in state.actors.posted if packet.row <= row and not any(got.row <= row for got in packet.deliveries)]
+    if seen['wire'] != on_wire[-MOST_ITEMS:]:
+        yield f'wire: {seen["wire"]}, and not {on_wire[-MOST_ITEMS:]}'
+    if seen['text'] != state.facts[row].text:
+        yield f'the line: {seen["text"]}'
+
+
+def look_at(page: Browser, name: str, source: Source, path: str) -> List[str]:
+    state, facts = State(source.trace), source.trace.facts
+    chosen = random.Random(name)
+    rows = sorted({0, len(facts) - 1, *(chosen.randrange(len(facts)) for _ in range(MOVES - 2))})
+    chosen.shuffle(rows)
+    moves = [(('slider', 'link', 'key')[n % 3] if row else 'slider', row, facts[row].line) for n, row in enumerate(rows)]
+    page.open(path, '#1')
+    found: List[str] = []
+    for (way, row, line), seen in zip(moves, page.run(WALK % json.dumps(moves))):       # type: ignore[call-overload]
+        found += [f'{name}, line {line}, by {way}: {fault}' for fault in faults_at(seen, state, row)]
+    page.press('Home')
+    if page.run('now.row') != 0:
+        found.append(f'{name}: the key Home leads to row {page.run("now.row")}')
+    for width in (1280, 390):
+        page.be(width, 844, False)
+        if page.run(f'document.documentElement.scrollWidth > {width}'):
+            found.append(f'{name}: wider than a window of {width} pixels')
+    page.be(1280, 900, False)
+    found += [f'{name}: {error}' for error in page.errors]
+    page.errors.clear()
+    return found
+
+
+def look_at_times(page: Browser, size: int, seconds: float) -> List[str]:
+    """Of the large page: how large it is, how long it took to make, and how long a move of the slider takes."""
+    page.ask('Performance.enable', timeDomain='threadTicks')
+    before = task_seconds(page)
+    page.run("for (let n = 0; n < 100; n++) { const it = document.getElementById('slider'); it.value = Math.random() * it.max; "
+             "it.dispatchEvent(new Event('input')); document.body.offsetHeight }")
+    each = 10 * (task_seconds(page) - before)
+    print(f'trace/checks/page.py: the page of flow: {size:,} bytes, made in {seconds:.1f} s; a move of the slider takes {each:.0f} ms')
+    bounds = (('bytes', size, MOST_BYTES), ('seconds', seconds, MOST_SECONDS * SLACK), ('ms', each, MOST_MILLISECONDS * SLACK))
+    return [f'flow: {value:,} {unit}, at most {most:,}' for unit, value, most in bounds if value > most]
+
+
+def task_seconds(page: Browser) -> float:
+    metrics = page.ask('Performance.getMetrics')['metrics']
+    return next(it['value'] for it in metrics if it['name'] == 'TaskDuration')      # type: ignore[attr-defined]
+
+
+def take_pictures(page: Browser, folder: str, paths: Dict[str, str]) -> None:
+    for name, line, width, height, is_dark in PICTURES:
+        if name in paths:
+            page.be(width, height, is_dark)
+            page.open(paths[name], f'#{line}')
+            page.picture(os.path.join(folder, f'explore_{name}.png'))
+    page.be(1280, 900, False)
+
+
+def main() -> int:
+    words = sys.argv[1:]
+    pictures = words[1] if words[:1] == ['--pictures'] else None
+    player = next(iter(words[2:] if pictures else words), None)
+    if program() is None:
+        print("trace/checks/page.py: no Chromium here: no page was looked at")
+        return 0
+    found: List[str] = []
+    paths: Dict[str, str] = {}
+    with tempfile.TemporaryDirectory() as folder, Browser() as page:
+        for name, script, trace in cases(player):
+            begun = time.process_time()
+            source = read_source(trace, script)
+            text, _ = page_of(source, f'A trace of {name}')
+            seconds = time.process_time() - begun
+            paths[name] = os.path.join(folder, f'{name}.html')
+            with open(paths[name], 'w', encoding='utf-8') as file:
+                file.write(text)
+            found += look_at(page, name, source, paths[name])
+            if name == 'flow':
+                found += look_at_times(page, len(text), seconds)
+        if pictures:
+            take_pictures(page, pictures, paths)
+    for fault in found[:40]:
+        print(f'trace/checks/page.py: {fault}')
+    return 1 if found else 0
+
+
+if __name__ == '__main__':
+    sys.exit(main())

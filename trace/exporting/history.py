@@ -261,7 +261,8 @@ class Teller:
             if line.event in TAKES or line.event in GIVES:
                 slot, before = slot_of(line), line.event in GIVES
             elif line.event in OF_LIVES:
-                slot, before = ('shard', self.history.shard_of[entity]), line.event not in ('entity-started', 'entity-recovered')
+                slot = ('shard', self.history.shard_of[entity])
+                before = entity not in entities and line.event not in ('entity-started', 'entity-recovered')
                 entities.setdefault(entity, before)
             elif line.event in ('stored', 'confirmed'):
                 slot = ('queue', line.it['producer'])

@@ -32,7 +32,6 @@ returns-in_err-commit-clause-any_moment g c facts gathers done are rests told =
     leaves_weaker _ _ (λ d p. leaves_both facts c.args.batch.now gathers done are some (long_of c.args.batch.now some) c.is_empty.ensures.fits d p)
     (c.commit.ensures.any_moment (map lines done) rests told)
 
-
 pub returns-clause-ok : goal.returns-clause-ok
 returns-clause-ok g c facts gathers done are rests =
     let some : c.args.batch.now ≡ [] → ⊥ = λ none. let t : c.is_empty.result ≡ true = c.is_empty.ensures.empty.1 none in let f : c.is_empty.result ≡ false = c.if-is_empty.false in cc in

@@ -1,5 +1,5 @@
 -- A log that is gone on with: what is read of it, what a crash leaves, and its report.
-use Rattle.std.proofs.Common.{◌≡◌, ◌⊎◌, ◌<◌, ◌≤◌, ℕ, List, [], ◌∷◌, ◌++◌, length, take, inl, inr, refl, sym, ◌∙◌, ap, subst, arith, length-append}
+use Rattle.std.proofs.Common.{◌≡◌, ◌⊎◌, ◌<◌, ◌≤◌, ℕ, zero, suc, List, [], ◌∷◌, ◌++◌, length, take, inl, inr, refl, sym, ◌∙◌, ap, subst, arith, length-append}
 use Rattle.std.specs.Prelude.{Bool, true, false, map, Result, Ok, Err, IfErr, IsTrue, if◌then◌else◌}
 use Rattle.std.proofs.lemmas.List.{append-nil, take-append-le, take_all}
 use Rattle.yard_model.specs.declared.fact.Fact.{Fact}
@@ -22,11 +22,14 @@ use Rattle.log_orders.specs.Gathered.{RestsOn}
 use Rattle.grow_laws.specs.Once.{EachOnce}
 use Rattle.apply_laws.specs.Applied.{applied, is_done, lists_in, log_after}
 use Rattle.apply_laws.specs.Applying.{AppliedIsBatch, AppliedIsTaken, AppliedLists, AppliedOnce, AppliedSettles}
+use Rattle.disk_log.specs.declared.reading.ReadLogFault.{ReadLogFault}
+use Rattle.disk_log.specs.declared.reading.ReadLogFault.TheVariants as reading
+use Rattle.resume_run.specs.Faults.{of_reading}
 use Rattle.resume_run.specs.declared.fault.ResumeError.{ResumeError}
 use Rattle.resume_run.specs.declared.fault.ResumeError.TheVariants as error
 use Rattle.resume_run.specs.ResumeText.{IsForeignLog}
 use Rattle.resume_run.proofs.FreedLaws.{restored_report}
-use Rattle.apply_run.specs.Applying.{Had, Holds, lists_behind, told_behind}
+use Rattle.apply_run.specs.Applying.{Had, Holds, IsRefusal, lists_behind, told_behind}
 
 -- The report.
 
@@ -92,12 +95,12 @@ module _ (one : (image : List ℕ) (batches others : List (List Fact)) → Spell
   opening_stays mid first = subst (λ l. LeavesOnly old mid (SpellsPrefix l n)) (append-nil log) (opening_leaves mid [] first)
 
   -- and it was gone on with
-  pub going_leaves : (mid new : Images) (batches more : List (List Fact)) → Spells content batches → LeavesOnly old mid (LeftOrNone content old)
-      → LeavesOnly mid new (SpellsPrefix (batches ++ more) (length batches)) → LeavesOnly old new (SpellsPrefix (log ++ more) n)
-  going_leaves mid new batches more spelled first second =
+  pub going_leaves : (mid new : Images) (batches : List (List Fact)) (c : Script) → Spells content batches → LeavesOnly old mid (LeftOrNone content old)
+      → LeavesOnly mid new (SpellsPrefix (log_after c batches) (length batches)) → LeavesOnly old new (SpellsPrefix (log_after c log) n)
+  going_leaves mid new batches c spelled first second =
       let same : batches ≡ log = one content batches log spelled had.spelled in
-      leaves_then old mid new (opening_leaves mid more first)
-      (leaves_weaker mid new (λ c p. lower (log ++ more) (length log) n c had.within p) (subst (λ l. LeavesOnly mid new (SpellsPrefix (l ++ more) (length l))) same second))
+      leaves_then old mid new (opening_leaves mid (applied c log) first)
+      (leaves_weaker mid new (λ d p. lower (log_after c log) (length log) n d had.within p) (subst (λ l. LeavesOnly mid new (SpellsPrefix (log_after c l) (length l))) same second))
 
 -- Which errors may come.
 
@@ -107,6 +110,44 @@ pub spelled_long : (content : List ℕ) (log : List (List Fact)) (k : ℕ) (c : 
 spelled_long content log k c one spells some = by (length content) refl
   where
     by : (n : ℕ) → length content ≡ n → 1 < length content
-    by 0 e = let none : log ≡ [] = one content log [] spells (short_spells content (omega (arith, e))) in absurd (omega (arith, ap length none, some))
-    by 1 e = let none : log ≡ [] = one content log [] spells (short_spells content (omega (arith, e))) in absurd (omega (arith, ap length none, some))
+    by zero e = let none : log ≡ [] = one content log [] spells (short_spells content (omega (arith, e))) in absurd (omega (arith, ap length none, some))
+    by (suc zero) e = let none : log ≡ [] = one content log [] spells (short_spells content (omega (arith, e))) in absurd (omega (arith, ap length none, some))
     by (suc (suc n)) e = omega (arith, e)
+
+pub no_failure : (e : ResumeError) → IsRefusal e → e ≡ error.Failed → ⊥
+no_failure error.Failed refusal is = refusal
+no_failure error.OutOfMemory refusal is = refusal
+no_failure (error.Damaged at) refusal is = cc
+no_failure (error.Foreign k) refusal is = cc
+
+-- it was refused when it was opened
+pub refused_opening : (tells : Bool) (content new : List ℕ) (r : ReadLogFault) (e : ResumeError) → e ≡ of_reading r → IsRefusal e → ((at : ℕ) → r ≡ reading.Damaged at → IsTrue tells → IsDamaged content at)
+    → (IsTrue tells → 1 < length content → new ≡ content) → IsTrue tells → new ≡ content
+refused_opening tells content new reading.Failed e is refusal damaged stays told = absurd (no_failure e refusal is)
+refused_opening tells content new reading.OutOfMemory e is refusal damaged stays told = absurd (subst IsRefusal is refusal)
+refused_opening tells content new (reading.Damaged at) e is refusal damaged stays told = stays told (damaged at refl told).long
+
+-- or when it was read
+pub refused_long : (content : List ℕ) (c : Script) (log : List (List Fact)) (e : ResumeError) → ((image : List ℕ) (batches others : List (List Fact)) → Spells image batches → Spells image others → batches ≡ others)
+    → Spells content log → IsRefusal e → ((at : ℕ) → e ≡ error.Damaged at → ⊥) → ((k : ℕ) → e ≡ error.Foreign k → IsForeign c log k) → 1 < length content
+refused_long content c log error.Failed one spelled refusal whole foreign = absurd refusal
+refused_long content c log error.OutOfMemory one spelled refusal whole foreign = absurd refusal
+refused_long content c log (error.Damaged at) one spelled refusal whole foreign = absurd (whole at refl)
+refused_long content c log (error.Foreign k) one spelled refusal whole foreign =
+    let f = foreign k refl in
+    spelled_long content log k c one spelled (omega (arith, f.first, f.there))
+
+-- with no fault, of a log whose entries may all stand, no other answer comes than that memory was wanted
+pub complete : {A : Type 0} (tells : Bool) (image : List ℕ) (c : Script) (old new : ℕ) (r : Result A ResumeError) → (r ≡ Err error.Failed → old < new)
+    → ((at : ℕ) → r ≡ Err (error.Damaged at) → IsTrue tells → IsDamaged image at) → ((k : ℕ) → r ≡ Err (error.Foreign k) → IsForeignLog tells image c k)
+    → ((bytes : List ℕ) (batches : List (List Fact)) (at : ℕ) → Spells bytes batches → IsDamaged bytes at → ⊥)
+    → ((bytes : List ℕ) (batches others : List (List Fact)) → Spells bytes batches → Spells bytes others → batches ≡ others)
+    → (log : List (List Fact)) → IsTrue tells → Spells image log → are_taken c (entries log) ≡ true → new ≡ old → IfErr r (λ e. e ≡ error.OutOfMemory)
+complete tells image c old new (Ok x) cause damaged foreign whole one log told spells taken calm = tt
+complete tells image c old new (Err error.Failed) cause damaged foreign whole one log told spells taken calm = let rose : old < new = cause refl in absurd (omega (arith, rose, calm))
+complete tells image c old new (Err error.OutOfMemory) cause damaged foreign whole one log told spells taken calm = refl
+complete tells image c old new (Err (error.Damaged at)) cause damaged foreign whole one log told spells taken calm = absurd (whole image log at spells (damaged at refl told))
+complete tells image c old new (Err (error.Foreign k)) cause damaged foreign whole one log told spells taken calm =
+    let f = foreign k refl in
+    let same : f.log ≡ log = one image f.log log (f.spells told) spells in
+    absurd (not_whole c log k (subst (λ l. IsForeign c l k) same f.foreign) taken)

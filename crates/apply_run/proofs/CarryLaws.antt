@@ -1,9 +1,11 @@
 -- What is restored is settled, and what it comes to.
 use Rattle.std.proofs.Common.{◌≡◌, ◌≤◌, ℕ, sym, ap, ◌∙◌, refl, subst, length}
-use Rattle.std.specs.Prelude.{Bool, true, false, List, [], ◌++◌, Option, Some, None, IfSome, IsSome, IsTrue, if◌then◌else◌}
+use Rattle.std.specs.Prelude.{Bool, true, false, ◌==◌, List, [], ◌∷◌, ◌++◌, Option, Some, None, IfSome, IsSome, IsTrue, if◌then◌else◌}
+use Rattle.std.specs.List.{list_any}
+use Rattle.yard_model.specs.declared.charter.Line.{Line}
 use Rattle.yard_model.specs.declared.fact.Fact.{Fact}
 use Rattle.yard_model.specs.Lawful.{lawful}
-use Rattle.yard_model.specs.Script.{Script, is_version}
+use Rattle.yard_model.specs.Script.{Script, is_upgrade, is_version}
 use Rattle.yard_model.specs.Settled.{settled}
 use Rattle.yard_model.specs.SlotLists.{SlotLists}
 use Rattle.yard_model.specs.World.{Made, all_sends, is_any_up, settled_from}
@@ -19,17 +21,24 @@ use Rattle.resume_run.proofs.ResumeLaws as resume
 use Rattle.apply_run.specs.Applying.{lists_behind, told_behind}
 
 -- what a log comes to may be settled, in version 1
+first_version : (c : Script) → is_version c 1 ≡ true
+first_version c = by (list_any (λ (l : Line). is_upgrade l.order) c.orders)
+  where
+    by : (b : Bool) → list_any (λ w. w == 1) (if b then 1 ∷ 2 ∷ [] else 1 ∷ []) ≡ true
+    by true = refl
+    by false = refl
+
 pub may_settle : (c : Script) (version : ℕ) (lists : SlotLists) → version ≡ 1 → length c.orders ≤ 20000 → MayGoOn c lists → IsGiven c version lists
-may_settle c version lists first few on = subst (λ v. IsGiven c v lists) (sym first) (resume.may_settle c 1 lists refl few on)
+may_settle c version lists first few on = subst (λ v. IsGiven c v lists) (sym first) (resume.may_settle c 1 lists (first_version c) few on)
 
 -- what the world of given stores settles to
 module _ (c : Script) (version : ℕ) (given : SlotLists) (w v : Played) (before after : List Fact) (d : Script) (places : List (Option Store)) (first : version ≡ 1)
     (is : w ≡ record { script = c; given = Some (record { version = version; lists = given }); count = 0; fault = None }) (told : IfSome w.given (λ g. WasSettled w g before v after))
     (same : is_any_up (made_at v).world ≡ false → lists_at d.config places ≡ (made_at v).world.lists) (script : IsSome v.given → d ≡ v.script) where
-  g : Given
+  abbrev g : Given
   g = record { version = version; lists = given }
 
-  began : Played
+  abbrev began : Played
   began = record { script = c; given = Some g; count = 0; fault = None }
 
   pub was : WasSettled began g before v after

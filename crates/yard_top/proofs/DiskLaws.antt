@@ -1,6 +1,6 @@
 -- How a run over a disk ends, from what became of it.
 use Rattle.std.proofs.Common.{◌≡◌, ◌<◌, ◌≤◌, ℕ, List, [], ◌∷◌, length, refl, sym, subst, ap, ◌∙◌, arith, inl, inr}
-use Rattle.std.specs.Prelude.{Bool, true, Option, Some, None, IfSome, IsTrue, ◌⊎◌, take}
+use Rattle.std.specs.Prelude.{Bool, true, Option, Some, None, Result, Err, IfErr, IfSome, IsTrue, ◌⊎◌, take}
 use Rattle.yard_io.specs.Told.{TakesFront, followed_by}
 use Rattle.yard_io.proofs.ToldLemmas.{front_whole}
 use Rattle.script_text.specs.Reading.{Reading, Refused, Spelled, reading}
@@ -15,6 +15,8 @@ use Rattle.disk_log.specs.Images.{Images, IsTimed, SameNow}
 use Rattle.disk_log.specs.Spelled.{Spells}
 use Rattle.log_resume.specs.Restored.{are_taken, entries}
 use Rattle.log_orders.proofs.GatherLaws.{leaves_none}
+use Rattle.resume_run.specs.declared.fault.ResumeError.{ResumeError}
+use Rattle.resume_run.specs.declared.fault.ResumeError.TheVariants as error
 use Rattle.apply_run.specs.Applying.{Applied, GoesOnAs, StaysAs}
 use Rattle.program_words.specs.declared.forms.ScriptFrom.TheVariants as script_from
 use Rattle.program_words.specs.declared.status.Status.{Status}
@@ -98,11 +100,27 @@ early_complete content (Some xs) has faults after (status.Refused line why) earl
     absurd (no_script c line why (reading mode.Log (take most_read xs)) (ap (reading mode.Log) (sym early.came.bytes_are) ∙ early.refused) spelled)
 early_complete content (Some xs) has faults after status.ReadFault early level = λ c logged spelled t u. absurd (omega (arith, early, level))
 early_complete content (Some xs) has faults after status.OutOfMemory early level = λ c logged spelled t u. inr refl
+early_complete content (Some xs) has faults after status.Ok early level = absurd early
+early_complete content (Some xs) has faults after status.Usage early level = absurd early
+early_complete content (Some xs) has faults after status.WriteFault early level = absurd early
+early_complete content (Some xs) has faults after (status.WireFull line) early level = absurd early
+early_complete content (Some xs) has faults after status.DiskFault early level = absurd early
+early_complete content (Some xs) has faults after status.LogThere early level = absurd early
+early_complete content (Some xs) has faults after (status.LogDamaged at) early level = absurd early
+early_complete content (Some xs) has faults after (status.LogForeign batch) early level = absurd early
 
 early_ends : (tells : Bool) (old new : Streams) (disk : Platter) (s : Status) → IsTimed disk.images → EndsEarly (script_from.Input mode.Log) old.left new.left old.read_faults new.read_faults s → ApplyEndsAs tells old new disk disk s
 early_ends tells old new disk (status.Refused line why) timed early = tt
 early_ends tells old new disk status.ReadFault timed early = tt
 early_ends tells old new disk status.OutOfMemory timed early = λ told. stays_same disk.content disk.images timed
+early_ends tells old new disk status.Ok timed early = absurd early
+early_ends tells old new disk status.Usage timed early = absurd early
+early_ends tells old new disk status.WriteFault timed early = absurd early
+early_ends tells old new disk (status.WireFull line) timed early = absurd early
+early_ends tells old new disk status.DiskFault timed early = absurd early
+early_ends tells old new disk status.LogThere timed early = absurd early
+early_ends tells old new disk (status.LogDamaged at) timed early = absurd early
+early_ends tells old new disk (status.LogForeign batch) timed early = absurd early
 
 pub apply_early : (tells : Bool) (old new : Streams) (disk : Platter) (s : Status) → IsTimed disk.images → new.taken ≡ old.taken → EndsEarly (script_from.Input mode.Log) old.left new.left old.read_faults new.read_faults s
     → ApplyEnds tells old new disk disk s
@@ -151,10 +169,53 @@ if_no_script (status.LogDamaged at) p = tt
 if_no_script (status.LogForeign batch) p = tt
 
 -- there was one
-pub script_there : {P : Type 0} (s : Status) → (s ≡ status.Ok) ⊎ (s ≡ status.WriteFault) → IfNoScript s P
-script_there s (inl e) = subst (λ x. IfNoScript x _) (sym e) tt
-script_there s (inr e) = subst (λ x. IfNoScript x _) (sym e) tt
+pub script_there : (P : Type 0) (s : Status) → (s ≡ status.Ok) ⊎ (s ≡ status.WriteFault) → IfNoScript s P
+script_there P s (inl e) = subst (λ x. IfNoScript x P) (sym e) tt
+script_there P s (inr e) = subst (λ x. IfNoScript x P) (sym e) tt
 
-pub script_ended : {P : Type 0} (stop : Option ℕ) (s : Status) → s ≡ end_of stop → IfNoScript s P
-script_ended None s e = subst (λ x. IfNoScript x _) (sym e) tt
-script_ended (Some line) s e = subst (λ x. IfNoScript x _) (sym e) tt
+pub script_ended : (P : Type 0) (stop : Option ℕ) (s : Status) → s ≡ end_of stop → IfNoScript s P
+script_ended P None s e = subst (λ x. IfNoScript x P) (sym e) tt
+script_ended P (Some line) s e = subst (λ x. IfNoScript x P) (sym e) tt
+
+-- The errors of `apply`.
+
+-- of a script that came, and of a log that is one of it, no other error comes than that memory was wanted
+errs_complete : {A : Type 0} (content : List ℕ) (had has : Option (List ℕ)) (c : Script) (s : Status) (r : Result A ResumeError) (e : ResumeError) → CameScript mode.Log had has c → r ≡ Err e
+    → (e ≡ error.OutOfMemory → s ≡ status.OutOfMemory) → ((logged : List (List Fact)) → Spells content logged → are_taken c (entries logged) ≡ true → IfErr r (λ x. x ≡ error.OutOfMemory))
+    → IfSome had (λ xs. (d : Script) (logged : List (List Fact)) → reading mode.Log (take most_read xs) ≡ Spelled d → Spells content logged → are_taken d (entries logged) ≡ true → (s ≡ status.Ok) ⊎ (s ≡ status.OutOfMemory))
+errs_complete content None has c s r e came is memory whole = tt
+errs_complete content (Some xs) has c s r e came is memory whole = λ d logged spelled t u.
+    let same : c ≡ d = ap (script_or c) (sym came.spelled ∙ ap (reading mode.Log) came.came.bytes_are ∙ spelled) in
+    let only : IfErr r (λ x. x ≡ error.OutOfMemory) = whole logged t (subst (λ (x : Script). are_taken x (entries logged) ≡ true) (sym same) u) in
+    let it : e ≡ error.OutOfMemory = subst (λ x. IfErr x (λ y. y ≡ error.OutOfMemory)) is only in
+    inr (memory it)
+
+pub apply_errs : {A : Type 0} (tells : Bool) (old new : Streams) (disk after : Platter) (c : Script) (s : Status) (r : Result A ResumeError) (e : ResumeError) → CameScript mode.Log old.left new.left c → new.taken ≡ old.taken
+    → r ≡ Err e → (e ≡ error.OutOfMemory → s ≡ status.OutOfMemory) → (IsTrue tells → GoesOnAs disk.content disk.images after.images c) → disk.faults ≤ after.faults
+    → ((logged : List (List Fact)) → IsTrue tells → Spells disk.content logged → are_taken c (entries logged) ≡ true → after.faults ≡ disk.faults → IfErr r (λ x. x ≡ error.OutOfMemory))
+    → ApplyEndsAs tells old new disk after s → ApplyEnds tells old new disk after s
+apply_errs tells old new disk after c s r e came unwritten is memory goes falls whole ends = record {
+  any_moment = λ told. inr (c, came, goes told);
+  at_exit = inl unwritten;
+  ends = ends;
+  never_falls = falls;
+  complete = λ none same told. errs_complete disk.content old.left new.left c s r e came is memory (λ logged t u. whole logged told t u same);
+}
+
+pub failed_memory : error.Failed ≡ error.OutOfMemory → status.DiskFault ≡ status.OutOfMemory
+failed_memory e = cc
+
+pub damaged_memory : (at : ℕ) → error.Damaged at ≡ error.OutOfMemory → status.LogDamaged at ≡ status.OutOfMemory
+damaged_memory at e = cc
+
+pub foreign_memory : (k : ℕ) → error.Foreign k ≡ error.OutOfMemory → status.LogForeign k ≡ status.OutOfMemory
+foreign_memory k e = cc
+
+pub memory_failed : error.OutOfMemory ≡ error.Failed → ⊥
+memory_failed e = cc
+
+pub damaged_failed : (at : ℕ) → error.Damaged at ≡ error.Failed → ⊥
+damaged_failed at e = cc
+
+pub foreign_failed : (k : ℕ) → error.Foreign k ≡ error.Failed → ⊥
+foreign_failed k e = cc

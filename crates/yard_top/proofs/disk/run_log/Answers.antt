@@ -79,7 +79,7 @@ returns-in-Err-OutOfMemory-clause-on_disk g c = record {
 }
 
 pub returns-in-Ok-flush-clause-untouched : goal.returns-in-Ok-flush-clause-untouched
-returns-in-Ok-flush-clause-untouched g c = script_ended c.in-Ok-write_log.stop c.end_of.result c.end_of.ensures
+returns-in-Ok-flush-clause-untouched g c = script_ended _ c.in-Ok-write_log.stop c.end_of.result c.end_of.ensures
 
 pub returns-in-Err-clause-untouched : goal.returns-in-Err-clause-untouched
 returns-in-Err-clause-untouched g c = if_no_script c.in-Err.status refl

@@ -23,7 +23,7 @@ returns-in-Ok-resume_text-clause-on_disk g c = resume_ends g.D.Disk.tells
     c.resume_text.ensures.untouched.bytes c.resume_text.ensures.untouched.now c.resume_text.ensures.never_falls
 
 pub returns-in-Ok-resume_text-clause-untouched : goal.returns-in-Ok-resume_text-clause-untouched
-returns-in-Ok-resume_text-clause-untouched g c = script_there c.write_text.result c.write_text.ensures.either
+returns-in-Ok-resume_text-clause-untouched g c = script_there _ c.write_text.result c.write_text.ensures.either
 
 pub returns-in-Err-clause-untouched : goal.returns-in-Err-clause-untouched
 returns-in-Err-clause-untouched g c = if_no_script c.in-Err.status refl

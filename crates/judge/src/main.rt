@@ -45,7 +45,9 @@ fn status_without_arguments(error: &io::Error) -> Status {
 
 /// Says to who sits at a terminal what is awaited from there.
 fn invite(rt: &impl Eprint) {
-    let _ = eprintln!(rt; "judge: a script, a line `trace` and a trace are awaited from the terminal; Ctrl-D on a line of its own ends them");
+    let _ = eprintln!(rt;
+        "judge: a script, a line `trace` and a trace are awaited from the terminal; Ctrl-D on a line of its own ends them"
+    );
 }
 
 /// What stands on standard error beside the status, if anything.

@@ -5,13 +5,19 @@ ghost use Rattle.judge_run.specs.Explained.{place_of, explanation_of};
 use crate::status::Status;
 use program_words::explanation_of_reason;
 
-const USAGE: &str = "judge takes no words but --help and --version, and nothing was read or written";
+const USAGE: &str =
+    "judge takes no words but --help and --version, and nothing was read or written";
+
 const READ_FAULT: &str = "a read of the input failed, and nothing was written";
-const WRITE_FAULT: &str = "a write or a flush of the answer failed, and a beginning of it was written";
+
+const WRITE_FAULT: &str =
+    "a write or a flush of the answer failed, and a beginning of it was written";
+
 const OUT_OF_MEMORY: &str = "there was no memory, and nothing was written";
 
 // Where to read on.
 const JUDGING: &str = "docs/JUDGE.md";
+
 const REFUSALS: &str = "docs/SCRIPT.md, \"When a script is refused\"";
 
 const NOTHING: &str = "";

@@ -30,7 +30,9 @@ fn awaits(arguments: &io::Result<Vec<String>>) -> bool {
 
 /// Says to who sits at a terminal that a script is awaited from there.
 fn invite(rt: &impl Eprint) {
-    let _ = eprintln!(rt; "sharder: a script is awaited from the terminal; Ctrl-D on a line of its own ends it");
+    let _ = eprintln!(rt;
+        "sharder: a script is awaited from the terminal; Ctrl-D on a line of its own ends it"
+    );
 }
 
 /// What stands on standard error beside the status, if anything.

@@ -8,7 +8,7 @@ mod notice;
 mod status;
 mod words;
 
-pub use explain::{reads_script, explanation_of_reason};
+pub use explain::{explanation_of_reason, reads_script};
 pub use forms::{Form, ScriptFrom, alone_form_of, disk_form_of, form_of};
 pub use notice::{Notice, notice_of};
 pub use status::Status;

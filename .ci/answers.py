@@ -1,6 +1,6 @@
 """What the programs say where they end otherwise than well: each reason and status has its sentence, as SCRIPT and JUDGE do.
 
-`faults_of(root, shell)` runs the programs through run.sh in folders of their own, and gives a line for each fault."""
+`faults_of(root)` runs the programs through run.sh in folders of their own, and gives a line for each fault."""
 import os
 import pty
 import re
@@ -157,16 +157,19 @@ def check_terminal(it):
             it.faults.append(f"{words} at a terminal says {lines}")
 
 
-def check_memory(it):
-    def few():
-        resource.setrlimit(resource.RLIMIT_DATA, (1, 1))
+def few():
+    """Leaves room for the libraries alone."""
+    resource.setrlimit(resource.RLIMIT_DATA, (1_000_000, 1_000_000))
 
-    program = subprocess.run(["sed", "-n", "1p", f"{it.root}/out/run/sharder"], capture_output=True, text=True, check=True).stdout.strip()
-    with tempfile.TemporaryFile() as said:
-        ended = subprocess.run([f"{it.root}/{program}", "replay"], check=False, input=PLAIN.encode(), stdout=subprocess.DEVNULL, stderr=said, preexec_fn=few).returncode
-        said.seek(0)
-        lines = said.read().decode().splitlines()
-    it.expect("no memory", (ended, lines), 6, "sharder: out of memory", it.sentences["SCRIPT"].get(("status", 6)))
+
+def check_memory(it):
+    """Without run.sh, which would want more."""
+    for name, words, text in (("SCRIPT", ["replay"], PLAIN), ("JUDGE", [], f"{PLAIN}trace\n")):
+        program = "sharder" if words else "judge"
+        place = text_of(f"{it.root}/out/run/{program}").split("\n", maxsplit=1)[0]
+        ran = subprocess.run([f"{it.root}/{place}", *words], check=False, input=text.encode(), capture_output=True, preexec_fn=few)
+        said = (ran.returncode, ran.stderr.decode().splitlines())
+        it.expect(f"{program}, no memory", said, 6, f"{program}: out of memory", it.sentences[name].get(("status", 6)))
 
 
 def faults_of(root):

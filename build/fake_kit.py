@@ -2,8 +2,9 @@
 """An `rt` for build/check.py: knows `version` and `try`, and notes each call in the file that RT_CALLS names.
 
 A program's module is a script that is its source behind a line `#!/bin/sh`; a source with the word `refused` is
-refused. RT_SECONDS is how long it takes."""
+refused, and one with `ended early` has it killed. RT_SECONDS is how long it takes."""
 import os
+import signal
 import subprocess
 import sys
 import tempfile
@@ -36,6 +37,8 @@ def main(words):
     subprocess.run(["sleep", os.environ.get("RT_SECONDS", "0")], check=True)
     with open("src/main.rt", encoding="utf-8") as it:
         source = it.read()
+    if "ended early" in source:
+        os.kill(os.getpid(), signal.SIGKILL)
     if "refused" in source:
         print("error: it is refused", file=sys.stderr)
         return 1

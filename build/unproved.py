@@ -86,6 +86,16 @@ def link_words(kit, room):
     return [f"{kit}/toolchain/bin/ld.lld", *words, "--lto-O2"]
 
 
+def why_none(status, said):
+    """Why `rt try` gave no module, by its status and what it said."""
+    told = said.replace("run=none proved=no", "").strip()
+    if told and 2 <= status <= 6:
+        return NoLinks(last_line(told))
+    print(said, end="", file=sys.stderr)
+    # (it ends with 1 where it refuses a crate)
+    return Fault("the sources are refused, for the reason above" if status == 1 else "`rt try` was ended before it was through: run it again")
+
+
 def compile_in(room, name, kit):
     """Compiles a program in the room; the path of what was made."""
     began = time.monotonic()
@@ -98,11 +108,7 @@ def compile_in(room, name, kit):
     with started([rt, "try", "--steps", "1", "--", "--version"], **how) as child:
         said = child.communicate()[1].decode(errors="replace")
     if not os.path.isfile(f"{room}/link") or not os.path.isfile(f"{room}/module.bc"):
-        # (`rt try` ends with 1 where it refuses a crate)
-        if child.returncode == 1:
-            print(said, end="", file=sys.stderr)
-            raise Fault("the sources are refused, for the reason above")
-        raise NoLinks(last_line(said))
+        raise why_none(child.returncode, said)
     say(f"step 2 of 2, machine code, after {time.monotonic() - began:.0f} seconds")
     with started(link_words(kit, room), cwd=room, stdout=subprocess.DEVNULL, stderr=subprocess.PIPE) as child:
         said = child.communicate()[1].decode(errors="replace")

@@ -95,8 +95,8 @@ const panes = {
     },
   },
   pair: {
-    title: 'Queues', help: 'By producer and entity: commands in the durable queue, those that are confirmed,
-        and up to which number the entity has asked for more.',
+    title: 'Queues', help: 'By producer and entity: commands in the durable queue, those that are confirmed, '
+        + 'and up to which number the entity has asked for more.',
     html(row, isWanted, isAll) {
       const { items, total } = itemsUpTo('pair', row, most('pair'), isWanted, isAll);
       const rows = items.map(it => {

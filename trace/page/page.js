@@ -100,7 +100,8 @@ function drawList(follow = true) {
   const shown = [];
   for (let n = from; n < until; n++) {
     const row = listRow(n), node = data.nodes[row];
-    const text = kinds[row] === 'at' ? (data.hasScript ? `at ${lines[row].slice(3)} · ${orderText(row)}` : lines[row]) : lines[row];
+    const behind = kinds[row] === 'at' && data.hasScript ? ` · ${orderText(row)}` : kinds[row] === 'got' ? ` · ${packetOfRow(row)?.kind ?? ''}` : '';
+    const text = lines[row] + behind;
     shown.push(`<div role="option" id="line-${row}" data-row="${row}" class="${toneOf(row)}" aria-selected="${row === now.row}" aria-posinset="${
         n + 1}" aria-setsize="${listLength()}" style="top:${n * PITCH}px">`
       + `<span class="number">${lineOf(row)}</span>${node === null ? '<i></i>' : `<i class="node-${node % 8}" title="node ${

@@ -127,6 +127,7 @@ SHOULD = {
 # moves the page through rows, each in its way (a slider's, a link's, a key's), and gives what it shows at each
 WALK = """(async moves => {
   const slider = document.getElementById('slider'), seen = [];
+  go(last);
   document.querySelector('[data-whole=node]')?.click();
   for (const [way, row, line] of moves) {
     if (way === 'slider') { slider.value = row; slider.dispatchEvent(new Event('input')); }

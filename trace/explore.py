@@ -45,7 +45,8 @@ def table_of(source: Source, state: State, title: str, window: Tuple[int, int]) 
     first, last = window
     facts = source.trace.facts[first:last + 1]
     numbers = [fact.line for fact in facts]
-    lost = {delivery.row - first: delivery.lost for packet in state.actors.posted for delivery in packet.deliveries if delivery.lost}
+    lost = {delivery.row - first: delivery.lost for packet in state.actors.posted for delivery in packet.deliveries
+            if delivery.lost and first <= delivery.row <= last}
     headings = [(max(row - first, 0), text) for row, text in source.headings if row <= last]
     headings = [heading for n, heading in enumerate(headings) if n + 1 == len(headings) or headings[n + 1][0] > heading[0]]
     return {
@@ -68,8 +69,14 @@ def shifted(histories: Histories, first: int, last: int) -> Histories:
     """The histories as seen from a first row to a last: what was before stands from the first on."""
     if first == 0:
         return histories
-    return {of: {item: {word: cut_before(history, first, last) for word, history in words.items()} for item, words in items.items()}
+    return {of: {item: {moved(word, first): cut_before(history, first, last) for word, history in words.items()} for item, words in items.items()}
             for of, items in histories.items()}
+
+
+def moved(word: str, first: int) -> str:
+    """The word of a message that is kept or stashed has its row."""
+    name, _, row = word.partition('.')
+    return f'{name}.{int(row) - first}' if name in ('kept', 'stash') else word
 
 
 def cut_before(history: List[object], first: int, last: int) -> List[object]:

@@ -38,7 +38,9 @@ class Socket:
 
     def send(self, text: str) -> None:
         data, mask = text.encode(), os.urandom(4)
-        size = bytes([0x80 | len(data)]) if len(data) < 126 else struct.pack('>BH', 0xfe, len(data)) if len(data) < 65536 else struct.pack('>BQ', 0xff, len(data))
+        size = struct.pack('>BQ', 0xff, len(data)) if len(data) > 65535 else struct.pack('>BH', 0xfe, len(data))
+        if len(data) < 126:
+            size = bytes([0x80 | len(data)])
         self._socket.sendall(b'\x81' + size + mask + bytes(byte ^ mask[n % 4] for n, byte in enumerate(data)))
 
     def receive(self) -> str:
@@ -63,10 +65,11 @@ class Browser:
 
     def __init__(self, width: int = 1280, height: int = 900, is_dark: bool = False) -> None:
         signal.signal(signal.SIGTERM, lambda *_: sys.exit(1))       # so that the browser ends with what started it
-        self._folder = tempfile.TemporaryDirectory(ignore_cleanup_errors=True)
-        words = [str(program()), '--headless=new', '--no-sandbox', '--disable-gpu', '--no-first-run', '--disable-extensions', '--hide-scrollbars', '--mute-audio',
+        self._folder = tempfile.mkdtemp()
+        words = [str(program()), '--headless=new', '--no-sandbox', '--disable-gpu', '--no-first-run',
+                 '--disable-extensions', '--hide-scrollbars', '--mute-audio',
                  '--disable-background-timer-throttling', '--disable-renderer-backgrounding', '--disable-backgrounding-occluded-windows',
-                 f'--user-data-dir={self._folder.name}', '--remote-debugging-port=0', f'--window-size={width},{height}', 'about:blank']
+                 f'--user-data-dir={self._folder}', '--remote-debugging-port=0', f'--window-size={width},{height}', 'about:blank']
         self._process = subprocess.Popen(words, stdout=subprocess.DEVNULL, stderr=subprocess.DEVNULL)
         self._count = 0
         self.errors: List[str] = []
@@ -77,7 +80,7 @@ class Browser:
 
     def _page_address(self) -> str:
         """The address that the browser has noted in its folder, of its one page."""
-        note = os.path.join(self._folder.name, 'DevToolsActivePort')
+        note = os.path.join(self._folder, 'DevToolsActivePort')
         until = time.monotonic() + SECONDS
         while time.monotonic() < until and not (os.path.exists(note) and os.path.getsize(note)):
             time.sleep(0.05)
@@ -143,7 +146,7 @@ class Browser:
         except subprocess.TimeoutExpired:
             self._process.kill()
             self._process.wait(10)
-        self._folder.cleanup()
+        shutil.rmtree(self._folder, ignore_errors=True)
 
     def __enter__(self) -> Browser:
         return self

@@ -98,7 +98,8 @@ def of_node(words: Shown) -> Shown:
 
 
 def of_entity(words: Shown) -> Shown:
-    found: Shown = {'phase': words.get('phase', 'not live'), 'records': words.get('records', 0), 'state': words.get('state', ''), 'shard': words.get('shard', '')}
+    found: Shown = {'phase': 'not live', 'records': 0, 'state': '', 'shard': ''}
+    found.update({word: words[word] for word in found if word in words})
     found.update({word: words[word] for word in ('armed', 'remembered', 'snapshot', 'at') if word in words})
     if 'remembered' in words:
         found['remembered'] = 'remembered'
@@ -126,6 +127,7 @@ SHOULD = {
 # moves the page through rows, each in its way (a slider's, a link's, a key's), and gives what it shows at each
 WALK = """(async moves => {
   const slider = document.getElementById('slider'), seen = [];
+  go(last);
   document.querySelector('[data-whole=node]')?.click();
   for (const [way, row, line] of moves) {
     if (way === 'slider') { slider.value = row; slider.dispatchEvent(new Event('input')); }
@@ -166,7 +168,8 @@ def faults_at(seen: Dict[str, object], state: State, row: int) -> Iterator[str]:
         if len(begun) > MOST_ITEMS and len(shown.get(of, ())) != MOST_ITEMS:
             yield f'{of}: {len(shown.get(of, ()))} items, and not {MOST_ITEMS}'
         for item, words in shown.get(of, {}).items():
-            expected = {word: value if isinstance(value, list) else str(value) for word, value in should(words_at(state.histories[of].get(item, {}), row)).items()}
+            standing = should(words_at(state.histories[of].get(item, {}), row))
+            expected = {word: value if isinstance(value, list) else str(value) for word, value in standing.items()}
             if words != expected:
                 yield f'{of} {item}: {words}, and not {expected}'
     on_wire = [packet.number for packet in state.actors.posted if packet.row <= row and not any(got.row <= row for got in packet.deliveries)]

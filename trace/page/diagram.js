@@ -58,7 +58,8 @@ function laneOf(node, x, wide, first, until, yOf) {
     if (name === null || end < first || history[n] > until) continue;
     const top = history[n] < first ? 26 : yOf(history[n]) - ROW / 2 + 2;
     const foot = end > until ? yOf(until) + ROW / 2 : yOf(end) - ROW / 2 + 2;
-    pieces.push(`<rect class="life node-${node % 8}" x="${x - wide / 2}" y="${top}" width="${wide}" height="${Math.max(foot - top, 2)}" rx="5"><title>${name} is up</title></rect>`);
+    pieces.push(`<rect class="life node-${node % 8}" x="${x - wide / 2}" y="${top}" width="${wide}" height="${
+        Math.max(foot - top, 2)}" rx="5"><title>${name} is up</title></rect>`);
   }
   const up = wordAt(history, first) || wordAt(history, until);
   pieces.push(`<text class="head" x="${x}" y="15" text-anchor="middle">${up ?? `node ${node}`}</text>`);
@@ -73,12 +74,14 @@ function leasesOf(node, x, wide, first, until, yOf) {
     for (let n = Math.max(0, 2 * countUpTo(history, first, 2) - 2); n < history.length && history[n] <= until; n += 2) {
       const end = n + 2 < history.length ? history[n + 2] : last + 1;
       if (history[n + 1] === null || history[n + 1].split('.')[0] !== node || end < first) continue;
-      found.push({ slot, from: history[n], end, name: history[n + 1], rank: (history[n] < first && end > until ? 2 : 0) + (slot.startsWith('shard') ? 1 : 0) });
+      found.push({ slot, from: history[n], end, name: history[n + 1], rank: (history[n] < first && end > until ? 2 : 0) + (slot.startsWith('shard') ?
+          1 : 0) });
     }
   }
   return found.sort((a, b) => a.rank - b.rank).slice(0, 3).map((it, column) => {
     const top = it.from < first ? 28 : yOf(it.from), foot = it.end > until ? yOf(until) + ROW / 2 : yOf(it.end);
-    return `<rect class="lease ${it.slot.split(':')[0]}" x="${x + wide / 2 - BAR - 1 - column * (BAR - 1)}" y="${top}" width="${BAR - 3}" height="${Math.max(foot - top, 2)}" rx="2"><title>${it.slot} is held by ${it.name}</title></rect>`;
+    return `<rect class="lease ${it.slot.split(':')[0]}" x="${x + wide / 2 - BAR - 1 - column * (BAR - 1)}" y="${top}" width="${BAR - 3}" height="${
+        Math.max(foot - top, 2)}" rx="2"><title>${it.slot} is held by ${it.name}</title></rect>`;
   }).join('');
 }
 

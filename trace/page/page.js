@@ -71,7 +71,8 @@ function render() {
   fill('packet', causeHtml(row));
   $('packet-title').textContent = causeTitle(row);
   const touched = touchedBy(row).filter(it => $(it));
-  $('touched').innerHTML = touched.length ? `It changed: ${touched.map(it => `<button type="button" data-to="${it}">${panes[it].title}</button>`).join(', ')}` : '';
+  $('touched').innerHTML = touched.length ? `It changed: ${touched.map(it => `<button type="button" data-to="${it}">${
+      panes[it].title}</button>`).join(', ')}` : '';
   for (const of in panes) if ($(of)) {
     fill(of, panes[of].html(row, isItemWanted(of), !listed));
     $(`${of}-title`).querySelector('.badge').hidden = !touched.includes(of);
@@ -99,9 +100,12 @@ function drawList(follow = true) {
   const shown = [];
   for (let n = from; n < until; n++) {
     const row = listRow(n), node = data.nodes[row];
-    const text = kinds[row] === 'at' ? (data.hasScript ? `at ${lines[row].slice(3)} · ${orderText(row)}` : lines[row]) : lines[row];
-    shown.push(`<div role="option" id="line-${row}" data-row="${row}" class="${toneOf(row)}" aria-selected="${row === now.row}" aria-posinset="${n + 1}" aria-setsize="${listLength()}" style="top:${n * PITCH}px">`
-      + `<span class="number">${lineOf(row)}</span>${node === null ? '<i></i>' : `<i class="node-${node % 8}" title="node ${node}"></i>`}<span class="fact">${escaped(text)}</span></div>`);
+    const behind = kinds[row] === 'at' && data.hasScript ? ` · ${orderText(row)}` : kinds[row] === 'got' ? ` · ${packetOfRow(row)?.kind ?? ''}` : '';
+    const text = lines[row] + behind;
+    shown.push(`<div role="option" id="line-${row}" data-row="${row}" class="${toneOf(row)}" aria-selected="${row === now.row}" aria-posinset="${
+        n + 1}" aria-setsize="${listLength()}" style="top:${n * PITCH}px">`
+      + `<span class="number">${lineOf(row)}</span>${node === null ? '<i></i>' : `<i class="node-${node % 8}" title="node ${
+          node}"></i>`}<span class="fact">${escaped(text)}</span></div>`);
   }
   $('room').innerHTML = shown.join('') || '<p class="none">No line is so.</p>';
   $('lines').setAttribute('aria-activedescendant', `line-${listRow(at)}`);
@@ -132,7 +136,8 @@ function isLineWanted(row) {
 // Whether a pane shows an item, by the filter.
 function isItemWanted(of) {
   const shardOf = name => String(wordAt(data.histories.entity[name]?.shard, last) ?? '');
-  const isOf = (name, producer) => (!wanted.entity || wanted.entity === name) && (!wanted.shard || wanted.shard === shardOf(name)) && (!wanted.producer || !producer || producer === wanted.producer);
+  const isOf = (name, producer) => (!wanted.entity || wanted.entity === name) && (!wanted.shard || wanted.shard === shardOf(name)) &&
+      (!wanted.producer || !producer || producer === wanted.producer);
   if (of === 'node') return it => !wanted.node || it === wanted.node;
   if (of === 'slot') return it => {
     const [kind, number] = it.split(':');
@@ -170,7 +175,8 @@ function readHash() {
 const keys = {
   ArrowRight: () => step(1), ArrowLeft: () => step(-1), ArrowDown: () => step(1), ArrowUp: () => step(-1),
   PageDown: () => stepOrder(1), PageUp: () => stepOrder(-1), Home: () => go(listRow(0)), End: () => go(listRow(listLength() - 1)),
-  ' ': () => play(), '/': () => $('filter').focus(), '?': () => $('help').showModal(), p: otherEnd, e: () => stepEntity(1), E: () => stepEntity(-1), g: () => $('number').select(),
+  ' ': () => play(), '/': () => $('filter').focus(), '?': () => $('help').showModal(), p: otherEnd, e: () => stepEntity(1), E: () => stepEntity(-1),
+      g: () => $('number').select(),
 };
 
 function pressed(event) {
@@ -205,7 +211,8 @@ function begin() {
   for (const of in panes) {
     if (of !== 'wire' && !Object.keys(data.histories[of]).length || of === 'wire' && !packets.length) continue;
     const frame = $(['node', 'slot'].includes(of) ? 'left' : 'right');
-    frame.insertAdjacentHTML('beforeend', `<section class="card pane-${of}" aria-labelledby="${of}-title"><h2 id="${of}-title">${panes[of].title}<span class="badge" hidden>changed</span></h2><p class="hint">${panes[of].help}</p><div id="${of}"></div></section>`);
+    frame.insertAdjacentHTML('beforeend', `<section class="card pane-${of}" aria-labelledby="${of}-title"><h2 id="${of}-title">${
+        panes[of].title}<span class="badge" hidden>changed</span></h2><p class="hint">${panes[of].help}</p><div id="${of}"></div></section>`);
   }
   $('slider').max = last;
   $('number').min = lineOf(0);
@@ -224,7 +231,8 @@ function begin() {
   $('play').addEventListener('click', () => play());
   $('speed').addEventListener('change', () => now.timer && play(true));
   $('lines').addEventListener('scroll', () => drawList(false));
-  for (const [id, act] of Object.entries({ first: () => go(0), 'order-back': () => stepOrder(-1), back: () => step(-1), on: () => step(1), 'order-on': () => stepOrder(1), end: () => go(last) })) $(id).addEventListener('click', act);
+  for (const [id, act] of Object.entries({ first: () => go(0), 'order-back': () => stepOrder(-1), back: () => step(-1), on: () => step(1),
+      'order-on': () => stepOrder(1), end: () => go(last) })) $(id).addEventListener('click', act);
   $('ask').addEventListener('click', () => $('help').showModal());
   $('diagram').parentElement.addEventListener('toggle', render);
   document.addEventListener('keydown', pressed);

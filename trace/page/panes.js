@@ -43,12 +43,14 @@ function homesHtml(of, item, words, row) {
   const gone = Object.keys(data.histories[of][item] || {}).some(it => it.startsWith('home.') && !(it in words) && changedAt(of, item, it, row));
   return (gone ? '<span class="changed">one less</span> ' : '') + (Object.keys(by).sort(byName).map(home => {
     const changed = by[home].some(it => changedAt(of, item, `home.${it}`, row)) ? ' changed' : '';
-    return `<span class="pair${changed}" data-of="${of}" data-item="${escaped(item)}" data-word="home" data-home="${home}">${ranges(by[home])} → ${chip(home)}</span>`;
+    return `<span class="pair${changed}" data-of="${of}" data-item="${escaped(item)}" data-word="home" data-home="${home}">${ranges(by[home])} → ${
+        chip(home)}</span>`;
   }).join(' ') || '<span class="none">none</span>');
 }
 
 const messages = (of, item, words, beginning, row) => wordsOf(words, beginning).map(([at, text]) =>
-  `<a class="message${+at === row ? ' changed' : ''}" href="#${lineOf(+at)}" data-of="${of}" data-item="${escaped(item)}" data-word="${beginning}" title="${messageSays(text)}">${escaped(text)}</a>`).join(' ');
+  `<a class="message${+at === row ? ' changed' : ''}" href="#${+at < 0 ? '' : lineOf(+at)}" data-of="${of}" data-item="${escaped(item)}" data-word="${
+      beginning}" title="${messageSays(text)}">${escaped(text)}</a>`).join(' ');
 const messageSays = text => filled('command {2} of producer {0} to {1}', text.split(' '));
 
 const line = (name, html) => `<div><dt>${name}</dt><dd>${html}</dd></div>`;
@@ -88,11 +90,13 @@ const panes = {
     html(row, isWanted, isAll) {
       const { items, total } = itemsUpTo('entity', row, most('entity'), isWanted, isAll);
       const rows = items.map(it => entityHtml(it, row));
-      return table(['entity', 'shard', 'phase', 'records', 'state'], rows, 'No entity has been heard of yet.') + note(items.length, total, 'entity', 'entities');
+      return table(['entity', 'shard', 'phase', 'records', 'state'], rows, 'No entity has been heard of yet.') + note(items.length, total, 'entity',
+          'entities');
     },
   },
   pair: {
-    title: 'Queues', help: 'By producer and entity: commands in the durable queue, those that are confirmed, and up to which number the entity has asked for more.',
+    title: 'Queues', help: 'By producer and entity: commands in the durable queue, those that are confirmed, '
+        + 'and up to which number the entity has asked for more.',
     html(row, isWanted, isAll) {
       const { items, total } = itemsUpTo('pair', row, most('pair'), isWanted, isAll);
       const rows = items.map(it => {
@@ -100,10 +104,12 @@ const panes = {
         const queued = words.queued ?? 0, confirmed = words.confirmed ?? 0;
         const waiting = words.waiting ? ` <small>${word('pair', it, 'waiting', row, words.waiting)} waiting</small>` : '';
         return `<tr><th scope="row">${producer} → ${escaped(entity)}</th><td>${word('pair', it, 'queued', row, queued)}${waiting}</td>`
-          + `<td>${word('pair', it, 'confirmed', row, confirmed)} <i class="part" aria-hidden="true"><b style="width:${queued ? 100 * confirmed / queued : 0}%"></b></i></td>`
+          + `<td>${word('pair', it, 'confirmed', row, confirmed)} <i class="part" aria-hidden="true"><b style="width:${
+              queued ? 100 * confirmed / queued : 0}%"></b></i></td>`
           + `<td>${word('pair', it, 'demanded', row, words.demanded ?? 0)}</td></tr>`;
       });
-      return table(['producer → entity', 'queued', 'confirmed', 'asked up to'], rows, 'Nothing has been sent yet.') + note(items.length, total, 'pair', 'pairs');
+      return table(['producer → entity', 'queued', 'confirmed', 'asked up to'], rows, 'Nothing has been sent yet.') + note(items.length, total,
+          'pair', 'pairs');
     },
   },
   coordinator: {
@@ -116,10 +122,12 @@ const panes = {
         `<li>shard ${shard} ${word('coordinator', 'coordinator', `moving.${shard}`, row, text)}</li>`).join('');
       const started = ranges(wordsOf(words, 'started').map(it => it[0]));
       return '<dl>' + line('at', slot.holder ? `${chip(slot.holder)} under epoch ${slot.epoch}` : '<span class="none">nobody</span>')
-        + line('regions', regions.map(it => word('coordinator', 'coordinator', `region.${it}`, row, it, chip(it) + (leaving.includes(it) ? ' <small>leaves</small>' : ''))).join(' ') || '<span class="none">none</span>')
+        + line('regions', regions.map(it => word('coordinator', 'coordinator', `region.${
+            it}`, row, it, chip(it) + (leaving.includes(it) ? ' <small>leaves</small>' : ''))).join(' ') || '<span class="none">none</span>')
         + line('homes', homesHtml('coordinator', 'coordinator', words, row))
         + line('started', `<span data-of="coordinator" data-item="coordinator" data-word="started">${started}</span>` || '')
-        + line('open round', words.round ? `${word('coordinator', 'coordinator', 'round', row, words.round)}<ul>${moving}</ul>` : '<span class="none">none</span>') + '</dl>';
+        + line('open round', words.round ? `${word('coordinator', 'coordinator', 'round', row, words.round)}<ul>${
+            moving}</ul>` : '<span class="none">none</span>') + '</dl>';
     },
   },
   job: {
@@ -128,7 +136,8 @@ const panes = {
       const { items, total } = itemsUpTo('job', row, most('job'), isWanted, isAll);
       const rows = items.map(it => {
         const words = itemAt('job', it, row);
-        return `<tr><th scope="row">${escaped(it)}</th><td>${word('job', it, 'state', row, words.state)} ${words.at ? word('job', it, 'at', row, words.at, chip(words.at)) : ''}</td><td>${word('job', it, 'dids', row, words.dids ?? 0)}</td></tr>`;
+        return `<tr><th scope="row">${escaped(it)}</th><td>${word('job', it, 'state', row, words.state)} ${
+            words.at ? word('job', it, 'at', row, words.at, chip(words.at)) : ''}</td><td>${word('job', it, 'dids', row, words.dids ?? 0)}</td></tr>`;
       });
       return table(['job', 'is', 'how often done'], rows, 'No job is queued yet.') + note(items.length, total, 'job', 'jobs');
     },
@@ -137,8 +146,10 @@ const panes = {
     title: 'On the wire', help: 'Packets that were sent and not delivered so far. Choose one to see all of it.',
     html(row, isWanted, isAll) {
       const all = onTheWire(row).filter(isWanted), some = shownWhole.has('wire') ? all : all.slice(-MOST);
-      const items = some.map(it => `<li><button type="button" class="packet" data-packet="${it.row}" data-key="packet-${it.row}" aria-pressed="${it === chosenPacket(row)}">`
-        + `<b class="${packetForms[it.kind]?.family}">${it.number}</b> ${chip(it.from)} → ${chip(it.to)} <span>${escaped(it.text)}</span>${isUp(it.to, row) ? '' : ' <small class="bad">to nobody</small>'}</button></li>`);
+      const items = some.map(it => `<li><button type="button" class="packet" data-packet="${it.row}" data-key="packet-${it.row}" aria-pressed="${
+          it === chosenPacket(row)}">`
+        + `<b class="${packetForms[it.kind]?.family}">${it.number}</b> ${chip(it.from)} → ${chip(it.to)} <span>${escaped(it.text)}</span>${
+            isUp(it.to, row) ? '' : ' <small class="bad">to nobody</small>'}</button></li>`);
       return `<ul class="wire" data-count="${all.length}">${items.join('')}</ul>${all.length ? '' : empty('Nothing is on its way.')}`
         + note(some.length, all.length, 'wire', 'packets').replace('the last to change', 'the last that were sent');
     },
@@ -155,7 +166,8 @@ function table(heads, rows, without) {
 
 function nodeHtml(node, row, holders, isFew) {
   const words = itemAt('node', node, row), name = words.incarnation;
-  const head = `<h3><i class="node-${node % 8}"></i> Node ${node} <span>${word('node', node, 'incarnation', row, name ?? '', name ? `is up as ${name}` : 'is down')}</span></h3>`;
+  const head = `<h3><i class="node-${node % 8}"></i> Node ${node} <span>${word('node', node, 'incarnation', row, name ?? '', name ? `is up as ${
+      name}` : 'is down')}</span></h3>`;
   if (!name) return `<article class="down">${head}</article>`;
   if (!isFew && !openNodes.has(node)) return `<article><details data-node="${node}"><summary data-key="node-${node}">${head}</summary></details></article>`;
   const kept = messages('node', node, words, 'kept', row), asked = ranges(wordsOf(words, 'asked').map(it => it[0]));
@@ -163,8 +175,10 @@ function nodeHtml(node, row, holders, isFew) {
   const others = held.filter(it => !it.startsWith('shard:'));
   const [open, close] = isFew ? [head, ''] : [`<details open data-node="${node}"><summary data-key="node-${node}">${head}</summary>`, '</details>'];
   return `<article>${open}<dl>`
-    + line('view', words.view ? `${word('node', node, 'view', row, words.view)}: ${word('node', node, 'members', row, words.members, chips(words.members.split(',')))}` : '<span class="none">none yet</span>')
-    + line('registered with', word('node', node, 'registered', row, words.registered ?? '', chip(words.registered)) + (words.leaving ? ` <small class="bad">${word('node', node, 'leaving', row, 'yes', 'it leaves')}</small>` : ''))
+    + line('view', words.view ? `${word('node', node, 'view', row, words.view)}: ${
+        word('node', node, 'members', row, words.members, chips(words.members.split(',')))}` : '<span class="none">none yet</span>')
+    + line('registered with', word('node', node, 'registered', row, words.registered ?? '', chip(words.registered)) + (words.leaving ?
+        ` <small class="bad">${word('node', node, 'leaving', row, 'yes', 'it leaves')}</small>` : ''))
     + line('homes', homesHtml('node', node, words, row))
     + line('holds', [shards.length ? `shard ${ranges(shards)}` : '', ...others].filter(Boolean).join(', ') || '<span class="none">nothing</span>')
     + (asked ? line('asks for', `shard <span data-of="node" data-item="${node}" data-word="asked">${asked}</span>`) : '')
@@ -176,9 +190,11 @@ function entityHtml(name, row) {
   const stash = messages('entity', name, words, 'stash', row);
   const phase = words.phase ? `${word('entity', name, 'phase', row, words.phase)} at ${word('entity', name, 'at', row, words.at, chip(words.at))}`
     : word('entity', name, 'phase', row, '', '<span class="none">not live</span>');
-  const more = [words.armed ? `next write fails, ${word('entity', name, 'armed', row, words.armed)}` : '', words.remembered ? word('entity', name, 'remembered', row, 'yes', 'remembered') : '',
+  const more = [words.armed ? `next write fails, ${word('entity', name, 'armed', row, words.armed)}` : '', words.remembered ? word('entity', name,
+      'remembered', row, 'yes', 'remembered') : '',
     words.snapshot ? `snapshot at ${word('entity', name, 'snapshot', row, words.snapshot)}` : ''].filter(Boolean).join(', ');
-  const jumps = `<span class="jumps"><button type="button" data-jump="-1" data-entity="${name}" data-key="back-${name}" aria-label="previous fact of ${name}">‹</button>`
+  const jumps = `<span class="jumps"><button type="button" data-jump="-1" data-entity="${name}" data-key="back-${
+      name}" aria-label="previous fact of ${name}">‹</button>`
     + `<button type="button" data-jump="1" data-entity="${name}" data-key="on-${name}" aria-label="next fact of ${name}">›</button></span>`;
   return `<tr><th scope="row">${jumps}${escaped(name)}</th><td>${word('entity', name, 'shard', row, words.shard ?? '')}</td>`
     + `<td>${phase}${more ? ` <small>${more}</small>` : ''}${stash ? `<br><small>stash: ${stash}</small>` : ''}</td>`
@@ -193,7 +209,9 @@ function timeBar(slot) {
     for (let n = 0; n < history.length; n += 2) {
       if (history[n + 1] === null) continue;
       const end = n + 2 < history.length ? history[n + 2] : last + 1, wide = 100 * (end - history[n]) / (last + 1);
-      if (pieces.length < 200) pieces.push(`<i class="node-${parseInt(history[n + 1], 10) % 8}" style="left:${(100 * history[n] / (last + 1)).toFixed(2)}%;width:${Math.max(wide, 0.6).toFixed(2)}%" title="${history[n + 1]} from line ${lineOf(history[n])}"></i>`);
+      if (pieces.length < 200) pieces.push(`<i class="node-${parseInt(history[n + 1], 10) % 8}" style="left:${
+          (100 * history[n] / (last + 1)).toFixed(2)}%;width:${Math.max(wide, 0.6).toFixed(2)}%" title="${history[n + 1]} from line ${
+          lineOf(history[n])}"></i>`);
     }
     return `<span class="bar" aria-hidden="true">${pieces.join('')}</span>`;
   })();
@@ -205,7 +223,8 @@ function causeHtml(row) {
   const cause = causeOf(row);
   if (cause < 0) return empty('Nothing says of what this line came.');
   if (kinds[cause] === 'got' && packetOfRow(cause)) return packetHtml(packetOfRow(cause), row);
-  return `<p class="says">${link(cause, `line ${lineOf(cause)}`)} <code>${escaped(data.hasScript ? orderText(cause) : lines[cause])}</code> gave</p><ul class="story">${rowsHtml(givenBy(cause)) || '<li>nothing</li>'}</ul>`;
+  return `<p class="says">${link(cause, `line ${lineOf(cause)}`)} <code>${
+      escaped(data.hasScript ? orderText(cause) : lines[cause])}</code> gave</p><ul class="story">${rowsHtml(givenBy(cause)) || '<li>nothing</li>'}</ul>`;
 }
 
 function causeTitle(row) {
@@ -214,7 +233,8 @@ function causeTitle(row) {
   return packet ? `Came of packet ${packet.number}` : 'Came of an order';
 }
 
-const rowsHtml = rows => rows.slice(0, 12).map(it => `<li>${link(it, lines[it])}</li>`).join('') + (rows.length > 12 ? `<li>and ${rows.length - 12} more</li>` : '');
+const rowsHtml = rows => rows.slice(0, 12).map(it => `<li>${link(it, lines[it])}</li>`).join('') + (rows.length > 12 ? `<li>and ${
+    rows.length - 12} more</li>` : '');
 
 // One packet whole: when it was sent, each delivery, and what that gave.
 function packetHtml(packet, row) {
@@ -223,5 +243,7 @@ function packetHtml(packet, row) {
     const gave = got.lost ? `<span class="bad">lost: ${got.lost}</span>` : given.length ? `gave<ul>${rowsHtml(given)}</ul>` : 'gave nothing';
     return `<li class="${got.row <= row ? '' : 'later'}">${link(got.row, `line ${lineOf(got.row)}`)} got${count ? ' once more' : ''}, ${gave}</li>`;
   }).join('');
-  return `<p class="says">${chip(packet.from)} → ${chip(packet.to)} “${escaped(packetSays(packet))}”</p><ol class="story"><li>${link(packet.row, `line ${lineOf(packet.row)}`)} <code>${escaped(lines[packet.row])}</code></li>${gots || '<li class="later">never got in this trace</li>'}</ol>`;
+  return `<p class="says">${chip(packet.from)} → ${chip(packet.to)} “${escaped(packetSays(packet))}”</p><ol class="story"><li>${
+      link(packet.row, `line ${lineOf(packet.row)}`)} <code>${escaped(lines[packet.row])}</code></li>${
+      gots || '<li class="later">never got in this trace</li>'}</ol>`;
 }

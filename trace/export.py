@@ -85,15 +85,16 @@ def quoted(fact: Fact) -> str:
 
 def cycle_text(cycle: List[Step]) -> List[str]:
     lines = []
-    for fact, why in cycle:
+    for fact, why, since in cycle:
         lines += [f'  {quoted(fact)}', f'    before the next: {why}']
+        lines += [f'      this: {quoted(since[0])}', f'      before: {quoted(since[1])}'] if since else []
     return lines + [f'  {quoted(cycle[0].fact)}', '    which is the first again']
 
 
 def violation(it: NoOrder) -> List[str]:
     lines = ['unsafe: no order of these lines is safe, since each must come before the next']
     for number, cycle in enumerate(it.cycles):
-        lines += ([f'and with the slots taken the other way round'] if number else []) + cycle_text(cycle)
+        lines += (['and with the slots taken the other way round'] if number else []) + cycle_text(cycle)
     return lines
 
 

@@ -17,6 +17,7 @@ says where and why. 4: no safe order was found, and none is excluded. Needs Pyth
 from __future__ import annotations
 
 import argparse
+import gc
 import json
 import os
 import sys
@@ -130,6 +131,7 @@ def fail(status: int, why: object) -> NoReturn:
 
 def main() -> None:
     words = words_of(sys.argv[1:])
+    gc.disable()        # (millions of objects, all of which stay: looking for garbage takes a fifth of the time)
     try:
         logs = read(words.logs)
         history, outputs = exported(logs, Choices(words.middle, words.cut_ends, words.shards), words.kind)

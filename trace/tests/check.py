@@ -95,6 +95,18 @@ class Verdicts(unittest.TestCase):
         self.assertEqual(self.verdict(late, middle=True), 'safe')
         self.assertEqual(self.verdict(life(1, 0, 8)[2:], middle=True), 'safe')
 
+    def test_openings(self):
+        rows = [{'event': 'journal', 'nr': it, 'command': 'add 2', 'events': ['added 2'], 'reply': f'ok {2 * it}', **E} for it in range(1, 8)]
+        late = life(2, 7, 8)
+        late[1]['state'] = '14'
+        late[2].update(command='add 1', events=['added 1'], reply='ok 15')
+        for logs, kind in (((rows, late), None), ((rows, late), 'counter'), ((rows[3:], late), None), ((late,), 'counter')):
+            with self.subTest(logs=logs, kind=kind):
+                told = {str(number): log for number, log in enumerate(logs)}
+                self.assertEqual(trial.verdict(told, kind, Choices(middle=True)), 'safe')
+        late[2]['reply'] = 'ok 16'
+        self.assertIn("a record that isn't decided so", trial.verdict({'n': late}, 'counter', Choices(middle=True)))
+
     def test_cut_ends(self):
         first, second = held(1, *life(1, 0, 1))[:-2], held(2, *life(2, 1, 2))
         self.assertEqual(self.verdict(first, second, cut_ends=True), 'safe')

@@ -17,6 +17,7 @@ says where and why. 4: no safe order was found, and none is excluded. Needs Pyth
 from __future__ import annotations
 
 import argparse
+import gc
 import json
 import os
 import sys
@@ -85,15 +86,16 @@ def quoted(fact: Fact) -> str:
 
 def cycle_text(cycle: List[Step]) -> List[str]:
     lines = []
-    for fact, why in cycle:
+    for fact, why, since in cycle:
         lines += [f'  {quoted(fact)}', f'    before the next: {why}']
+        lines += [f'      this: {quoted(since[0])}', f'      before: {quoted(since[1])}'] if since else []
     return lines + [f'  {quoted(cycle[0].fact)}', '    which is the first again']
 
 
 def violation(it: NoOrder) -> List[str]:
     lines = ['unsafe: no order of these lines is safe, since each must come before the next']
     for number, cycle in enumerate(it.cycles):
-        lines += ([f'and with the slots taken the other way round'] if number else []) + cycle_text(cycle)
+        lines += (['and with the slots taken the other way round'] if number else []) + cycle_text(cycle)
     return lines
 
 
@@ -129,6 +131,7 @@ def fail(status: int, why: object) -> NoReturn:
 
 def main() -> None:
     words = words_of(sys.argv[1:])
+    gc.disable()        # (millions of objects, all of which stay: looking for garbage takes a fifth of the time)
     try:
         logs = read(words.logs)
         history, outputs = exported(logs, Choices(words.middle, words.cut_ends, words.shards), words.kind)

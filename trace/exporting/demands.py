@@ -38,6 +38,7 @@ class Demands:
             fact.index = index
         self.before: Dict[int, List[Edge]] = {}
         self._ordered: Set[Tuple[int, int]] = set()     # pairs of tenures, by their grants
+        self.since: Dict[Tuple[int, int], Tuple[Fact, Fact]] = {}       # of an edge between tenures, the facts that tell it
         self._of_records()
         self._of_commands()
         for fact, track in history.next_start:
@@ -53,14 +54,17 @@ class Demands:
         """One comes before the other, and so do the tenures in which they stand."""
         self.add(first, second, why)
         if first.tenure is not second.tenure and first.tenure and second.tenure:
-            self.order(first.tenure, second.tenure, 'held')
+            self.order(first.tenure, second.tenure, 'held', (first, second))
 
-    def order(self, first: Tenure, second: Tenure, why: str) -> None:
+    def order(self, first: Tenure, second: Tenure, why: str, since: Optional[Tuple[Fact, Fact]] = None) -> None:
         """A tenure ends before another begins; one that never ends begins before it, and the judge will say so."""
         pair = (first.granted.index, second.granted.index)
         if pair not in self._ordered:
             self._ordered.add(pair)
-            self.add(first.freed or first.granted, second.granted, why)
+            end = first.freed or first.granted
+            self.add(end, second.granted, why)
+            if since:
+                self.since[end.index, second.granted.index] = since
 
     def is_ordered(self, first: Tenure, second: Tenure) -> bool:
         return (first.granted.index, second.granted.index) in self._ordered

@@ -136,6 +136,8 @@ class History:
                 if 'nr' in fact.it:
                     known.update((at, fact) for at in range(numbers(fact.it)[0], fact.it['nr'] + 1))
             lines.sort(key=lambda it: it.it['nr'])
+            if self.choices.middle and not known and entity not in self.recoveries:
+                self.base[entity] = lines[-1].it['nr']      # (no log tells where it stands: all was before)
             base = self.base.get(entity, 0)
             before = [line for line in lines if line.it['nr'] <= base]
             if before:

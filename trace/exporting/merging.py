@@ -19,6 +19,7 @@ class Step(NamedTuple):
     """A fact, and why the next one of a cycle must come behind it."""
     fact: Fact
     why: str
+    since: Optional[Tuple[Fact, Fact]] = None       # of two tenures: a fact of each, of which one must come before the other
 
 
 class NoOrder(Exception):
@@ -177,7 +178,7 @@ class Merge:
     """The facts and demands as numbers, and the search for an order."""
 
     def __init__(self, demands: Demands) -> None:
-        self.facts, self.before = demands.facts, demands.before
+        self.facts, self.before, self.since = demands.facts, demands.before, demands.since
         history = demands.history
         self.firsts, self.ends, self.track_of = [], [], [0] * len(self.facts)
         at = 0
@@ -240,7 +241,7 @@ class Merge:
         steps: List[Step] = []
         edges = stuck.edges[::-1]
         for (first, second, why), (following, _, _) in zip(edges, edges[1:] + edges[:1]):
-            steps.append(Step(self.facts[first], why_text(why)))
+            steps.append(Step(self.facts[first], why_text(why), self.since.get((first, second)) if why == 'held' else None))
             if second != following:
                 steps.append(Step(self.facts[second], why_text('own')))
         return steps

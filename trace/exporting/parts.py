@@ -56,7 +56,7 @@ class Plans:
             others = {it for it in others if not stored or it < min(stored)} if history.choices.middle else set()
         if history.choices.middle:
             # (a number that is confirmed alone, below all that is recorded, was recorded before)
-            lowest = min([*history.recorded.get(pair, ()), *stored, *self.opened.get(pair, ())], default=0)
+            lowest = min([*history.recorded.get(pair, ()), *stored, *self.opened.get(pair, ())], default=max(others, default=0) + 1)
             others = {it for it in others if it >= lowest}
         before = sorted((others | set(self.opened.get(pair, ()))) - set(stored))
         return Plan({it: at for at, it in enumerate(sorted({*before, *stored}), 1)}, before)

@@ -281,6 +281,7 @@ class Writer:
         self.put(f'start {self.x(OPENER)} {name}')
         for it in its:
             self.record(entity, it, self.journals[entity].count + 1, 1, None)
+            self.journals[entity].last = it.get('nr', self.journals[entity].last)
         self.put(f'stop {self.x(OPENER)} {name}')
 
     def output(self) -> Output:

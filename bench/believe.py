@@ -78,6 +78,11 @@ def reached(todo):
 
 
 def main():
+    if {"-h", "--help"} & {*sys.argv[1:]}:
+        print(__doc__.strip())
+        return
+    if not all(re.match(r"[a-z_]+/[A-Za-z_.]+:.", text) for text in sys.argv[1:]):
+        sys.exit("a name is CRATE/MODULE:NAME; --help tells more")
     roots = [re.match(r"([a-z_]+)/([A-Za-z_.]+):(.+)", text).groups() for text in sys.argv[1:] or ROOTS]
     seen = reached(roots)
     counts = {}

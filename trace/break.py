@@ -20,6 +20,7 @@ from typing import NoReturn
 sys.dont_write_bytecode = True      # no __pycache__ beside these files
 
 from breaking import WAYS, candidates, rule                                             # noqa: E402
+from ending import run                                                                  # noqa: E402
 from explain import Names, draw, explained, read                                        # noqa: E402
 from explaining import Case, Input, NoAnswer, answer, judge_words, parts                # noqa: E402
 
@@ -82,4 +83,4 @@ def main() -> None:
 
 
 if __name__ == '__main__':
-    main()
+    run(main)

@@ -38,6 +38,7 @@ from typing import List, NoReturn, Optional, Sequence, Tuple
 sys.dont_write_bytecode = True      # no __pycache__ beside these files
 
 from choosing import Choice, WrongWords         # noqa: E402
+from ending import run                          # noqa: E402
 from facts import NoTrace, read                 # noqa: E402
 from layout import lay_out                      # noqa: E402
 from painting import Painter                    # noqa: E402
@@ -97,4 +98,4 @@ def main() -> None:
 
 
 if __name__ == '__main__':
-    main()
+    run(main)

@@ -14,6 +14,7 @@ import sys
 
 sys.dont_write_bytecode = True      # no __pycache__ beside these files
 
+from ending import run                                      # noqa: E402
 from scripts import Shape, bulk_script, random_script       # noqa: E402
 
 MOST = {'orders': 19_000, 'nodes': 16, 'shards': 128, 'producers': 32, 'names': 1000}
@@ -43,11 +44,8 @@ def main() -> None:
         lines = bulk_script(words.number)
     else:
         lines = random_script(words.seed, Shape(**{key: getattr(words, key) for key in (*MOST, 'kind')}))
-    try:
-        print('\n'.join(lines))
-    except BrokenPipeError:
-        sys.stderr.close()
+    print('\n'.join(lines))
 
 
 if __name__ == '__main__':
-    main()
+    run(main)

@@ -21,6 +21,7 @@ from typing import Any, Dict, List, Optional, Sequence
 
 sys.dont_write_bytecode = True      # no __pycache__ beside these files
 
+from ending import run                                                               # noqa: E402
 from explaining import HERE, Answer, Case, NoAnswer, answer, judge_words, parts      # noqa: E402
 
 MOST_SHOWN = 200        # characters of a line
@@ -133,6 +134,8 @@ def main() -> None:
         except NoAnswer as why:
             print(f'explain.py: {path}: {why}', file=sys.stderr)
             status = 3
+        except BrokenPipeError:
+            raise
         except OSError as why:
             print(f'explain.py: {path}: {why.strerror}', file=sys.stderr)
             status = 3
@@ -141,4 +144,4 @@ def main() -> None:
 
 
 if __name__ == '__main__':
-    main()
+    run(main)

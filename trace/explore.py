@@ -29,6 +29,7 @@ from typing import Dict, List, NoReturn, Optional, Sequence, Tuple
 sys.dont_write_bytecode = True      # no __pycache__ beside these files
 
 from draw import line_number                                            # noqa: E402
+from ending import run                                                  # noqa: E402
 from facts import NoTrace                                               # noqa: E402
 from parts import FACT_PATTERNS, FACTS, PACKET_PATTERNS, PACKETS        # noqa: E402
 from sources import Source, read_source                                 # noqa: E402
@@ -174,4 +175,4 @@ def main() -> None:
 
 
 if __name__ == '__main__':
-    main()
+    run(main)

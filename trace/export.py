@@ -25,6 +25,7 @@ from typing import List, NoReturn, Sequence
 
 sys.dont_write_bytecode = True      # no __pycache__ beside these files
 
+from ending import run                                                  # noqa: E402
 from exporting import kinds                                             # noqa: E402
 from exporting.demands import Demands                                   # noqa: E402
 from exporting.history import Choices, Fact, History                    # noqa: E402
@@ -154,4 +155,4 @@ def main() -> None:
 
 
 if __name__ == '__main__':
-    main()
+    run(main)

@@ -12,6 +12,10 @@ import xml.etree.ElementTree as tree
 from dataclasses import dataclass
 from typing import Iterator, List, Tuple
 
+sys.dont_write_bytecode = True      # no __pycache__ beside these files
+
+from ending import run     # noqa: E402
+
 SVG = '{http://www.w3.org/2000/svg}'
 SIZES = {'head': 12.0, 'number': 8.5, 'again-label': 8.5}   # heights of fonts by class; of all others 10.5
 LINES = {'line', 'order', 'tip', 'cross', 'crash'}          # classes of paths
@@ -73,7 +77,11 @@ def overlaps(picture: str) -> List[str]:
     return found
 
 
-if __name__ == '__main__':
+def main() -> int:
     faults = [fault for picture in sys.argv[1:] for fault in overlaps(picture)]
     print('\n'.join(faults) if faults else 'no text is crossed')
-    sys.exit(1 if faults else 0)
+    return 1 if faults else 0
+
+
+if __name__ == '__main__':
+    run(main)

@@ -23,6 +23,7 @@ from typing import Dict, List, Optional
 sys.dont_write_bytecode = True      # no __pycache__ beside these files
 
 from actors import ACTOR_AT, PRODUCER, Actors, is_pulled    # noqa: E402
+from ending import run                                      # noqa: E402
 from facts import Fact, NoTrace, Trace, read                # noqa: E402
 
 EXPRESSION = r'(?<host>\S+) (?<clock>{.*})\n(?<event>.*)'
@@ -84,4 +85,4 @@ def main() -> None:
 
 
 if __name__ == '__main__':
-    main()
+    run(main)

@@ -16,6 +16,7 @@ from typing import Dict, List, NoReturn, Sequence, Tuple
 
 sys.dont_write_bytecode = True      # no __pycache__ beside these files
 
+from ending import run                          # noqa: E402
 from facts import Fact, NoTrace, Trace, read    # noqa: E402
 
 Order = Tuple[str, List[Tuple[str, Fact]]]      # its words, and its facts: without numbers of packets, and as they are
@@ -89,4 +90,4 @@ def main() -> None:
 
 
 if __name__ == '__main__':
-    main()
+    run(main)

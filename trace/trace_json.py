@@ -19,6 +19,7 @@ from typing import Dict, List
 
 sys.dont_write_bytecode = True      # no __pycache__ beside these files
 
+from ending import run                                      # noqa: E402
 from facts import Fact, NoTrace                             # noqa: E402
 from parts import FACTS, PACKETS, json_type, parts_of       # noqa: E402
 from sources import read_source                             # noqa: E402
@@ -67,4 +68,4 @@ def main() -> None:
 
 
 if __name__ == '__main__':
-    main()
+    run(main)

@@ -3,13 +3,15 @@
 
 No browser and no program is needed. What is compared: the state after a trace's last line with its report; the parts of each fact,
 as JSON, with their schema; each report in JSON with its schema; what a page, a picture and a log of ShiViz are made of; what
-trace_diff.py says of a trace and a changed one; what is refused.
+trace_diff.py says of a trace and a changed one; what is refused; that each tool ends quietly where nobody reads it.
 """
 from __future__ import annotations
 
+import glob
 import json
 import os
 import re
+import subprocess
 import sys
 from typing import Dict, Iterator, List, Tuple
 
@@ -20,6 +22,7 @@ sys.path[:0] = [os.path.dirname(HERE), HERE]
 
 from choosing import Choice                             # noqa: E402
 from draw import picture                                # noqa: E402
+from ending import CLOSED                               # noqa: E402
 from explore import page_of                             # noqa: E402
 from facts import FORMS, NoTrace, Trace, read           # noqa: E402
 from parts import FACTS                                 # noqa: E402
@@ -137,6 +140,35 @@ def faults_of_sources() -> Iterator[str]:
             pass
 
 
+# words for each tool with which it prints something; the input is a trace, behind its script
+WORDS = {
+    'break.py': ['--lost-record', '-'], 'draw.py': [], 'draw_script.py': ['bulk', '3'], 'explain.py': [], 'explore.py': [],
+    'export.py': glob.glob(os.path.join(TOP, 'trace', 'examples', 'two_nodes', '*.jsonl')),
+    'overlaps.py': [os.path.join(TOP, 'docs', 'pictures', 'failover.svg')], 'shiviz.py': [], 'trace_json.py': [],
+    'trace_diff.py': [os.path.join(DATA, f'{name}.out') for name in ('rebalanced', 'node_leaves')],
+}
+
+
+def faults_of_closed_pipes() -> Iterator[str]:
+    """What each tool says where nobody reads what it prints."""
+    script, text = (read_file(os.path.join(DATA, f'rebalanced.{end}')) for end in ('in', 'out'))
+    for path in glob.glob(os.path.join(TOP, 'trace', '*.py')):
+        name = os.path.basename(path)
+        if b"__name__ == '__main__'" not in read_file(path):
+            continue
+        reader, writer = os.pipe()
+        os.close(reader)
+        ran = subprocess.run([sys.executable, path, *WORDS[name]], input=script + b'\ntrace\n' + text, stdout=writer, stderr=subprocess.PIPE, check=False)
+        os.close(writer)
+        if ran.returncode != CLOSED or b'pipe' in ran.stderr or b'Traceback' in ran.stderr:
+            yield f'{name} into a closed pipe ends with {ran.returncode}: {ran.stderr.decode()[-200:]}'
+
+
+def read_file(path: str) -> bytes:
+    with open(path, 'rb') as file:
+        return file.read()
+
+
 def main() -> int:
     found: List[str] = []
     line_schema = schema()
@@ -156,6 +188,7 @@ def main() -> int:
             reports += 1
             found += [f'{name}: {fault}' for fault in faults(json.loads(text), report_schema, report_schema)]
     found += faults_of_sources()
+    found += faults_of_closed_pipes()
     if not traces or not reports:
         found.append(f'{traces} traces and {reports} reports are known')
     for fault in found[:40]:

@@ -27,10 +27,10 @@ from sources import Source, read_source                 # noqa: E402
 from state import State, words_at                       # noqa: E402
 
 MOVES = 50
-MOST_ITEMS = 20         # that a pane shows, as in panes.js
+MOST_ITEMS = 12         # that a pane shows, as in panes.js
 MOST_BYTES, MOST_SECONDS, MOST_MILLISECONDS = 15_000_000, 3.0, 50.0
 # machines of checks have other work too: there a time fails the check at so many times its bound
-SLACK = 6
+SLACK = 2
 KNOWN = ('rebalanced', 'coordinator_crashes', 'crash_and_return', 'node_leaves', 'more_shards', 'passivated_remembered', 'job_given_again',
          'full_buffer', 'failed_write_lost')
 PICTURES = (('failover', 99, 1280, 900, False), ('handoff', 106, 1280, 900, True))
@@ -74,18 +74,18 @@ def below(words: Shown, beginning: str) -> Dict[str, object]:
     return {word[len(beginning) + 1:]: value for word, value in words.items() if word.startswith(beginning + '.')}
 
 
-def homes(words: Shown) -> Shown:
+def by_value(words: Shown, name: str) -> Shown:
     by: Dict[str, List[int]] = {}
-    for shard, home in below(words, 'home').items():
-        by.setdefault(str(home), []).append(int(shard))
-    return {f'home {home}': f'{ranges(shards)} → {home}' for home, shards in by.items()}
+    for shard, value in below(words, name).items():
+        by.setdefault(str(value), []).append(int(shard))
+    return {f'{name} {value}': f'{ranges(shards)} → {value}' for value, shards in by.items()}
 
 
 def of_node(words: Shown) -> Shown:
     name = words.get('incarnation')
     if name is None:
         return {'incarnation': 'is down'}
-    found: Shown = {'incarnation': f'is up as {name}', 'registered': words.get('registered', '–'), **homes(words)}
+    found: Shown = {'incarnation': f'is up as {name}', 'registered': words.get('registered', '–'), **by_value(words, 'home'), **by_value(words, 'mark')}
     if 'view' in words:
         found.update(view=words['view'], members=str(words['members']).replace(',', ' '))
     if 'leaving' in words:
@@ -110,7 +110,7 @@ def of_entity(words: Shown) -> Shown:
 
 def of_coordinator(words: Shown) -> Shown:
     leaving = below(words, 'leaving')
-    found: Shown = {**homes(words), 'started': ranges([int(it) for it in below(words, 'started')])}
+    found: Shown = {**by_value(words, 'home'), 'started': ranges([int(it) for it in below(words, 'started')])}
     found.update({f'region.{name}': name + (' leaves' if name in leaving else '') for name in below(words, 'region')})
     found.update({f'moving.{shard}': said for shard, said in below(words, 'moving').items()})
     if 'round' in words:
@@ -140,7 +140,7 @@ WALK = """(async moves => {
       text: document.getElementById('text').textContent,
       wire: [...document.querySelectorAll('#wire [data-packet] b')].map(it => +it.textContent),
       words: [...document.querySelectorAll('#panes [data-word]')].map(it => [it.dataset.of, it.dataset.item, it.dataset.word,
-        it.textContent.replace(/\\s+/g, ' ').trim(), it.dataset.home || '']),
+        it.textContent.replace(/\\s+/g, ' ').trim(), it.dataset.by || '']),
     });
   }
   return seen;
@@ -149,12 +149,12 @@ WALK = """(async moves => {
 
 def by_item(words: List[List[str]]) -> Dict[str, Dict[str, Shown]]:
     found: Dict[str, Dict[str, Shown]] = {}
-    for of, item, word, text, home in words:
+    for of, item, word, text, by in words:
         shown = found.setdefault(of, {}).setdefault(item, {})
         if word in ('kept', 'stash'):
             shown[word] = sorted([*shown.get(word, []), text])  # type: ignore[misc]
         else:
-            shown[f'home {home}' if home else word] = text
+            shown[f'{word} {by}' if by else word] = text
     return found
 
 

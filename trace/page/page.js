@@ -55,6 +55,9 @@ const say = text => { $('said').textContent = text; };
 // ---- drawing all of it
 function render() {
   const row = now.row, order = orderAt(row);
+  // (what asks for sizes comes before what changes any: so the browser lays all out once)
+  const width = $('diagram').clientWidth || 700;
+  drawList();
   $('slider').value = row;
   $('slider').setAttribute('aria-valuetext', `line ${lineOf(row)} of ${lineOf(last)}${order < 0 ? '' : `, ${data.part} ${order + 1}`}`);
   $('number').value = lineOf(row);
@@ -66,8 +69,7 @@ function render() {
   $('said').textContent = '';
   $('here').href = `#${lineOf(row)}`;
   $('here').textContent = `#${lineOf(row)}`;
-  $('slot')?.style.setProperty('--at', `${100 * (row + 0.5) / (last + 1)}%`);
-  if ($('diagram').parentElement.open) $('diagram').innerHTML = drawDiagram(row, $('diagram').clientWidth || 700);
+  if ($('diagram').parentElement.open) $('diagram').innerHTML = drawDiagram(row, width);
   fill('packet', causeHtml(row));
   $('packet-title').textContent = causeTitle(row);
   const touched = touchedBy(row).filter(it => $(it));
@@ -77,7 +79,7 @@ function render() {
     fill(of, panes[of].html(row, isItemWanted(of), !listed));
     $(`${of}-title`).querySelector('.badge').hidden = !touched.includes(of);
   }
-  drawList();
+  for (const it of document.querySelectorAll('.bar > b')) it.style.transform = `translateX(${(100 * (row + 0.5) / (last + 1)).toFixed(2)}%)`;
   if (history.replaceState && location.hash !== hashNow()) history.replaceState(null, '', hashNow());
 }
 

@@ -1,5 +1,5 @@
 // The panes: what stands after a row. Each word that is shown says of what it is (`data-of`, `data-item`, `data-word`).
-const MOST = 20;
+const MOST = 12;
 const FEW = 4;                      // nodes that are shown open
 const shownWhole = new Set();       // panes that show all their items
 const openNodes = new Set();
@@ -36,15 +36,15 @@ function wordsOf(words, beginning) {
   return found.sort((a, b) => byName(a[0], b[0]));
 }
 
-// Homes of shards, by region: 1.1: shards 0–2.
-function homesHtml(of, item, words, row) {
+// What shards have of a word, their homes or marks, by its value: shards 0–2 → 1.1.
+function byValueHtml(of, item, words, name, row, html) {
   const by = {};
-  for (const [shard, home] of wordsOf(words, 'home')) (by[home] ??= []).push(shard);
-  const gone = Object.keys(data.histories[of][item] || {}).some(it => it.startsWith('home.') && !(it in words) && changedAt(of, item, it, row));
-  return (gone ? '<span class="changed">one less</span> ' : '') + (Object.keys(by).sort(byName).map(home => {
-    const changed = by[home].some(it => changedAt(of, item, `home.${it}`, row)) ? ' changed' : '';
-    return `<span class="pair${changed}" data-of="${of}" data-item="${escaped(item)}" data-word="home" data-home="${home}">${ranges(by[home])} → ${
-        chip(home)}</span>`;
+  for (const [shard, value] of wordsOf(words, name)) (by[value] ??= []).push(shard);
+  const gone = Object.keys(data.histories[of][item] || {}).some(it => it.startsWith(`${name}.`) && !(it in words) && changedAt(of, item, it, row));
+  return (gone ? '<span class="changed">one less</span> ' : '') + (Object.keys(by).sort(byName).map(value => {
+    const changed = by[value].some(it => changedAt(of, item, `${name}.${it}`, row)) ? ' changed' : '';
+    return `<span class="pair${changed}" data-of="${of}" data-item="${escaped(item)}" data-word="${name}" data-by="${value}">${ranges(by[value])} → ${
+        html(value)}</span>`;
   }).join(' ') || '<span class="none">none</span>');
 }
 
@@ -59,7 +59,8 @@ const note = (shown, total, of, what) => shown === total ? '' :
 
 const panes = {
   node: {
-    title: 'Nodes', help: 'What each node knows. A node knows only what it was told, so views and homes may lag behind.',
+    title: 'Nodes', help: 'What each node knows. A node knows only what it was told, so views and homes may lag behind. A mark is the newest stamp '
+        + '(the coordinator’s epoch / its round) that it has taken of a shard: older words change nothing.',
     html(row, isWanted, isAll) {
       const holders = {};
       for (const slot in data.histories.slot) {
@@ -124,7 +125,7 @@ const panes = {
       return '<dl>' + line('at', slot.holder ? `${chip(slot.holder)} under epoch ${slot.epoch}` : '<span class="none">nobody</span>')
         + line('regions', regions.map(it => word('coordinator', 'coordinator', `region.${
             it}`, row, it, chip(it) + (leaving.includes(it) ? ' <small>leaves</small>' : ''))).join(' ') || '<span class="none">none</span>')
-        + line('homes', homesHtml('coordinator', 'coordinator', words, row))
+        + line('homes', byValueHtml('coordinator', 'coordinator', words, 'home', row, chip))
         + line('started', `<span data-of="coordinator" data-item="coordinator" data-word="started">${started}</span>` || '')
         + line('open round', words.round ? `${word('coordinator', 'coordinator', 'round', row, words.round)}<ul>${
             moving}</ul>` : '<span class="none">none</span>') + '</dl>';
@@ -179,7 +180,8 @@ function nodeHtml(node, row, holders, isFew) {
         word('node', node, 'members', row, words.members, chips(words.members.split(',')))}` : '<span class="none">none yet</span>')
     + line('registered with', word('node', node, 'registered', row, words.registered ?? '', chip(words.registered)) + (words.leaving ?
         ` <small class="bad">${word('node', node, 'leaving', row, 'yes', 'it leaves')}</small>` : ''))
-    + line('homes', homesHtml('node', node, words, row))
+    + line('homes', byValueHtml('node', node, words, 'home', row, chip))
+    + (wordsOf(words, 'mark').length ? line('marks', byValueHtml('node', node, words, 'mark', row, escaped)) : '')
     + line('holds', [shards.length ? `shard ${ranges(shards)}` : '', ...others].filter(Boolean).join(', ') || '<span class="none">nothing</span>')
     + (asked ? line('asks for', `shard <span data-of="node" data-item="${node}" data-word="asked">${asked}</span>`) : '')
     + (kept ? line('keeps', kept) : '') + `</dl>${close}</article>`;
@@ -213,7 +215,7 @@ function timeBar(slot) {
           (100 * history[n] / (last + 1)).toFixed(2)}%;width:${Math.max(wide, 0.6).toFixed(2)}%" title="${history[n + 1]} from line ${
           lineOf(history[n])}"></i>`);
     }
-    return `<span class="bar" aria-hidden="true">${pieces.join('')}</span>`;
+    return `<span class="bar" aria-hidden="true">${pieces.join('')}<b></b></span>`;
   })();
 }
 

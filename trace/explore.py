@@ -51,7 +51,7 @@ def table_of(source: Source, state: State, title: str, window: Tuple[int, int]) 
     headings = [(max(row - first, 0), text) for row, text in source.headings if row <= last]
     headings = [heading for n, heading in enumerate(headings) if n + 1 == len(headings) or headings[n + 1][0] > heading[0]]
     return {
-        'title': title, 'part': PARTS_OF[source.what], 'hasScript': bool(source.trace.orders),
+        'title': title, 'part': PARTS_OF[source.what], 'hasScript': bool(source.trace.orders), 'isPull': state.is_pull,
         'lines': '\n'.join(fact.text for fact in facts),
         'numbers': None if numbers == list(range(1, len(numbers) + 1)) else numbers,
         'nodes': state.nodes[first:last + 1], 'lost': lost, 'headings': headings,

@@ -61,7 +61,7 @@ function render() {
   $('slider').value = row;
   $('slider').setAttribute('aria-valuetext', `line ${lineOf(row)} of ${lineOf(last)}${order < 0 ? '' : `, ${data.part} ${order + 1}`}`);
   $('number').value = lineOf(row);
-  const heading = order < 0 ? '' : `<b>${data.part} ${order + 1} of ${headingRows.length}</b> <code>${escaped(orderText(row))}</code>`;
+  const heading = order < 0 ? '' : `<b>${data.part} ${order + 1} of ${headingRows.length}</b> ${data.part === 'batch' ? '' : `<code>${escaped(orderText(row))}</code>`}`;
   $('order').innerHTML = heading;
   $('text').textContent = lines[row];
   $('text').className = toneOf(row);

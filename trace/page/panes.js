@@ -59,7 +59,7 @@ const note = (shown, total, of, what) => shown === total ? '' :
 
 const panes = {
   node: {
-    title: 'Nodes', help: 'What each node knows. A node knows only what it was told, so views and homes may lag behind. A mark is the newest stamp '
+    title: 'Nodes', help: data.isPull ? 'Each node that is up is a worker. One holds the queue.' : 'What each node knows. A node knows only what it was told, so views and homes may lag behind. A mark is the newest stamp '
         + '(the coordinator’s epoch / its round) that it has taken of a shard: older words change nothing.',
     html(row, isWanted, isAll) {
       const holders = {};
@@ -176,15 +176,20 @@ function nodeHtml(node, row, holders, isFew) {
   const others = held.filter(it => !it.startsWith('shard:'));
   const [open, close] = isFew ? [head, ''] : [`<details open data-node="${node}"><summary data-key="node-${node}">${head}</summary>`, '</details>'];
   return `<article>${open}<dl>`
-    + line('view', words.view ? `${word('node', node, 'view', row, words.view)}: ${
+    + (data.isPull ? '' : knownHtml(node, words, row))
+    + line('holds', [shards.length ? `shard ${ranges(shards)}` : '', ...others].filter(Boolean).join(', ') || '<span class="none">nothing</span>')
+    + (asked ? line('asks for', `shard <span data-of="node" data-item="${node}" data-word="asked">${asked}</span>`) : '')
+    + (kept ? line('keeps', kept) : '') + `</dl>${close}</article>`;
+}
+
+// What a node knows of the others, and of shards.
+function knownHtml(node, words, row) {
+  return line('view', words.view ? `${word('node', node, 'view', row, words.view)}: ${
         word('node', node, 'members', row, words.members, chips(words.members.split(',')))}` : '<span class="none">none yet</span>')
     + line('registered with', word('node', node, 'registered', row, words.registered ?? '', chip(words.registered)) + (words.leaving ?
         ` <small class="bad">${word('node', node, 'leaving', row, 'yes', 'it leaves')}</small>` : ''))
     + line('homes', byValueHtml('node', node, words, 'home', row, chip))
-    + (wordsOf(words, 'mark').length ? line('marks', byValueHtml('node', node, words, 'mark', row, escaped)) : '')
-    + line('holds', [shards.length ? `shard ${ranges(shards)}` : '', ...others].filter(Boolean).join(', ') || '<span class="none">nothing</span>')
-    + (asked ? line('asks for', `shard <span data-of="node" data-item="${node}" data-word="asked">${asked}</span>`) : '')
-    + (kept ? line('keeps', kept) : '') + `</dl>${close}</article>`;
+    + (wordsOf(words, 'mark').length ? line('marks', byValueHtml('node', node, words, 'mark', row, escaped)) : '');
 }
 
 function entityHtml(name, row) {
@@ -223,7 +228,7 @@ function timeBar(slot) {
 function causeHtml(row) {
   if (chosenPacket(row)) return packetHtml(chosenPacket(row), row);
   const cause = causeOf(row);
-  if (cause < 0) return empty('Nothing says of what this line came.');
+  if (cause < 0) return data.part === 'order' ? empty('Nothing says of what this line came.') : partHtml(row);
   if (kinds[cause] === 'got' && packetOfRow(cause)) return packetHtml(packetOfRow(cause), row);
   return `<p class="says">${link(cause, `line ${lineOf(cause)}`)} <code>${
       escaped(data.hasScript ? orderText(cause) : lines[cause])}</code> gave</p><ul class="story">${rowsHtml(givenBy(cause)) || '<li>nothing</li>'}</ul>`;
@@ -232,7 +237,13 @@ function causeHtml(row) {
 function causeTitle(row) {
   if (chosenPacket(row)) return `Packet ${chosenPacket(row).number}`;
   const packet = packetOfRow(causeOf(row));
-  return packet ? `Came of packet ${packet.number}` : 'Came of an order';
+  return packet ? `Came of packet ${packet.number}` : data.part === 'order' ? 'Came of an order' : `In this ${data.part}`;
+}
+
+// A list of a slot, or a batch of a log: the lines of it.
+function partHtml(row) {
+  const at = orderAt(row), from = headingRows[at] ?? 0, until = headingRows[at + 1] ?? last + 1;
+  return `<p class="says">${escaped(orderText(row))}</p><ul class="story">${rowsHtml(Array.from({ length: until - from }, (_, n) => from + n))}</ul>`;
 }
 
 const rowsHtml = rows => rows.slice(0, 12).map(it => `<li>${link(it, lines[it])}</li>`).join('') + (rows.length > 12 ? `<li>and ${

@@ -80,10 +80,10 @@ abbrev pub ServedSeries : Type 0
 ServedSeries = (runs : List Run) (t : Told) → ToldIn empty_desk runs t → Right (behind_runs empty_desk runs) t.producer t.entity t.number t.command t.reply
 
 -- ExactlyOnce: the lists of the log are lawful; of each pair the journals have exactly the accepted commands, once and in order; and of each that was told exactly one record, with its command and its reply
-pub record ExactlyOnce (c : Script) (log : List (List Fact)) (IsTold : Told → Type 0) : Type 0 where
+pub record ExactlyOnce (c : Script) (log : List (List Fact)) (Tells : Told → Type 0) : Type 0 where
   pub lawful_is : IsTrue (lawful c (lists_in c log))
   pub once : EachOnce c (lists_in c log)
-  pub right : (t : Told) → IsTold t → IsRight c log t.producer t.entity t.number t.command t.reply
+  pub right : (t : Told) → Tells t → IsRight c log t.producer t.entity t.number t.command t.reply
 
 -- SeriesIsExact: so it is behind runs
 abbrev pub SeriesIsExact : Type 0

@@ -1,12 +1,16 @@
 //! The settings, what was accepted, and what stands on the disk of it; and what a group of lines makes of them.
-ghost use Rattle.std.specs.Prelude.{◌≡◌, ◌<◌, ◌≤◌, ℕ, [], ◌++◌, Err, IfOk, IsTrue, OnOk, length, map, Some, true, false};
+ghost use Rattle.std.specs.Prelude.{◌≡◌, ℕ, [], ◌∷◌, ◌++◌, Err, IfOk, IsTrue, OnOk, map};
+ghost use Rattle.std.specs.List.{flat_map};
 ghost use Rattle.std.specs.Str.Lines.{lines};
-ghost use Rattle.yard_model.specs.declared.fact.Fact.{Fact as FactValue};
-ghost use Rattle.disk_log.specs.Spelled.{AreBatches};
+ghost use Rattle.yard_model.specs.Script.{is_config};
+ghost use Rattle.disk_log.specs.Spelled.{AreBatches, IsBatch};
 ghost use Rattle.log_resume.specs.Restored.{IsForeign, are_taken, entries};
-ghost use Rattle.log_orders.specs.Orders.{batch_of};
-ghost use Rattle.serve_laws.specs.Served.{answers, grouped};
-ghost use Rattle.serve_run.specs.Books.{Adds, IsHeardSo, desk_at};
+ghost use Rattle.log_orders.specs.Gathered.{Gathers};
+ghost use Rattle.log_orders.specs.Orders.{listed};
+ghost use Rattle.serve_laws.specs.Hearing.{answers_all};
+ghost use Rattle.serve_laws.specs.Served.{answer_text, answers, grouped};
+ghost use Rattle.serve_run.specs.Books.{Adds, begun, desk_at};
+ghost use Rattle.serve_run.specs.Told.{answer_value};
 
 use crate::answers::{Answer, push_answers};
 use crate::hearing::hear_all;
@@ -78,8 +82,12 @@ pub(crate) fn carry(
     let charter = desk.charter(alloc)?;
     let mut told = Told::new(Facts::new(alloc));
     let stores = carry_out(alloc, &charter, &batches, &mut told)?;
-    let batch = batch_of(alloc, told.as_slice())?;
-    let batches = with_listed(batches, alloc, told.as_slice())?;
+    let batch = gathered(alloc, told.as_slice())?;
+    let batches = if batch.is_empty() {
+        batches
+    } else {
+        with_listed(alloc, batches, told.as_slice())?
+    };
     Ok((
         Books {
             desk,
@@ -106,7 +114,7 @@ pub(crate) fn new_books(alloc: Global, config: Config) -> Result<(Books, Batch),
 }
 
 /// The batch of these facts.
-fn batch_of(alloc: Global, facts: &[Fact]) -> Result<Batch, AllocError>
+fn gathered(alloc: Global, facts: &[Fact]) -> Result<Batch, AllocError>
     ensures { IfOk result (λ b. Gathers facts.now b) }
 {
     let mut batch = Batch::new(alloc)?;
@@ -114,10 +122,18 @@ fn batch_of(alloc: Global, facts: &[Fact]) -> Result<Batch, AllocError>
     Ok(batch)
 }
 
-/// The batches with that of these facts, if any of them belongs to a slot's list.
-fn with_listed(batches: Batches, alloc: Global, facts: &[Fact]) -> Result<Batches, AllocError>
-    requires batch { IsBatchOf facts.now }
-    ensures { IfOk result (λ more. more ≡ batches ++ batch_of facts.now) }
+/// The batches with those of these facts that belong to a slot's list.
+fn with_listed(alloc: Global, batches: Batches, facts: &[Fact]) -> Result<Batches, AllocError>
+    requires { IsBatch (listed facts.now) }
+    ensures { IfOk result (λ more. more ≡ batches ++ listed facts.now ∷ []) }
+{
+    let listed = listed_of(alloc, facts)?;
+    batches.with(listed.as_slice())
+}
+
+/// Those of these facts that belong to a slot's list.
+fn listed_of(alloc: Global, facts: &[Fact]) -> Result<Facts, AllocError>
+    ensures { IfOk result (λ l. l ≡ listed facts.now) }
 {
     let mut listed = Facts::new(alloc);
     for fact in facts {
@@ -125,11 +141,7 @@ fn with_listed(batches: Batches, alloc: Global, facts: &[Fact]) -> Result<Batche
             listed.push_copy(fact)?;
         }
     }
-    let mut batches = batches;
-    if !listed.as_slice().is_empty() {
-        batches.push(listed.as_slice())?;
-    }
-    Ok(batches)
+    Ok(listed)
 }
 
 /// What a group of lines comes to, where settings are in force. The only error is want of memory.

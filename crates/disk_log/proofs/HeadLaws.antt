@@ -65,8 +65,8 @@ module _ (tells : Bool) (content : List ℕ) (w : Ahead) (ahead : IsAhead tells 
   }
 
   -- the gate and the length were passed
-  pub ahead_behind : (mid : Ahead) (content_now : List ℕ) → mid ≡ record { size = w.size; place = w.place + 5; bytes = drop 5 w.bytes } → IsAhead tells content mid
-  ahead_behind mid content_now is = subst (IsAhead tells content) (sym is) (pass_ahead tells content w ahead 5 sized.long)
+  pub ahead_behind : (mid : Ahead) → mid ≡ record { size = w.size; place = w.place + 5; bytes = drop 5 w.bytes } → IsAhead tells content mid
+  ahead_behind mid is = subst (IsAhead tells content) (sym is) (pass_ahead tells content w ahead 5 sized.long)
 
   module _ (mid filled : Ahead) (mid_is : mid ≡ record { size = w.size; place = w.place + 5; bytes = drop 5 w.bytes }) (came : Filled tells content n mid filled) where
     five : filled.place ≡ 5

@@ -1,5 +1,5 @@
 //! A log that has a head: its first text is bytes of any kind, and batches stand behind it.
-ghost use Rattle.std.specs.Prelude.{◌≡◌, ◌×◌, ℕ, ◌+◌, ◌-◌, ◌<◌, ◌≤◌, ◌^◌, List, [], ◌∷◌, length, take, drop, IsTrue, Err, None, Some, IfOk, IfNone, IfSome, OnOk};
+ghost use Rattle.std.specs.Prelude.{◌≡◌, ℕ, ◌+◌, ◌-◌, ◌<◌, ◌≤◌, ◌^◌, List, [], ◌∷◌, length, take, drop, IsTrue, Err, None, Some, IfOk, IfNone, IfSome, OnOk};
 ghost use Rattle.disk_log.specs.Faults.{of_reading};
 ghost use Rattle.disk_log.specs.Frames.{Holds};
 ghost use Rattle.disk_log.specs.Headed.{HeadRead, IsHead, IsHeadDamaged, IsHeadless, IsLongHead, IsOpenFront, headed_texts};

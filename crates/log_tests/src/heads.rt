@@ -233,7 +233,7 @@ fn are_added(alloc: Global, first: &[u8]) -> Result<bool, AllocError> {
     let one = grows(alloc, &mut disk, FIRST, Came::Read(15, 1))?;
     let two = grows(alloc, &mut disk, SECOND, Came::Read(15, 2))?;
     let image = standing(&disk)?;
-    Ok(headed && one && two && image.as_slice() == WHOLE)
+    Ok(headed && one && two && image.as_slice() == WHOLE.as_slice())
 }
 
 #[test]

@@ -2,7 +2,7 @@
 use Rattle.std.proofs.Common.{◌≡◌, ℕ, zero, suc, ◌-◌, ◌<◌, ◌≤◌, ◌^◌, Bool, List, [], ◌∷◌, ◌++◌, length, take, drop, get_or, refl, sym, ◌∙◌, ap, ap₂, subst, arith, length-append, append_assoc}
 use Rattle.std.proofs.lemmas.List.{append-nil, drop_at, drop-append-le, get_or_default, length-drop, take_all, take-append-le}
 use Rattle.yard_model.specs.declared.fact.Fact.{Fact}
-use Rattle.disk_log.specs.Spelled.{AreBatches}
+use Rattle.disk_log.specs.Spelled.{AreBatches, IsBatch}
 use Rattle.disk_log.specs.Window.{Ahead, Closed, IsAhead, Opened, Passed}
 use Rattle.disk_log.specs.Kept.{AreEnds, AreKept, ClosedMore, OpenedMore, ReadMore, cut}
 use Rattle.disk_log.proofs.ReadLaws.{SoFar, all_read, none_yet, one_more}
@@ -127,3 +127,17 @@ module _ (ends read : List ℕ) (facts : List Fact) (k start end : ℕ) (inside 
   part_is view view_is =
       ap₂ (λ (i j : ℕ). take (j - i) (drop i facts)) begins stops
       ∙ (sym (cut_at 0 ends facts k inside) ∙ sym (ap (λ (v : List (List Fact)). get_or v k []) view_is))
+
+-- a batch more, whose facts stand behind the others
+module _ (ends later : List ℕ) (facts all more : List Fact) (kept : AreKept ends facts) (all_are : all ≡ facts ++ more) (later_are : later ≡ ends ++ length all ∷ []) where
+  pub with_is : cut 0 later all ≡ cut 0 ends facts ++ more ∷ []
+  with_is =
+      ap (λ (l : List ℕ). cut 0 l all) later_are
+      ∙ (ap (λ (l : List Fact). cut 0 (ends ++ length l ∷ []) l) all_are ∙ cut_more 0 ends facts more kept.rise)
+
+  pub kept_with : IsBatch more → length later < 2 ^ 32 → AreKept later all
+  kept_with batch few = record {
+    rise = subst (λ (l : List ℕ). AreEnds 0 l (length all)) (sym later_are) (ends_more 0 ends (length facts) (length all) kept.rise (omega (arith, ap length all_are, length-append facts more)));
+    batches = subst AreBatches (sym with_is) (are_more (cut 0 ends facts) more kept.batches batch);
+    few = few;
+  }

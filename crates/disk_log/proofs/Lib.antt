@@ -13,3 +13,5 @@ pub mod GoingLaws
 mod KeptLaws
 mod GateLaws
 mod WriteLaws
+mod HeadLaws
+mod WholeLaws

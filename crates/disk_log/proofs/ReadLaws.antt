@@ -14,6 +14,7 @@ use Rattle.fact_lines.specs.Entries.{IsNoEntry, IsOther, Took, TookSo}
 use Rattle.fact_lines.proofs.TextLaws.{other_text, took_more}
 use Rattle.disk_log.specs.Images.{Images}
 use Rattle.disk_log.specs.Frames.{framed}
+use Rattle.disk_log.specs.Headed.{IsTextless}
 use Rattle.disk_log.specs.Spelled.{lines, IsUnfollowed}
 use Rattle.disk_log.specs.Window.{Ahead, IsAhead, IsUntouched, Came, Filled, TookFront, Passed, ReadFacts, IsSize, ReadBatch}
 use Rattle.disk_log.proofs.LineLaws.{no_entry_more}
@@ -253,18 +254,18 @@ module _ (tells : Bool) (content : List ℕ) (old : Ahead) (ahead : IsAhead tell
   four : 5 ≤ length old.bytes → take 4 tail ≡ take 4 (drop 1 old.bytes)
   four le = ap (take 4) (tail_is (omega (arith, le))) ∙ take-append-le 4 (drop 1 old.bytes) (ahead.front told).0 (omega (arith, le, length-drop 1 old.bytes))
 
-  pub no_size : (5 ≤ length old.bytes) ⊎ (old.size ≤ old.place + length old.bytes) → 0 < length old.bytes → ((n : ℕ) → IsSize old.bytes (old.size - old.place) n → ⊥) → IsUnfollowed tail
-  no_size filled some none facts behind f =
-      none (length (lines facts)) (record {
+  pub no_size : (5 ≤ length old.bytes) ⊎ (old.size ≤ old.place + length old.bytes) → 0 < length old.bytes → ((n : ℕ) → IsSize old.bytes (old.size - old.place) n → ⊥) → IsTextless tail
+  no_size filled some none text behind fits gate frame =
+      none (length text) (record {
         long = long;
-        some = f.batch.some;
-        fits = f.batch.fits;
-        room = omega (arith, whole, f.gate);
-        says = sym (four long) ∙ (ap (take 4) (f.frame ∙ append_assoc (to_be_bytes w32 (length (lines facts))) (lines facts) behind) ∙ take_at (to_be_bytes w32 (length (lines facts))) (lines facts ++ behind) 4 refl);
+        some = fits.some;
+        fits = fits.fits;
+        room = omega (arith, whole, gate);
+        says = sym (four long) ∙ (ap (take 4) (frame ∙ append_assoc (to_be_bytes w32 (length text)) text behind) ∙ take_at (to_be_bytes w32 (length text)) (text ++ behind) 4 refl);
       })
     where
-      whole : old.size - old.place ≡ 1 + (4 + length (lines facts) + length behind)
-      whole = omega (arith, ahead.size told, ahead.within, some, length-drop (old.place + 1) content, ap length f.frame, length-frame (lines facts) behind)
+      whole : old.size - old.place ≡ 1 + (4 + length text + length behind)
+      whole = omega (arith, ahead.size told, ahead.within, some, length-drop (old.place + 1) content, ap length frame, length-frame text behind)
 
       long_of : (5 ≤ length old.bytes) ⊎ (old.size ≤ old.place + length old.bytes) → 5 ≤ length old.bytes
       long_of (inl l) = l
@@ -289,9 +290,9 @@ module _ (tells : Bool) (content : List ℕ) (old : Ahead) (ahead : IsAhead tell
       rest : drop (old.place + 5) content ≡ lines facts ++ behind
       rest = ap (λ k. drop k content) (sym (five old.place)) ∙ (sym (drop-drop 4 (old.place + 1) content) ∙ frame_tail tail (lines facts) behind f.frame)
 
-  pub batch_frame : (n : ℕ) (facts : List Fact) (later : List ℕ) → IsSize old.bytes (old.size - old.place) n → length (lines facts) ≡ n → drop (old.place + 5) content ≡ lines facts ++ later → tail ≡ framed (lines facts) ++ later
-  batch_frame n facts later s count is =
-      says_n n s ∙ (ap (λ (l : List ℕ). to_be_bytes w32 n ++ l) is ∙ (ap (λ k. to_be_bytes w32 k ++ (lines facts ++ later)) (sym count) ∙ sym (append_assoc (to_be_bytes w32 (length (lines facts))) (lines facts) later)))
+  pub text_frame : (n : ℕ) (text later : List ℕ) → IsSize old.bytes (old.size - old.place) n → length text ≡ n → drop (old.place + 5) content ≡ text ++ later → tail ≡ framed text ++ later
+  text_frame n text later s count is =
+      says_n n s ∙ (ap (λ (l : List ℕ). to_be_bytes w32 n ++ l) is ∙ (ap (λ k. to_be_bytes w32 k ++ (text ++ later)) (sym count) ∙ sym (append_assoc (to_be_bytes w32 (length text)) text later)))
 
 -- the batch behind a gate was read
 pub batch_read : (tells : Bool) (content : List ℕ) (n : ℕ) (old mid new : Ahead) (facts : List Fact) → IsAhead tells content old → IsSize old.bytes (old.size - old.place) n → mid.size ≡ old.size → mid.place ≡ old.place + 5
@@ -302,7 +303,7 @@ batch_read tells content n old mid new facts ahead s size place r = record {
   size = r.size ∙ size;
   place = omega (arith, r.place, place, r.text_size);
   within = omega (arith, r.place, place, r.size, size, s.room);
-  frame = λ told. batch_frame tells content old ahead told n facts (drop new.place content) s r.text_size (ap (λ k. drop k content) (sym place) ∙ r.text told);
+  frame = λ told. text_frame tells content old ahead told n (lines facts) (drop new.place content) s r.text_size (ap (λ k. drop k content) (sym place) ∙ r.text told);
 }
 
 -- a length that is said

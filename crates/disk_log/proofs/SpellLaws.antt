@@ -100,7 +100,7 @@ damaged_at batches image rest tail gate at is is_open are opens long place none 
   unfollowed = none;
 }
 
-says_some : (texts : List (List ℕ)) (bytes : List ℕ) → Says texts bytes → 0 < length bytes
+pub says_some : (texts : List (List ℕ)) (bytes : List ℕ) → Says texts bytes → 0 < length bytes
 says_some [] bytes says = omega (arith, ap length says.1)
 says_some (t ∷ texts) bytes says = omega (arith, ap length says.3)
 
@@ -110,7 +110,7 @@ frame_behind a b x y fa fb is =
     append_cancel_left (framed a) x y (is ∙ ap (λ (l : List ℕ). framed l ++ y) (sym (frame_one a b x y fa fb is)))
 
 -- batches of which a text is empty aren't known by it, but their frames are the same
-not_both : (batches others : List (List Fact)) (image rest : List ℕ) (gate : ℕ) → AreBatches batches → AreBatches others → Opens (map lines batches) image (gate ∷ rest) → 0 < gate → IsUnfollowed rest
+pub not_both : (batches others : List (List Fact)) (image rest : List ℕ) (gate : ℕ) → AreBatches batches → AreBatches others → Opens (map lines batches) image (gate ∷ rest) → 0 < gate → IsUnfollowed rest
     → Says (map lines others) image → ⊥
 not_both [] [] image rest gate are too opens is_open none says = let e : gate ∷ rest ≡ 0 ∷ says.0 = sym opens ∙ says.1 in let g : gate ≡ 0 = cc in omega (arith, g, is_open)
 not_both [] (o ∷ others) image rest gate are too opens is_open none says =
@@ -125,7 +125,7 @@ not_both (b ∷ batches) (o ∷ others) image rest gate are too opens is_open no
     let same : opens.1 ≡ says.1 = frame_behind (lines b) (lines o) opens.1 says.1 (text_of_batch b are.0) (text_of_batch o too.0) r in
     not_both batches others opens.1 rest gate are.1 too.1 opens.4 is_open none (subst (Says (map lines others)) (sym same) says.4)
 
-holds_says : (texts : List (List ℕ)) (image : List ℕ) → 1 < length image → Holds texts image → Says texts image
+pub holds_says : (texts : List (List ℕ)) (image : List ℕ) → 1 < length image → Holds texts image → Says texts image
 holds_says texts [] long holds = absurd (omega (arith, long))
 holds_says texts (g ∷ []) long holds = absurd (omega (arith, long))
 holds_says texts (g ∷ h ∷ image) long holds = holds

@@ -10,3 +10,5 @@ pub mod Untold
 pub mod Window
 pub mod Kept
 pub mod Opening
+pub mod Headed
+pub mod Faults

@@ -3,6 +3,7 @@ ghost use Rattle.std.specs.Prelude.{◌≡◌, ℕ, ◌+◌, ◌≤◌, ◌^◌,
 ghost use Rattle.std.specs.Int.{w32, to_be_bytes};
 ghost use Rattle.yard_model.specs.Text.{fact_line};
 ghost use Rattle.fact_lines.specs.Entry.{is_entry};
+ghost use Rattle.disk_log.specs.Batch.{text_in, IsPiece};
 ghost use Rattle.disk_log.specs.Frames.{framed};
 
 use fact_lines::push_entry;
@@ -53,11 +54,17 @@ impl Batch {
     {
         self.line.clear();
         push_entry(&mut self.line, fact)?;
-        if self.line.len() > MOST - (self.piece.len() - 5) {
-            return Err(AllocError);
-        }
-        self.piece.extend_from_slice(&self.line)?;
-        seal(self.piece.as_mut_slice(), &self.line);
+        append(&mut self.piece, &self.line)?;
+        Ok(())
+    }
+
+    /// Adds bytes at the end. The only error is want of memory, as which a text of more than 2^31 bytes counts too;
+    /// then nothing changes.
+    pub fn push_text(&mut self, text: &[u8]) -> Result<(), AllocError>
+        ensures ok { OnOk result (self.new ≡ self.old ++ text.now) }
+        ensures err { OnErr result (self.new ≡ self.old) }
+    {
+        append(&mut self.piece, text)?;
         Ok(())
     }
 
@@ -84,6 +91,21 @@ impl Batch {
     {
         self.piece.as_slice()
     }
+}
+
+/// Adds bytes at the end of a piece's text. On an error nothing changes.
+fn append(piece: &mut Vec<u8>, text: &[u8]) -> Result<(), AllocError>
+    requires { IsPiece piece.old.items }
+    ensures piece { IsPiece piece.new.items }
+    ensures ok { OnOk result (text_in piece.new.items ≡ text_in piece.old.items ++ text.now) }
+    ensures err { OnErr result (piece.new.items ≡ piece.old.items) }
+{
+    if text.len() > MOST - (piece.len() - 5) {
+        return Err(AllocError);
+    }
+    piece.extend_from_slice(text)?;
+    seal(piece.as_mut_slice(), text);
+    Ok(())
 }
 
 /// Makes a piece again of one behind which a line stands: the line moves before the closed gate.

@@ -1,8 +1,9 @@
 //! What a log is read as.
-ghost use Rattle.std.specs.Prelude.{◌≡◌, ◌<◌, ◌≤◌, ◌-◌, ◌+◌, ◌^◌, [], ◌∷◌, ◌++◌, OnOk, drop, get_or, length, take, true};
+ghost use Rattle.std.specs.Prelude.{◌≡◌, ◌<◌, ◌≤◌, ◌-◌, ◌+◌, ◌^◌, [], ◌∷◌, ◌++◌, IfOk, OnOk, drop, get_or, length, take, true};
 ghost use Rattle.std.specs.List.{list_all};
 ghost use Rattle.fact_lines.specs.Entry.{is_entry};
 ghost use Rattle.disk_log.specs.Kept.{AreKept, cut};
+ghost use Rattle.disk_log.specs.Spelled.{IsBatch};
 
 use std::alloc::{AllocError, Global};
 use std::marker::Model;
@@ -31,7 +32,7 @@ impl Model for Batches {
 
 impl Batches {
     /// No batch. It takes no memory.
-    pub(crate) fn new(alloc: Global) -> Batches
+    pub fn new(alloc: Global) -> Batches
         ensures { result ≡ [] }
     {
         Batches {
@@ -46,6 +47,21 @@ impl Batches {
         ensures { result ≡ cut 0 ends.items facts }
     {
         Batches { facts, ends }
+    }
+
+    /// The batches with one more behind them. The only error is want of memory, as which more than 2^32 - 1 batches count
+    /// too; they are given up then.
+    pub fn with(self, facts: &[Fact]) -> Result<Batches, AllocError>
+        requires { IsBatch facts.now }
+        ensures { IfOk result (λ b. b ≡ self ++ facts.now ∷ []) }
+    {
+        let Batches {
+            facts: mut all,
+            mut ends,
+        } = self;
+        push_all(&mut all, facts)?;
+        note_end(&mut ends, all.as_slice().len())?;
+        Ok(Batches::of(all, ends))
     }
 
     /// How many there are.
@@ -66,6 +82,16 @@ impl Batches {
         let start = start_at(&self.ends, place);
         part(self.facts.as_slice(), start, self.ends[place])
     }
+}
+
+/// These facts behind those.
+fn push_all(all: &mut Facts, facts: &[Fact]) -> Result<(), AllocError>
+    ensures { OnOk result (all.new ≡ all.old ++ facts.now) }
+{
+    for fact in facts {
+        all.push_copy(fact)?;
+    }
+    Ok(())
 }
 
 /// The facts from one place to another.

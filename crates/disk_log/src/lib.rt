@@ -4,6 +4,7 @@
 mod batch;
 mod batches;
 mod disk;
+mod headed;
 mod laws;
 mod log;
 mod mem_disk;
@@ -16,7 +17,8 @@ mod window;
 pub use batch::Batch;
 pub use batches::Batches;
 pub use disk::Disk;
-pub use laws::{one_reading, prefix_spells};
+pub use headed::{Head, Headed, HeadedFault, open_headed};
+pub use laws::{one_head, one_holding, one_reading, prefix_spells};
 pub use log::{Log, MakeFault};
 pub use mem_disk::MemDisk;
 pub use opening::{Opened, open_log};

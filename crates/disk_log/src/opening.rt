@@ -8,14 +8,11 @@ ghost use Rattle.disk_log.specs.Window.{IsUntouched};
 
 use crate::batches::Batches;
 use crate::disk::Disk;
-use crate::log::{Log, write_through};
+use crate::log::{FAR, Log, write_through};
 use crate::reading::{ReadLogFault, read_batches};
 use crate::window::Window;
 use std::alloc::Global;
 use yard_io::Failed;
-
-/// Where a log that goes on may end: a commit wants some room behind it.
-const FAR: u64 = 1 << 61;
 
 /// A log that was opened.
 #[derive(Drop)]
@@ -56,7 +53,7 @@ pub fn open_log<D: Disk>(alloc: Global, disk: &mut D) -> Result<Opened, ReadLogF
 }
 
 /// How many bytes there are, all of them for good.
-fn firm_size<D: Disk>(disk: &mut D) -> Result<u64, Failed>
+pub(crate) fn firm_size<D: Disk>(disk: &mut D) -> Result<u64, Failed>
     ensures size { IfOk result (λ n. IsTrue D.tells → n ≡ length (D.content disk.old)) }
     ensures content { D.content disk.new ≡ D.content disk.old }
     ensures durable { OnOk result (IsTrue D.tells → Only (D.content disk.new) (D.images disk.new)) }
@@ -70,7 +67,7 @@ fn firm_size<D: Disk>(disk: &mut D) -> Result<u64, Failed>
 }
 
 /// Opens a log on a disk of at most one byte.
-fn open_none<D: Disk>(alloc: Global, disk: &mut D) -> Result<Opened, ReadLogFault>
+pub(crate) fn open_none<D: Disk>(alloc: Global, disk: &mut D) -> Result<Opened, ReadLogFault>
     requires { IsTrue D.tells → length (D.content disk.old) ≤ 1 }
     ensures rests { IfOk result (λ o. Rests D.tells o.log (D.content disk.new) (D.images disk.new) []) }
     ensures none { IfOk result (λ o. o.batches ≡ []) }

@@ -4,7 +4,7 @@ ghost use Rattle.std.specs.Int.{w32, from_be_bytes};
 ghost use Rattle.fact_lines.specs.Entries.{IsNoEntry, IsOther};
 ghost use Rattle.disk_log.specs.Spelled.{Spells, IsDamaged, IsUnfollowed};
 ghost use Rattle.disk_log.specs.Window.{IsAhead, IsUntouched, IsSize, TookFront, Passed, Closed, Opened, IsBadGate};
-ghost use Rattle.disk_log.specs.Opening.{EndsAt};
+ghost use Rattle.disk_log.specs.Opening.{EndsAt, IsDamagedFrom};
 ghost use Rattle.disk_log.specs.Kept.{AreKept, BatchMore, ClosedMore, OpenedMore, ReadMore, cut};
 
 use crate::batches::{Batches, note_end};
@@ -19,7 +19,7 @@ use yard_model::Facts;
 const LINE: usize = 1_024;
 
 /// How many bytes a gate and a length have.
-const HEAD: usize = 5;
+pub(crate) const HEAD: usize = 5;
 
 /// Why a log was not read.
 #[derive(Clone, Copy, Debug, PartialEq, Eq)]
@@ -67,7 +67,7 @@ fn length_at(bytes: &[u8]) -> u32
 }
 
 /// The length of the text behind the gate at the front, where so many bytes as are left have room for it and a gate.
-fn text_size(bytes: &[u8], left: u64) -> Option<u32>
+pub(crate) fn text_size(bytes: &[u8], left: u64) -> Option<u32>
     ensures some { IfSome result (λ n. IsSize bytes.now left n) }
     ensures none { IfNone result ((n : ℕ) → IsSize bytes.now left n → ⊥) }
 {
@@ -233,7 +233,7 @@ fn read_next<D: Disk>(
 }
 
 /// The first byte.
-fn first_of(bytes: &[u8]) -> Option<u8>
+pub(crate) fn first_of(bytes: &[u8]) -> Option<u8>
     ensures some { IfSome result (λ b. (0 < length bytes.now) × (b ≡ slice_index bytes.now 0)) }
     ensures none { IfNone result (bytes.now ≡ []) }
 {
@@ -243,18 +243,16 @@ fn first_of(bytes: &[u8]) -> Option<u8>
     }
 }
 
-/// Reads all batches of an image of two bytes or more. The window ends at the closed gate behind them.
+/// Reads all batches from the window's place on. The window ends at the closed gate behind them.
 pub(crate) fn read_batches<D: Disk>(
     alloc: Global,
     disk: &mut D,
     window: &mut Window,
 ) -> Result<Batches, ReadLogFault>
-    requires long { 1 < window.old.size }
-    requires size { IsTrue D.tells → window.old.size ≡ length (D.content disk.old) }
-    requires first { window.old.place ≡ 0 }
-    requires none { window.old.bytes ≡ [] }
-    ensures ends { IfOk result (λ batches. EndsAt D.tells (D.content disk.old) window.new.place batches) }
-    ensures damaged { (at : ℕ) → result ≡ Err (ReadLogFault.Damaged at) → IsTrue D.tells → IsDamaged (D.content disk.old) at }
+    requires ahead { IsAhead D.tells (D.content disk.old) window.old }
+    requires there { window.old.place < window.old.size }
+    ensures ends { IfOk result (λ batches. EndsAt D.tells (D.content disk.old) window.old.place window.new.place batches) }
+    ensures damaged { (at : ℕ) → result ≡ Err (ReadLogFault.Damaged at) → IsTrue D.tells → IsDamagedFrom (D.content disk.old) window.old.place at }
     ensures untouched { IsUntouched (D.content disk.old) (D.content disk.new) (D.images disk.old) (D.images disk.new) }
     ensures cause { result ≡ Err ReadLogFault.Failed → D.faults disk.old < D.faults disk.new }
     ensures never_falls { D.faults disk.old ≤ D.faults disk.new }

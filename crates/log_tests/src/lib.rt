@@ -7,6 +7,8 @@ mod files;
 #[cfg(test)]
 mod folderless;
 #[cfg(test)]
+mod heads;
+#[cfg(test)]
 mod images;
 #[cfg(test)]
 mod logs;

@@ -100,3 +100,7 @@ pub restored_report : (c : Script) (log : List (List Fact)) → report (setting 
 restored_report c log =
     let lists : SlotLists = lists_of (setting c) (entries log) in
     report_same (setting c) lists (fold freed lists (slots c)) (all_same (slots c) lists)
+
+-- and the same journals
+pub restored_journals : (c : Script) (log : List (List Fact)) (s : ℕ) (e : List ℕ) → journal e (shard_list (restored c log) s) ≡ journal e (shard_list (lists_of (setting c) (entries log)) s)
+restored_journals c log s e = (all_same (slots c) (lists_of (setting c) (entries log))).journals e s

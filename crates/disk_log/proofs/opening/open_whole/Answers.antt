@@ -1,11 +1,12 @@
-use Rattle.std.proofs.Common.{◌∙◌, map, subst, sym}
+use Rattle.std.proofs.Common.{◌∙◌, ap, map, subst, sym}
+use Rattle.disk_log.specs.Window.{Ahead}
 use Rattle.disk_log.specs.Rest.{Rests}
 use Rattle.disk_log.specs.Spelled.{lines}
 use Rattle.disk_log.proofs.GoingLaws.{ended_rests, ended_spells}
 use Rattle.disk_log.proofs.opening.open_whole.Goals as goal
 
 pub returns-clause-spelled : goal.returns-clause-spelled
-returns-clause-spelled g c told = ended_spells g.D.Disk.tells (g.D.Disk.content c.args.disk.now) c.read_batches.new.window.place c.in_ok-batches.batches c.in_ok-batches.ensures.ends told
+returns-clause-spelled g c told = ended_spells g.D.Disk.tells (g.D.Disk.content c.args.disk.now) _ c.read_batches.new.window.place c.in_ok-batches.batches (ap (λ (w : Ahead). w.place) c.in_ok-window.ensures) c.in_ok-batches.ensures.ends told
 
 pub returns-clause-rests : goal.returns-clause-rests
 returns-clause-rests g c =
@@ -13,5 +14,5 @@ returns-clause-rests g c =
     let images = g.D.Disk.images c.read_batches.new.disk in
     let batches = c.in_ok-batches.batches in
     subst (λ n. Rests g.D.Disk.tells n after images (map lines batches)) (sym (c.at.ensures ∙ c.place-end.ensures))
-    (ended_rests g.D.Disk.tells (g.D.Disk.content c.args.disk.now) after images c.read_batches.new.window.place batches c.in_ok-batches.ensures.ends c.read_batches.ensures.untouched.bytes
+    (ended_rests g.D.Disk.tells (g.D.Disk.content c.args.disk.now) after images _ c.read_batches.new.window.place batches (ap (λ (w : Ahead). w.place) c.in_ok-window.ensures) c.in_ok-batches.ensures.ends c.read_batches.ensures.untouched.bytes
     (λ told d now. c.requires.durable told d ((c.read_batches.ensures.untouched.now d).0 now)))

@@ -3,13 +3,14 @@ use Rattle.std.specs.Prelude.{false, true, IsTrue}
 use Rattle.fact_lines.specs.Entries.{IsOther}
 use Rattle.disk_log.specs.Window.{Ahead, IsAhead, IsSize}
 use Rattle.disk_log.proofs.ReadLaws.{batch_read, no_size, on_ok, other_batch, pass_ahead}
+use Rattle.disk_log.proofs.SpellLaws.{none_followed}
 use Rattle.disk_log.proofs.reading.read_batch.Goals as goal
 
 pub returns-in_default-clause-other : goal.returns-in_default-clause-other
 returns-in_default-clause-other g c is told =
     let w : Ahead = c.args.window.now in
-    no_size g.D.Disk.tells (g.D.Disk.content c.args.disk.now) w c.requires.ahead told (c.requires.filled told) c.requires.some
-    (λ (n : ℕ) (s : IsSize w.bytes (w.size - w.place) n). c.in_default.ensures.none n (subst (λ l. IsSize l c.left.result n) (sym c.bytes.ensures) (subst (λ k. IsSize w.bytes k n) (sym c.left.ensures.left) s)))
+    none_followed _ (no_size g.D.Disk.tells (g.D.Disk.content c.args.disk.now) w c.requires.ahead told (c.requires.filled told) c.requires.some
+    (λ (n : ℕ) (s : IsSize w.bytes (w.size - w.place) n). c.in_default.ensures.none n (subst (λ l. IsSize l c.left.result n) (sym c.bytes.ensures) (subst (λ k. IsSize w.bytes k n) (sym c.left.ensures.left) s))))
 
 pub read_facts-requires-clause-ahead : goal.read_facts-requires-clause-ahead
 read_facts-requires-clause-ahead g c =

@@ -1,0 +1,20 @@
+//! `serve` as one call: lines come of a source, and each is answered to a sink once what it asked for is on a disk. Each
+//! status has its cause as a clause of the call.
+#![tactic(auto)]
+
+mod answers;
+mod books;
+mod commit;
+mod hearing;
+mod opening;
+mod service;
+mod status;
+mod stop;
+mod top;
+mod turn;
+mod window;
+
+pub use service::Service;
+pub use status::Status;
+pub use stop::OpenFault;
+pub use top::serve;

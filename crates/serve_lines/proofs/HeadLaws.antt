@@ -1,6 +1,6 @@
 -- The line of settings, read back.
 use Rattle.std.proofs.Common.{◌≡◌, ℕ, ◌+◌, ◌-◌, ◌*◌, ◌^◌, ◌<◌, ◌≤◌, Bool, true, false, not, List, [], ◌∷◌, ◌++◌, length, take, drop, suc, refl, sym, ap, ap₂, ◌∙◌, arith}
-use Rattle.std.specs.Prelude.{◌&&◌, ◌||◌, cond, nat_eq, nat_lt, nat_le, codes, decimal, filter, fold, if◌then◌else◌, IsTrue, Some, None, Result, Ok, Err}
+use Rattle.std.specs.Prelude.{◌&&◌, ◌||◌, ◌==◌, cond, nat_lt, nat_le, codes, decimal, filter, fold, if◌then◌else◌, IsTrue, Some, None, Result, Ok, Err}
 use Rattle.std.specs.List.{join_with_byte, list_all, list_any, onto_first, position, position_or_len, slice_split}
 use Rattle.std.proofs.lemmas.Bool.Decides.{nat_tests}
 use Rattle.std.proofs.lemmas.Fmt.{decimal_nonempty, length-decimal-le, digits_decimal, digits_value-decimal}
@@ -105,8 +105,8 @@ digit_in_word : (b : ℕ) → is_digit b ≡ true → is_word_byte b ≡ true
 digit_in_word b e =
     let m = and_both (nat_le 48 b) (nat_le b 57) e in
     let low : 48 ≤ b = at_most 48 b m.0 in
-    let space : nat_eq b 32 ≡ false = grind (arith, nat_tests) in
-    let tab : nat_eq b 9 ≡ false = grind (arith, nat_tests) in
+    let space : (b == 32) ≡ false = grind (arith, nat_tests) in
+    let tab : (b == 9) ≡ false = grind (arith, nat_tests) in
     rw (space, tab) refl
 
 digits_in_word : (ds : List ℕ) → list_all is_digit ds ≡ true → list_all is_word_byte ds ≡ true
@@ -246,20 +246,20 @@ record Ranges (c : Config) : Type 0 where
 
 ranges_of : (c : Config) → IsTrue (is_config c) → Ranges c
 ranges_of c h =
-    let nodes = is_in 1 16 c.nodes in
-    let shards = is_in 1 128 c.shards in
-    let producers = is_in 1 32 c.producers in
-    let buffer = is_in 1 1000 c.buffer in
-    let window = is_in 1 64 c.window in
-    let snapshot = is_in 1 10000 c.snapshot in
-    let keep = is_in 1 10 c.keep in
-    let a = and_both (nodes && shards && producers && buffer && window && snapshot) keep h in
-    let b = and_both (nodes && shards && producers && buffer && window) snapshot a.0 in
-    let d = and_both (nodes && shards && producers && buffer) window b.0 in
-    let e = and_both (nodes && shards && producers) buffer d.0 in
-    let f = and_both (nodes && shards) producers e.0 in
-    let g = and_both nodes shards f.0 in
-    record { nodes = g.0; shards = g.1; producers = f.1; buffer = e.1; window = d.1; snapshot = b.1; keep = a.1 }
+    let n = is_in 1 16 c.nodes in
+    let s = is_in 1 128 c.shards in
+    let p = is_in 1 32 c.producers in
+    let b = is_in 1 1000 c.buffer in
+    let w = is_in 1 64 c.window in
+    let m = is_in 1 10000 c.snapshot in
+    let k = is_in 1 10 c.keep in
+    let first = and_both (n && s && p && b && w && m) k h in
+    let second = and_both (n && s && p && b && w) m first.0 in
+    let third = and_both (n && s && p && b) w second.0 in
+    let fourth = and_both (n && s && p) b third.0 in
+    let fifth = and_both (n && s) p fourth.0 in
+    let sixth = and_both n s fifth.0 in
+    record { nodes = sixth.0; shards = sixth.1; producers = fifth.1; buffer = fourth.1; window = third.1; snapshot = second.1; keep = first.1 }
 
 abbrev setting_list : Config → List Setting
 setting_list c =

@@ -9,7 +9,8 @@ use crate::fault::Why;
 use crate::words::{both, first, is, no_more, number_of, only_number};
 use yard_model::{CartItem, Command, Kind};
 
-/// A command of this kind: its first word, and the words after it.
+/// A command of this kind: its first word, and the words after it, of which each belongs to it. The first reason
+/// where they are none.
 #[tactic(auto, unfolding(crate::specs::Orders::command_of))]
 pub fn command(kind: Kind, verb: &[u8], line: &[u8]) -> Result<Command, Why>
     ensures value { result ≡ command_of kind verb.now (words line.now) }

@@ -18,7 +18,7 @@ pub struct Cut<'a> {
     pub is_clean: bool,
 }
 
-/// The first line; None where there are no bytes.
+/// The first line, without its LF and a CR before it; None where there are no bytes.
 pub fn next_line(bytes: &[u8]) -> Option<Cut<'_>>
     ensures lines { MatchOption result (lines bytes.now ≡ []) (λ x. lines bytes.now ≡ x.line.now ∷ lines x.more.now) }
     ensures shorter { IfSome result (λ x. length x.more.now < length bytes.now) }
@@ -158,7 +158,7 @@ fn without_return(line: &[u8]) -> &[u8]
     }
 }
 
-/// The first word, and the bytes after it; None where there is none.
+/// The first word of a line, which ends at a space or a tab, and the bytes after it; None where there is none.
 pub fn next_word(line: &[u8]) -> Option<(&[u8], &[u8])>
     ensures words { MatchOption result (words line.now ≡ []) (λ x. words line.now ≡ x.0.now ∷ words x.1.now) }
     ensures shorter { IfSome result (λ x. length x.1.now < length line.now) }

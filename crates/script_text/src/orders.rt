@@ -256,8 +256,8 @@ fn only_producer(config: &Config, line: &[u8]) -> Result<ProducerNo, Why>
     producer(config, only(line)?)
 }
 
-/// A producer of the script.
-fn producer(config: &Config, word: &[u8]) -> Result<ProducerNo, Why>
+/// A producer, by a number from 1 to how many these settings have. The first reason where the word is none.
+pub fn producer(config: &Config, word: &[u8]) -> Result<ProducerNo, Why>
     requires { IsTrue (is_config config.now) }
     ensures value { result ≡ number 1 config.now.producers word.now }
     ensures valid { IfOk result (λ p. IsTrue (is_in 1 config.now.producers p)) }

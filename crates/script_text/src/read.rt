@@ -12,7 +12,7 @@ use crate::cut::{Cut, next_line, next_word, word_start};
 use crate::draft::Draft;
 use crate::fault::{Mode, ScriptFault, Stop, Why};
 use crate::orders::order;
-use crate::settings::settings;
+use crate::settings::read_settings;
 use crate::words::{is, is_blank, is_comment, is_plain_text};
 use std::alloc::{AllocError, Global};
 use yard_model::{Charter, Kind, Order};
@@ -151,7 +151,7 @@ fn read_first(alloc: Global, mode: Mode, number: u32, line: &[u8]) -> Result<Dra
     if !is(word, "config") {
         return Err(Stop::Refused(Why::NoConfig));
     }
-    let config = settings(rest)?;
+    let config = read_settings(rest)?;
     if number == LATE_LINE {
         return Err(Stop::Refused(Why::TooManyLines));
     }

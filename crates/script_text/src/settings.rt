@@ -36,9 +36,10 @@ pub enum Setting {
     OfKind(Kind),
 }
 
-/// The settings that these words give.
+/// The settings that these words give: `KEY=VALUE`, in any order, each key at most once, else as by default. The first
+/// reason where a word is none.
 #[tactic(auto, unfolding(crate::specs::Settings::settings))]
-pub fn settings(line: &[u8]) -> Result<Config, Why>
+pub fn read_settings(line: &[u8]) -> Result<Config, Why>
     ensures value { result ≡ settings (words line.now) }
     ensures valid { IfOk result (λ c. IsTrue (is_config c)) }
 {

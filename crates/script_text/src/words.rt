@@ -11,7 +11,7 @@ use crate::cut::next_word;
 use crate::fault::Why;
 use yard_model::EntityName;
 
-/// A name.
+/// A name: 1 to 32 letters, digits, dashes and underscores. Else the reason is `BadName`.
 #[tactic(auto, using(crate::proofs::Names::named, crate::proofs::Names::unnamed), unfolding(crate::specs::Orders::name))]
 pub fn name(word: &[u8]) -> Result<EntityName, Why>
     ensures { result ≡ name word.now }
@@ -62,7 +62,7 @@ fn value_of(word: &[u8]) -> Option<u64>
     Some(value)
 }
 
-/// The next word, and the bytes after it.
+/// The next word, and the bytes after it. Where none is left, the reason is `MissingWord`.
 pub fn first(line: &[u8]) -> Result<(&[u8], &[u8]), Why>
     ensures { Reads (λ x. (x.0.now, words x.1.now)) result (first (words line.now)) }
 {
@@ -72,7 +72,7 @@ pub fn first(line: &[u8]) -> Result<(&[u8], &[u8]), Why>
     }
 }
 
-/// That no word is left.
+/// That no word is left. Else the reason is `ExtraWord`.
 pub fn no_more(line: &[u8]) -> Result<(), Why>
     ensures { result ≡ no_more (words line.now) }
 {
@@ -82,7 +82,7 @@ pub fn no_more(line: &[u8]) -> Result<(), Why>
     }
 }
 
-/// The one word that is left.
+/// The one word that is left. The reason is `MissingWord` or `ExtraWord`.
 #[tactic(auto, unfolding(crate::specs::Orders::only))]
 pub fn only(line: &[u8]) -> Result<&[u8], Why>
     ensures { Reads (λ w. w.now) result (only (words line.now)) }
@@ -92,7 +92,7 @@ pub fn only(line: &[u8]) -> Result<&[u8], Why>
     Ok(word)
 }
 
-/// The one word that is left, a number in this range.
+/// The one word that is left, a number in this range. The first reason where it is none.
 #[tactic(auto, unfolding(crate::specs::Orders::only_number))]
 pub fn only_number(line: &[u8], low: u32, high: u32) -> Result<u32, Why>
     ensures value { result ≡ only_number low high (words line.now) }
@@ -101,7 +101,7 @@ pub fn only_number(line: &[u8], low: u32, high: u32) -> Result<u32, Why>
     number_of(only(line)?, low, high)
 }
 
-/// Two parts, or the first of their reasons.
+/// Two parts, or of their reasons the one that is tried first.
 pub fn both<A: Drop, B: Drop>(a: Result<A, Why>, b: Result<B, Why>) -> Result<(A, B), Why>
     ensures value { result ≡ a & b }
     ensures left { IfOk result (λ x. a ≡ Ok x.0) }
@@ -153,7 +153,8 @@ pub fn is_blank(text: &[u8]) -> bool
     begins_comment(text)
 }
 
-fn begins_comment(word: &[u8]) -> bool
+/// Whether a comment begins with this word.
+pub fn begins_comment(word: &[u8]) -> bool
     ensures { result ≡ begins_comment word.now }
 {
     !word.is_empty() && word[0] == b'#'

@@ -1,0 +1,2 @@
+mod AskingLaws
+mod HeadLaws

@@ -1,0 +1,7 @@
+//! Tests of what `serve` reads and answers, of texts that were worked by hand.
+#![tactic(auto)]
+
+#[cfg(test)]
+mod answers;
+#[cfg(test)]
+mod requests;

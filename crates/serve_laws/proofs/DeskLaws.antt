@@ -204,6 +204,7 @@ config_once c d h k e =
     let remember = switch_is c.remember d.remember (from_kind c) (from_kind d) (ap (drop 9) keep.1) in
     let of_kind : c.kind ≡ d.kind = kind_is c.kind d.kind (ap (drop 5) remember.1) in
     same c d nodes.0 shards.0 producers.0 buffer.0 window.0 snapshot.0 keep.0 remember.0 of_kind
+
 -- it has a frame
 
 number : (n : ℕ) → n ≤ 10000 → length (decimal n) ≤ 18
@@ -233,8 +234,27 @@ head_text c h =
           let producers = length-append (decimal c.producers) (32 ∷ from_buffer c) in
           let shards = length-append (decimal c.shards) (32 ∷ from_producers c) in
           let nodes = length-append (decimal c.nodes) (32 ∷ from_shards c) in
-          omega (arith, kinds, remember, keep, snapshot, window, buffer, producers, shards, nodes, kind_short c.kind, switch_short c.remember,
-          number c.keep r.keep, number c.snapshot r.snapshot, number c.window r.window, number c.buffer r.buffer, number c.producers r.producers, number c.shards r.shards, number c.nodes r.nodes);
+          omega (
+            arith,
+            kinds,
+            remember,
+            keep,
+            snapshot,
+            window,
+            buffer,
+            producers,
+            shards,
+            nodes,
+            kind_short c.kind,
+            switch_short c.remember,
+            number c.keep r.keep,
+            number c.snapshot r.snapshot,
+            number c.window r.window,
+            number c.buffer r.buffer,
+            number c.producers r.producers,
+            number c.shards r.shards,
+            number c.nodes r.nodes,
+          );
     })
 
 -- Desks.

@@ -1,6 +1,6 @@
 -- An image tells one desk.
 use Rattle.std.proofs.Common.{◌≡◌, ◌<◌, ◌≤◌, ℕ, ◌+◌, ◌^◌, sym, ap, ap₂, ◌∙◌, refl, subst, arith, length-append}
-use Rattle.std.specs.Prelude.{Bool, true, false, ◌&&◌, codes, decimal, drop, List, [], ◌∷◌, ◌++◌, length, map, Option, Some, None}
+use Rattle.std.specs.Prelude.{Bool, true, false, ◌==◌, ◌&&◌, nat_le, slice_index_or, codes, decimal, drop, List, [], ◌∷◌, ◌++◌, length, map, Option, Some, None}
 use Rattle.std.specs.List.{list_all}
 use Rattle.std.proofs.lemmas.Fmt.{length-decimal-le}
 use Rattle.std.proofs.lemmas.List.{append_assoc}
@@ -11,7 +11,8 @@ use Rattle.yard_model.specs.declared.fact.Fact.{Fact}
 use Rattle.yard_model.specs.Behaviour.{is_in}
 use Rattle.yard_model.specs.Script.{Script, is_config}
 use Rattle.yard_model.specs.Text.{Bytes, line, words}
-use Rattle.plain_laws.proofs.Booleans.{and_both, at_most}
+use Rattle.plain_laws.proofs.Booleans.{and_both, at_most, true_is_not_false}
+use Rattle.plain_laws.proofs.Lists.{some_is}
 use Rattle.fact_lines.specs.Entry.{is_entry}
 use Rattle.fact_lines.specs.Readable.{AreReadable}
 use Rattle.fact_lines.specs.Reads.{number_at}
@@ -96,7 +97,7 @@ record InRange (c : Config) : Type 0 where
   keep : c.keep ≤ 10000
 
 top_of : (b n : ℕ) → is_in 1 b n ≡ true → b ≤ 10000 → n ≤ 10000
-top_of b n h low = let top : n ≤ b = at_most n b (and_both _ _ h).1 in omega (arith, top, low)
+top_of b n h low = let top : n ≤ b = at_most n b (and_both (nat_le 1 n) (nat_le n b) h).1 in omega (arith, top, low)
 
 in_range : (c : Config) → is_config c ≡ true → InRange c
 in_range c h =
@@ -121,24 +122,35 @@ next_is : (n m : ℕ) (x y : Bytes) → n ≤ 10000 → m ≤ 10000 → decimal 
 next_is n m x y h k e =
     let both : Some (n, 32 ∷ x) ≡ Some (m, 32 ∷ y) =
     sym (number_read 10000 n (32 ∷ x) h (omega arith) refl) ∙ (ap (number_at 10000) e ∙ number_read 10000 m (32 ∷ y) k (omega arith) refl) in
-    (cc, cc)
+    let pair : (n, 32 ∷ x) ≡ (m, 32 ∷ y) = some_is (n, 32 ∷ x) (m, 32 ∷ y) both in
+    (ap (λ (p : ℕ × Bytes). p.0) pair, ap (λ (p : ℕ × Bytes). drop 1 p.1) pair)
+
+-- the byte at a place is this one
+abbrev has_at : ℕ → ℕ → Bytes → Bool
+has_at i b l = slice_index_or l i 0 == b
+
+apart : (i b : ℕ) (l m : Bytes) → has_at i b l ≡ true → has_at i b m ≡ false → l ≡ m → ⊥
+apart i b l m h k e = true_is_not_false (sym h ∙ (ap (has_at i b) e ∙ k))
 
 switch_is : (a b : Bool) (x y : Bytes) → switch_text a ++ (32 ∷ x) ≡ switch_text b ++ (32 ∷ y) → (a ≡ b) × (x ≡ y)
 switch_is true true x y e = (refl, ap (drop 3) e)
 switch_is false false x y e = (refl, ap (drop 4) e)
-switch_is true false x y e = cc
-switch_is false true x y e = cc
+switch_is true false x y e = absurd (apart 1 110 (codes "on" ++ (32 ∷ x)) (codes "off" ++ (32 ∷ y)) refl refl e)
+switch_is false true x y e = absurd (apart 1 102 (codes "off" ++ (32 ∷ x)) (codes "on" ++ (32 ∷ y)) refl refl e)
+
+abbrev kind_end : Kind → Bytes
+kind_end k = kind_text k ++ (10 ∷ [])
 
 kind_is : (a b : Kind) → kind_text a ++ (10 ∷ []) ≡ kind_text b ++ (10 ∷ []) → a ≡ b
 kind_is kind.Counter kind.Counter e = refl
 kind_is kind.Account kind.Account e = refl
 kind_is kind.Cart kind.Cart e = refl
-kind_is kind.Counter kind.Account e = cc
-kind_is kind.Counter kind.Cart e = cc
-kind_is kind.Account kind.Counter e = cc
-kind_is kind.Account kind.Cart e = cc
-kind_is kind.Cart kind.Counter e = cc
-kind_is kind.Cart kind.Account e = cc
+kind_is kind.Counter kind.Account e = absurd (apart 0 99 (kind_end kind.Counter) (kind_end kind.Account) refl refl e)
+kind_is kind.Counter kind.Cart e = absurd (apart 1 111 (kind_end kind.Counter) (kind_end kind.Cart) refl refl e)
+kind_is kind.Account kind.Counter e = absurd (apart 0 97 (kind_end kind.Account) (kind_end kind.Counter) refl refl e)
+kind_is kind.Account kind.Cart e = absurd (apart 0 97 (kind_end kind.Account) (kind_end kind.Cart) refl refl e)
+kind_is kind.Cart kind.Counter e = absurd (apart 1 97 (kind_end kind.Cart) (kind_end kind.Counter) refl refl e)
+kind_is kind.Cart kind.Account e = absurd (apart 0 99 (kind_end kind.Cart) (kind_end kind.Account) refl refl e)
 
 abbrev from_kind : Config → Bytes
 from_kind c = codes "kind=" ++ (kind_text c.kind ++ 10 ∷ [])
@@ -170,6 +182,13 @@ from_nodes c = codes "config nodes=" ++ (decimal c.nodes ++ (32 ∷ from_shards 
 line_is : (c : Config) → line (config_words c) ≡ from_nodes c
 line_is c = line_spread c
 
+abbrev made : ℕ → ℕ → ℕ → ℕ → ℕ → ℕ → ℕ → Bool → Kind → Config
+made a b e f g h i j k = record { nodes = a; shards = b; producers = e; buffer = f; window = g; snapshot = h; keep = i; remember = j; kind = k }
+
+same : (c d : Config) → c.nodes ≡ d.nodes → c.shards ≡ d.shards → c.producers ≡ d.producers → c.buffer ≡ d.buffer → c.window ≡ d.window → c.snapshot ≡ d.snapshot → c.keep ≡ d.keep → c.remember ≡ d.remember → c.kind ≡ d.kind
+    → made c.nodes c.shards c.producers c.buffer c.window c.snapshot c.keep c.remember c.kind ≡ made d.nodes d.shards d.producers d.buffer d.window d.snapshot d.keep d.remember d.kind
+same c d a b e f g h i j k = rw (a, b, e, f, g, h, i, j, k) refl
+
 config_once : (c d : Config) → is_config c ≡ true → is_config d ≡ true → line (config_words c) ≡ line (config_words d) → c ≡ d
 config_once c d h k e =
     let r : InRange c = in_range c h in
@@ -185,9 +204,6 @@ config_once c d h k e =
     let remember = switch_is c.remember d.remember (from_kind c) (from_kind d) (ap (drop 9) keep.1) in
     let of_kind : c.kind ≡ d.kind = kind_is c.kind d.kind (ap (drop 5) remember.1) in
     same c d nodes.0 shards.0 producers.0 buffer.0 window.0 snapshot.0 keep.0 remember.0 of_kind
-  where
-    same : (c d : Config) → c.nodes ≡ d.nodes → c.shards ≡ d.shards → c.producers ≡ d.producers → c.buffer ≡ d.buffer → c.window ≡ d.window → c.snapshot ≡ d.snapshot → c.keep ≡ d.keep → c.remember ≡ d.remember → c.kind ≡ d.kind → c ≡ d
-    same c d a b e f g h i j k = cc
 
 -- it has a frame
 
@@ -218,8 +234,27 @@ head_text c h =
           let producers = length-append (decimal c.producers) (32 ∷ from_buffer c) in
           let shards = length-append (decimal c.shards) (32 ∷ from_producers c) in
           let nodes = length-append (decimal c.nodes) (32 ∷ from_shards c) in
-          omega (arith, kinds, remember, keep, snapshot, window, buffer, producers, shards, nodes, kind_short c.kind, switch_short c.remember,
-          number c.keep r.keep, number c.snapshot r.snapshot, number c.window r.window, number c.buffer r.buffer, number c.producers r.producers, number c.shards r.shards, number c.nodes r.nodes);
+          omega (
+            arith,
+            kinds,
+            remember,
+            keep,
+            snapshot,
+            window,
+            buffer,
+            producers,
+            shards,
+            nodes,
+            kind_short c.kind,
+            switch_short c.remember,
+            number c.keep r.keep,
+            number c.snapshot r.snapshot,
+            number c.window r.window,
+            number c.buffer r.buffer,
+            number c.producers r.producers,
+            number c.shards r.shards,
+            number c.nodes r.nodes,
+          );
     })
 
 -- Desks.

@@ -111,10 +111,13 @@ sent_by n e (l ∷ ls) names all h = by l.order (sent_by n e ls (with_name_of na
         pick : (b : Bool) → is_name e f ≡ b → (b || list_any (is_name e) names) ≡ true
             → (list_any (is_name e) names ≡ true) ⊎ ((p : ℕ) × ((xs : List Sending) → has_name e (fold (with_send_of p) (if q == p then with_send xs f k else xs) ls) ≡ true))
         pick false u g = inl g
-        pick true u g = inr (q, λ xs.
-            let x : Sending = record { entity = f; number = count_to f xs + 1; command = k } in
-            subst (λ b. has_name e (fold (with_send_of q) (if b then with_send xs f k else xs) ls) ≡ true) (sym (number_itself q q refl))
-            (more q (xs ++ x ∷ []) (list_any-append (λ (y : Sending). is_name e y.entity) xs (x ∷ []) ∙ right_of (has_name e xs) (is_name e f || false) (ap (λ b. b || false) u))))
+        pick true u g = inr (
+          q,
+          λ xs.
+              let x : Sending = record { entity = f; number = count_to f xs + 1; command = k } in
+              subst (λ b. has_name e (fold (with_send_of q) (if b then with_send xs f k else xs) ls) ≡ true) (sym (number_itself q q refl))
+              (more q (xs ++ x ∷ []) (list_any-append (λ (y : Sending). is_name e y.entity) xs (x ∷ []) ∙ right_of (has_name e xs) (is_name e f || false) (ap (λ b. b || false) u))),
+        )
     by o r s = absurd (true_is_not_false (sym s))
 
 -- names in order are told by which are among them

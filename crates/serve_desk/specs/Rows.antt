@@ -1,5 +1,5 @@
 -- The commands that were accepted, by name and producer.
-use Rattle.std.specs.Prelude.{◌≡◌, ℕ, ◌==◌, ◌&&◌, false, List, [], ◌∷◌, ◌++◌, slice_index_or, slice_set, Option, Some, None}
+use Rattle.std.specs.Prelude.{◌≡◌, ℕ, ◌==◌, ◌&&◌, false, List, [], ◌∷◌, ◌++◌, slice_index_or, Option, Some, None}
 use Rattle.std.specs.Ordering.{nat_cmp}
 use Rattle.std.specs.Cmp.Lexicographic.{slice_cmp}
 use Rattle.std.specs.BTreeMap.{is_at}
@@ -18,8 +18,9 @@ abbrev pub kept_of : List (List ℕ × List (List Command)) → ℕ → List ℕ
 kept_of rows p e = slice_index_or (row_in (lookup (is_at (slice_cmp nat_cmp e)) rows)) p []
 
 -- one command more of the producer p
-abbrev pub with_command : List (List Command) → ℕ → Command → List (List Command)
-with_command row p k = slice_set row p (slice_index_or row p [] ++ k ∷ [])
+pub record RowHasOneMore (old new : List (List Command)) (p : ℕ) (k : Command) : Type 0 where
+  pub here : slice_index_or new p [] ≡ slice_index_or old p [] ++ k ∷ []
+  pub others : (q : ℕ) → (p == q) ≡ false → slice_index_or new q [] ≡ slice_index_or old q []
 
 -- one command more of the producer p to the name e
 pub record HasOneMore (old new : List (List ℕ × List (List Command))) (p : ℕ) (e : List ℕ) (k : Command) : Type 0 where

@@ -1,5 +1,5 @@
 //! What was accepted so far.
-ghost use Rattle.std.specs.Prelude.{◌≡◌, ◌+◌, ◌-◌, ◌≤◌, ◌<◌, ℕ, true, false, if◌then◌else◌, [], List, length, slice_index_or, ⊥, IfOk, OnOk, OnErr, IsTrue};
+ghost use Rattle.std.specs.Prelude.{◌≡◌, ◌==◌, ◌+◌, ◌-◌, ◌≤◌, ◌<◌, ℕ, true, false, if◌then◌else◌, [], List, length, slice_index_or, ⊥, IfOk, OnOk, OnErr, IsTrue};
 ghost use Rattle.yard_model.specs.declared.charter.Order.TheVariants as order;
 ghost use Rattle.yard_model.specs.Equal.{is_command};
 ghost use Rattle.yard_model.specs.declared.event.Command.{Command};
@@ -8,7 +8,7 @@ ghost use Rattle.script_text.specs.declared.fault.Mode.TheVariants as mode;
 ghost use Rattle.script_text.specs.Reading.{is_over, with_line};
 ghost use Rattle.serve_laws.specs.Hearing.{Request, Done, Conflict, accepted, requested};
 ghost use Rattle.serve_laws.specs.Hearings.{IsHeard, request_for};
-ghost use Rattle.serve_desk.specs.Desks.{answer_to, told};
+ghost use Rattle.serve_desk.specs.Desks.{answer_to, may_enter, told};
 
 use crate::kinds::is_of_kind;
 use crate::plans::Plans;
@@ -60,18 +60,19 @@ impl Model for Desk {
 }
 
 impl Desk {
-    /// These settings, and no commands.
-    pub fn new(alloc: Global, config: Config) -> Desk
+    /// These settings, and no commands; there is room for all lines that there may be. The only error is want of
+    /// memory.
+    pub fn new(alloc: Global, config: Config) -> Result<Desk, AllocError>
         requires { IsTrue (is_config config) }
-        ensures { result ≡ record { config = config; orders = [] } }
+        ensures { IfOk result (λ d. d ≡ record { config = config; orders = [] }) }
     {
-        Desk {
+        Ok(Desk {
             config,
-            orders: Vec::new(alloc),
+            orders: Vec::with_capacity(alloc, MOST)?,
             plans: BTreeMap::new(alloc),
             pairs: 0,
             holds: PhantomData,
-        }
+        })
     }
 
     /// The settings.
@@ -129,8 +130,7 @@ impl Desk {
         ensures refused { IfOk result (λ b. b ≡ false → IsHeard (with_line self.old line (order.Send producer entity.now command.now)) → ⊥) }
         ensures kept { OnErr result (self.new ≡ self.old) }
     {
-        let fits = self.is_order(producer, command);
-        if !fits || self.is_over_with(producer, entity) || self.orders.len() >= MOST {
+        if !self.may_enter(producer, entity, command) {
             return Ok(false);
         }
         self.add(line, producer, entity, command)?;
@@ -198,7 +198,17 @@ impl Desk {
     fn is_order(&self, producer: ProducerNo, command: &Command) -> bool
         ensures { (e : List ℕ) → result ≡ is_order self.now.config (order.Send producer e command.now) }
     {
-        producer.get() <= self.config.producers && is_of_kind(self.config.kind, command)
+        let fits = is_of_kind(self.config.kind, command);
+        producer.get() <= self.config.producers && fits
+    }
+
+    /// Whether a command may be one of the desk's.
+    fn may_enter(&self, producer: ProducerNo, entity: &EntityName, command: &Command) -> bool
+        ensures { (n : ℕ) → result ≡ may_enter self.now n (order.Send producer entity.now command.now) }
+    {
+        let is_order = self.is_order(producer, command);
+        let is_over = self.is_over_with(producer, entity);
+        is_order && !is_over && self.orders.len() < MOST
     }
 
     /// Whether there are too many names or pairs with a command of this pair.
@@ -214,7 +224,8 @@ impl Desk {
     fn pairs_with(&self, producer: ProducerNo, entity: &EntityName) -> usize
         ensures { (n : ℕ) (k : Command) → result ≡ length (pairs_in (with_line self.now n (order.Send producer entity.now k)).orders) }
     {
-        one_more_if(self.pairs, self.commands(producer, entity).is_empty())
+        let before = self.commands(producer, entity).len();
+        one_more_if(self.pairs, before == 0)
     }
 }
 

@@ -1,6 +1,6 @@
 //! The commands of each producer to one entity.
 ghost use Rattle.std.specs.Prelude.{◌≡◌, [], map, replicate, slice_index_or, IfOk, OnOk, OnErr};
-ghost use Rattle.serve_desk.specs.Rows.{with_command};
+ghost use Rattle.serve_desk.specs.Rows.{RowHasOneMore};
 
 use std::alloc::{AllocError, Global};
 use std::marker::Model;
@@ -30,7 +30,7 @@ impl Plans {
         producer: ProducerNo,
         command: &Command,
     ) -> Result<Plans, AllocError>
-        ensures { IfOk result (λ plans. plans ≡ with_command (replicate 33 []) producer command.now) }
+        ensures { IfOk result (λ plans. RowHasOneMore [] plans producer command.now) }
     {
         let mut plans = Plans {
             lists: no_lists(alloc)?,
@@ -49,7 +49,7 @@ impl Plans {
 
     /// One command more of a producer. The only error is want of memory, and then nothing changed.
     pub fn push(&mut self, producer: ProducerNo, command: &Command) -> Result<(), AllocError>
-        ensures more { OnOk result (self.new ≡ with_command self.old producer command.now) }
+        ensures more { OnOk result (RowHasOneMore self.old self.new producer command.now) }
         ensures kept { OnErr result (self.new ≡ self.old) }
     {
         let place = producer.get() as usize;

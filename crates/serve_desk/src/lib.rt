@@ -5,5 +5,7 @@ mod desk;
 mod kinds;
 mod plans;
 mod table;
+#[cfg(test)]
+mod tests;
 
 pub use desk::{Desk, Heard};

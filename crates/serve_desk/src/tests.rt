@@ -2,6 +2,7 @@
 use crate::desk::{Desk, Heard};
 use std::alloc::{AllocError, Global};
 use std::process::Abort;
+use std::test::Fail;
 use yard_model::{Command, Config, EntityName, Kind, ProducerNo};
 
 const CONFIG: Config = Config {
@@ -61,8 +62,9 @@ fn are_heard(alloc: Global) -> Result<bool, AllocError> {
 }
 
 #[test]
-fn a_command_has_its_number(rt: HostRuntime) {
-    assert!(rt; matches!(are_heard(rt.alloc()), Ok(true)));
+fn a_command_has_its_number(rt: HostRuntime) -> Result<(), Fail> {
+    assert!(rt; are_heard(rt.alloc())?);
+    Ok(())
 }
 
 /// How many commands a desk has that enters those of a log, the second of which isn't of its settings.
@@ -81,6 +83,7 @@ fn entered(alloc: Global) -> Result<usize, AllocError> {
 }
 
 #[test]
-fn a_log_is_entered(rt: HostRuntime) {
-    assert!(rt; matches!(entered(rt.alloc()), Ok(2)));
+fn a_log_is_entered(rt: HostRuntime) -> Result<(), Fail> {
+    assert!(rt; entered(rt.alloc())? == 2);
+    Ok(())
 }

@@ -65,36 +65,52 @@ plan_more c n p e k q f = ap (plan_of f) (fold-append (with_send_of q) [] c.orde
     by true = plan_append f (sends c q) (x ∷ []) ∙ ap (λ l. plan c q f ++ l) (one (is_name e f))
     by false = sym (append-nil (plan c q f))
 
+at_most_one : (b : Bool) (x : Sending) → length (map (λ (y : Sending). y.command) (cond b (x ∷ []) [])) ≤ 1
+at_most_one true x = omega arith
+at_most_one false x = omega arith
+
+one_more : (e : List ℕ) (xs : List Sending) (f : List ℕ) (k : Command) → length (plan_of e (with_send xs f k)) ≤ length (plan_of e xs) + 1
+one_more e xs f k =
+    let x : Sending = record { entity = f; number = count_to f xs + 1; command = k } in
+    let cut : plan_of e (xs ++ x ∷ []) ≡ plan_of e xs ++ plan_of e (x ∷ []) = plan_append e xs (x ∷ []) in
+    let long : length (plan_of e xs ++ plan_of e (x ∷ [])) ≡ length (plan_of e xs) + length (plan_of e (x ∷ [])) = length-append (plan_of e xs) (plan_of e (x ∷ [])) in
+    let few : length (plan_of e (x ∷ [])) ≤ 1 = at_most_one (is_name f e) x in
+    subst (λ (l : List Command). length l ≤ length (plan_of e xs) + 1) (sym cut) (omega (arith, long, few))
+
+order_short : (p : ℕ) (e : List ℕ) (xs : List Sending) (o : Order) → length (plan_of e (with_order p xs o)) ≤ length (plan_of e xs) + 1
+order_short p e xs (order.Send q f k) = by (q == p)
+  where
+    by : (b : Bool) → length (plan_of e (if b then with_send xs f k else xs)) ≤ length (plan_of e xs) + 1
+    by true = one_more e xs f k
+    by false = omega arith
+order_short p e xs (order.Up n) = omega arith
+order_short p e xs (order.Crash n) = omega arith
+order_short p e xs (order.Leave n) = omega arith
+order_short p e xs (order.Tick n) = omega arith
+order_short p e xs (order.Produce q n) = omega arith
+order_short p e xs (order.Rest q) = omega arith
+order_short p e xs (order.Passivate f) = omega arith
+order_short p e xs (order.FailWrite f j) = omega arith
+order_short p e xs (order.Deliver j) = omega arith
+order_short p e xs (order.Pump j) = omega arith
+order_short p e xs (order.Rebalance j) = omega arith
+order_short p e xs order.Settle = omega arith
+order_short p e xs (order.Reshard n) = omega arith
+order_short p e xs order.Upgrade = omega arith
+order_short p e xs (order.Ping q) = omega arith
+
+all_short : (p : ℕ) (e : List ℕ) (xs : List Sending) (os : List Line) → length (plan_of e (fold (with_send_of p) xs os)) ≤ length (plan_of e xs) + length os
+all_short p e xs [] = omega arith
+all_short p e xs (l ∷ os) =
+    let more : length (plan_of e (with_send_of p xs l)) ≤ length (plan_of e xs) + 1 = order_short p e xs l.order in
+    let rest : length (plan_of e (fold (with_send_of p) (with_send_of p xs l) os)) ≤ length (plan_of e (with_send_of p xs l)) + length os = all_short p e (with_send_of p xs l) os in
+    omega (arith, more, rest)
+
 -- there are no more than there are orders
 pub plan_short : (c : Script) (p : ℕ) (e : List ℕ) → length (plan c p e) ≤ length c.orders
-plan_short c p e = of_all [] c.orders
-  where
-    one_more : (xs : List Sending) (f : List ℕ) (k : Command) → length (plan_of e (with_send xs f k)) ≤ length (plan_of e xs) + 1
-    one_more xs f k =
-        let x : Sending = record { entity = f; number = count_to f xs + 1; command = k } in
-        let cut : plan_of e (xs ++ x ∷ []) ≡ plan_of e xs ++ plan_of e (x ∷ []) = plan_append e xs (x ∷ []) in
-        let long : length (plan_of e xs ++ plan_of e (x ∷ [])) ≡ length (plan_of e xs) + length (plan_of e (x ∷ [])) = length-append (plan_of e xs) (plan_of e (x ∷ [])) in
-        let few : length (plan_of e (x ∷ [])) ≤ 1 = at_most_one (is_name f e) x in
-        subst (λ l. length l ≤ length (plan_of e xs) + 1) (sym cut) (omega (arith, long, few))
-      where
-        at_most_one : (b : Bool) (x : Sending) → length (map (λ (y : Sending). y.command) (cond b (x ∷ []) [])) ≤ 1
-        at_most_one true x = omega arith
-        at_most_one false x = omega arith
-
-    step : (xs : List Sending) (o : Order) → length (plan_of e (with_order p xs o)) ≤ length (plan_of e xs) + 1
-    step xs (order.Send q f k) = by (q == p)
-      where
-        by : (b : Bool) → length (plan_of e (if b then with_send xs f k else xs)) ≤ length (plan_of e xs) + 1
-        by true = one_more xs f k
-        by false = omega arith
-    step xs o = omega arith
-
-    of_all : (xs : List Sending) (os : List Line) → length (plan_of e (fold (with_send_of p) xs os)) ≤ length (plan_of e xs) + length os
-    of_all xs [] = omega arith
-    of_all xs (l ∷ os) =
-        let more : length (plan_of e (with_send_of p xs l)) ≤ length (plan_of e xs) + 1 = step xs l.order in
-        let rest : length (plan_of e (fold (with_send_of p) (with_send_of p xs l) os)) ≤ length (plan_of e (with_send_of p xs l)) + length os = of_all (with_send_of p xs l) os in
-        omega (arith, more, rest)
+plan_short c p e =
+    let h : length (plan c p e) ≤ length (plan_of e []) + length c.orders = all_short p e [] c.orders in
+    omega (arith, h)
 
 -- Pairs: one is there where it has commands.
 
@@ -115,7 +131,7 @@ any_push test xs x = list_any-append test xs (x ∷ []) ∙ ap (λ b. list_any t
 abbrev AreKnown : List Pair → (ℕ → List Sending) → Type 0
 AreKnown pairs s = (p : ℕ) (e : List ℕ) → list_any (is_pair p e) pairs ≡ sent e (s p)
 
-known_more : (pairs : List Pair) (s : ℕ → List Sending) (o : Order) → AreKnown pairs s → AreKnown (with_pair pairs o) (λ p. with_order p (s p) o)
+known_more : (pairs : List Pair) (s : ℕ → List Sending) (o : Order) → AreKnown pairs s → (p : ℕ) (e : List ℕ) → list_any (is_pair p e) (with_pair pairs o) ≡ sent e (with_order p (s p) o)
 known_more pairs s (order.Send q f k) h p e = left (list_any (is_pair q f) pairs) refl ∙ (ap (λ b. b || ((q == p) && is_name f e)) (h p e) ∙ sym (right (q == p)))
   where
     right : (b : Bool) → sent e (if b then with_send (s p) f k else s p) ≡ (sent e (s p) || (b && is_name f e))
@@ -133,7 +149,21 @@ known_more pairs s (order.Send q f k) h p e = left (list_any (is_pair q f) pairs
         → list_any (is_pair p e) (if b then pairs else pairs ++ record { producer = q; entity = f } ∷ []) ≡ (list_any (is_pair p e) pairs || ((q == p) && is_name f e))
     left true t = there t ((q == p) && is_name f e) refl
     left false t = any_push (is_pair p e) pairs (record { producer = q; entity = f })
-known_more pairs s o h p e = h p e
+known_more pairs s (order.Up n) h p e = h p e
+known_more pairs s (order.Crash n) h p e = h p e
+known_more pairs s (order.Leave n) h p e = h p e
+known_more pairs s (order.Tick n) h p e = h p e
+known_more pairs s (order.Produce q n) h p e = h p e
+known_more pairs s (order.Rest q) h p e = h p e
+known_more pairs s (order.Passivate f) h p e = h p e
+known_more pairs s (order.FailWrite f j) h p e = h p e
+known_more pairs s (order.Deliver j) h p e = h p e
+known_more pairs s (order.Pump j) h p e = h p e
+known_more pairs s (order.Rebalance j) h p e = h p e
+known_more pairs s order.Settle h p e = h p e
+known_more pairs s (order.Reshard n) h p e = h p e
+known_more pairs s order.Upgrade h p e = h p e
+known_more pairs s (order.Ping q) h p e = h p e
 
 all_known : (os : List Line) (pairs : List Pair) (s : ℕ → List Sending) → AreKnown pairs s → AreKnown (fold (λ pairs (l : Line). with_pair pairs l.order) pairs os) (λ p. fold (with_send_of p) (s p) os)
 all_known [] pairs s h = h
@@ -143,7 +173,7 @@ some_left : (e : List ℕ) (xs : List Sending) → (length (plan_of e xs) == 0) 
 some_left e [] = refl
 some_left e (x ∷ xs) = by (is_name x.entity e)
   where
-    more : (n : ℕ) → (n + 1 == 0) ≡ false
+    more : (n : ℕ) → (suc n == 0) ≡ false
     more n = grind (arith, nat_tests)
 
     by : (b : Bool) → (length (map (λ (y : Sending). y.command) (cond b (x ∷ filter (λ (y : Sending). is_name y.entity e) xs) (filter (λ (y : Sending). is_name y.entity e) xs))) == 0) ≡ not (b || sent e xs)

@@ -73,6 +73,12 @@ pub none_at : (q : ℕ) → slice_index_or (row_in None) q [] ≡ []
 none_at zero = refl
 none_at (suc q) = refl
 
+abbrev seen : Vec Command Global → List Command
+seen v = v.items
+
+abbrev no_commands : List Command
+no_commands = []
+
 pub row_pushed : (all : List (Vec Command Global)) (was new : Vec Command Global) (p : ℕ) (k : Command) → p < length all → was ≡ slice_index_or all p was → new.items ≡ was.items ++ k ∷ []
     → RowHasOneMore (map (λ (v : Vec Command Global). v.items) all) (map (λ (v : Vec Command Global). v.items) (slice_set all p new)) p k
 row_pushed all was new p k within read pushed = record { here = at_p; others = λ q far. other q far }
@@ -99,15 +105,14 @@ row_pushed all was new p k within read pushed = record { here = at_p; others = �
 pub row_stays : (all : List (Vec Command Global)) (was new : Vec Command Global) (p : ℕ) → p < length all → was ≡ slice_index_or all p was → new.items ≡ was.items
     → map (λ (v : Vec Command Global). v.items) (slice_set all p new) ≡ map (λ (v : Vec Command Global). v.items) all
 row_stays all was new p within read same =
-    let seen : Vec Command Global → List Command = λ (v : Vec Command Global). v.items in
     let before : slice_index_or (map seen all) p was.items ≡ was.items = get_or-map seen all p was was.items within ∙ ap seen (sym read) in
     map-set seen all p new ∙ (ap (λ l. slice_set (map seen all) p l) (same ∙ sym before) ∙ set-get_or (map seen all) p was.items)
 
 -- the first one, in lists that are empty
 pub row_begun : (row : List (List Command)) (p : ℕ) (k : Command) → RowHasOneMore (replicate 33 []) row p k → RowHasOneMore [] row p k
 row_begun row p k m = record {
-  here = m.here ∙ ap (λ l. l ++ k ∷ []) (get_replicate 33 p [] ∙ sym (none_at p));
-  others = λ q far. m.others q far ∙ (get_replicate 33 q [] ∙ sym (none_at q));
+  here = m.here ∙ ap (λ l. l ++ k ∷ []) (get_replicate 33 p no_commands ∙ sym (none_at p));
+  others = λ q far. m.others q far ∙ (get_replicate 33 q no_commands ∙ sym (none_at q));
 }
 
 -- By name.

@@ -171,14 +171,14 @@ all_known (l ∷ os) pairs s h = all_known os (with_pair pairs l.order) (λ p. w
 
 some_left : (e : List ℕ) (xs : List Sending) → (length (plan_of e xs) == 0) ≡ not (sent e xs)
 some_left e [] = refl
-some_left e (x ∷ xs) = by (is_name x.entity e)
+some_left e (x ∷ xs) = by (is_name x.entity e) (some_left e xs)
   where
     more : (n : ℕ) → (suc n == 0) ≡ false
     more n = grind (arith, nat_tests)
 
-    by : (b : Bool) → (length (map (λ (y : Sending). y.command) (cond b (x ∷ filter (λ (y : Sending). is_name y.entity e) xs) (filter (λ (y : Sending). is_name y.entity e) xs))) == 0) ≡ not (b || sent e xs)
-    by true = more (length (plan_of e xs))
-    by false = some_left e xs
+    by : (b : Bool) → (length (plan_of e xs) == 0) ≡ not (sent e xs) → (length (map (λ (y : Sending). y.command) (cond b (x ∷ filter (λ (y : Sending). is_name y.entity e) xs) (filter (λ (y : Sending). is_name y.entity e) xs))) == 0) ≡ not (b || sent e xs)
+    by true r = more (length (plan_of e xs))
+    by false r = r
 
 -- how many pairs there are with this one
 pub pairs_more : (c : Script) (count : ℕ) (n p : ℕ) (e : List ℕ) (k : Command) → count ≡ length (pairs_in c.orders)

@@ -83,9 +83,6 @@ pub row_pushed : (all : List (Vec Command Global)) (was new : Vec Command Global
     → RowHasOneMore (map (λ (v : Vec Command Global). v.items) all) (map (λ (v : Vec Command Global). v.items) (slice_set all p new)) p k
 row_pushed all was new p k within read pushed = record { here = at_p; others = λ q far. other q far }
   where
-    abbrev seen : Vec Command Global → List Command
-    seen v = v.items
-
     put : map seen (slice_set all p new) ≡ slice_set (map seen all) p new.items
     put = map-set seen all p new
 

@@ -1,5 +1,5 @@
 //! What was accepted so far.
-ghost use Rattle.std.specs.Prelude.{◌≡◌, ◌==◌, ◌+◌, ◌-◌, ◌≤◌, ◌<◌, ℕ, true, false, if◌then◌else◌, [], List, length, slice_index_or, ⊥, IfOk, OnOk, OnErr, IsTrue};
+ghost use Rattle.std.specs.Prelude.{◌≡◌, ◌==◌, ◌+◌, ◌-◌, ◌≤◌, ◌<◌, ℕ, true, false, if◌then◌else◌, [], List, length, slice_index_or, IfOk, OnOk, OnErr, IsTrue};
 ghost use Rattle.yard_model.specs.declared.charter.Order.TheVariants as order;
 ghost use Rattle.yard_model.specs.Equal.{is_command};
 ghost use Rattle.yard_model.specs.declared.event.Command.{Command};

@@ -250,6 +250,12 @@ heard_more c n p e k h is over room =
       few = subst (λ n. n ≤ 20000) (sym long) (omega (arith, room));
     }
 
+past : (n m : ℕ) → m < n → nat_le n m ≡ false
+past n m h = grind (arith, nat_tests)
+
+pub not_full : (n : ℕ) → nat_le 20000 n ≡ false → n < 20000
+not_full n t = grind (arith, nat_tests)
+
 within_limits : (m n : ℕ) → n ≤ m → nat_lt m n ≡ false
 within_limits m n h = grind (arith, nat_tests)
 
@@ -266,14 +272,23 @@ heard_back c n p e k h =
     let long : length (c.orders ++ l ∷ []) ≡ length c.orders + 1 = length-append c.orders (l ∷ []) in
     let few : length (c.orders ++ l ∷ []) ≤ 20000 = h.few in
     let room : length c.orders < 20000 = omega (arith, long, few) in
-    both (is_order c.config l.order && not (is_over mode.Log d)) (nat_lt (length c.orders) 20000) (both (is_order c.config l.order) (not (is_over mode.Log d)) is.0 over) (is_below (length c.orders) 20000 room)
+    both (is_order c.config l.order && not (is_over mode.Log d)) (not (nat_le 20000 (length c.orders))) (both (is_order c.config l.order) (not (is_over mode.Log d)) is.0 over) (ap not (past 20000 (length c.orders) room))
+
+pub may_not : (c : Script) (n : ℕ) (o : Order) → is_order c.config o ≡ false → false ≡ may_enter c n o
+may_not c n o t = sym (ap (λ b. b && not (is_over mode.Log (with_line c n o)) && not (nat_le 20000 (length c.orders))) t)
+
+pub may_not_over : (c : Script) (n : ℕ) (o : Order) → is_order c.config o ≡ true → is_over mode.Log (with_line c n o) ≡ true → false ≡ may_enter c n o
+may_not_over c n o t u = sym (ap₂ (λ a b. a && not b && not (nat_le 20000 (length c.orders))) t u)
+
+pub may_so : (c : Script) (n : ℕ) (o : Order) (b : Bool) → is_order c.config o ≡ true → is_over mode.Log (with_line c n o) ≡ false → b ≡ nat_le 20000 (length c.orders) → not b ≡ may_enter c n o
+may_so c n o b t u full = ap not full ∙ sym (ap₂ (λ a b. a && not b && not (nat_le 20000 (length c.orders))) t u)
 
 pub entered_heard : (c : Script) (n p : ℕ) (e : List ℕ) (k : Command) → IsHeard c → may_enter c n (order.Send p e k) ≡ true → IsHeard (with_command c n p e k)
 entered_heard c n p e k h t =
-    let a : ((is_order c.config (order.Send p e k) && not (is_over mode.Log (with_command c n p e k))) ≡ true) × (nat_lt (length c.orders) 20000 ≡ true) =
-    and_both (is_order c.config (order.Send p e k) && not (is_over mode.Log (with_command c n p e k))) (nat_lt (length c.orders) 20000) t in
+    let a : ((is_order c.config (order.Send p e k) && not (is_over mode.Log (with_command c n p e k))) ≡ true) × (not (nat_le 20000 (length c.orders)) ≡ true) =
+    and_both (is_order c.config (order.Send p e k) && not (is_over mode.Log (with_command c n p e k))) (not (nat_le 20000 (length c.orders))) t in
     let b : (is_order c.config (order.Send p e k) ≡ true) × (not (is_over mode.Log (with_command c n p e k)) ≡ true) = and_both (is_order c.config (order.Send p e k)) (not (is_over mode.Log (with_command c n p e k))) a.0 in
-    heard_more c n p e k h b.0 (of_not (is_over mode.Log (with_command c n p e k)) b.1) (below (length c.orders) 20000 a.1)
+    heard_more c n p e k h b.0 (of_not (is_over mode.Log (with_command c n p e k)) b.1) (not_full (length c.orders) (of_not (nat_le 20000 (length c.orders)) a.1))
 
 pub refused_not_heard : (c : Script) (n p : ℕ) (e : List ℕ) (k : Command) → may_enter c n (order.Send p e k) ≡ false → IsHeard (with_command c n p e k) → ⊥
 refused_not_heard c n p e k t h = true≢false (sym (heard_back c n p e k h) ∙ t)
@@ -287,9 +302,6 @@ again_told c p e n k h few is =
     ap (still (Some c)) is
     ∙ sym (ap (λ b. if b then again c (request_for p e n k) (slice_index_or (plan c p e) (n - 1) k) else if n == length (plan c p e) + 1 then accepted c (request_for p e n k) else still (Some c) (Gap p e n (length (plan c p e) + 1)))
     (within n (length (plan c p e)) few))
-
-past : (n m : ℕ) → m < n → nat_le n m ≡ false
-past n m h = grind (arith, nat_tests)
 
 pub gap_told : (c : Script) (p : ℕ) (e : List ℕ) (n next : ℕ) (k : Command) → length (plan c p e) < n → (n == length (plan c p e) + 1) ≡ false → next ≡ length (plan c p e) + 1
     → told c (request_for p e n k) (say.Gap next) ≡ requested c (request_for p e n k)

@@ -1,5 +1,5 @@
 -- What a desk keeps beside the settings and the commands that were accepted, and what it answers.
-use Rattle.std.specs.Prelude.{◌≡◌, ℕ, Bool, ◌&&◌, not, nat_lt, List, length, Some}
+use Rattle.std.specs.Prelude.{◌≡◌, ℕ, Bool, ◌&&◌, not, nat_le, List, length, Some}
 use Rattle.std.specs.Map.{keys_of}
 use Rattle.yard_model.specs.declared.charter.Order.{Order}
 use Rattle.yard_model.specs.declared.event.Command.{Command}
@@ -32,4 +32,4 @@ told c r a = record { so_far = Some c; answer = answer_to r a }
 
 -- an order of these settings, within the limits
 abbrev pub may_enter : Script → ℕ → Order → Bool
-may_enter c n o = is_order c.config o && not (is_over mode.Log (with_line c n o)) && nat_lt (length c.orders) most_accepted
+may_enter c n o = is_order c.config o && not (is_over mode.Log (with_line c n o)) && not (nat_le most_accepted (length c.orders))

@@ -1,5 +1,5 @@
 //! What was accepted so far.
-ghost use Rattle.std.specs.Prelude.{◌≡◌, ◌==◌, ◌+◌, ◌-◌, ◌≤◌, ◌<◌, ℕ, true, false, if◌then◌else◌, [], List, length, slice_index_or, IfOk, OnOk, OnErr, IsTrue};
+ghost use Rattle.std.specs.Prelude.{◌≡◌, ◌==◌, nat_le, ◌+◌, ◌-◌, ◌≤◌, ◌<◌, ℕ, true, false, if◌then◌else◌, [], List, length, slice_index_or, IfOk, OnOk, OnErr, IsTrue};
 ghost use Rattle.yard_model.specs.declared.charter.Order.TheVariants as order;
 ghost use Rattle.yard_model.specs.Equal.{is_command};
 ghost use Rattle.yard_model.specs.declared.event.Command.{Command};
@@ -160,10 +160,10 @@ impl Desk {
         if self.is_over_with(producer, entity) {
             return Ok(Heard::Refused(Why::OutOfRange));
         }
-        if self.orders.len() >= MOST {
+        if self.is_full() {
             return Ok(Heard::Refused(Why::TooManyLines));
         }
-        let line = self.orders.len() as u32 + 1;
+        let line = self.next_line();
         self.add(line, producer, entity, command)?;
         Ok(Heard::Done)
     }
@@ -194,21 +194,42 @@ impl Desk {
         Ok(())
     }
 
+    /// Whether a command may be one of the desk's.
+    fn may_enter(&self, producer: ProducerNo, entity: &EntityName, command: &Command) -> bool
+        ensures value { (n : ℕ) → result ≡ may_enter self.now n (order.Send producer entity.now command.now) }
+        ensures heard { IsHeard self.now }
+    {
+        if !self.is_order(producer, command) {
+            return false;
+        }
+        if self.is_over_with(producer, entity) {
+            return false;
+        }
+        !self.is_full()
+    }
+
     /// Whether a command of this producer may be an order of these settings.
-    fn is_order(&self, producer: ProducerNo, command: &Command) -> bool
-        ensures { (e : List ℕ) → result ≡ is_order self.now.config (order.Send producer e command.now) }
+    pub(crate) fn is_order(&self, producer: ProducerNo, command: &Command) -> bool
+        ensures value { (e : List ℕ) → result ≡ is_order self.now.config (order.Send producer e command.now) }
+        ensures heard { IsHeard self.now }
     {
         let fits = is_of_kind(self.config.kind, command);
         producer.get() <= self.config.producers && fits
     }
 
-    /// Whether a command may be one of the desk's.
-    fn may_enter(&self, producer: ProducerNo, entity: &EntityName, command: &Command) -> bool
-        ensures { (n : ℕ) → result ≡ may_enter self.now n (order.Send producer entity.now command.now) }
+    /// Whether there are as many commands as there may be.
+    fn is_full(&self) -> bool
+        ensures value { result ≡ nat_le 20000 (length self.now.orders) }
+        ensures heard { IsHeard self.now }
     {
-        let is_order = self.is_order(producer, command);
-        let is_over = self.is_over_with(producer, entity);
-        is_order && !is_over && self.orders.len() < MOST
+        self.orders.len() >= MOST
+    }
+
+    /// The line of the next command.
+    fn next_line(&self) -> u32
+        ensures { result ≡ length self.now.orders + 1 }
+    {
+        self.orders.len() as u32 + 1
     }
 
     /// Whether there are too many names or pairs with a command of this pair.
@@ -224,8 +245,8 @@ impl Desk {
     fn pairs_with(&self, producer: ProducerNo, entity: &EntityName) -> usize
         ensures { (n : ℕ) (k : Command) → result ≡ length (pairs_in (with_line self.now n (order.Send producer entity.now k)).orders) }
     {
-        let before = self.commands(producer, entity).len();
-        one_more_if(self.pairs, before == 0)
+        let before = self.commands(producer, entity);
+        pairs_after(self.pairs, before)
     }
 }
 
@@ -243,10 +264,10 @@ fn heard_again(before: &[Command], place: usize, command: &Command) -> Heard
     }
 }
 
-/// So many, or one more.
-fn one_more_if(count: usize, more: bool) -> usize
+/// How many pairs there are, of so many, with one more command of a pair that had these.
+fn pairs_after(count: usize, before: &[Command]) -> usize
     requires { count ≤ 20000 }
-    ensures { result ≡ (if more then count + 1 else count) }
+    ensures { result ≡ (if length before.now == 0 then count + 1 else count) }
 {
-    if more { count + 1 } else { count }
+    if before.len() == 0 { count + 1 } else { count }
 }

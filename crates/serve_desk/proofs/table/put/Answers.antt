@@ -17,7 +17,7 @@ pub returns-in-Some-clause-more : goal.returns-in-Some-clause-more
 returns-in-Some-clause-more c =
     let seen : get (slice_cmp nat_cmp) c.args.table.now c.args.entity.now ≡ Some c.in-Some.plans.now = sym c.in-Some.ensures.value in
     let after = c.get_mut.follows.holds c.push.new.self in
-    ok_then c.push.result c.push.ensures.more (λ m. row_put c.args.table.now _ c.args.producer c.args.entity.now c.args.command.now c.push.new.self (after.3 (ap is_some seen))
+    ok_then c.push.result c.push.ensures.more (λ m. row_put c.args.table.now (c.get_mut.follows.lender c.push.new.self) c.args.producer c.args.entity.now c.args.command.now c.push.new.self (after.3 (ap is_some seen))
     (subst (λ (o : Option (List (List Command))). RowHasOneMore (row_in o) c.push.new.self c.args.producer c.args.command.now) (sym seen) m)
     (after.1 ∙ sym (keys_kept c.args.table.now.entries c.args.entity.now c.get_mut.ensures.ordered (ap is_some seen))))
 

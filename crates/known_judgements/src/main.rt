@@ -2,7 +2,8 @@
 //! judged under, the exit status, and the answer. `NAME.in` is a script and `NAME.trace` a trace. A line of
 //! `hostile` has the exit status, the answer, and a whole input, with `%XX` for a byte that has no place in a line.
 //! Every input is judged by the program's own call. Of the known traces a line says how many came as they must, and
-//! so of the hostile inputs; before it stands a line for each that didn't.
+//! so of the hostile inputs; before it stands a line for each that didn't. A last line says so of runs in which one
+//! call of the source or of the sink fails.
 #![tactic(auto)]
 
 use judge_run::{Status, judge};
@@ -10,7 +11,7 @@ use percent_encoding::percent_decode;
 use std::alloc::{AllocError, Global};
 use std::rt::Files;
 use std::{fs, io};
-use yard_io::{MemSink, WholeSource};
+use yard_io::{MemSink, MemSource, WholeSource};
 
 /// The parts of a line, apart by bars.
 fn parts_of(alloc: Global, line: &str) -> Result<Vec<&str>, AllocError> {
@@ -119,7 +120,67 @@ fn judge_all_hostile(rt: &(impl Files + AllocGlobal + Print)) -> io::Result<()> 
     println!(rt; "hostile: {count} same")
 }
 
+/// An input, the exit status, and the answer.
+type Judged = (&'static [u8], u8, &'static [u8]);
+
+/// A trace that is safe, one that isn't, and one with a line of no fact.
+const JUDGED: [Judged; 3] = [
+    (
+        b"config nodes=1 shards=1 producers=1\nsend 1 c1 add 5\ntrace\ngranted shard:0 1 1.1\n",
+        0,
+        b"safe 1 1 0\n",
+    ),
+    (
+        b"config nodes=1 shards=1 producers=1\nsend 1 c1 add 5\ntrace\nregistered 1.1\n",
+        1,
+        b"line 1: an entry of a slot that nobody holds\n",
+    ),
+    (
+        b"config nodes=1 shards=1 producers=1\nsend 1 c1 add 5\ntrace\nreport",
+        3,
+        b"line 1: no fact\n",
+    ),
+];
+
+/// Whether an input comes to this exit status, and to these bytes, where these reads and these calls of the sink fail.
+fn comes_to(
+    alloc: Global,
+    input: &[u8],
+    fails: (&[u32], &[u32]),
+    code: u8,
+    written: &[u8],
+) -> Result<bool, AllocError> {
+    let mut source = MemSource::new(alloc, input, fails.0)?;
+    let mut sink = MemSink::new(alloc, fails.1)?;
+    let status = judge(alloc, &mut source, &mut sink);
+    Ok(status.code() == code && sink.bytes() == written)
+}
+
+/// How many of five runs of an input came to what they must: of the read that gives it, of the one that finds its end,
+/// of the write and of the flush each fails once, and nothing does.
+fn count_failing(alloc: Global, judged: &Judged) -> Result<u32, AllocError> {
+    let (input, code, answer) = *judged;
+    let runs = [
+        comes_to(alloc, input, (&[1], &[]), 4, b"")?,
+        comes_to(alloc, input, (&[2], &[]), 4, b"")?,
+        comes_to(alloc, input, (&[], &[1]), 5, b"")?,
+        comes_to(alloc, input, (&[], &[2]), 5, answer)?,
+        comes_to(alloc, input, (&[], &[]), code, answer)?,
+    ];
+    Ok(runs.iter().map(|run| u32::from(*run)).sum())
+}
+
+/// Judges inputs over streams of which one call fails, and says how many runs came as they must.
+fn judge_all_failing(rt: &(impl AllocGlobal + Print)) -> io::Result<()> {
+    let mut count: u32 = 0;
+    for judged in &JUDGED {
+        count = count.saturating_add(count_failing(rt.alloc(), judged)?);
+    }
+    println!(rt; "failing: {count} same")
+}
+
 fn main(rt: HostRuntime) -> io::Result<()> {
     judge_all(&rt)?;
-    judge_all_hostile(&rt)
+    judge_all_hostile(&rt)?;
+    judge_all_failing(&rt)
 }

@@ -1,4 +1,5 @@
-//! Tests of what threads share: many rounds of two of them for one slot of the table of leases, and the boxes.
+//! Tests of what threads share: the table of leases, one way through it on one thread and on two, and many rounds of two
+//! threads for one slot; and the boxes.
 #![tactic(auto)]
 
 #[cfg(test)]
@@ -7,3 +8,5 @@ mod boxes;
 mod passes;
 #[cfg(test)]
 mod rounds;
+#[cfg(test)]
+mod ways;

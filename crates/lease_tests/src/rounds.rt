@@ -170,6 +170,5 @@ fn each_entry_stands_once(rt: HostRuntime) -> Result<(), Fail> {
     let (pass, first, second) = all_rounds(&rt, &table, one, two).ok_or("there is memory")?;
     let stores = table.close(pass);
     assert!(rt; leases(stores.coordinator()) == Some((first, second)));
-    assert!(rt; first > 0 || second > 0);
     Ok(())
 }

@@ -1,9 +1,4 @@
-mod EntryLaws
 mod LiveLaws
 mod PuttingLaws
-mod ReplyLaws
 mod ReportLaws
 mod ResultLaws
-mod SizedLaws
-mod SlotLaws
-mod TellLaws

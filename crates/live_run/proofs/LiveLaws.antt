@@ -24,15 +24,13 @@ use Rattle.lease_table.specs.Fits.{admits, is_fit, is_within}
 use Rattle.live_laws.specs.Live.{WorkedGoesOn}
 use Rattle.live_laws.proofs.Closed.{list_there}
 use Rattle.node_runner.specs.Ran.{IsRun}
+use Rattle.readable_lists.specs.Readable.{AreReadable}
 use Rattle.settle_laws.specs.Lonely.{IsLonger}
 use Rattle.trace_text.specs.Foldable.{is_foldable_in_all}
 use Rattle.trace_text.specs.Slots.{slots_text}
 use Rattle.world_sim.specs.Given.{IsGiven, is_numbered}
 use Rattle.world_sim.specs.Played.{AreSettled}
 use Rattle.live_run.specs.LiveText.{AreLive, LiveText}
-use Rattle.live_run.specs.Sized.{AreSized}
-use Rattle.live_run.proofs.ReplyLaws.{SameDecision}
-use Rattle.live_run.proofs.SizedLaws.{lists_read}
 use Rattle.foldable_laws.proofs.Foldable.{Rules, lists_fold}
 
 -- What threads leave may be settled.
@@ -86,13 +84,13 @@ live_folds c turns s is rules ok live =
     subst (λ (d : Script). is_foldable_in_all (setting c) (lists_at d.config s.places) ≡ true) (sym is) (lists_fold c lists rules ok (each_own c lists (owns_of c lists live.lawful_is).0))
 
 pub live_text : (c : Script) (turns : ℕ) (s : Shelves) (text : Bytes) → s.script ≡ c → AreLive c turns (lists_at c.config s.places) → text ≡ report (setting c) (lists_at s.script.config s.places)
-    → SameDecision → AreSized c (lists_at s.script.config s.places) → LiveText c turns (slots_text (setting c) (lists_at s.script.config s.places) ++ text)
-live_text c turns s text is live end decisions sized =
+    → AreReadable c (lists_at s.script.config s.places) → LiveText c turns (slots_text (setting c) (lists_at s.script.config s.places) ++ text)
+live_text c turns s text is live end readable =
     let lists : SlotLists = lists_at s.script.config s.places in
     let there : AreLive c turns lists = subst (λ (d : Script). AreLive c turns (lists_at d.config s.places)) (sym is) live in
     record {
       lists = lists;
       are_live = there;
-      readable = lists_read c lists decisions (owns_of c lists there.lawful_is).0.shard sized;
+      readable = readable;
       text_is = ap (λ x. slots_text (setting c) lists ++ x) end;
     }

@@ -6,13 +6,13 @@ ghost use Rattle.shard_store.specs.Stores.{lists_at};
 ghost use Rattle.live_run.specs.LiveText.{AreLive};
 ghost use Rattle.live_run.specs.Written.{WritesLive};
 
-use crate::sized::look_at_lists;
 use crate::writing::write_text;
 use behaviour_by_kind::ByKind;
 use behaviour_core::Behaviour;
 use behaviour_core::laws::decided_law;
 use live_laws::worked_goes_on;
 use node_runner::run_live;
+use readable_lists::look_at_lists;
 use run_parts::WriteError;
 use shard_store::Stores;
 use std::alloc::{AllocError, Global};
@@ -26,7 +26,7 @@ use yard_model::laws::{command_law, decision_law};
 
 /// Runs the nodes of a script, which has at most 20,000 orders, as threads, each for so many turns at most,
 /// settles what they leave, and writes the lists of all slots and their report. These are the lists that a reader
-/// reads off the text, since different lists have different texts (`texts_tell_lists`). It may wait. Nothing is
+/// reads off the text, since different lists have different texts (`readable_lists: texts_tell_lists`). It may wait. Nothing is
 /// flushed, and nothing is written where there is no memory.
 pub fn write_live<R: Threads + Wait + Sync, G: Gate + Sync, K: Sink>(
     rt: &R,

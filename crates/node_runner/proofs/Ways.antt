@@ -1,6 +1,6 @@
 -- One turn more of a worker.
-use Rattle.std.proofs.Common.{◌≡◌, ℕ, zero, suc, ◌+◌, ◌-◌, ◌*◌, ◌<◌, ◌≤◌, ◌⊎◌, inl, inr, ⊎_elim, true, false, List, [], ◌∷◌, ◌++◌, length, refl, sym, ap, ◌∙◌, subst, arith}
-use Rattle.std.specs.Prelude.{Bool, ◌==◌, ◌&&◌, nat_lt, nat_le, Option, None, Some, is_some, IfSome, MatchOption, count_by, if◌then◌else◌}
+use Rattle.std.proofs.Common.{◌≡◌, ℕ, zero, suc, ◌+◌, ◌-◌, ◌*◌, ◌<◌, ◌≤◌, ◌⊎◌, inl, inr, ⊎_elim, true, false, List, [], ◌∷◌, ◌++◌, length, refl, sym, ap, ap₂, ◌∙◌, subst, arith}
+use Rattle.std.specs.Prelude.{Bool, ◌==◌, ◌&&◌, not, nat_lt, nat_le, Option, None, Some, is_some, IfSome, MatchOption, count_by, if◌then◌else◌}
 use Rattle.std.specs.List.{list_any}
 use Rattle.std.specs.Option.{option_map_or}
 use Rattle.atomic_table.specs.Seated.{TableId}
@@ -14,6 +14,7 @@ use Rattle.yard_model.specs.Workers.{worker_orders, is_steady, is_steady_after, 
 use Rattle.worker_orders.specs.Waiting.{Waiting, IsDue}
 use Rattle.node_core.specs.Standing.{Standing}
 use Rattle.lease_table.specs.Leasing.{Pass, Idle}
+use Rattle.node_runner.specs.Counted.{IsCounted, next_up}
 use Rattle.node_runner.specs.OnWay.{OnWay, IsAhead, IsDone, KeepsUp, left_of}
 use Rattle.node_runner.specs.Progress.{StandsAt, Progressed, GoesOn, Takes, SawAll}
 
@@ -124,3 +125,12 @@ turns_enough c turns q n h = at_most (4 * length (worker_orders c n)) turns (and
 
 pub done_saw : (z : TableId) (c : Script) (turns n : ℕ) (p r : Pass) (node : Option Standing) → IsDone z c turns n p node → (Progressed c turns n [] p node → SawAll c turns n r) → SawAll c turns n r
 done_saw z c turns n p r _ done saw q here steady = saw (done.progressed (turns_enough c turns q n steady)) q here steady
+
+-- how often the node came up, and the number of one that comes up
+pub counted_of : (was after : Option Standing) (ups number now : ℕ) (was_up up : Bool) → was_up ≡ is_some was → up ≡ is_some after → number ≡ next_up ups → now ≡ (if not was_up && up then number else ups)
+    → (was ≡ None → IfSome after (λ v. v.state.who.number ≡ number)) → IsCounted was ups after now
+counted_of None None ups number now was_up up e f n h k = h ∙ ap₂ (λ a b. if not a && b then number else ups) e f
+counted_of None (Some v) ups number now was_up up e f n h k =
+    let one : now ≡ number = h ∙ ap₂ (λ a b. if not a && b then number else ups) e f in
+    (one ∙ n, k refl ∙ sym one)
+counted_of (Some u) after ups number now was_up up e f n h k = h ∙ ap₂ (λ a b. if not a && b then number else ups) e f

@@ -7,6 +7,7 @@ pub mod Ordered
 pub mod Progress
 pub mod Drawn
 pub mod Parcels
+pub mod Counted
 pub mod Entered
 pub mod OnWay
 pub mod Posts

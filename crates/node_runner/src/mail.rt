@@ -4,6 +4,7 @@ ghost use Rattle.yard_model.specs.Genuine.{is_genuine_packet};
 ghost use Rattle.lease_table.specs.Belongs.{id_of, charter_of};
 ghost use Rattle.rand_pcg.specs.Pcg.{pcg32};
 ghost use Rattle.post_box.specs.Holding.{WasHolding};
+ghost use Rattle.node_runner.specs.Counted.{and_more};
 ghost use Rattle.node_runner.specs.Rested.{Rested, ArePublished};
 ghost use Rattle.node_runner.specs.Parcels.{is_confirming, is_shown, is_within_packet};
 ghost use Rattle.node_runner.specs.Mailed.{IsSameHolder};
@@ -72,6 +73,7 @@ impl<J: Run> Mail<J> {
     /// So many packets more were let go because it couldn't be shown what they need.
     pub(crate) fn let_go(&mut self, count: u64)
         ensures pass { self.new.pass ≡ self.old.pass }
+        ensures unshown { self.new.unshown ≡ and_more self.old.unshown count }
     {
         self.unshown = self.unshown.saturating_add(count);
     }

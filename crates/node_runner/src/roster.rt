@@ -2,6 +2,7 @@
 ghost use Rattle.std.specs.Prelude.{◌≡◌, ◌≤◌, true, false, [], length, map, slice_get, Some, IfOk, IfSome, MatchOption};
 ghost use Rattle.yard_model.specs.Genuine.{is_genuine_packet};
 ghost use Rattle.yard_model.specs.Members.{has_node};
+ghost use Rattle.node_runner.specs.Counted.{and_more};
 ghost use Rattle.node_runner.specs.Entered.{is_member, are_members, entered, next_version, view_to};
 ghost use Rattle.node_runner.specs.Parcels.{is_confirming, is_within_packet};
 ghost use Rattle.yard_model.specs.Words.{without};
@@ -74,7 +75,8 @@ impl<J: Run> Roster<J> {
 
     /// A worker that is done let so many packets go because it couldn't show what they need.
     pub(crate) fn let_go(&mut self, count: u64)
-        ensures { (self.new.members ≡ self.old.members) × (self.new.version ≡ self.old.version) }
+        ensures same { (self.new.members ≡ self.old.members) × (self.new.version ≡ self.old.version) }
+        ensures unshown { self.new.unshown ≡ and_more self.old.unshown count }
     {
         self.unshown = self.unshown.saturating_add(count);
     }

@@ -9,6 +9,7 @@ ghost use Rattle.lease_table.specs.Belongs.{id_of, charter_of};
 ghost use Rattle.lease_table.specs.Fits.{is_within};
 ghost use Rattle.lease_table.specs.Leasing.{Idle};
 ghost use Rattle.worker_orders.specs.Waiting.{IsDue};
+ghost use Rattle.node_runner.specs.Counted.{and_more};
 ghost use Rattle.node_runner.specs.Ordered.{input_of, IsGiven};
 ghost use Rattle.node_runner.specs.Progress.{StandsAt, GoesOn, Takes, Progressed, SawAll, is_rest};
 ghost use Rattle.node_runner.specs.Posts.{KeepsTray};
@@ -111,7 +112,10 @@ pub fn take_packet<B: Behaviour + Drop>(
 }
 
 /// A packet to the node was let go: one more, if it is for this incarnation.
-fn count_unshown<B: Behaviour + Drop>(node: &UpNode<B>, packet: &Packet, unshown: &mut u64) {
+fn count_unshown<B: Behaviour + Drop>(node: &UpNode<B>, packet: &Packet, unshown: &mut u64)
+    ensures counted { packet.now.to ≡ node.now.state.who → unshown.new ≡ and_more unshown.old 1 }
+    ensures other { (packet.now.to ≡ node.now.state.who → ⊥) → unshown.new ≡ unshown.old }
+{
     if packet.to == node.who() {
         *unshown = unshown.saturating_add(1);
     }
@@ -139,6 +143,7 @@ pub fn take_order<B: Behaviour + Copy + Drop>(
     requires version { is_version charter.now (B.version_of behaviour) ≡ true }
     ensures stands { IfOk result (λ r. StandsAt (id_of table.now) (charter_of table.now) me r.pass r.node) }
     ensures takes { IfOk result (λ r. Takes (charter_of table.now) me order.now place.pass place.node r.pass r.node) }
+    ensures number { IfOk result (λ r. place.node ≡ None → IfSome r.node (λ v. v.state.who.number ≡ number)) }
     ensures posts { OnOk result (KeepsTray (charter_of table.now) tray.old tray.new) }
 {
     let Place { pass, node } = place;
@@ -168,6 +173,7 @@ fn down_order<B: Behaviour + Copy + Drop>(
     requires version { is_version charter.now (B.version_of behaviour) ≡ true }
     ensures stands { IfOk result (λ r. StandsAt (id_of table.now) (charter_of table.now) me r.pass r.node) }
     ensures takes { IfOk result (λ r. IsDue (charter_of table.now) me order.now → Takes (charter_of table.now) me order.now pass None r.pass r.node) }
+    ensures number { IfOk result (λ r. IfSome r.node (λ v. v.state.who.number ≡ number)) }
 {
     if is_up(order, me) {
         let who = Incarnation { node: me, number };

@@ -1,10 +1,11 @@
 //! The worker of a node: so many turns, and the end.
-ghost use Rattle.std.specs.Prelude.{◌≡◌, ◌+◌, ◌<◌, ◌≤◌, ◌⊎◌, true, [], length, is_some, nat_lt, Some, None, IfOk, OnOk, MatchOption, if◌then◌else◌};
+ghost use Rattle.std.specs.Prelude.{◌≡◌, ◌+◌, ◌<◌, ◌≤◌, ◌⊎◌, ◌&&◌, true, not, [], length, is_some, nat_lt, Some, None, IfOk, OnOk, MatchOption, if◌then◌else◌};
 ghost use Rattle.yard_model.specs.Behaviour.{is_in};
 ghost use Rattle.yard_model.specs.Script.{is_version};
 ghost use Rattle.lease_table.specs.Belongs.{id_of, charter_of};
 ghost use Rattle.lease_table.specs.Fits.{is_within};
 ghost use Rattle.lease_table.specs.Leasing.{Idle};
+ghost use Rattle.node_runner.specs.Counted.{IsCounted, next_up};
 ghost use Rattle.node_runner.specs.Mailed.{IsSameHolder};
 ghost use Rattle.node_runner.specs.OnWay.{OnWay, IsDone};
 ghost use Rattle.node_runner.specs.Posts.{IsGenuineTray, KeepsTray};
@@ -128,6 +129,7 @@ fn order_turn<'c, B: Behaviour + Copy + Drop>(
     requires on_way { OnWay (id_of table.now) (charter_of table.now) me turn place.pass place.node course.old.next course.old.orders course.old.idle }
     requires next { course.old.next ≡ Some order.now }
     ensures on_way { IfOk result (λ r. OnWay (id_of table.now) (charter_of table.now) me (turn + 1) r.pass r.node course.new.next course.new.orders course.new.idle) }
+    ensures counted { IfOk result (λ r. IsCounted place.node course.old.ups r.node course.new.ups) }
     ensures posts { OnOk result (KeepsTray (charter_of table.now) tray.old tray.new) }
 {
     let _ = turn;
@@ -136,8 +138,8 @@ fn order_turn<'c, B: Behaviour + Copy + Drop>(
     let place = take_order(
         alloc, table, charter, me, place, order, number, behaviour, tray,
     )?;
-    let comes_up = !was_up && place.node.is_some();
-    course.ups = ups_after(course.ups, number, comes_up);
+    let is_up = place.node.is_some();
+    course.ups = ups_after(course.ups, number, was_up, is_up);
     let next = course.orders.next();
     course.next = next;
     course.idle = 0;
@@ -236,13 +238,16 @@ fn more_idle(idle: u8) -> u8
 }
 
 /// How often the node came up so far, where this is the number of what comes up now.
-fn ups_after(ups: u32, number: u32, comes_up: bool) -> u32 {
-    if comes_up { number } else { ups }
+fn ups_after(ups: u32, number: u32, was_up: bool, is_up: bool) -> u32
+    ensures { result ≡ (if not was_up && is_up then number else ups) }
+{
+    if !was_up && is_up { number } else { ups }
 }
 
 /// The number of the node's next incarnation.
 fn next_number(ups: u32) -> u32
-    ensures { is_within result ≡ true }
+    ensures within { is_within result ≡ true }
+    ensures next { result ≡ next_up ups }
 {
     if ups < LIMIT { ups + 1 } else { LIMIT }
 }

@@ -23,6 +23,7 @@ use Rattle.foldable_laws.proofs.Foldable.{Rules, lists_fold}
 use Rattle.world_sim.specs.Given as given
 use Rattle.world_sim.specs.Given.{IsGiven}
 use Rattle.world_sim.specs.Played.{AreSettled}
+use Rattle.readable_lists.specs.Readable.{AreReadable}
 use Rattle.fact_lines.specs.Laws.{EntriesAreReadable, TextsTell}
 use Rattle.disk_log.specs.Spelled.{IsDamaged, Spells}
 use Rattle.log_resume.specs.declared.fault.ResumeFault.{ResumeFault}
@@ -73,8 +74,8 @@ lawful_folds c s is rules ok law =
 
 pub gone_on : (c : Script) (s t : Shelves) (none first second third : Bytes) → s.script ≡ c → t.script ≡ c → AreSettled c (lists_at c.config s.places) (lists_at c.config t.places)
     → none ≡ [] → first ≡ none ++ report (setting c) (lists_at s.script.config s.places) → second ≡ first ++ slots_text (setting c) (lists_at t.script.config t.places)
-    → third ≡ second ++ report (setting c) (lists_at t.script.config t.places) → GoneOn c (lists_at c.config s.places) third
-gone_on c s t none first second third is too end empty one two three =
+    → third ≡ second ++ report (setting c) (lists_at t.script.config t.places) → AreReadable c (lists_at t.script.config t.places) → GoneOn c (lists_at c.config s.places) third
+gone_on c s t none first second third is too end empty one two three readable =
     let old : SlotLists = lists_at c.config s.places in
     let new : SlotLists = lists_at c.config t.places in
     let first_is : first ≡ report (setting c) old = one ∙ (ap (λ x. x ++ report (setting c) (lists_at s.script.config s.places)) empty ∙ ap (λ (d : Script). report (setting c) (lists_at d.config s.places)) is) in
@@ -86,6 +87,7 @@ gone_on c s t none first second third is too end empty one two three =
     record {
       lists = new;
       settled = end;
+      readable = subst (λ (d : Script). AreReadable c (lists_at d.config t.places)) too readable;
       text_is = third_is ∙ append_assoc (report (setting c) old) (slots_text (setting c) new) (report (setting c) new);
     }
 
@@ -96,6 +98,7 @@ text_of c log lists text taken is on = record {
   taken = taken;
   lists = on.lists;
   settled = subst (λ l. AreSettled c l on.lists) is on.settled;
+  readable = on.readable;
   text_is = on.text_is ∙ ap (λ x. x ++ lists_text (setting c) on.lists) (ap (report (setting c)) is ∙ restored_report c log);
 }
 

@@ -18,6 +18,7 @@ use behaviour_core::laws::decided_law;
 use disk_log::{Batches, Disk, one_reading, read_log};
 use fact_lines::{entries_are_readable, texts_tell};
 use log_resume::{ResumeFault, stores_of};
+use readable_lists::look_at_lists;
 use shard_store::Stores;
 use std::alloc::{AllocError, Global};
 use trace_text::{push_lists, push_report};
@@ -26,8 +27,9 @@ use yard_model::Charter;
 use yard_model::laws::{command_law, decision_law};
 
 /// Reads the log on a disk, and gives the text of what a run of the script, which has at most 20,000 orders, goes on
-/// to: the report of the log's lists, then the lists of all slots once they are settled, and their report. Nothing is
-/// written to the disk.
+/// to: the report of the log's lists, then the lists of all slots once they are settled, and their report. A reader
+/// reads these lists off the text, since different ones have different texts (`readable_lists: texts_tell_lists`).
+/// Nothing is written to the disk.
 pub fn resume_text<D: Disk>(
     alloc: Global,
     charter: &Charter,
@@ -108,6 +110,7 @@ fn text_by<B: Behaviour + Copy + Drop>(
     let mut text = Vec::new(alloc);
     push_report(&mut text, charter, &stores)?;
     let settled = settled(alloc, charter, behaviour, stores)?;
+    look_at_lists(charter, &settled);
     push_lists(&mut text, charter, &settled)?;
     push_report(&mut text, charter, &settled)?;
     Ok(text)

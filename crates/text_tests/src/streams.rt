@@ -2,7 +2,7 @@
 
 use std::alloc::{AllocError, Global};
 use std::io;
-use std::io::{Read, Write};
+use std::io::{ErrorKind, Read, Write};
 use std::process::Abort;
 use std::test::Fail;
 use yard_io::{
@@ -70,7 +70,7 @@ impl Write for Slow<'_> {
     fn write(&mut self, piece: &[u8]) -> io::Result<usize> {
         self.calls = self.calls.saturating_add(1);
         if self.calls == 2 {
-            return Err(io::Error::other("full"));
+            return Err(io::Error::from(ErrorKind::StorageFull));
         }
         let count = piece.len().min(3);
         self.to.extend_from_slice(&piece[..count])?;
@@ -82,18 +82,26 @@ impl Write for Slow<'_> {
     }
 }
 
-/// Whether a write and two flushes go well, and how many faults there are after each.
-fn flushes<W: Write + Drop>(sink: &mut StdSink<W>) -> ([bool; 3], [u64; 3]) {
+/// How many calls failed, and of what kind the error of the last of them is.
+type Faults = (u64, Option<ErrorKind>);
+
+/// The faults of a sink.
+fn faults_of<W: Write + Drop>(sink: &StdSink<W>) -> Faults {
+    (sink.faults(), sink.last_error().map(|e| e.kind()))
+}
+
+/// Whether a write and two flushes go well, and what faults there are after each.
+fn flushes<W: Write + Drop>(sink: &mut StdSink<W>) -> ([bool; 3], [Faults; 3]) {
     let written = write_all(sink, b"one\ntwo\n").is_ok();
-    let none = sink.faults();
+    let none = faults_of(sink);
     let first = sink.flush().is_ok();
-    let one = sink.faults();
+    let one = faults_of(sink);
     let second = sink.flush().is_ok();
-    ([written, first, second], [none, one, sink.faults()])
+    ([written, first, second], [none, one, faults_of(sink)])
 }
 
 /// The same over a slow writer to this text.
-fn flushes_to(alloc: Global, text: &mut Vec<u8>) -> Result<([bool; 3], [u64; 3]), AllocError> {
+fn flushes_to(alloc: Global, text: &mut Vec<u8>) -> Result<([bool; 3], [Faults; 3]), AllocError> {
     let writer = Slow { to: text, calls: 0 };
     let mut sink = StdSink::new(alloc, writer)?;
     Ok(flushes(&mut sink))
@@ -103,7 +111,8 @@ fn flushes_to(alloc: Global, text: &mut Vec<u8>) -> Result<([bool; 3], [u64; 3])
 fn writer_is_counted(alloc: Global) -> Result<bool, AllocError> {
     let mut text = Vec::new(alloc);
     let (are_well, faults) = flushes_to(alloc, &mut text)?;
-    let is_counted = are_well == [true, false, true] && faults == [0, 1, 1];
+    let full = (1, Some(ErrorKind::StorageFull));
+    let is_counted = are_well == [true, false, true] && faults == [(0, None), full, full];
     Ok(is_counted && text.as_slice() == b"one\ntwo\n".as_slice())
 }
 
@@ -124,7 +133,7 @@ impl Read for Torn {
         self.calls = self.calls.saturating_add(1);
         match self.calls {
             1 => Err(io::Error::from(io::ErrorKind::Interrupted)),
-            3 => Err(io::Error::other("torn")),
+            3 => Err(io::Error::from(ErrorKind::ConnectionReset)),
             _ => {
                 let count = buf.len().min(1);
                 buf[..count].fill(b'x');
@@ -139,12 +148,18 @@ fn fails<S: Source>(alloc: Global, source: &mut S) -> bool {
     read_up_to(alloc, source, 4).err() == Some(ReadError::Failed)
 }
 
+/// Whether a source has one fault, of a reader that was torn.
+fn is_torn<R: Read>(source: &StdSource<R>) -> bool {
+    let kind = source.last_error().map(|e| e.kind());
+    source.faults() == 1 && kind == Some(ErrorKind::ConnectionReset)
+}
+
 /// Whether the first of two reads of this source fails, and is counted, and the second doesn't.
 fn counts<R: Read>(alloc: Global, source: &mut StdSource<R>) -> Result<bool, ReadError> {
-    let is_failed = fails(alloc, source);
-    let first = source.faults();
+    let is_new = source.faults() == 0 && source.last_error().is_none();
+    let is_failed = fails(alloc, source) && is_torn(source);
     let is_read = reads(alloc, source, 4, b"xxxx")?;
-    Ok(is_failed && first == 1 && is_read && source.faults() == 1)
+    Ok(is_new && is_failed && is_read && is_torn(source))
 }
 
 /// Whether a torn reader's first read is counted.

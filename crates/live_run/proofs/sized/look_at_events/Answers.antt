@@ -1,7 +1,0 @@
-use Rattle.std.proofs.Common.{arith}
-use Rattle.yard_model.specs.declared.event.Event.TheVariants as event
-use Rattle.live_run.proofs.SizedLaws.{events_fit}
-use Rattle.live_run.proofs.sized.look_at_events.Goals as goal
-
-pub returns : goal.returns
-returns c = events_fit c.args.events.now event.Created (λ k l. c.loop-i.invariant k (omega (arith, l)))

@@ -1,0 +1,5 @@
+mod EntryLaws
+mod ReplyLaws
+mod SizedLaws
+mod SlotLaws
+mod TellLaws

@@ -1,0 +1,10 @@
+use Rattle.std.proofs.Common.{◌<◌, ℕ}
+use Rattle.std.specs.Prelude.{slice_index_or}
+use Rattle.yard_model.specs.declared.entry.CoordEntry.TheVariants as coord
+use Rattle.yard_model.specs.declared.incarnation.Slot.TheVariants as slot
+use Rattle.yard_model.specs.Entry.{coord_fact}
+use Rattle.readable_lists.specs.Readable.{IsTold}
+use Rattle.readable_lists.proofs.sized.look_at_office.Given as goal
+
+abbrev pub invariant-loop-i : goal.invariant-loop-i
+invariant-loop-i l = (k : ℕ) → k < l.i → IsTold slot.Coordinator (coord_fact (slice_index_or l.list k (coord.Deallocated 0)))

@@ -44,6 +44,23 @@ status_of (answer.Safe n) = status.Safe
 status_of (answer.Broken n why q) = status_by why
 status_of (answer.NoFact n q) = status.NoFact
 
+-- what is to be answered of a script and a trace
+abbrev pub wanted_of : Reading → List ℕ → Status
+wanted_of (Spelled c) trace = status_of (verdict c trace)
+wanted_of (Refused line y) trace = status.Refused line y
+
+-- so many bytes are read before a line `trace` is missed: those of a script, and more than that line
+abbrev pub most_read : ℕ
+most_read = 4194311
+
+-- what of an input without it, of so many bytes: it is none of a script and a trace, or too long for a script
+abbrev pub wanted_alone : ℕ → Status
+wanted_alone n = if nat_lt n most_read then status.NoTrace else status.Refused 0 why.TooLong
+
+-- what is to be answered of an input
+abbrev pub wanted : List ℕ → Status
+wanted input = if has_trace input then wanted_of (reading mode.Replay (script_in input)) (trace_in input) else wanted_alone (length input)
+
 -- this is what a source gave and still has: where it tells its bytes, all that it had
 pub record IsInput (had has : Option (List ℕ)) (input : List ℕ) : Type 0 where
   pub bytes : List ℕ
@@ -67,12 +84,14 @@ pub record Refuses (had has : Option (List ℕ)) (line : ℕ) (why : Why) : Type
   pub input : List ℕ
   pub input_is : IsInput had has input
   pub refused : reading mode.Replay (script_in input) ≡ Refused line why
+  pub exact : wanted input ≡ status.Refused line why
 
 -- an input without a line `trace`
 pub record Lacks (had has : Option (List ℕ)) : Type 0 where
   pub input : List ℕ
   pub input_is : IsInput had has input
   pub none : has_trace input ≡ false
+  pub exact : wanted input ≡ status.NoTrace
 
 -- a run that was answered
 abbrev pub IfAnswered : Status → Type 0 → Type 0
@@ -130,24 +149,7 @@ pub record Began (had has : Option (List ℕ)) (before after : Taken) : Type 0 w
   pub answers : Answers had has it
   pub begun : TakesFront before.bytes after.bytes (answer_text it)
 
--- what is to be answered of a script and a trace
-abbrev pub wanted_of : Reading → List ℕ → Status
-wanted_of (Spelled c) trace = status_of (verdict c trace)
-wanted_of (Refused line y) trace = status.Refused line y
-
--- so many bytes are read before a line `trace` is missed: those of a script, and more than that line
-abbrev pub most_read : ℕ
-most_read = 4194311
-
--- what of an input without it, of so many bytes: it is none of a script and a trace, or too long for a script
-abbrev pub wanted_alone : ℕ → Status
-wanted_alone n = if nat_lt n most_read then status.NoTrace else status.Refused 0 why.TooLong
-
--- what is to be answered of an input
-abbrev pub wanted : List ℕ → Status
-wanted input = if has_trace input then wanted_of (reading mode.Replay (script_in input)) (trace_in input) else wanted_alone (length input)
-
--- where there is memory
+-- this is what was to be answered, or there is no memory
 abbrev pub IsComplete : Option (List ℕ) → Status → Type 0
 IsComplete told s = IfSome told (λ xs. (s ≡ wanted xs) ⊎ (s ≡ status.OutOfMemory))
 

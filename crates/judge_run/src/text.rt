@@ -32,7 +32,8 @@ fn push_quote(text: &mut Vec<u8>, quote: &Quote) -> Result<(), AllocError>
 {
     text.extend_from_slice(b"  ")?;
     text.extend_from_slice(quote.bytes())?;
-    text.push(b'\n')
+    text.push(b'\n')?;
+    Ok(())
 }
 
 /// Appends what stands behind the first line of an answer. The only error is want of memory.

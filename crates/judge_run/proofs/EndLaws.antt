@@ -11,14 +11,17 @@ use Rattle.script_text.specs.declared.fault.Mode.TheVariants as mode
 use Rattle.script_text.specs.declared.fault.Why.{Why}
 use Rattle.script_text.specs.declared.fault.Why.TheVariants as why
 use Rattle.script_text.proofs.Steps.{reading_long}
+use Rattle.judge_laws.specs.declared.breach.Breach.{Breach}
+use Rattle.judge_laws.specs.declared.breach.Breach.TheVariants as breach
 use Rattle.verdict_laws.specs.declared.answer.Answer.{Answer}
+use Rattle.verdict_laws.specs.declared.answer.Answer.TheVariants as answer
 use Rattle.verdict_laws.specs.Meaning.{Means, VerdictMeans}
 use Rattle.verdict_laws.specs.Verdict.{verdict}
 use Rattle.judge_text.specs.Reads.{ahead, left_of}
 use Rattle.judge_text.proofs.ReadLaws.{ahead_both}
 use Rattle.judge_run.specs.declared.status.Status.{Status}
 use Rattle.judge_run.specs.declared.status.Status.TheVariants as status
-use Rattle.judge_run.specs.Ends.{Answers, Behind, IfNoTrace, IfRefused, IsComplete, IsInput, Lacks, Refuses, status_of, wanted, wanted_alone, wanted_of}
+use Rattle.judge_run.specs.Ends.{Answers, Behind, HasRun, IfNoTrace, IfReadFault, IfRefused, IsComplete, IsEarly, IsInput, Lacks, Refuses, Sunk, Tells, status_by, status_of, wanted, wanted_alone, wanted_of}
 use Rattle.judge_run.specs.Input.{IsCut, IsUncut, has_trace, script_in, trace_in}
 
 -- What was read at first: this head, up to this limit.
@@ -161,6 +164,39 @@ complete_lacks had has x = told_is had has x.input status.NoTrace x.input_is (sy
 pub complete_without : (had : Option (List ℕ)) → IsComplete had status.OutOfMemory
 complete_without None = tt
 complete_without (Some xs) = inr refl
+
+-- one that ended before there was an answer, with these counts of a source's faults
+pub complete_early : (had has : Option (List ℕ)) (s : Status) (before after : ℕ) → IfRefused s (Refuses had has) → IfNoTrace s (Lacks had has) → IfReadFault s (before < after) → IsEarly s → after ≡ before → IsComplete had s
+complete_early had has (status.Refused line y) before after r l f e same = complete_refuses had has line y r
+complete_early had has status.NoTrace before after r l f e same = complete_lacks had has l
+complete_early had has status.ReadFault before after r l f e same = absurd (omega (arith, f, same))
+complete_early had has status.OutOfMemory before after r l f e same = complete_without had
+complete_early had has s before after r l f e same = absurd e
+
+-- one whose answer was written, or was to be
+pub complete_told : (had has : Option (List ℕ)) (a : Answer) (s : Status) (old new : Sunk) → Answers had has a → Tells a s old new → new.faults ≡ old.faults → IsComplete had s
+complete_told had has a status.WriteFault old new x t same = absurd (omega (arith, t.1, same))
+complete_told had has a status.OutOfMemory old new x t same = complete_without had
+complete_told had has a s old new x t same = complete_answers had has a s x t.0
+
+-- Neither ends as one with words.
+
+pub early_runs : (s : Status) → IsEarly s → HasRun s
+early_runs status.Usage e = absurd e
+early_runs s e = tt
+
+never_usage : (a : Answer) → status.Usage ≡ status_of a → ⊥
+never_usage (answer.Safe n) e = cc
+never_usage (answer.Broken n y q) e = by y e
+  where
+    by : (b : Breach) → status.Usage ≡ status_by b → ⊥
+    by breach.NotJudged e = cc
+    by b e = cc
+never_usage (answer.NoFact n q) e = cc
+
+pub told_runs : (a : Answer) (s : Status) (old new : Sunk) → Tells a s old new → HasRun s
+told_runs a status.Usage old new t = absurd (never_usage a t.0)
+told_runs a s old new t = tt
 
 -- Of what a call answers.
 

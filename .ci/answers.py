@@ -94,6 +94,8 @@ def check_streams(it):
         def expect(what, ran, status, first, cause=None, name=name, program=program):
             it.expect(f"{program}, {what}", ran, status, first, it.sentences[name].get(("status", status)), cause)
 
+        if program == "judge":
+            expect("no line trace", it.run(before, PLAIN.encode()), 3, "judge: no line trace")
         other = ["nothing"] if program == "sharder" else ["judge", "nothing"]
         expect("other words", it.run(other), 2, "usage: .*")
         expect("words that are no text", it.run([*before, b"\xff"]), 2, "usage: .*")

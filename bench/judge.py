@@ -2,11 +2,14 @@
 """judge.py < INPUT: whether a trace is safe, told apart from the program `judge`, to compare the two.
 
 The input is that of `judge`: a script, a line `trace`, and the trace. The script must be one that `sharder replay` takes;
-no script is refused here. One line is printed, and the status is the program's:
+no script is refused here, but an input without a line `trace` is: then standard error has `judge: no line trace`, and the
+status is 3. What is printed, and the status, are the program's:
 
     safe FACTS ENTRIES RECORDS      status 0
     line N: SENTENCE                status 1, of the first line of the trace after which it isn't safe
     line N: no fact                 status 3, as of `reshard isn't judged`
+
+Behind `line N: ..` comes that line, indented, without its LF, and cut at 200 bytes.
 
 It makes one pass, with constant work a fact. Needs Python 3.8 and nothing else.
 """
@@ -15,6 +18,7 @@ import sys
 
 # What a line must be to be read: each kind of fact by its first word, with the ranges of its numbers.
 
+LF = "\n"
 BYTE, SHORT, LONG, WIDE, FULL = 2**8 - 1, 2**16 - 1, 2**32 - 1, 10**18 - 1, 2**64 - 1
 NODES, PRODUCERS, SHARDS = (1, 16), (1, 32), (0, 127)
 
@@ -51,13 +55,15 @@ FORMS = {
     "stop": rf"stop {X} {E}",
     "writefailed": rf"writefailed {X} {E}",
     "gone": rf"gone {X}",
-    "upgrade": rf"upgrade {number('byte')}",
+    "upgrade": r"upgrade (?P<version>2)",
     "reshard": rf"reshard {number('byte')} {number('epoch')}",
 }
 FORMS = {word: re.compile(form) for word, form in FORMS.items()}
 RANGES = {"node": NODES, "p": PRODUCERS, "queue": PRODUCERS, "shard": SHARDS, "byte": (0, BYTE), "no": (0, BYTE), "ok": (0, WIDE), "memo": (1, SHORT), "total": (0, FULL), "balance": (0, FULL)}
 # The most bytes of a line that is looked at, its LF among them.
 MOST_BYTES = 4096
+# The most bytes of it that are shown.
+MOST_SHOWN = 200
 # (amounts have 32 bits, all other numbers of commands and events 16)
 WIDE_WORDS = ("deposit", "withdraw", "deposited", "withdrawn")
 
@@ -67,7 +73,7 @@ ENTRIES = set("granted freed registered terminated allocated deallocated wrote s
 
 def is_quiet(line):
     """Whether a line is passed over: a remark, or a fact of which safety says nothing."""
-    return line.startswith("#") or line.rstrip("\n").split(" ")[0] in QUIET
+    return line.startswith("#") or line.rstrip(LF).split(" ")[0] in QUIET
 
 
 def fits(text):
@@ -253,11 +259,11 @@ def first_of(*tests):
 
 
 NO_NAME, NO_PRODUCER = "the script brings no such name", "the script has no such producer"
-NO_SLOT, NO_NODE = "the script has no such slot", "the script has no such node"
+NO_SLOT, NO_SHARD, NO_NODE = "the script has no such slot", "the script has no such shard", "the script has no such node"
 UNHELD, OTHER_STATE = "an entry of a slot that nobody holds", "a state that isn't its journal's"
 NOT_JUDGED, NO_FACT = "reshard isn't judged", "no fact"
 SENTENCES = (
-    NO_NAME, NO_PRODUCER, NO_SLOT, NO_NODE, "two live incarnations", "live without its shard's lease", OTHER_STATE,
+    NO_NAME, NO_PRODUCER, NO_SLOT, NO_SHARD, NO_NODE, "two live incarnations", "live without its shard's lease", OTHER_STATE,
     "a lease that is granted while it is held", "an epoch that isn't the next", UNHELD, "an epoch that isn't the grant's",
     "a lease that is freed while an entity of its shard is live", "a record of an entity that isn't live", "a record of another epoch",
     "a record that isn't the next", "a record that isn't of its producer's next command", "a record that isn't decided so",
@@ -327,8 +333,8 @@ class Judge:
         journal = self.journal(e)
         return None if (records, state) == (journal.length, state_text(self.script.kind, journal.state)) else OTHER_STATE
 
-    def upgrade(self, byte):
-        self.version = byte
+    def upgrade(self, version):
+        self.version = version
 
     def reshard(self, **_):
         return NOT_JUDGED
@@ -371,9 +377,9 @@ class Judge:
         return it, first_of((lambda: it.holder is not None, UNHELD), (lambda: test(it), sentence))
 
     def registered(self, x, node, **_):
-        it, broken = self.coordinator(
-            lambda it: node <= self.script.nodes and x not in it.regions and len(it.regions) < 16, "a region that is registered, or one too many"
-        )
+        is_node = node <= self.script.nodes
+        sentence = "a region that is registered, or one too many" if is_node else NO_NODE
+        it, broken = self.coordinator(lambda it: is_node and x not in it.regions and len(it.regions) < 16, sentence)
         if broken is None:
             it.regions.append(x)
         return broken
@@ -386,15 +392,15 @@ class Judge:
         return broken
 
     def allocated(self, shard, x, **_):
-        it, broken = self.coordinator(
-            lambda it: shard < self.script.shards and x in it.regions and shard not in it.homes, "a shard that has a home, or a home that isn't registered"
-        )
+        is_shard = shard < self.script.shards
+        sentence = "a shard that has a home, or a home that isn't registered" if is_shard else NO_SHARD
+        it, broken = self.coordinator(lambda it: is_shard and x in it.regions and shard not in it.homes, sentence)
         if broken is None:
             it.homes[shard] = x
         return broken
 
     def deallocated(self, shard):
-        it, broken = self.coordinator(lambda it: shard in it.homes, "a shard without a home")
+        it, broken = self.coordinator(lambda it: shard in it.homes, "a shard without a home" if shard < self.script.shards else NO_SHARD)
         if broken is None:
             del it.homes[shard]
         return broken
@@ -481,29 +487,32 @@ class Judge:
 
 
 def answer_of(script, text):
-    """The answer to the text of a trace, and the status with which it is given."""
+    """The answer to the text of a trace, without its last LF, and the status with which it is given."""
     judge = Judge(script)
     for at, line in enumerate(re.findall(r"[^\n]*\n|[^\n]+", text), 1):
         if line == "report\n":
             break
         broken = judge.see(line)
         if broken:
-            return f"line {at}: {broken}", 3 if broken in (NO_FACT, NOT_JUDGED) else 1
+            return f"line {at}: {broken}\n  {line[:MOST_SHOWN].split(LF)[0]}", 3 if broken in (NO_FACT, NOT_JUDGED) else 1
     return f"safe {judge.facts} {judge.entries} {judge.records}", 0
 
 
 def parts_of(text):
-    """The script and the trace of an input."""
-    script, _, trace = text.partition("\ntrace\n")
-    return script, trace
+    """The script of an input, without its last LF, and the trace; None for it where there is no line `trace`."""
+    script, between, trace = f"\n{text}".partition("\ntrace\n")
+    return script[1:], trace if between else None
 
 
 def main():
     if len(sys.argv) > 1:
         sys.exit(__doc__)
     script, trace = parts_of(sys.stdin.buffer.read().decode("latin-1"))
+    if trace is None:
+        print("judge: no line trace", file=sys.stderr)
+        sys.exit(3)
     answer, status = answer_of(Script(script), trace)
-    print(answer)
+    sys.stdout.buffer.write(f"{answer}\n".encode("latin-1"))
     sys.exit(status)
 
 

@@ -2,8 +2,8 @@
 """judge_fuzz.py PROGRAM [COUNT [SEED]]: compares the program `judge` with judge.py on COUNT mutated traces (10,000).
 
 Each is a known trace with one to three changes, drawn by SEED: a line is cut, doubled, swapped with another, or brought from
-another trace; a number or a byte of it is changed. Mostly that befalls a line that the judge reads. The line that is written
-and the status are compared; each trace on which they differ is kept as judge_fuzz_N.in, to be read again.
+another trace; a number or a byte of it is changed. Mostly that befalls a line that the judge reads. What is written and the
+status are compared; each trace on which they differ is kept as judge_fuzz_N.in, to be read again.
 
 The last line says how many came to which answer. Status 1 where some differ. Needs Python 3.8 and nothing else.
 """
@@ -90,7 +90,7 @@ def main():
             with open(f"judge_fuzz_{at}.in", "w", encoding="latin-1", newline="") as file:
                 file.write(source)
             print(f"judge_fuzz_{at}.in: judge.py says {answer}, status {status}; the program {said(program, source)}")
-        came[answer.partition(": ")[2] or "safe"] += 1
+        came[answer.split("\n")[0].partition(": ")[2] or "safe"] += 1
     print(f"{count} mutated traces, {other} of them judged otherwise; " + ", ".join(f"{number} {sentence}" for sentence, number in came.most_common()))
     sys.exit(1 if other else 0)
 

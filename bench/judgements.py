@@ -6,7 +6,9 @@ from another trace, or with one number or name changed. Of each sentence there a
 late one of all lines. Each is cut off a few lines behind the first line that breaks it. The answers are those of judge.py, which stands beside this file and was written apart from the program.
 
     index       NAME|SCRIPT|STATUS|ANSWER: the input is SCRIPT.in, a line `trace`, and NAME.trace
-    hostile     STATUS|ANSWER|INPUT: the whole input, with %XX for a byte that has no place in a line
+    hostile     STATUS|ANSWER|INPUT: the whole input
+
+In answers and inputs a byte that has no place in a line is %XX.
 
 Needs Python 3.8 and nothing else.
 """
@@ -103,14 +105,14 @@ class Case:
         self.name, self.script, self.trace, self.answer, self.status = name, script, trace, answer, status
 
     def line(self):
-        return f"{self.name}|{self.script}|{self.status}|{self.answer}"
+        return f"{self.name}|{self.script}|{self.status}|{escaped(self.answer)}"
 
 
 # What the mutated traces of a sentence are called.
 SLUGS = dict(
     zip(
         judge.SENTENCES,
-        "unknown_name unknown_producer unknown_slot unknown_node two_live no_lease other_state granted_while_held not_the_next_epoch "
+        "unknown_name unknown_producer unknown_slot unknown_shard unknown_node two_live no_lease other_state granted_while_held not_the_next_epoch "
         "unheld_slot not_the_grants_epoch freed_while_live not_live other_epoch not_the_next_record not_the_next_command not_decided "
         "confirmation_not_rising not_recorded queue_out_of_order not_to_register not_registered not_to_allocate no_home not_a_snapshot "
         "remembered_twice not_remembered".split(),
@@ -139,7 +141,7 @@ def looked_through(traces, are_loud):
     for it in short:
         for how, lines in mutants(it.loud if are_loud else it.lines, sorted(it.script.names), others):
             answer, _ = judge.answer_of(it.script, text_of(lines))
-            broken = re.fullmatch(r"line (\d+): (.*)", answer)
+            broken = re.match(r"line (\d+): (.*)", answer)
             if broken:
                 found.setdefault(broken[2], []).append(Found(it, how, lines, int(broken[1])))
             else:
@@ -171,6 +173,7 @@ def mutated(traces):
 
 FIRST = "config nodes=1 shards=1 producers=1\nsend 1 c1 add 5\n"
 GRANT = "granted shard:0 1 1.1\n"
+COORDINATOR = "granted coordinator 1 1.1\n"
 HOSTILE = [
     # what ends a trace, and what stands at its end
     "", "report\n", "report", "report\nnothing of this is read\n", GRANT + "report\ngranted shard:0 3 1.1\n", GRANT + "granted shard:0 3 1.1",
@@ -182,7 +185,8 @@ HOSTILE = [
     "sentence\n", "trace\n", "\x00\n", "\xff\n", "granted  shard:0 1 1.1\n", "granted shard:00 1 1.1\n", "granted shard:0 01 1.1\n", "granted shard:0 1 01.1\n",
     "granted shard:0 +1 1.1\n", "granted shard:128 1 1.1\n", "granted queue:33 1 1.1\n", "granted queue:0 1 1.1\n", "granted shard:0 1 17.1\n",
     "granted shard:0 1 0.1\n", "granted shard:0 4294967296 1.1\n", "granted shard:0 1 1.4294967296\n", "granted shard:0 1 1.99999999999999999999999999\n",
-    "granted coordinator:0 1 1.1\n", "freed shard:0 1 lost\n", "start 1.1 \n", "start 1.1 " + "a" * 33 + "\n", "start 1.1 a.b\n", "gone 1\n", "upgrade 256\n",
+    "granted coordinator:0 1 1.1\n", "freed shard:0 1 lost\n", "start 1.1 \n", "start 1.1 " + "a" * 33 + "\n", "start 1.1 a.b\n", "gone 1\n", "upgrade 0\n", "upgrade 1\n", "upgrade 3\n", "upgrade 255\n",
+    "upgrade 256\n", "upgrade 02\n", "upgrade\n", "upgrade 2\nupgrade 1\n", "given c1 1.1\n", "did 1.1 c1\n",
     "queued 33 c1 1 add 5\n", "queued 1 c1 1 add 65536\n", "queued 1 c1 1 add\n", "queued 1 c1 1 add 5 \n", "wrote c1 1 epoch 1 by 1:1 add 5\n",
     "wrote c1 1 epoch 1 by 1:1 add 5 / added 5 / ok 1000000000000000000\n", "wrote c1 1 epoch 1 by 1:1 add 5 / added 5,added 5 / ok 5\n",
     "wrote c1 1 epoch 1 by 1:1 add 5 / added 5, added 5, added 5, added 5, added 5 / ok 5\n", "wrote c1 1 epoch 1 by 1:1 add 5 / added 5 / no 256\n", "got" + " 1" * 2_046 + " \n",
@@ -197,10 +201,18 @@ HOSTILE = [
     "queued 32 c1 1 add 65535\n", "active 1.1 c1 4294967295 0\n", "active 16.4294967295 c1 0 18446744073709551615\n", "active 1.1 c1 0 none\n", "active 1.1 c1 0 closed\n",
     "active 1.1 c1 0 open 0\n", "active 1.1 c1 0 open 18446744073709551615 memo 65535\n", "active 1.1 c1 0 open -\n", "active 1.1 c1 0 out 65535:65535,2:3,2:0\n",
     "active 1.1 c1 0 open " + ",".join(["1:1"] * 16) + "\n",
+    GRANT + "start 1.1 c1\nstart 1.1 c1\n", COORDINATOR + "registered 16.1\n", COORDINATOR + "registered 2.1\n", COORDINATOR + "registered 1.1\nregistered 1.1\n",
+    COORDINATOR + "registered 1.1\nallocated 1 1.1\n", COORDINATOR + "allocated 127 2.1\n", COORDINATOR + "allocated 0 1.1\n", COORDINATOR + "deallocated 1\n",
+    COORDINATOR + "deallocated 0\n", "registered 2.1\n", "allocated 1 1.1\n", "deallocated 1\n",
     "active 1.1 nobody 0 1\n", "active 1.1 nobody 0 0\n", "wrote c1 1 epoch 1 by 1:1 add 5 / added 5, added 5, added 5, added 5 / ok 999999999999999999\n",
-    # a life that ends where none began; any version
-    "gone 16.4294967295\nstop 1.1 nobody\nwritefailed 2.1 c1\nupgrade 0\nupgrade 255\n",
+    # what is shown of a line: 200 bytes, without its LF, as they came
+    "b" * 199 + "\n", "b" * 200 + "\n", "b" * 201 + "\n", "b" * 4_096 + "\n", "b" * 4_097, "b" * 5_000 + "\n", "sent " + "b" * 4_091, "sent " + "b" * 4_092,
+    "\xff" * 150 + " " * 100 + "|\n", "\r\n", "bb\x00\n" + GRANT, "reshard 2 1\n",
+    # a life that ends where none began; the other version, again and again
+    "gone 16.4294967295\nstop 1.1 nobody\nwritefailed 2.1 c1\nupgrade 2\nupgrade 2\n",
 ]
+# Inputs without a line `trace`.
+TRACELESS = ["", "\n", FIRST, FIRST + "trace", FIRST + " trace\n", FIRST + "trace \n", FIRST + "trace\r\n", FIRST + GRANT, FIRST + "report\n", "report\n"]
 # Scripts that are refused, of whose trace nothing is read.
 REFUSED = ["\n", "up 1\n", "config\nup 9\n", "config\nping 1\n", "config\nup \xe9\n"]
 
@@ -213,7 +225,10 @@ def hostile():
     script = judge.Script(FIRST)
     for trace in HOSTILE:
         answer, status = judge.answer_of(script, trace)
-        yield f"{status}|{answer}|{escaped(FIRST + 'trace' + chr(10) + trace)}"
+        yield f"{status}|{escaped(answer)}|{escaped(FIRST + 'trace' + chr(10) + trace)}"
+    for source in TRACELESS:
+        assert judge.parts_of(source)[1] is None
+        yield f"3||{escaped(source)}"
     for source in REFUSED:
         yield f"3||{escaped(source + 'trace' + chr(10) + GRANT)}"
 

@@ -1,9 +1,10 @@
 //! Counts of what was told.
-ghost use Rattle.std.specs.Prelude.{◌≡◌, if◌then◌else◌};
+ghost use Rattle.std.specs.Prelude.{◌≡◌, IfOk, if◌then◌else◌};
 ghost use Rattle.verdict_laws.specs.Verdict.{counted, is_entry, is_record, next, no_counts};
 ghost use Rattle.judge_counts.specs.Counted.{counted_by, stops_at};
 
-use verdict_laws::{Answer, Counts, Step};
+use std::alloc::{AllocError, Global};
+use verdict_laws::{Answer, Counts, Quote, Step};
 use yard_model::Fact;
 
 /// One more; the greatest count stands still.
@@ -75,13 +76,25 @@ pub fn counted_by(counts: &Counts, step: &Step) -> Counts
     }
 }
 
-/// The answer, where a line of this number came to it.
-pub fn stops_at(line: u64, step: &Step) -> Option<Answer>
-    ensures { result ≡ stops_at line step.now }
+/// The answer, where a line of this number came to it. The only error is want of memory.
+pub fn stops_at(
+    alloc: Global,
+    line: u64,
+    text: &[u8],
+    step: &Step,
+) -> Result<Option<Answer>, AllocError>
+    ensures { IfOk result (λ found. found ≡ stops_at line text.now step.now) }
 {
     match step {
-        Step::Broken(why) => Some(Answer::Broken { line, why: *why }),
-        Step::NoFact => Some(Answer::NoFact { line }),
-        Step::Quiet | Step::Heard(_) => None,
+        Step::Broken(why) => {
+            let quote = Quote::new(alloc, text)?;
+            let why = *why;
+            Ok(Some(Answer::Broken { line, why, quote }))
+        }
+        Step::NoFact => {
+            let quote = Quote::new(alloc, text)?;
+            Ok(Some(Answer::NoFact { line, quote }))
+        }
+        Step::Quiet | Step::Heard(_) => Ok(None),
     }
 }

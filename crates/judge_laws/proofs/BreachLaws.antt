@@ -22,7 +22,7 @@ use Rattle.yard_model.specs.Words.{is_at, is_empty}
 use Rattle.plain_laws.proofs.Booleans.{true_is_not_false, and_both, both, number_itself}
 use Rattle.judge_laws.specs.declared.breach.Breach.{Breach}
 use Rattle.judge_laws.specs.declared.breach.Breach.TheVariants as breach
-use Rattle.judge_laws.specs.Breached.{unless, slot_list, is_idle, breach_of, BreachIsJudged}
+use Rattle.judge_laws.specs.Breached.{unless, slot_list, is_idle, of_node, of_shard, breach_of, BreachIsJudged}
 use Rattle.judge_laws.specs.Judged.{judged}
 use Rattle.judge_laws.proofs.BackLaws.{same_truth, shard_is}
 
@@ -202,10 +202,10 @@ breach_is_judged c trace (fact.Freed slot.Coordinator n why) k =
 breach_is_judged c trace (fact.Freed (slot.Queue p) n why) k =
     let list : List Fact = slot_list c trace (slot.Queue p) in
     freed (is_producer c p) (is_held list) (n == epoch list) true (p == p) breach.NoSlot breach.Unheld breach.NotItsGrant breach.FreedLive (number_itself p p refl)
-breach_is_judged c trace (fact.Registered x) k = entry _ _ breach.Unheld breach.NotToRegister
+breach_is_judged c trace (fact.Registered x) k = entry _ _ breach.Unheld (of_node c x breach.NotToRegister)
 breach_is_judged c trace (fact.Terminated x) k = entry _ _ breach.Unheld breach.NotRegistered
-breach_is_judged c trace (fact.Allocated s x) k = entry _ _ breach.Unheld breach.NotToAllocate
-breach_is_judged c trace (fact.Deallocated s) k = entry _ _ breach.Unheld breach.NoHome
+breach_is_judged c trace (fact.Allocated s x) k = entry _ _ breach.Unheld (of_shard c s breach.NotToAllocate)
+breach_is_judged c trace (fact.Deallocated s) k = entry _ _ breach.Unheld (of_shard c s breach.NoHome)
 breach_is_judged c trace (fact.Wrote e r) k = same_truth _ _ (wrote_forth c trace e r k) (wrote_back c trace e r)
 breach_is_judged c trace (fact.Snapshot e n) k =
     let s : ℕ = shard_of (setting c) e in

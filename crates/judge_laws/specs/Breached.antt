@@ -1,5 +1,5 @@
 -- Why a trace isn't safe any more with one fact more: the first test that fails, in a fixed order.
-use Rattle.std.specs.Prelude.{◌≡◌, ℕ, ◌+◌, ◌<◌, Bool, true, false, ◌==◌, ◌&&◌, not, nat_lt, nat_le, List, length, is_none, Option, Some, None}
+use Rattle.std.specs.Prelude.{◌≡◌, ℕ, ◌+◌, ◌<◌, Bool, true, false, ◌==◌, ◌&&◌, not, nat_lt, nat_le, List, length, is_none, Option, Some, None, if◌then◌else◌}
 use Rattle.std.specs.List.{list_all, list_any}
 use Rattle.yard_model.specs.declared.fact.Fact.{Fact}
 use Rattle.yard_model.specs.declared.fact.Fact.TheVariants as fact
@@ -9,7 +9,7 @@ use Rattle.yard_model.specs.declared.incarnation.Slot.TheVariants as slot
 use Rattle.yard_model.specs.declared.packet.Record.{Record}
 use Rattle.yard_model.specs.declared.state.State.{State}
 use Rattle.yard_model.specs.Era.{version_in}
-use Rattle.yard_model.specs.Genuine.{is_brought, is_node, is_producer, is_slot_of}
+use Rattle.yard_model.specs.Genuine.{is_brought, is_node, is_producer, is_shard, is_slot_of}
 use Rattle.yard_model.specs.Lawful.{is_coordinator_entry, is_decided, is_held, is_merged_after, is_queue_entry, is_shard_entry}
 use Rattle.yard_model.specs.Safe.{is_journal_state, live_at, shard_list_of}
 use Rattle.yard_model.specs.Script.{Script, setting, versions}
@@ -65,6 +65,13 @@ entry_breach list may b = unless (is_held list) breach.Unheld (unless may b None
 abbrev pub coordinator_breach : Script → List Fact → Fact → Breach → Option Breach
 coordinator_breach c trace f b = entry_breach (lists_of (setting c) trace).coordinator (is_coordinator_entry c (lists_of (setting c) trace).coordinator f) b
 
+-- this breach of an entry, where the script has the shard; where it has the node
+abbrev pub of_shard : Script → ℕ → Breach → Breach
+of_shard c s b = if is_shard c s then b else breach.NoShard
+
+abbrev pub of_node : Script → Incarnation → Breach → Breach
+of_node c x b = if is_node c x then b else breach.NoNode
+
 abbrev pub entity_breach : Script → List Fact → List ℕ → Fact → Breach → Option Breach
 entity_breach c trace e f b =
     unless (is_brought c e) breach.NoName
@@ -100,10 +107,10 @@ breach_of c trace (fact.Start x e) = start_breach c trace x e
 breach_of c trace (fact.Active x e m st) = active_breach c trace e m st
 breach_of c trace (fact.Granted s n x) = granted_breach c s (slot_list c trace s) n x
 breach_of c trace (fact.Freed s n why) = freed_breach c trace s (slot_list c trace s) n
-breach_of c trace (fact.Registered x) = coordinator_breach c trace (fact.Registered x) breach.NotToRegister
+breach_of c trace (fact.Registered x) = coordinator_breach c trace (fact.Registered x) (of_node c x breach.NotToRegister)
 breach_of c trace (fact.Terminated x) = coordinator_breach c trace (fact.Terminated x) breach.NotRegistered
-breach_of c trace (fact.Allocated s x) = coordinator_breach c trace (fact.Allocated s x) breach.NotToAllocate
-breach_of c trace (fact.Deallocated s) = coordinator_breach c trace (fact.Deallocated s) breach.NoHome
+breach_of c trace (fact.Allocated s x) = coordinator_breach c trace (fact.Allocated s x) (of_shard c s breach.NotToAllocate)
+breach_of c trace (fact.Deallocated s) = coordinator_breach c trace (fact.Deallocated s) (of_shard c s breach.NoHome)
 breach_of c trace (fact.Wrote e r) = wrote_breach c trace e r (shard_list_of c e trace) (journal e (shard_list_of c e trace))
 breach_of c trace (fact.Snapshot e n) = entity_breach c trace e (fact.Snapshot e n) breach.NotASnapshot
 breach_of c trace (fact.Remembered e) = entity_breach c trace e (fact.Remembered e) breach.IsRemembered

@@ -9,6 +9,8 @@ pub enum Breach {
     NoProducer,
     /// The script has no such slot.
     NoSlot,
+    /// The script has no such shard.
+    NoShard,
     /// The script has no such node.
     NoNode,
     /// An entity is started that is live.
@@ -43,11 +45,11 @@ pub enum Breach {
     NotRecorded,
     /// A command is queued that isn't its producer's next.
     OutOfOrder,
-    /// A region is registered that is registered, or of no node of the script, or one too many.
+    /// A region is registered that is registered, or one too many.
     NotToRegister,
     /// A region is terminated that isn't registered.
     NotRegistered,
-    /// A shard is allocated that has a home or isn't there, or to a region that isn't registered.
+    /// A shard is allocated that has a home, or to a region that isn't registered.
     NotToAllocate,
     /// A shard is deallocated that has no home.
     NoHome,

@@ -1,6 +1,6 @@
 -- How a run ends.
-use Rattle.std.proofs.Common.{◌≡◌, ◌<◌, ◌≤◌, ℕ, sym, subst, ap, ◌∙◌, refl, arith, length-take-le}
-use Rattle.std.specs.Prelude.{Bool, true, false, nat_lt, List, [], ◌++◌, length, take, drop, Option, Some, None, IfSome, Result, Ok, Err, IfErr, IfOk}
+use Rattle.std.proofs.Common.{◌≡◌, ◌<◌, ◌≤◌, ℕ, sym, subst, ap, ◌∙◌, refl, arith, length-append, length-take-le, inl, inr}
+use Rattle.std.specs.Prelude.{Bool, true, false, nat_lt, List, [], ◌++◌, length, take, drop, Option, Some, None, IfSome, Result, Ok, Err, IfErr, IfOk, if◌then◌else◌}
 use Rattle.std.proofs.lemmas.List.{append-nil, append_assoc, drop_all, take-append-drop}
 use Rattle.plain_laws.proofs.Booleans.{below, not_below}
 use Rattle.plain_laws.proofs.Lists.{none_is_not_some, some_is}
@@ -11,15 +11,18 @@ use Rattle.script_text.specs.declared.fault.Mode.TheVariants as mode
 use Rattle.script_text.specs.declared.fault.Why.{Why}
 use Rattle.script_text.specs.declared.fault.Why.TheVariants as why
 use Rattle.script_text.proofs.Steps.{reading_long}
+use Rattle.judge_laws.specs.declared.breach.Breach.{Breach}
+use Rattle.judge_laws.specs.declared.breach.Breach.TheVariants as breach
 use Rattle.verdict_laws.specs.declared.answer.Answer.{Answer}
+use Rattle.verdict_laws.specs.declared.answer.Answer.TheVariants as answer
 use Rattle.verdict_laws.specs.Meaning.{Means, VerdictMeans}
 use Rattle.verdict_laws.specs.Verdict.{verdict}
 use Rattle.judge_text.specs.Reads.{ahead, left_of}
 use Rattle.judge_text.proofs.ReadLaws.{ahead_both}
 use Rattle.judge_run.specs.declared.status.Status.{Status}
 use Rattle.judge_run.specs.declared.status.Status.TheVariants as status
-use Rattle.judge_run.specs.Ends.{Alone, Answers, Behind, IfRefused, IsInput, Refuses}
-use Rattle.judge_run.specs.Input.{IsCut, IsUncut, script_in, trace_in}
+use Rattle.judge_run.specs.Ends.{Answers, Behind, HasRun, IfNoTrace, IfReadFault, IfRefused, IsComplete, IsEarly, IsInput, Lacks, Refuses, Sunk, Tells, status_by, status_of, wanted, wanted_alone, wanted_of}
+use Rattle.judge_run.specs.Input.{IsCut, IsUncut, has_trace, script_in, trace_in}
 
 -- What was read at first: this head, up to this limit.
 
@@ -63,6 +66,7 @@ answers_behind means had mid has head script first limit a h k b =
     record {
       input = input;
       input_is = input_of had has bytes told;
+      there = ap has_trace more ∙ k.there (b.judged.bytes ++ left_of has);
       script = b.script;
       spelled = ap (reading mode.Replay) script_is ∙ b.spelled;
       some = b.some;
@@ -70,12 +74,18 @@ answers_behind means had mid has head script first limit a h k b =
       means = subst (Means b.script (trace_in input)) answer_is (means b.script (trace_in input) b.some);
     }
 
+-- what is to be answered where there is such a line
+wanted_there : (input : List ℕ) (r : Reading) → has_trace input ≡ true → reading mode.Replay (script_in input) ≡ r → wanted input ≡ wanted_of r (trace_in input)
+wanted_there input r there is =
+    ap (λ b. if b then wanted_of (reading mode.Replay (script_in input)) (trace_in input) else wanted_alone (length input)) there ∙ ap (λ x. wanted_of x (trace_in input)) is
+
 pub refuses_behind : (had mid has : Option (List ℕ)) (head script first : List ℕ) (limit : ℕ) (line : ℕ) (y : Why) → IsHead had mid head limit → IsCut head script first → reading mode.Replay script ≡ Refused line y → has ≡ mid → Refuses had has line y
 refuses_behind had mid has head script first limit line y h k e same =
     subst (λ o. Refuses had o line y) (sym same) (record {
       input = head ++ left_of mid;
       input_is = input_of had mid head (head_told had mid head limit h);
       refused = ap (reading mode.Replay) (k.script_is (left_of mid)) ∙ e;
+      exact = wanted_there (head ++ left_of mid) (Refused line y) (k.there (left_of mid)) (ap (reading mode.Replay) (k.script_is (left_of mid)) ∙ e);
     })
 
 -- None came.
@@ -84,43 +94,109 @@ refuses_behind had mid has head script first limit line y h k e same =
 whole_head : (had mid : Option (List ℕ)) (head : List ℕ) (limit : ℕ) → IsHead had mid head limit → length head < limit → head ++ left_of mid ≡ head
 whole_head had mid head limit h less = ap (λ t. head ++ t) (head_ended had mid head limit h less) ∙ append-nil head
 
-not_long : (text : List ℕ) (c : Script) → reading mode.Replay text ≡ Spelled c → length text ≤ 4194304
-not_long text c e = by (nat_lt 4194304 (length text)) refl
+not_less : (n m : ℕ) → n ≤ m → nat_lt m n ≡ false
+not_less n m h = by (nat_lt m n) refl
   where
-    other : (x : Reading) → x ≡ Refused 0 why.TooLong → x ≡ Spelled c → ⊥
-    other x p q = cc
+    by : (b : Bool) → nat_lt m n ≡ b → b ≡ false
+    by false e = refl
+    by true e = absurd (omega (arith, below m n e, h))
 
-    by : (b : Bool) → nat_lt 4194304 (length text) ≡ b → length text ≤ 4194304
-    by false t = not_below 4194304 (length text) t
-    by true t = absurd (other (reading mode.Replay text) (reading_long mode.Replay text (below 4194304 (length text) t)) e)
-
-pub answers_alone : VerdictMeans → (had mid : Option (List ℕ)) (head : List ℕ) (a : Answer) → IsHead had mid head 4194311 → IsUncut head → Alone head a → Answers had mid a
-answers_alone means had mid head a h k b =
-    let short : length head ≤ 4194304 = not_long head b.script b.spelled in
-    let whole : head ++ left_of mid ≡ head = whole_head had mid head 4194311 h (omega arith) in
-    let answer_is : verdict b.script (trace_in (head ++ left_of mid)) ≡ a = ap (verdict b.script) (ap trace_in whole ∙ k.trace_is) ∙ b.answer_is in
-    record {
-      input = head ++ left_of mid;
-      input_is = input_of had mid head (head_told had mid head 4194311 h);
-      script = b.script;
-      spelled = ap (reading mode.Replay) (ap script_in whole ∙ k.script_is) ∙ b.spelled;
-      some = b.some;
-      answer_is = answer_is;
-      means = subst (Means b.script (trace_in (head ++ left_of mid))) answer_is (means b.script (trace_in (head ++ left_of mid)) b.some);
-    }
-
-pub refuses_alone : (had mid : Option (List ℕ)) (head : List ℕ) (line : ℕ) (y : Why) → IsHead had mid head 4194311 → IsUncut head → reading mode.Replay head ≡ Refused line y → Refuses had mid line y
-refuses_alone had mid head line y h k e = record {
-  input = head ++ left_of mid;
+-- it is too long for a script
+too_long : (had mid : Option (List ℕ)) (head : List ℕ) → IsHead had mid head 4194311 → IsUncut head → 4194311 ≤ length head → Refuses had mid 0 why.TooLong
+too_long had mid head h k full = record {
+  input = input;
   input_is = input_of had mid head (head_told had mid head 4194311 h);
-  refused = by (nat_lt (length head) 4194311) refl;
+  refused = refused;
+  exact = by (has_trace input) refl;
 }
   where
-    by : (b : Bool) → nat_lt (length head) 4194311 ≡ b → reading mode.Replay (script_in (head ++ left_of mid)) ≡ Refused line y
-    by true t = ap (reading mode.Replay) (ap script_in (whole_head had mid head 4194311 h (below (length head) 4194311 t)) ∙ k.script_is) ∙ e
+    input : List ℕ
+    input = head ++ left_of mid
+
+    refused : reading mode.Replay (script_in (head ++ left_of mid)) ≡ Refused 0 why.TooLong
+    refused = reading_long mode.Replay (script_in (head ++ left_of mid)) (omega (arith, k.longer (left_of mid)))
+
+    by : (b : Bool) → has_trace input ≡ b → wanted input ≡ status.Refused 0 why.TooLong
+    by true t = wanted_there input (Refused 0 why.TooLong) t refused
     by false t =
-        let full : 4194311 ≤ length head = not_below (length head) 4194311 t in
-        reading_long mode.Replay (script_in (head ++ left_of mid)) (omega (arith, k.longer (left_of mid))) ∙ (sym (reading_long mode.Replay head (omega arith)) ∙ e)
+        ap (λ b. if b then wanted_of (reading mode.Replay (script_in input)) (trace_in input) else wanted_alone (length input)) t
+        ∙ ap (λ b. if b then status.NoTrace else status.Refused 0 why.TooLong) (not_less 4194311 (length input) (omega (arith, full, length-append head (left_of mid))))
+
+pub refuses_alone : (had mid : Option (List ℕ)) (head : List ℕ) (s : Status) → IsHead had mid head 4194311 → IsUncut head → s ≡ wanted_alone (length head) → IfRefused s (Refuses had mid)
+refuses_alone had mid head s h k is = subst (λ t. IfRefused t (Refuses had mid)) (sym is) (by (nat_lt (length head) 4194311) refl)
+  where
+    by : (b : Bool) → nat_lt (length head) 4194311 ≡ b → IfRefused (if b then status.NoTrace else status.Refused 0 why.TooLong) (Refuses had mid)
+    by true t = tt
+    by false t = too_long had mid head h k (not_below (length head) 4194311 t)
+
+pub lacks_alone : (had mid : Option (List ℕ)) (head : List ℕ) (s : Status) → IsHead had mid head 4194311 → IsUncut head → s ≡ wanted_alone (length head) → IfNoTrace s (Lacks had mid)
+lacks_alone had mid head s h k is = subst (λ t. IfNoTrace t (Lacks had mid)) (sym is) (by (nat_lt (length head) 4194311) refl)
+  where
+    by : (b : Bool) → nat_lt (length head) 4194311 ≡ b → IfNoTrace (if b then status.NoTrace else status.Refused 0 why.TooLong) (Lacks had mid)
+    by true t =
+        let whole : head ++ left_of mid ≡ head = whole_head had mid head 4194311 h (below (length head) 4194311 t) in
+        record {
+          input = head ++ left_of mid;
+          input_is = input_of had mid head (head_told had mid head 4194311 h);
+          none = ap has_trace whole ∙ k.none;
+          exact =
+              ap wanted whole
+              ∙ (ap (λ b. if b then wanted_of (reading mode.Replay (script_in head)) (trace_in head) else wanted_alone (length head)) k.none
+              ∙ ap (λ b. if b then status.NoTrace else status.Refused 0 why.TooLong) t);
+        }
+    by false t = tt
+
+-- Each is complete.
+
+told_is : (had has : Option (List ℕ)) (input : List ℕ) (s : Status) → IsInput had has input → s ≡ wanted input → IsComplete had s
+told_is None has input s i e = tt
+told_is (Some xs) has input s i e = inl (e ∙ ap wanted i.all)
+
+pub complete_answers : (had has : Option (List ℕ)) (a : Answer) (s : Status) → Answers had has a → s ≡ status_of a → IsComplete had s
+complete_answers had has a s x e = told_is had has x.input s x.input_is (e ∙ sym (wanted_there x.input (Spelled x.script) x.there x.spelled ∙ ap status_of x.answer_is))
+
+pub complete_refuses : (had has : Option (List ℕ)) (line : ℕ) (y : Why) → Refuses had has line y → IsComplete had (status.Refused line y)
+complete_refuses had has line y x = told_is had has x.input (status.Refused line y) x.input_is (sym x.exact)
+
+pub complete_lacks : (had has : Option (List ℕ)) → Lacks had has → IsComplete had status.NoTrace
+complete_lacks had has x = told_is had has x.input status.NoTrace x.input_is (sym x.exact)
+
+pub complete_without : (had : Option (List ℕ)) → IsComplete had status.OutOfMemory
+complete_without None = tt
+complete_without (Some xs) = inr refl
+
+-- one that ended before there was an answer, with these counts of a source's faults
+pub complete_early : (had has : Option (List ℕ)) (s : Status) (before after : ℕ) → IfRefused s (Refuses had has) → IfNoTrace s (Lacks had has) → IfReadFault s (before < after) → IsEarly s → after ≡ before → IsComplete had s
+complete_early had has (status.Refused line y) before after r l f e same = complete_refuses had has line y r
+complete_early had has status.NoTrace before after r l f e same = complete_lacks had has l
+complete_early had has status.ReadFault before after r l f e same = absurd (omega (arith, f, same))
+complete_early had has status.OutOfMemory before after r l f e same = complete_without had
+complete_early had has s before after r l f e same = absurd e
+
+-- one whose answer was written, or was to be
+pub complete_told : (had has : Option (List ℕ)) (a : Answer) (s : Status) (old new : Sunk) → Answers had has a → Tells a s old new → new.faults ≡ old.faults → IsComplete had s
+complete_told had has a status.WriteFault old new x t same = absurd (omega (arith, t.1, same))
+complete_told had has a status.OutOfMemory old new x t same = complete_without had
+complete_told had has a s old new x t same = complete_answers had has a s x t.0
+
+-- Neither ends as one with words.
+
+pub early_runs : (s : Status) → IsEarly s → HasRun s
+early_runs status.Usage e = absurd e
+early_runs s e = tt
+
+never_usage : (a : Answer) → status.Usage ≡ status_of a → ⊥
+never_usage (answer.Safe n) e = cc
+never_usage (answer.Broken n y q) e = by y e
+  where
+    by : (b : Breach) → status.Usage ≡ status_by b → ⊥
+    by breach.NotJudged e = cc
+    by b e = cc
+never_usage (answer.NoFact n q) e = cc
+
+pub told_runs : (a : Answer) (s : Status) (old new : Sunk) → Tells a s old new → HasRun s
+told_runs a status.Usage old new t = absurd (never_usage a t.0)
+told_runs a s old new t = tt
 
 -- Of what a call answers.
 
@@ -134,6 +210,7 @@ on_refused (Err (status.Refused line y)) P Q f h = f line y h
 on_refused (Err status.Safe) P Q f h = tt
 on_refused (Err status.Unsafe) P Q f h = tt
 on_refused (Err status.Usage) P Q f h = tt
+on_refused (Err status.NoTrace) P Q f h = tt
 on_refused (Err status.NoFact) P Q f h = tt
 on_refused (Err status.NotJudged) P Q f h = tt
 on_refused (Err status.ReadFault) P Q f h = tt

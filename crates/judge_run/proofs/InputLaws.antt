@@ -1,14 +1,14 @@
 -- A script, a line `trace`, and a trace.
 use Rattle.std.proofs.Common.{◌≡◌, ◌≤◌, ℕ, ◌+◌, ◌-◌, sym, subst, ap, ap₂, ◌∙◌, refl, arith, length-append, true≢false}
-use Rattle.std.specs.Prelude.{Bool, true, false, not, List, [], ◌∷◌, ◌++◌, length, take, codes, None, if◌then◌else◌}
-use Rattle.std.specs.List.{list_all, position}
+use Rattle.std.specs.Prelude.{Bool, true, false, not, ◌||◌, List, [], ◌∷◌, ◌++◌, length, take, codes, None, if◌then◌else◌}
+use Rattle.std.specs.List.{list_all, list_any, position}
 use Rattle.std.proofs.lemmas.List.{append-nil, append_assoc}
 use Rattle.std.proofs.Math.Seq.{take-append_seam}
 use Rattle.plain_laws.proofs.Booleans.{and_both, of_not, same_name}
 use Rattle.verdict_laws.specs.Lines.{before_first, is_lf, lines_of}
 use Rattle.verdict_laws.proofs.CutLaws.{Begins, begins, last_line}
 use Rattle.judge_text.specs.Steps.{Cuts}
-use Rattle.judge_run.specs.Input.{IsCut, IsUncut, before_it, behind_it, ends_line, is_between, is_whole, joined, put_together, script_in, trace_in}
+use Rattle.judge_run.specs.Input.{IsCut, IsUncut, before_it, behind_it, ends_line, has_trace, is_between, is_whole, joined, put_together, script_in, trace_in}
 
 joined_before : (b : ℕ) (ls : List (List ℕ)) → joined (before_first b ls) ≡ b ∷ joined ls
 joined_before b [] = refl
@@ -34,9 +34,10 @@ pub record Passed (input rest : List ℕ) : Type 0 where
   pub input_is : input ≡ passed ++ rest
   pub script_is : (more : List ℕ) → script_in (input ++ more) ≡ passed ++ before_it (lines_of (rest ++ more))
   pub trace_is : (more : List ℕ) → trace_in (input ++ more) ≡ behind_it (lines_of (rest ++ more))
+  pub there : (more : List ℕ) → has_trace (input ++ more) ≡ has_trace (rest ++ more)
 
 pub none_passed : (input : List ℕ) → Passed input input
-none_passed input = record { passed = []; input_is = refl; script_is = λ more. refl; trace_is = λ more. refl }
+none_passed input = record { passed = []; input_is = refl; script_is = λ more. refl; trace_is = λ more. refl; there = λ more. refl }
 
 pub one_passed : (input rest line behind : List ℕ) → Passed input rest → Cuts rest line behind → is_between line ≡ false → Passed input behind
 one_passed input rest line behind p k other = record {
@@ -49,6 +50,7 @@ one_passed input rest line behind p k other = record {
       ∙ sym (append_assoc p.passed line (before_it (lines_of (behind ++ more))))));
   trace_is = λ more.
       p.trace_is more ∙ (ap behind_it (k.split more) ∙ ap (λ b. if b then joined (lines_of (behind ++ more)) else behind_it (lines_of (behind ++ more))) other);
+  there = λ more. p.there more ∙ (ap (list_any is_between) (k.split more) ∙ ap (λ b. b || list_any is_between (lines_of (behind ++ more))) other);
 }
 
 pub shorter : (input rest : List ℕ) → Passed input rest → length rest ≤ length input
@@ -68,6 +70,7 @@ cut_here input rest line behind script p k here is =
           p.trace_is more
           ∙ (ap behind_it (k.split more)
           ∙ (ap (λ b. if b then joined (lines_of (behind ++ more)) else behind_it (lines_of (behind ++ more))) here ∙ joined_lines (behind ++ more)));
+      there = λ more. p.there more ∙ (ap (list_any is_between) (k.split more) ∙ ap (λ b. b || list_any is_between (lines_of (behind ++ more))) here);
     }
 
 -- bytes without LF are no such line
@@ -86,9 +89,9 @@ open_script [] none = refl
 open_script (b ∷ bs) none =
     ap before_it (last_line (b ∷ bs) none (omega arith)) ∙ (ap (λ t. if t then [] else (b ∷ bs) ++ []) (not_between (b ∷ bs) none) ∙ append-nil (b ∷ bs))
 
-open_trace : (rest : List ℕ) → position is_lf rest ≡ None → behind_it (lines_of rest) ≡ []
-open_trace [] none = refl
-open_trace (b ∷ bs) none = ap behind_it (last_line (b ∷ bs) none (omega arith)) ∙ ap (λ t. if t then [] else []) (not_between (b ∷ bs) none)
+open_alone : (rest : List ℕ) → position is_lf rest ≡ None → has_trace rest ≡ false
+open_alone [] none = refl
+open_alone (b ∷ bs) none = ap (list_any is_between) (last_line (b ∷ bs) none (omega arith)) ∙ ap (λ t. t || false) (not_between (b ∷ bs) none)
 
 open_longer : (rest more : List ℕ) → position is_lf rest ≡ None → length rest ≤ length (before_it (lines_of (rest ++ more))) + 6
 open_longer [] more none = omega arith
@@ -105,7 +108,7 @@ uncut input rest p none = record {
   script_is =
       ap script_in (sym (append-nil input))
       ∙ (p.script_is [] ∙ (ap (λ t. p.passed ++ before_it (lines_of t)) (append-nil rest) ∙ (ap (λ t. p.passed ++ t) (open_script rest none) ∙ sym p.input_is)));
-  trace_is = ap trace_in (sym (append-nil input)) ∙ (p.trace_is [] ∙ (ap (λ t. behind_it (lines_of t)) (append-nil rest) ∙ open_trace rest none));
+  none = ap has_trace (sym (append-nil input)) ∙ (p.there [] ∙ (ap has_trace (append-nil rest) ∙ open_alone rest none));
   longer = λ more.
       subst (λ t. length input ≤ length t + 6) (sym (p.script_is more))
       (omega (arith, ap length p.input_is, length-append p.passed rest, length-append p.passed (before_it (lines_of (rest ++ more))), open_longer rest more none));
@@ -166,3 +169,15 @@ trace_apart script trace h =
     ap behind_it (lines_together script trace h)
     ∙ (none_behind (lines_of script) (codes "trace\n" ∷ lines_of trace) (and_both (ends_line script) (list_all (λ l. not (is_between l)) (lines_of script)) h).1
     ∙ joined_lines trace)
+
+-- such a line is there
+one_there : (ls ms : List (List ℕ)) → list_any is_between (ls ++ codes "trace\n" ∷ ms) ≡ true
+one_there [] ms = refl
+one_there (l ∷ ls) ms = by (is_between l) (one_there ls ms)
+  where
+    by : (b : Bool) → list_any is_between (ls ++ codes "trace\n" ∷ ms) ≡ true → (b || list_any is_between (ls ++ codes "trace\n" ∷ ms)) ≡ true
+    by true e = refl
+    by false e = e
+
+pub there_together : (script trace : List ℕ) → is_whole script ≡ true → has_trace (put_together script trace) ≡ true
+there_together script trace h = ap (list_any is_between) (lines_together script trace h) ∙ one_there (lines_of script) (lines_of trace)

@@ -13,6 +13,7 @@ complaint status.NoFact = []
 complaint status.NotJudged = []
 complaint status.Usage = codes "usage: judge, with a script, a line `trace` and a trace on standard input"
 complaint (status.Refused line why) = codes "judge: line " ++ decimal line ++ codes ": reason " ++ decimal (number_of why)
+complaint status.NoTrace = codes "judge: no line trace"
 complaint status.ReadFault = codes "judge: read fault"
 complaint status.WriteFault = codes "judge: write fault"
 complaint status.OutOfMemory = codes "judge: out of memory"

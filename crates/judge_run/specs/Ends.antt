@@ -1,5 +1,5 @@
 -- How a run of the judge may end, and what each end says.
-use Rattle.std.specs.Prelude.{◌≡◌, ◌<◌, ◌≤◌, ◌⊎◌, ℕ, true, List, [], ◌++◌, Option, Some, IfSome}
+use Rattle.std.specs.Prelude.{◌≡◌, ◌<◌, ◌≤◌, ◌⊎◌, ℕ, Bool, true, false, nat_lt, List, ◌++◌, length, Option, Some, IfSome, if◌then◌else◌}
 use Rattle.yard_io.specs.Told.{followed_by, count_of, TakesFront}
 use Rattle.yard_io.specs.declared.transfer.ReadError.{ReadError}
 use Rattle.yard_io.specs.declared.transfer.ReadError.TheVariants as read_error
@@ -7,6 +7,7 @@ use Rattle.yard_model.specs.Script.{Script}
 use Rattle.script_text.specs.Reading.{Reading, Spelled, Refused, reading}
 use Rattle.script_text.specs.declared.fault.Mode.TheVariants as mode
 use Rattle.script_text.specs.declared.fault.Why.{Why}
+use Rattle.script_text.specs.declared.fault.Why.TheVariants as why
 use Rattle.judge_text.specs.Reads.{IsJudged, ahead, left_of}
 use Rattle.judge_laws.specs.declared.breach.Breach.{Breach}
 use Rattle.judge_laws.specs.declared.breach.Breach.TheVariants as breach
@@ -16,7 +17,7 @@ use Rattle.verdict_laws.specs.Meaning.{Means}
 use Rattle.verdict_laws.specs.Verdict.{verdict}
 use Rattle.judge_run.specs.declared.status.Status.{Status}
 use Rattle.judge_run.specs.declared.status.Status.TheVariants as status
-use Rattle.judge_run.specs.Input.{ends_line, put_together, script_in, trace_in}
+use Rattle.judge_run.specs.Input.{ends_line, has_trace, put_together, script_in, trace_in}
 use Rattle.judge_run.specs.Texts.{answer_text}
 
 -- the exit status of the program
@@ -25,6 +26,7 @@ code_of status.Safe = 0
 code_of status.Unsafe = 1
 code_of status.Usage = 2
 code_of (status.Refused line why) = 3
+code_of status.NoTrace = 3
 code_of status.NoFact = 3
 code_of status.NotJudged = 3
 code_of status.ReadFault = 4
@@ -39,8 +41,25 @@ status_by why = status.Unsafe
 -- how a run ends whose answer was written
 abbrev pub status_of : Answer → Status
 status_of (answer.Safe n) = status.Safe
-status_of (answer.Broken n why) = status_by why
-status_of (answer.NoFact n) = status.NoFact
+status_of (answer.Broken n why q) = status_by why
+status_of (answer.NoFact n q) = status.NoFact
+
+-- what is to be answered of a script and a trace
+abbrev pub wanted_of : Reading → List ℕ → Status
+wanted_of (Spelled c) trace = status_of (verdict c trace)
+wanted_of (Refused line y) trace = status.Refused line y
+
+-- so many bytes are read before a line `trace` is missed: those of a script, and more than that line
+abbrev pub most_read : ℕ
+most_read = 4194311
+
+-- what of an input without it, of so many bytes: it is none of a script and a trace, or too long for a script
+abbrev pub wanted_alone : ℕ → Status
+wanted_alone n = if nat_lt n most_read then status.NoTrace else status.Refused 0 why.TooLong
+
+-- what is to be answered of an input
+abbrev pub wanted : List ℕ → Status
+wanted input = if has_trace input then wanted_of (reading mode.Replay (script_in input)) (trace_in input) else wanted_alone (length input)
 
 -- this is what a source gave and still has: where it tells its bytes, all that it had
 pub record IsInput (had has : Option (List ℕ)) (input : List ℕ) : Type 0 where
@@ -53,6 +72,7 @@ pub record IsInput (had has : Option (List ℕ)) (input : List ℕ) : Type 0 whe
 pub record Answers (had has : Option (List ℕ)) (a : Answer) : Type 0 where
   pub input : List ℕ
   pub input_is : IsInput had has input
+  pub there : has_trace input ≡ true
   pub script : Script
   pub spelled : reading mode.Replay (script_in input) ≡ Spelled script
   pub some : 0 < script.config.shards
@@ -64,6 +84,14 @@ pub record Refuses (had has : Option (List ℕ)) (line : ℕ) (why : Why) : Type
   pub input : List ℕ
   pub input_is : IsInput had has input
   pub refused : reading mode.Replay (script_in input) ≡ Refused line why
+  pub exact : wanted input ≡ status.Refused line why
+
+-- an input without a line `trace`
+pub record Lacks (had has : Option (List ℕ)) : Type 0 where
+  pub input : List ℕ
+  pub input_is : IsInput had has input
+  pub none : has_trace input ≡ false
+  pub exact : wanted input ≡ status.NoTrace
 
 -- a run that was answered
 abbrev pub IfAnswered : Status → Type 0 → Type 0
@@ -77,6 +105,15 @@ abbrev pub IfRefused : Status → (ℕ → Why → Type 0) → Type 0
 IfRefused (status.Refused line why) P = P line why
 IfRefused s P = Unit {0}
 
+abbrev pub IfNoTrace : Status → Type 0 → Type 0
+IfNoTrace status.NoTrace P = P
+IfNoTrace s P = Unit {0}
+
+-- a run never ends as one with words, which reads nothing
+abbrev pub HasRun : Status → Type 0
+HasRun status.Usage = ⊥
+HasRun s = Unit {0}
+
 abbrev pub IfReadFault : Status → Type 0 → Type 0
 IfReadFault status.ReadFault P = P
 IfReadFault s P = Unit {0}
@@ -88,6 +125,7 @@ IfWriteFault s P = Unit {0}
 -- nothing is written by a run that ends so
 abbrev pub IfUnwritten : Status → Type 0 → Type 0
 IfUnwritten (status.Refused line why) P = P
+IfUnwritten status.NoTrace P = P
 IfUnwritten status.ReadFault P = P
 IfUnwritten status.OutOfMemory P = P
 IfUnwritten s P = Unit {0}
@@ -111,13 +149,9 @@ pub record Began (had has : Option (List ℕ)) (before after : Taken) : Type 0 w
   pub answers : Answers had has it
   pub begun : TakesFront before.bytes after.bytes (answer_text it)
 
--- what is to be answered of an input, where there is memory
-abbrev pub IsAnswer : Reading → List ℕ → Status → Type 0
-IsAnswer (Spelled c) trace s = (s ≡ status_of (verdict c trace)) ⊎ (s ≡ status.OutOfMemory)
-IsAnswer (Refused line why) trace s = (s ≡ status.Refused line why) ⊎ (s ≡ status.OutOfMemory)
-
+-- this is what was to be answered, or there is no memory
 abbrev pub IsComplete : Option (List ℕ) → Status → Type 0
-IsComplete told s = IfSome told (λ xs. IsAnswer (reading mode.Replay (script_in xs)) (trace_in xs) s)
+IsComplete told s = IfSome told (λ xs. (s ≡ wanted xs) ⊎ (s ≡ status.OutOfMemory))
 
 -- exactly the text of this answer was written and flushed
 pub record Says (a : Answer) (s : Status) (before after : Taken) : Type 0 where
@@ -136,6 +170,7 @@ JudgesWhole told s before after =
 -- one that ends before there is an answer
 abbrev pub IsEarly : Status → Type 0
 IsEarly (status.Refused line why) = Unit {0}
+IsEarly status.NoTrace = Unit {0}
 IsEarly status.ReadFault = Unit {0}
 IsEarly status.OutOfMemory = Unit {0}
 IsEarly s = ⊥
@@ -149,13 +184,6 @@ IsScriptEnd s = ⊥
 abbrev pub status_without : ReadError → Status
 status_without read_error.Failed = status.ReadFault
 status_without read_error.OutOfMemory = status.OutOfMemory
-
--- a script alone, without a trace
-pub record Alone (text : List ℕ) (a : Answer) : Type 0 where
-  pub script : Script
-  pub spelled : reading mode.Replay text ≡ Spelled script
-  pub some : 0 < script.config.shards
-  pub answer_is : verdict script [] ≡ a
 
 -- a script, and a trace that begins with these bytes
 pub record Behind (text first : List ℕ) (had has : Option (List ℕ)) (a : Answer) : Type 0 where

@@ -9,6 +9,7 @@ use Rattle.judge_run.specs.declared.explain.TheConstants as text
 abbrev pub explanation_of : Status → Bytes
 explanation_of status.Usage = text.USAGE.now
 explanation_of (status.Refused line why) = explanation_of_reason why
+explanation_of status.NoTrace = text.NO_TRACE.now
 explanation_of status.ReadFault = text.READ_FAULT.now
 explanation_of status.WriteFault = text.WRITE_FAULT.now
 explanation_of status.OutOfMemory = text.OUT_OF_MEMORY.now
@@ -18,6 +19,7 @@ explanation_of s = text.NOTHING.now
 abbrev pub place_of : Status → Bytes
 place_of status.Usage = text.JUDGING.now
 place_of (status.Refused line why) = text.REFUSALS.now
+place_of status.NoTrace = text.JUDGING.now
 place_of status.ReadFault = text.JUDGING.now
 place_of status.WriteFault = text.JUDGING.now
 place_of status.OutOfMemory = text.JUDGING.now

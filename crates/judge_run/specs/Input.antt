@@ -1,6 +1,6 @@
 -- A script, a line `trace`, and a trace.
-use Rattle.std.specs.Prelude.{◌≡◌, ℕ, ◌+◌, ◌≤◌, Bool, true, ◌&&◌, not, List, [], ◌∷◌, ◌++◌, length, codes, if◌then◌else◌}
-use Rattle.std.specs.List.{list_all}
+use Rattle.std.specs.Prelude.{◌≡◌, ℕ, ◌+◌, ◌≤◌, Bool, true, false, ◌&&◌, not, List, [], ◌∷◌, ◌++◌, length, codes, if◌then◌else◌}
+use Rattle.std.specs.List.{list_all, list_any}
 use Rattle.yard_model.specs.Script.{is_name}
 use Rattle.verdict_laws.specs.Lines.{is_lf, lines_of}
 
@@ -25,6 +25,10 @@ behind_it (l ∷ ls) = if is_between l then joined ls else behind_it ls
 
 abbrev pub script_in : List ℕ → List ℕ
 script_in input = before_it (lines_of input)
+
+-- there is such a line
+abbrev pub has_trace : List ℕ → Bool
+has_trace input = list_any is_between (lines_of input)
 
 -- empty where there is no such line
 abbrev pub trace_in : List ℕ → List ℕ
@@ -51,9 +55,10 @@ put_together script trace = script ++ (codes "trace\n" ++ trace)
 pub record IsCut (input script trace : List ℕ) : Type 0 where
   pub script_is : (more : List ℕ) → script_in (input ++ more) ≡ script
   pub trace_is : (more : List ℕ) → trace_in (input ++ more) ≡ trace ++ more
+  pub there : (more : List ℕ) → has_trace (input ++ more) ≡ true
 
 -- there is no such line yet
 pub record IsUncut (input : List ℕ) : Type 0 where
   pub script_is : script_in input ≡ input
-  pub trace_is : trace_in input ≡ []
+  pub none : has_trace input ≡ false
   pub longer : (more : List ℕ) → length input ≤ length (script_in (input ++ more)) + 6

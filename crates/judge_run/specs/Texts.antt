@@ -11,6 +11,7 @@ abbrev pub sentence_in : Breach → Bytes
 sentence_in breach.NoName = codes "the script brings no such name"
 sentence_in breach.NoProducer = codes "the script has no such producer"
 sentence_in breach.NoSlot = codes "the script has no such slot"
+sentence_in breach.NoShard = codes "the script has no such shard"
 sentence_in breach.NoNode = codes "the script has no such node"
 sentence_in breach.TwoLive = codes "two live incarnations"
 sentence_in breach.NoLease = codes "live without its shard's lease"
@@ -40,9 +41,18 @@ sentence_in breach.NotJudged = codes "reshard isn't judged"
 -- `safe FACTS ENTRIES RECORDS`, `line N: SENTENCE` or `line N: no fact`
 abbrev pub answer_words : Answer → Bytes
 answer_words (answer.Safe n) = codes "safe " ++ decimal n.facts ++ codes " " ++ decimal n.entries ++ codes " " ++ decimal n.records
-answer_words (answer.Broken n why) = codes "line " ++ decimal n ++ codes ": " ++ sentence_in why
-answer_words (answer.NoFact n) = codes "line " ++ decimal n ++ codes ": no fact"
+answer_words (answer.Broken n why q) = codes "line " ++ decimal n ++ codes ": " ++ sentence_in why
+answer_words (answer.NoFact n q) = codes "line " ++ decimal n ++ codes ": no fact"
 
 -- as one line
+abbrev pub answer_line : Answer → Bytes
+answer_line a = answer_words a ++ 10 ∷ []
+
+-- behind it what is shown of the trace's line, indented
+abbrev pub shown_line : Answer → Bytes
+shown_line (answer.Safe n) = []
+shown_line (answer.Broken n why q) = codes "  " ++ (q ++ 10 ∷ [])
+shown_line (answer.NoFact n q) = codes "  " ++ (q ++ 10 ∷ [])
+
 abbrev pub answer_text : Answer → Bytes
-answer_text a = answer_words a ++ 10 ∷ []
+answer_text a = answer_line a ++ shown_line a

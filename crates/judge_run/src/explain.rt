@@ -8,6 +8,9 @@ use program_words::explanation_of_reason;
 const USAGE: &str =
     "judge takes no words but --help and --version, and nothing was read or written";
 
+const NO_TRACE: &str =
+    "a line trace must stand between the script and its trace, and nothing was judged";
+
 const READ_FAULT: &str = "a read of the input failed, and nothing was written";
 
 const WRITE_FAULT: &str =
@@ -31,6 +34,7 @@ impl Status {
             Status::Safe | Status::Unsafe | Status::NoFact | Status::NotJudged => NOTHING,
             Status::Usage => USAGE,
             Status::Refused { why, .. } => explanation_of_reason(why),
+            Status::NoTrace => NO_TRACE,
             Status::ReadFault => READ_FAULT,
             Status::WriteFault => WRITE_FAULT,
             Status::OutOfMemory => OUT_OF_MEMORY,
@@ -44,7 +48,11 @@ impl Status {
         match self {
             Status::Safe | Status::Unsafe | Status::NoFact | Status::NotJudged => NOTHING,
             Status::Refused { .. } => REFUSALS,
-            Status::Usage | Status::ReadFault | Status::WriteFault | Status::OutOfMemory => JUDGING,
+            Status::Usage
+            | Status::NoTrace
+            | Status::ReadFault
+            | Status::WriteFault
+            | Status::OutOfMemory => JUDGING,
         }
     }
 }

@@ -12,6 +12,7 @@ pub fn sentence_of(why: Breach) -> &'static str
         Breach::NoName => "the script brings no such name",
         Breach::NoProducer => "the script has no such producer",
         Breach::NoSlot => "the script has no such slot",
+        Breach::NoShard => "the script has no such shard",
         Breach::NoNode => "the script has no such node",
         Breach::TwoLive => "two live incarnations",
         Breach::NoLease => "live without its shard's lease",

@@ -28,6 +28,8 @@ pub enum Status {
         /// The reason.
         why: Why,
     },
+    /// The input has no line `trace`. Nothing was written.
+    NoTrace,
     /// A line of the trace is that of no fact, which was written.
     NoFact,
     /// A line of the trace isn't judged, which was written.
@@ -49,7 +51,7 @@ impl Status {
             Status::Safe => 0,
             Status::Unsafe => 1,
             Status::Usage => 2,
-            Status::Refused { .. } | Status::NoFact | Status::NotJudged => 3,
+            Status::Refused { .. } | Status::NoTrace | Status::NoFact | Status::NotJudged => 3,
             Status::ReadFault => 4,
             Status::WriteFault => 5,
             Status::OutOfMemory => 6,
@@ -64,6 +66,7 @@ impl Status {
             Status::Safe | Status::Unsafe | Status::NoFact | Status::NotJudged => false,
             Status::Usage
             | Status::Refused { .. }
+            | Status::NoTrace
             | Status::ReadFault
             | Status::WriteFault
             | Status::OutOfMemory => true,
@@ -72,8 +75,8 @@ impl Status {
 }
 
 /// How a run ends whose answer was written.
-pub(crate) fn status_of(answer: Answer) -> Status
-    ensures { result ≡ status_of answer }
+pub(crate) fn status_of(answer: &Answer) -> Status
+    ensures { result ≡ status_of answer.now }
 {
     match answer {
         Answer::Safe(_) => Status::Safe,
@@ -101,6 +104,7 @@ impl fmt::Display for Status {
                 let reason = why.number();
                 write!(f, "judge: line {line}: reason {reason}")
             }
+            Status::NoTrace => f.write_str("judge: no line trace"),
             Status::ReadFault => f.write_str("judge: read fault"),
             Status::WriteFault => f.write_str("judge: write fault"),
             Status::OutOfMemory => f.write_str("judge: out of memory"),

@@ -1,43 +1,57 @@
 //! An answer, as it is written.
-ghost use Rattle.std.specs.Prelude.{◌≡◌, ◌++◌, ◌∷◌, [], IfOk, string_bytes};
-ghost use Rattle.judge_run.specs.Texts.{answer_text};
+ghost use Rattle.std.specs.Prelude.{◌≡◌, ◌++◌, ◌∷◌, [], codes, IfOk, OnOk, string_bytes};
+ghost use Rattle.judge_run.specs.Texts.{answer_line, answer_text, shown_line};
 
 use crate::sentences::sentence_of;
 use std::alloc::{AllocError, Global};
-use std::fmt;
-use verdict_laws::Answer;
+use verdict_laws::{Answer, Quote};
 
-/// An answer, to be written.
-#[derive(Clone, Copy)]
-struct Told {
-    answer: Answer,
-}
-
-impl fmt::Display for Told {
-    ghost use Rattle.std.specs.Prelude.{Some};
-    ghost use Rattle.judge_run.specs.Texts.{answer_words};
-
-    ghost output = { λ t. Some (answer_words t.answer) };
-
-    fn fmt<W: fmt::Write>(&self, f: &mut fmt::Formatter<W>) -> fmt::Result {
-        match self.answer {
-            Answer::Safe(counts) => {
-                let (facts, entries, records) = (counts.facts, counts.entries, counts.records);
-                write!(f, "safe {facts} {entries} {records}")
-            }
-            Answer::Broken { line, why } => {
-                let sentence = sentence_of(why);
-                write!(f, "line {line}: {sentence}")
-            }
-            Answer::NoFact { line } => write!(f, "line {line}: no fact"),
+/// The first line of an answer. The only error is want of memory.
+fn line_of(alloc: Global, answer: &Answer) -> Result<String, AllocError>
+    ensures { IfOk result (λ text. string_bytes text ≡ answer_line answer.now) }
+{
+    match answer {
+        Answer::Safe(counts) => {
+            let (facts, entries, records) = (counts.facts, counts.entries, counts.records);
+            format!(in alloc; "safe {facts} {entries} {records}\n")
+        }
+        Answer::Broken { line, why, .. } => {
+            let (line, sentence) = (*line, sentence_of(*why));
+            format!(in alloc; "line {line}: {sentence}\n")
+        }
+        Answer::NoFact { line, .. } => {
+            let line = *line;
+            format!(in alloc; "line {line}: no fact\n")
         }
     }
 }
 
-/// The line of an answer. The only error is want of memory.
-pub fn text_of(alloc: Global, answer: Answer) -> Result<String, AllocError>
-    ensures { IfOk result (λ text. string_bytes text ≡ answer_text answer) }
+/// Appends what is shown of a line, indented. The only error is want of memory.
+fn push_quote(text: &mut Vec<u8>, quote: &Quote) -> Result<(), AllocError>
+    ensures { OnOk result (text.new.items ≡ text.old.items ++ (codes "  " ++ (quote.now ++ 10 ∷ []))) }
 {
-    let told = Told { answer };
-    format!(in alloc; "{told}\n")
+    text.extend_from_slice(b"  ")?;
+    text.extend_from_slice(quote.bytes())?;
+    text.push(b'\n')?;
+    Ok(())
+}
+
+/// Appends what stands behind the first line of an answer. The only error is want of memory.
+fn push_shown(text: &mut Vec<u8>, answer: &Answer) -> Result<(), AllocError>
+    ensures { OnOk result (text.new.items ≡ text.old.items ++ shown_line answer.now) }
+{
+    match answer {
+        Answer::Safe(_) => Ok(()),
+        Answer::Broken { quote, .. } | Answer::NoFact { quote, .. } => push_quote(text, quote),
+    }
+}
+
+/// The text of an answer. The only error is want of memory.
+pub fn text_of(alloc: Global, answer: &Answer) -> Result<Vec<u8>, AllocError>
+    ensures { IfOk result (λ text. text.items ≡ answer_text answer.now) }
+{
+    let line = line_of(alloc, answer)?;
+    let mut text = Vec::from_slice(alloc, line.as_bytes())?;
+    push_shown(&mut text, answer)?;
+    Ok(text)
 }

@@ -3,16 +3,16 @@ ghost use Rattle.std.specs.Prelude.{◌≡◌, ◌<◌, ◌≤◌, IfErr, IfOk, 
 ghost use Rattle.yard_io.specs.Told.{TakesFront, count_of, followed_by};
 ghost use Rattle.script_text.specs.Reading.{Refused, Spelled, reading};
 ghost use Rattle.verdict_laws.specs.Meaning.{BrokenIsAnswered, MeantIsAnswered, SafeIsAnswered, UnreadIsAnswered, VerdictMeans};
-ghost use Rattle.judge_run.specs.Ends.{Alone, Answers, Began, Behind, IfAnswered, IfReadFault, IfRefused, IfUnwritten, IfWriteFault, IsComplete, IsEarly, IsScriptEnd, JudgesWhole, Refuses, Tells, Wrote, status_without};
+ghost use Rattle.judge_run.specs.Ends.{Answers, Began, Behind, HasRun, IfAnswered, IfNoTrace, IfReadFault, IfRefused, IfUnwritten, IfWriteFault, IsComplete, IsEarly, IsScriptEnd, JudgesWhole, Lacks, Refuses, Tells, Wrote, status_without, wanted_alone};
 
 use crate::input::cut;
 use crate::status::{Status, status_of};
 use crate::text::text_of;
 use judge_text::judge_rest;
-use script_text::{Mode, ScriptFault, read_script};
+use script_text::{Mode, ScriptFault, Why, read_script};
 use std::alloc::Global;
 use verdict_laws::{
-    Answer, Counts, broken_is_answered, meant_is_answered, safe_is_answered, unread_is_answered,
+    Answer, broken_is_answered, meant_is_answered, safe_is_answered, unread_is_answered,
     verdict_means,
 };
 use yard_io::{Failed, ReadError, Sink, Source, read_up_to, write_all, writes_add_up};
@@ -30,6 +30,8 @@ pub fn judge<S: Source, K: Sink>(alloc: Global, source: &mut S, sink: &mut K) ->
         (record { bytes = K.taken sink.new; flushed = K.flushed sink.new })) }
     // The script is none.
     ensures refused { IfRefused result (λ line why. Refuses (S.left source.old) (S.left source.new) line why) }
+    // There is no line `trace`.
+    ensures no_trace { IfNoTrace result (Lacks (S.left source.old) (S.left source.new)) }
     // The source's faults rose in this call.
     ensures read_fault { IfReadFault result (S.faults source.old < S.faults source.new) }
     // The sink's faults rose in this call; a front of the answer was written.
@@ -47,6 +49,8 @@ pub fn judge<S: Source, K: Sink>(alloc: Global, source: &mut S, sink: &mut K) ->
         → JudgesWhole (S.left source.old) result
         (record { bytes = K.taken sink.old; flushed = K.flushed sink.old })
         (record { bytes = K.taken sink.new; flushed = K.flushed sink.new }) }
+    // It ends in no other way.
+    ensures has_run { HasRun result }
     ensures source_faults { S.faults source.old ≤ S.faults source.new }
     ensures sink_faults { K.faults sink.old ≤ K.faults sink.new }
     // What an answer says is so, and what is so is answered.
@@ -70,25 +74,27 @@ fn judge_input<S: Source, K: Sink>(alloc: Global, source: &mut S, sink: &mut K) 
         (record { bytes = K.taken sink.old; flushed = K.flushed sink.old })
         (record { bytes = K.taken sink.new; flushed = K.flushed sink.new })) }
     ensures refused { IfRefused result (λ line why. Refuses (S.left source.old) (S.left source.new) line why) }
+    ensures no_trace { IfNoTrace result (Lacks (S.left source.old) (S.left source.new)) }
     ensures read_fault { IfReadFault result (S.faults source.old < S.faults source.new) }
     ensures write_fault { IfWriteFault result (K.faults sink.old < K.faults sink.new) }
     ensures write_fault_front { IfWriteFault result (Began (S.left source.old) (S.left source.new)
         (record { bytes = K.taken sink.old; flushed = K.flushed sink.old })
         (record { bytes = K.taken sink.new; flushed = K.flushed sink.new })) }
+    ensures has_run { HasRun result }
     ensures unwritten { IfUnwritten result ((K.taken sink.new ≡ K.taken sink.old) × (K.flushed sink.new ≡ K.flushed sink.old)) }
     ensures complete { S.faults source.new ≡ S.faults source.old → K.faults sink.new ≡ K.faults sink.old → IsComplete (S.left source.old) result }
     ensures source_faults { S.faults source.old ≤ S.faults source.new }
     ensures sink_faults { K.faults sink.old ≤ K.faults sink.new }
 {
     match answer_of(alloc, source) {
-        Ok(answer) => tell(alloc, answer, sink),
+        Ok(answer) => tell(alloc, &answer, sink),
         Err(status) => status,
     }
 }
 
 /// Writes an answer, and flushes it.
-fn tell<K: Sink>(alloc: Global, answer: Answer, sink: &mut K) -> Status
-    ensures { Tells answer result
+fn tell<K: Sink>(alloc: Global, answer: &Answer, sink: &mut K) -> Status
+    ensures { Tells answer.now result
         (record { taken = record { bytes = K.taken sink.old; flushed = K.flushed sink.old }; faults = K.faults sink.old })
         (record { taken = record { bytes = K.taken sink.new; flushed = K.flushed sink.new }; faults = K.faults sink.new }) }
 {
@@ -96,7 +102,7 @@ fn tell<K: Sink>(alloc: Global, answer: Answer, sink: &mut K) -> Status
         Ok(text) => text,
         Err(_) => return Status::OutOfMemory,
     };
-    match write_whole(text.as_bytes(), sink) {
+    match write_whole(text.as_slice(), sink) {
         Ok(()) => status_of(answer),
         Err(_) => Status::WriteFault,
     }
@@ -119,6 +125,7 @@ fn write_whole<K: Sink>(text: &[u8], sink: &mut K) -> Result<(), Failed>
 fn answer_of<S: Source>(alloc: Global, source: &mut S) -> Result<Answer, Status>
     ensures answers { IfOk result (λ a. Answers (S.left source.old) (S.left source.new) a) }
     ensures refused { IfErr result (λ s. IfRefused s (λ line why. Refuses (S.left source.old) (S.left source.new) line why)) }
+    ensures no_trace { IfErr result (λ s. IfNoTrace s (Lacks (S.left source.old) (S.left source.new))) }
     ensures read_fault { IfErr result (λ s. IfReadFault s (S.faults source.old < S.faults source.new)) }
     ensures early { IfErr result (λ s. IsEarly s) }
     ensures never_falls { S.faults source.old ≤ S.faults source.new }
@@ -130,7 +137,21 @@ fn answer_of<S: Source>(alloc: Global, source: &mut S) -> Result<Answer, Status>
     };
     match cut(&head) {
         Some((script, first)) => answer_behind(alloc, script, first, source),
-        None => answer_alone(alloc, &head),
+        None => Err(status_alone(head.len())),
+    }
+}
+
+/// How a run ends of whose input so many bytes came at first, with no line `trace` among them.
+fn status_alone(count: usize) -> Status
+    ensures { result ≡ wanted_alone count }
+{
+    if count < MOST_READ {
+        Status::NoTrace
+    } else {
+        Status::Refused {
+            line: 0,
+            why: Why::TooLong,
+        }
     }
 }
 
@@ -161,23 +182,7 @@ fn charter_of(alloc: Global, script: &[u8]) -> Result<Charter, Status>
     }
 }
 
-/// The same of a script alone, without a trace.
-fn answer_alone(alloc: Global, script: &[u8]) -> Result<Answer, Status>
-    ensures answers { IfOk result (λ a. Alone script.now a) }
-    ensures refused { IfErr result (λ s. IfRefused s (λ line why. reading Mode.Replay script.now ≡ Refused line why)) }
-    ensures early { IfErr result (λ s. IsScriptEnd s) }
-{
-    match charter_of(alloc, script) {
-        Ok(_) => Ok(Answer::Safe(Counts {
-            facts: 0,
-            entries: 0,
-            records: 0,
-        })),
-        Err(status) => Err(status),
-    }
-}
-
-/// The same of a script, and of a trace that begins with these bytes.
+/// What is answered of a script, and of a trace that begins with these bytes.
 fn answer_behind<S: Source>(
     alloc: Global,
     script: &[u8],

@@ -8,7 +8,7 @@ use judge_counts::{counted_by, next, no_counts, stops_at};
 use std::alloc::{AllocError, Global};
 use std::marker::{Model, PhantomData};
 use trace_judge::Judge;
-use verdict_laws::{Answer, Counts};
+use verdict_laws::{Answer, Counts, Quote};
 use yard_model::{
     Body, Cause, Charter, Command, Event, Fact, Keep, Message, Packet, Record, Reply, Slot, State,
 };
@@ -82,7 +82,7 @@ impl Hearing {
     }
 
     /// Takes a line; the answer, where it is known now. The only error is want of memory.
-    pub fn take(&mut self, line: &[u8]) -> Result<Option<Answer>, AllocError>
+    pub fn take(&mut self, alloc: Global, line: &[u8]) -> Result<Option<Answer>, AllocError>
         ensures { IfOk result (λ found. HearsLine self.old line.now found self.new) }
     {
         if is_end(line) {
@@ -91,7 +91,7 @@ impl Hearing {
         let step = take_line(&mut self.judge, &mut self.room, line)?;
         self.counts = counted_by(&self.counts, &step);
         self.lines = next(self.lines);
-        Ok(stops_at(self.lines, &step))
+        stops_at(alloc, self.lines, line, &step)
     }
 
     /// Takes all whole lines; the answer, where it is known now, or the bytes that are left. The only error is want
@@ -101,14 +101,16 @@ impl Hearing {
     {
         let mut rest = bytes;
         while let Some((line, behind)) = first_line(rest) {
-            match self.take(line)? {
+            match self.take(alloc, line)? {
                 Some(answer) => return Ok(Heard::Answered(answer)),
                 None => rest = behind,
             }
         }
         if rest.len() > MOST {
+            let quote = Quote::new(alloc, rest)?;
             return Ok(Heard::Answered(Answer::NoFact {
                 line: next(self.lines),
+                quote,
             }));
         }
         Ok(Heard::Left(Vec::from_slice(alloc, rest)?))

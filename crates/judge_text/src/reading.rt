@@ -38,26 +38,26 @@ fn read_more<S: Source>(
 }
 
 /// What is answered of the last line, which has no LF. The only error is want of memory.
-fn last(hearing: &mut Hearing, rest: &[u8]) -> Result<Answer, AllocError>
+fn last(alloc: Global, hearing: &mut Hearing, rest: &[u8]) -> Result<Answer, AllocError>
     requires no_line { position is_lf rest.now ≡ None }
     requires some { 0 < length rest.now }
     ensures { IfOk result (λ a. answer_of hearing.old rest.now ≡ a) }
 {
-    match hearing.take(rest)? {
+    match hearing.take(alloc, rest)? {
         Some(answer) => Ok(answer),
         None => Ok(hearing.end()),
     }
 }
 
 /// The same of the last bytes, if there are any.
-fn finish(hearing: &mut Hearing, rest: &[u8]) -> Result<Answer, AllocError>
+fn finish(alloc: Global, hearing: &mut Hearing, rest: &[u8]) -> Result<Answer, AllocError>
     requires { position is_lf rest.now ≡ None }
     ensures { IfOk result (λ a. answer_of hearing.old rest.now ≡ a) }
 {
     if rest.is_empty() {
         Ok(hearing.end())
     } else {
-        last(hearing, rest)
+        last(alloc, hearing, rest)
     }
 }
 
@@ -78,13 +78,14 @@ fn turn<S: Source>(
         Heard::Answered(answer) => Ok(Some(answer)),
         Heard::Left(rest) => {
             *window = rest;
-            go_on(hearing, source, piece, window)
+            go_on(alloc, hearing, source, piece, window)
         }
     }
 }
 
 /// Reads on, where no line is left; what is answered where nothing came.
 fn go_on<S: Source>(
+    alloc: Global,
     hearing: &mut Hearing,
     source: &mut S,
     piece: &mut [u8],
@@ -100,7 +101,7 @@ fn go_on<S: Source>(
     if count > 0 {
         return Ok(None);
     }
-    Ok(Some(finish(hearing, window)?))
+    Ok(Some(finish(alloc, hearing, window)?))
 }
 
 /// Judges these bytes and what a source gives, as the text of a trace of this charter.

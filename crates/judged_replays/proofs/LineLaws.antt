@@ -3,7 +3,7 @@ use Rattle.std.proofs.Common.{◌≡◌, ℕ, sym, ap, ◌∙◌, refl, true≢f
 use Rattle.std.specs.Prelude.{Bool, true, false, not, cond, List, [], ◌∷◌, ◌++◌, map, if◌then◌else◌}
 use Rattle.std.specs.List.{flat_map, list_all}
 use Rattle.std.proofs.lemmas.List.{append_assoc}
-use Rattle.plain_laws.proofs.Booleans.{and_both, of_not}
+use Rattle.plain_laws.proofs.Booleans.{and_both, of_not, same_number}
 use Rattle.yard_model.specs.declared.fact.Fact.{Fact}
 use Rattle.yard_model.specs.declared.fact.Fact.TheVariants as fact
 use Rattle.yard_model.specs.Text.{fact_line, fact_words, words}
@@ -67,30 +67,33 @@ lines_tell (f ∷ fs) h r =
     by r rest false e = inl (record { quiet = quiet_passed f r e; short = is_short f h.0 }, rest)
 
 -- what safety says something of may be told
-heard_told : (f : Fact) → IsHeard f → is_loud f ≡ true → IsTold f
-heard_told (fact.At n) h l = absurd (true≢false (sym l))
-heard_told fact.Nothing h l = absurd (true≢false (sym l))
-heard_told fact.WireFull h l = absurd (true≢false (sym l))
-heard_told fact.Settled h l = absurd (true≢false (sym l))
-heard_told (fact.Up x) h l = absurd (true≢false (sym l))
-heard_told (fact.View x v) h l = absurd (true≢false (sym l))
-heard_told (fact.Sent k p) h l = absurd (true≢false (sym l))
-heard_told (fact.Got k) h l = absurd (true≢false (sym l))
-heard_told (fact.Held s x n) h l = absurd (true≢false (sym l))
-heard_told (fact.Moving s st) h l = absurd (true≢false (sym l))
-heard_told (fact.Home x s y) h l = absurd (true≢false (sym l))
-heard_told (fact.Forget x s) h l = absurd (true≢false (sym l))
-heard_told (fact.Kept x m) h l = absurd (true≢false (sym l))
-heard_told (fact.Dropped x m) h l = absurd (true≢false (sym l))
-heard_told (fact.Stashed x m) h l = absurd (true≢false (sym l))
-heard_told (fact.Armed e k) h l = absurd (true≢false (sym l))
-heard_told (fact.Waits p e k) h l = absurd (true≢false (sym l))
-heard_told f h l = h
+heard_told : (f : Fact) → IsHeard f → is_of_replay f ≡ true → is_loud f ≡ true → IsTold f
+heard_told (fact.At n) h r l = absurd (true≢false (sym l))
+heard_told fact.Nothing h r l = absurd (true≢false (sym l))
+heard_told fact.WireFull h r l = absurd (true≢false (sym l))
+heard_told fact.Settled h r l = absurd (true≢false (sym l))
+heard_told (fact.Up x) h r l = absurd (true≢false (sym l))
+heard_told (fact.View x v) h r l = absurd (true≢false (sym l))
+heard_told (fact.Sent k p) h r l = absurd (true≢false (sym l))
+heard_told (fact.Got k) h r l = absurd (true≢false (sym l))
+heard_told (fact.Held s x n) h r l = absurd (true≢false (sym l))
+heard_told (fact.Moving s st) h r l = absurd (true≢false (sym l))
+heard_told (fact.Home x s y) h r l = absurd (true≢false (sym l))
+heard_told (fact.Forget x s) h r l = absurd (true≢false (sym l))
+heard_told (fact.Kept x m) h r l = absurd (true≢false (sym l))
+heard_told (fact.Dropped x m) h r l = absurd (true≢false (sym l))
+heard_told (fact.Stashed x m) h r l = absurd (true≢false (sym l))
+heard_told (fact.Armed e k) h r l = absurd (true≢false (sym l))
+heard_told (fact.Waits p e k) h r l = absurd (true≢false (sym l))
+heard_told (fact.Upgrade v) h r l = same_number v 2 r
+heard_told f h r l = h
 
-pub all_told : (facts : List Fact) → AreHeard facts → AreTold (loud facts)
-all_told [] h = tt
-all_told (f ∷ fs) h = by (all_told fs h.1) (is_loud f) refl
+pub all_told : (facts : List Fact) → AreHeard facts → AreOfReplay facts → AreTold (loud facts)
+all_told [] h r = tt
+all_told (f ∷ fs) h r =
+    let m : (is_of_replay f ≡ true) × AreOfReplay fs = and_both (is_of_replay f) (list_all is_of_replay fs) r in
+    by m.0 (all_told fs h.1 m.1) (is_loud f) refl
   where
-    by : AreTold (loud fs) → (b : Bool) → is_loud f ≡ b → AreTold (cond b (f ∷ loud fs) (loud fs))
-    by rest true e = (heard_told f h.0 e, rest)
-    by rest false e = rest
+    by : is_of_replay f ≡ true → AreTold (loud fs) → (b : Bool) → is_loud f ≡ b → AreTold (cond b (f ∷ loud fs) (loud fs))
+    by k rest true e = (heard_told f h.0 k e, rest)
+    by k rest false e = rest

@@ -33,7 +33,7 @@ use Rattle.play_laws.proofs.Steps.{is_freed, crash_frees}
 use Rattle.judge_laws.specs.Judged.{is_reshard}
 use Rattle.judged_replays.specs.Replayed.{is_resharding, keeps_shards}
 
--- a fact that a world may tell, and that doesn't change the number of shards
+-- a fact that a world may tell, and that doesn't change the number of shards; an upgrade is one to version 2
 abbrev pub is_of_replay : Fact → Bool
 is_of_replay (fact.Reshard n k) = false
 is_of_replay (fact.Resharded s n k) = false
@@ -42,6 +42,7 @@ is_of_replay (fact.SentJob k x e) = false
 is_of_replay (fact.SentDone k x e) = false
 is_of_replay (fact.Given e x) = false
 is_of_replay (fact.Did x e) = false
+is_of_replay (fact.Upgrade v) = v == 2
 is_of_replay f = true
 
 abbrev pub AreOfReplay : List Fact → Type 0
@@ -61,6 +62,7 @@ told_plain (fact.SentJob k x e) h = h
 told_plain (fact.SentDone k x e) h = h
 told_plain (fact.Given e x) h = h
 told_plain (fact.Did x e) h = h
+told_plain (fact.Upgrade v) h = absurd (true≢false (sym h))
 told_plain f h = refl
 
 items_plain : (is : List Item) → list_all is_turn_item is ≡ true → AreOfReplay (facts_in is)

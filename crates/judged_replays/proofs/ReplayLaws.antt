@@ -51,7 +51,7 @@ has_trace : PlayedIsSafe → QuietSaysNothing → (c : Script) (limit : ℕ) →
 has_trace safes quiet c limit script heard plain =
     let facts : List Fact = (played c limit).facts in
     record {
-      told = all_told facts heard;
+      told = all_told facts heard plain;
       plain = all_filter (λ f. not (is_reshard f)) is_loud facts (all_map is_of_replay (λ f. not (is_reshard f)) replay_is_plain facts plain);
       is_safe = sym (quiet c facts) ∙ safes c limit script;
     }

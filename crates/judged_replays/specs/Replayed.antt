@@ -38,7 +38,7 @@ FitsBody (body.Resend p e n) = IsEntity e
 FitsBody (body.Ack p e n) = IsEntity e
 FitsBody b = Unit {0}
 
--- the names in a fact are names; and where safety says something of the fact, its numbers fit
+-- the names in a fact are names; and where safety says something of the fact, but of an upgrade, its numbers fit
 abbrev pub IsHeard : Fact → Type 0
 IsHeard (fact.At n) = Unit {0}
 IsHeard fact.Nothing = Unit {0}
@@ -57,6 +57,7 @@ IsHeard (fact.Dropped x m) = IsEntity m.entity
 IsHeard (fact.Stashed x m) = IsEntity m.entity
 IsHeard (fact.Armed e k) = IsEntity e
 IsHeard (fact.Waits p e k) = IsEntity e
+IsHeard (fact.Upgrade v) = Unit {0}
 IsHeard f = IsTold f
 
 abbrev pub AreHeard : List Fact → Type 0

@@ -1,6 +1,7 @@
 //! Known traces, each with what is answered of it: `index` names them, a line each with the script that it is
 //! judged under, the exit status, and the answer. `NAME.in` is a script and `NAME.trace` a trace. A line of
-//! `hostile` has the exit status, the answer, and a whole input, with `%XX` for a byte that has no place in a line.
+//! `hostile` has the exit status, the answer, and a whole input. In answers and inputs `%XX` stands for a byte that
+//! has no place in a line.
 //! Every input is judged by the program's own call. Of the known traces a line says how many came as they must, and
 //! so of the hostile inputs; before it stands a line for each that didn't. A last line says so of runs in which one
 //! call of the source or of the sink fails.
@@ -30,12 +31,18 @@ fn judged(alloc: Global, input: &[u8]) -> Result<(Status, MemSink), AllocError> 
     Ok((status, sink))
 }
 
-/// Whether that is a known status, and a known answer as a line, or nothing.
-fn is_same(status: Status, written: &[u8], code: &str, answer: &str) -> bool {
-    let known = answer.as_bytes();
+/// The bytes that a part of a line stands for.
+fn bytes_of(alloc: Global, part: &str) -> Result<Vec<u8>, AllocError> {
+    let mut bytes = Vec::new(alloc);
+    percent_decode(part.as_bytes()).append_to(&mut bytes)?;
+    Ok(bytes)
+}
+
+/// Whether that is a known status, and a known answer with an end of a line, or nothing.
+fn is_same(status: Status, written: &[u8], code: &str, known: &[u8]) -> bool {
     let same = match written {
         [] => known.is_empty(),
-        [line @ .., b'\n'] => line == known && !known.is_empty(),
+        [text @ .., b'\n'] => text == known && !known.is_empty(),
         _ => false,
     };
     same && code.parse() == Ok(status.code())
@@ -71,8 +78,9 @@ fn judge_known(rt: &(impl Files + AllocGlobal + Print), line: &str) -> io::Resul
         return Ok(false);
     };
     let input = input_of(rt, script, name)?;
+    let known = bytes_of(rt.alloc(), answer)?;
     let (status, sink) = judged(rt.alloc(), input.as_slice())?;
-    let same = is_same(status, sink.bytes(), code, answer);
+    let same = is_same(status, sink.bytes(), code, known.as_slice());
     if !same {
         println!(rt; "not judged so: {line}")?;
     }
@@ -86,10 +94,10 @@ fn judge_hostile(rt: &(impl AllocGlobal + Print), line: &str) -> io::Result<bool
         println!(rt; "no input: {line}")?;
         return Ok(false);
     };
-    let mut bytes = Vec::new(rt.alloc());
-    percent_decode(input.as_bytes()).append_to(&mut bytes)?;
+    let bytes = bytes_of(rt.alloc(), input)?;
+    let known = bytes_of(rt.alloc(), answer)?;
     let (status, sink) = judged(rt.alloc(), bytes.as_slice())?;
-    let same = is_same(status, sink.bytes(), code, answer);
+    let same = is_same(status, sink.bytes(), code, known.as_slice());
     if !same {
         println!(rt; "not judged so: {line}")?;
     }

@@ -1,8 +1,8 @@
 -- What is read is in range.
 use Rattle.std.proofs.Common.{◌≡◌, ◌≤◌, ℕ, suc, zero, ◌+◌, subst, refl, arith}
-use Rattle.std.specs.Prelude.{Bool, true, false, ◌&&◌, nat_lt, nat_le, List, [], ◌∷◌, ◌++◌, length, codes, Option, Some, None, if◌then◌else◌}
+use Rattle.std.specs.Prelude.{Bool, true, false, ◌==◌, ◌&&◌, nat_lt, nat_le, List, [], ◌∷◌, ◌++◌, length, codes, Option, Some, None, if◌then◌else◌}
 use Rattle.std.proofs.lemmas.List.{length-append}
-use Rattle.plain_laws.proofs.Booleans.{at_most, below}
+use Rattle.plain_laws.proofs.Booleans.{at_most, below, same_number}
 use Rattle.yard_model.specs.declared.fact.Fact.{Fact}
 use Rattle.yard_model.specs.declared.fact.Fact.TheVariants as fact
 use Rattle.yard_model.specs.declared.incarnation.Incarnation.{Incarnation}
@@ -436,14 +436,19 @@ active_in line =
     (λ x h. then_gives (Front IsEntity) IsTold (reads.entity_behind (codes " ") x.1) _ (name_in (codes " ") x.1)
     (λ e i. then_gives (Front FitsStanding) IsTold (states.standing_at e.1) _ (standing_in e.1) (λ s j. (h, i, j.0, j.1))))
 
-told_of : (f : Fact) → IsReadable f → IsTold f
+told_of : (f : Fact) → IsReadable f → Gives IsTold (states.upgraded f)
 told_of (fact.Active x e m st) k = absurd k
+told_of (fact.Upgrade v) k = by (v == 2) refl
+  where
+    by : (b : Bool) → (v == 2) ≡ b → Gives IsTold (if b then Some (fact.Upgrade v) else None)
+    by true e = same_number v 2 e
+    by false e = tt
 told_of f k = k
 
 told_in : (line : List ℕ) → Gives IsTold (states.told_at line)
 told_in line = or_gives IsTold (states.active_at line) _ (active_in line) (by (reads.fact_at line) (fact_in line))
   where
-    by : (o : Option Fact) → Gives IsReadable o → Gives IsTold o
+    by : (o : Option Fact) → Gives IsReadable o → Gives IsTold (reads.and_then o states.upgraded)
     by None k = tt
     by (Some f) k = told_of f k
 

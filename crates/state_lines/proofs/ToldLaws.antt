@@ -1,7 +1,8 @@
 -- Facts whose lines are read, and lines that are read as facts.
-use Rattle.std.proofs.Common.{◌≡◌, ℕ, sym, ap, ◌∙◌, refl}
-use Rattle.std.specs.Prelude.{List, [], ◌∷◌, ◌++◌, codes, decimal, Option, Some, None}
+use Rattle.std.proofs.Common.{◌≡◌, ℕ, sym, ap, ◌∙◌, refl, arith}
+use Rattle.std.specs.Prelude.{List, [], ◌∷◌, ◌++◌, codes, decimal, Option, Some, None, if◌then◌else◌}
 use Rattle.std.proofs.lemmas.List.{append_assoc}
+use Rattle.plain_laws.proofs.Booleans.{number_itself}
 use Rattle.plain_laws.proofs.Lists.{some_is}
 use Rattle.yard_model.specs.declared.fact.Fact.{Fact}
 use Rattle.yard_model.specs.declared.fact.Fact.TheVariants as fact
@@ -9,12 +10,12 @@ use Rattle.yard_model.specs.declared.incarnation.Incarnation.{Incarnation}
 use Rattle.yard_model.specs.declared.state.State.{State}
 use Rattle.yard_model.specs.Text.{fact_line, incarnation_text, state_text, words}
 use Rattle.fact_lines.specs.Readable.{IsReadable}
-use Rattle.fact_lines.specs.Reads.{fact_at, or_else}
+use Rattle.fact_lines.specs.Reads.{and_then, fact_at, or_else}
 use Rattle.fact_lines.proofs.FactLaws.{fact_read}
 use Rattle.fact_lines.proofs.NumberLaws.{entity_read}
 use Rattle.fact_lines.proofs.PartLaws.{incarnation_read}
 use Rattle.state_lines.specs.Laws.{LinesTell, ReadIsTold, ToldIsRead}
-use Rattle.state_lines.specs.States.{active_at, told_at}
+use Rattle.state_lines.specs.States.{active_at, told_at, upgraded}
 use Rattle.state_lines.specs.Told.{IsTold}
 use Rattle.state_lines.proofs.RangeLaws as ranges
 use Rattle.state_lines.proofs.StateLaws.{standing_read}
@@ -53,12 +54,14 @@ not_active (fact.Upgrade v) rest k = refl
 not_active (fact.Reshard n m) rest k = refl
 not_active f rest k = absurd k
 
-other_read : (f : Fact) (rest : List ℕ) → IsReadable f → told_at (fact_line f ++ rest) ≡ Some f
-other_read f rest k = ap (λ (o : Option Fact). or_else o (fact_at (fact_line f ++ rest))) (not_active f rest k) ∙ fact_read f rest k
+other_read : (f : Fact) (rest : List ℕ) → IsReadable f → upgraded f ≡ Some f → told_at (fact_line f ++ rest) ≡ Some f
+other_read f rest k u =
+    ap (λ (o : Option Fact). or_else o (and_then (fact_at (fact_line f ++ rest)) upgraded)) (not_active f rest k) ∙ (ap (λ (o : Option Fact). and_then o upgraded) (fact_read f rest k) ∙ u)
 
 pub told_is_read : ToldIsRead
-told_is_read (fact.Active x e m st) rest k = ap (λ (o : Option Fact). or_else o (fact_at (fact_line (fact.Active x e m st) ++ rest))) (active_read x e m st rest k)
-told_is_read f rest k = other_read f rest k
+told_is_read (fact.Active x e m st) rest k = ap (λ (o : Option Fact). or_else o (and_then (fact_at (fact_line (fact.Active x e m st) ++ rest)) upgraded)) (active_read x e m st rest k)
+told_is_read (fact.Upgrade v) rest k = other_read (fact.Upgrade v) rest (omega (arith, k)) (ap (λ b. if b then Some (fact.Upgrade v) else None) (number_itself v 2 k))
+told_is_read f rest k = other_read f rest k refl
 
 pub read_is_told : ReadIsTold
 read_is_told text f h = ranges.read_is_told text f h

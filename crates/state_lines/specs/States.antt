@@ -1,7 +1,7 @@
 -- What the line of an active entity spells, read from the front: who and which entity, how many records its journal has,
 -- and the state that they lead to. As in fact_lines, that a whole line is the one that its fact prints is asked of it
 -- afterwards.
-use Rattle.std.specs.Prelude.{ℕ, suc, zero, Bool, true, false, List, [], ◌∷◌, ◌++◌, codes, Option, Some, None}
+use Rattle.std.specs.Prelude.{ℕ, suc, zero, Bool, true, false, ◌==◌, List, [], ◌∷◌, ◌++◌, codes, Option, Some, None, if◌then◌else◌}
 use Rattle.yard_model.specs.declared.fact.Fact.{Fact}
 use Rattle.yard_model.specs.declared.fact.Fact.TheVariants as fact
 use Rattle.yard_model.specs.declared.state.CartItem.{CartItem}
@@ -72,6 +72,11 @@ active_at line =
     and_then (entity_behind (codes " ") x.1) (λ e.
     and_then (standing_at e.1) (λ s. Some (fact.Active x.0 e.0 s.0.0 s.0.1))))
 
+-- an upgrade is one to version 2
+abbrev pub upgraded : Fact → Option Fact
+upgraded (fact.Upgrade v) = if v == 2 then Some (fact.Upgrade v) else None
+upgraded f = Some f
+
 -- the fact at the front, that an entity is active among them
 abbrev pub told_at : List ℕ → Option Fact
-told_at line = or_else (active_at line) (fact_at line)
+told_at line = or_else (active_at line) (and_then (fact_at line) upgraded)

@@ -1,5 +1,6 @@
--- Which facts a line is read as: those of fact_lines, and that an entity is active, with numbers that fit what keeps them.
-use Rattle.std.specs.Prelude.{◌≤◌, List, [], ◌∷◌, length}
+-- Which facts a line is read as: those of fact_lines, but of upgrades the one to version 2 alone; and that an entity is active, with numbers that fit what
+-- keeps them.
+use Rattle.std.specs.Prelude.{◌≡◌, ◌≤◌, List, [], ◌∷◌, length}
 use Rattle.yard_model.specs.declared.fact.Fact.{Fact}
 use Rattle.yard_model.specs.declared.fact.Fact.TheVariants as fact
 use Rattle.yard_model.specs.declared.state.CartItem.{CartItem}
@@ -22,6 +23,7 @@ FitsState (state.Cart out items) = (length items ≤ 16) × FitItems items
 
 abbrev pub IsTold : Fact → Type 0
 IsTold (fact.Active x e m st) = FitsIncarnation x × IsEntity e × (m ≤ long) × FitsState st
+IsTold (fact.Upgrade v) = v ≡ 2
 IsTold f = IsReadable f
 
 abbrev pub AreTold : List Fact → Type 0

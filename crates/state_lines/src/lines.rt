@@ -1,6 +1,6 @@
 //! Facts, each read by its first word.
 ghost use Rattle.std.specs.Prelude.{◌≡◌};
-ghost use Rattle.state_lines.specs.States.{active_at, told_at};
+ghost use Rattle.state_lines.specs.States.{active_at, told_at, upgraded};
 
 use crate::basics::{entity_behind, who_behind};
 use crate::states::standing;
@@ -28,6 +28,16 @@ fn active(line: &[u8]) -> Option<Fact>
     })
 }
 
+/// This fact, if it is no upgrade, or the one to version 2.
+fn upgraded(fact: Fact) -> Option<Fact>
+    ensures { result ≡ upgraded fact }
+{
+    match fact {
+        Fact::Upgrade(version) => { if version == 2 { Some(fact) } else { None } }
+        _ => Some(fact),
+    }
+}
+
 /// The fact at the front, that an entity is active among them; whatever stands behind it.
 pub fn told(line: &[u8]) -> Option<Fact>
     ensures { result ≡ told_at line.now }
@@ -35,5 +45,8 @@ pub fn told(line: &[u8]) -> Option<Fact>
     if let Some(fact) = active(line) {
         return Some(fact);
     }
-    fact(line)
+    let Some(other) = fact(line) else {
+        return None;
+    };
+    upgraded(other)
 }

@@ -8,12 +8,12 @@ ghost use Rattle.yard_model.specs.Safe.{shard_list_of};
 ghost use Rattle.yard_model.specs.Script.{setting};
 ghost use Rattle.yard_model.specs.Trace.{lists_of};
 ghost use Rattle.judge_laws.specs.declared.breach.Breach.TheVariants as breach;
-ghost use Rattle.judge_laws.specs.Breached.{breach_of, slot_list};
+ghost use Rattle.judge_laws.specs.Breached.{breach_of, of_node, of_shard, slot_list};
 ghost use Rattle.judge_laws.specs.Judged.{judged};
 
 use crate::judge::Judge;
 use judge_laws::Breach;
-use yard_model::{Cause, EntityName, Fact, Incarnation, ProducerNo, Record, Slot};
+use yard_model::{Cause, EntityName, Fact, Incarnation, ProducerNo, Record, ShardNo, Slot};
 
 impl Judge {
     /// The first test that a fact fails, which fails one.
@@ -27,10 +27,16 @@ impl Judge {
             Fact::Active { .. } => Breach::OtherState,
             Fact::Granted(slot, epoch, who) => self.granted_breach(slot, *epoch, who),
             Fact::Freed(slot, epoch, cause) => self.freed_breach(slot, *epoch, *cause),
-            Fact::Registered(_) => self.coordinator_breach(Breach::NotToRegister),
+            Fact::Registered(who) => {
+                self.coordinator_breach(self.of_node(who, Breach::NotToRegister))
+            }
             Fact::Terminated(_) => self.coordinator_breach(Breach::NotRegistered),
-            Fact::Allocated(_, _) => self.coordinator_breach(Breach::NotToAllocate),
-            Fact::Deallocated(_) => self.coordinator_breach(Breach::NoHome),
+            Fact::Allocated(shard, _) => {
+                self.coordinator_breach(self.of_shard(*shard, Breach::NotToAllocate))
+            }
+            Fact::Deallocated(shard) => {
+                self.coordinator_breach(self.of_shard(*shard, Breach::NoHome))
+            }
             Fact::Wrote(entity, entry) => self.wrote_breach(entity, entry),
             Fact::Snapshot(entity, _) => self.entity_breach(entity, Breach::NotASnapshot),
             Fact::Remembered(entity) => self.entity_breach(entity, Breach::IsRemembered),
@@ -95,6 +101,29 @@ impl Judge {
         match self.slots.holder(&Slot::Coordinator) {
             Some(_) => other,
             None => Breach::Unheld,
+        }
+    }
+
+    /// This breach, where the script has the shard.
+    fn of_shard(&self, shard: ShardNo, other: Breach) -> Breach
+        ensures { result ≡ of_shard self.now.script shard other }
+    {
+        if self.slots.has(&Slot::Shard(shard)) {
+            other
+        } else {
+            Breach::NoShard
+        }
+    }
+
+    /// This breach, where the script has the node.
+    fn of_node(&self, who: &Incarnation, other: Breach) -> Breach
+        ensures { result ≡ of_node self.now.script who.now other }
+    {
+        let nodes = self.slots.charter().config().nodes;
+        if who.node.get() >= 1 && who.node.get() <= nodes {
+            other
+        } else {
+            Breach::NoNode
         }
     }
 

@@ -4,7 +4,7 @@ use Rattle.std.specs.Prelude.{Some, None, cond, nat_lt, ◌==◌, if◌then◌el
 use Rattle.std.specs.List.{position, position_or_len}
 use Rattle.std.proofs.lemmas.List.{take_all, length-drop}
 use Rattle.std.proofs.lemmas.Bool.Decides.{nat_tests}
-use Rattle.verdict_laws.specs.Lines.{before_first, first_word, is_lf, is_stop, lines_of}
+use Rattle.verdict_laws.specs.Lines.{before_first, is_lf, lines_of, up_to}
 
 -- the end of a slice
 pub rest_is : (xs : List ℕ) (i : ℕ) → take (length xs - i) (drop i xs) ≡ drop i xs
@@ -68,16 +68,18 @@ last_line xs e some = open_line xs (missed is_lf xs e) some
 pub record Begins (xs more : List ℕ) : Type 0 where
   pub line : List ℕ
   pub behind : List (List ℕ)
+  pub rest : List ℕ
   pub split : lines_of (xs ++ more) ≡ line ∷ behind
   pub longer : length xs ≤ length line
+  pub line_is : line ≡ xs ++ rest
 
 first_of_any : (x : ℕ) (ys : List ℕ) → Begins (x ∷ []) ys
 first_of_any x ys = by (x == 10) refl (lines_of ys) refl
   where
     by : (b : Bool) → (x == 10) ≡ b → (ls : List (List ℕ)) → lines_of ys ≡ ls → Begins (x ∷ []) ys
-    by true e ls h = record { line = x ∷ []; behind = lines_of ys; split = ap (λ c. if c then (x ∷ []) ∷ lines_of ys else before_first x (lines_of ys)) e; longer = omega arith }
-    by false e [] h = record { line = x ∷ []; behind = []; split = ap (λ c. if c then (x ∷ []) ∷ lines_of ys else before_first x (lines_of ys)) e ∙ ap (before_first x) h; longer = omega arith }
-    by false e (l ∷ ls) h = record { line = x ∷ l; behind = ls; split = ap (λ c. if c then (x ∷ []) ∷ lines_of ys else before_first x (lines_of ys)) e ∙ ap (before_first x) h; longer = omega arith }
+    by true e ls h = record { line = x ∷ []; behind = lines_of ys; rest = []; split = ap (λ c. if c then (x ∷ []) ∷ lines_of ys else before_first x (lines_of ys)) e; longer = omega arith; line_is = refl }
+    by false e [] h = record { line = x ∷ []; behind = []; rest = []; split = ap (λ c. if c then (x ∷ []) ∷ lines_of ys else before_first x (lines_of ys)) e ∙ ap (before_first x) h; longer = omega arith; line_is = refl }
+    by false e (l ∷ ls) h = record { line = x ∷ l; behind = ls; rest = l; split = ap (λ c. if c then (x ∷ []) ∷ lines_of ys else before_first x (lines_of ys)) e ∙ ap (before_first x) h; longer = omega arith; line_is = refl }
 
 open_more : (xs more : List ℕ) → length xs ≤ position_or_len is_lf xs → 0 < length xs → Begins xs more
 open_more [] more h some = absurd (omega (arith, some))
@@ -91,25 +93,27 @@ open_more (x ∷ y ∷ xs) more h some = by (x == 10) refl h (open_more (y ∷ x
         record {
           line = x ∷ r.line;
           behind = r.behind;
+          rest = r.rest;
           split = ap (λ c. if c then (x ∷ []) ∷ lines_of (y ∷ xs ++ more) else before_first x (lines_of (y ∷ xs ++ more))) e ∙ ap (before_first x) r.split;
           longer = omega (arith, r.longer);
+          line_is = ap (λ t. x ∷ t) r.line_is;
         }
 
 pub begins : (xs more : List ℕ) → position is_lf xs ≡ None → 0 < length xs → Begins xs more
 begins xs more e some = open_more xs more (missed is_lf xs e) some
 
--- The first word.
+-- The bytes up to the first of a kind.
 
-word_taken : (l : List ℕ) → first_word l ≡ take (position_or_len is_stop l) l
-word_taken [] = refl
-word_taken (b ∷ bs) = by (is_stop b) (word_taken bs)
+taken : (p : ℕ → Bool) (l : List ℕ) → up_to p l ≡ take (position_or_len p l) l
+taken p [] = refl
+taken p (b ∷ bs) = by (p b) (taken p bs)
   where
-    by : (s : Bool) → first_word bs ≡ take (position_or_len is_stop bs) bs → (if s then [] else b ∷ first_word bs) ≡ take (cond (not s) (1 + position_or_len is_stop bs) 0) (b ∷ bs)
+    by : (s : Bool) → up_to p bs ≡ take (position_or_len p bs) bs → (if s then [] else b ∷ up_to p bs) ≡ take (cond (not s) (1 + position_or_len p bs) 0) (b ∷ bs)
     by true e = refl
-    by false e = ap (λ t. b ∷ t) e ∙ ap (λ n. take n (b ∷ bs)) (sym (past (position_or_len is_stop bs)))
+    by false e = ap (λ t. b ∷ t) e ∙ ap (λ n. take n (b ∷ bs)) (sym (past (position_or_len p bs)))
 
-pub word_at : (l : List ℕ) (i : ℕ) → position is_stop l ≡ Some i → first_word l ≡ take i l
-word_at l i e = word_taken l ∙ ap (λ n. take n l) (found is_stop l i e).0
+pub up_to_at : (p : ℕ → Bool) (l : List ℕ) (i : ℕ) → position p l ≡ Some i → up_to p l ≡ take i l
+up_to_at p l i e = taken p l ∙ ap (λ n. take n l) (found p l i e).0
 
-pub word_whole : (l : List ℕ) → position is_stop l ≡ None → first_word l ≡ l
-word_whole l e = word_taken l ∙ take_all (position_or_len is_stop l) l (missed is_stop l e)
+pub up_to_whole : (p : ℕ → Bool) (l : List ℕ) → position p l ≡ None → up_to p l ≡ l
+up_to_whole p l e = taken p l ∙ take_all (position_or_len p l) l (missed p l e)

@@ -19,7 +19,7 @@ use Rattle.verdict_laws.specs.declared.answer.Answer.TheVariants as answer
 use Rattle.verdict_laws.specs.declared.answer.Counts.{Counts}
 use Rattle.verdict_laws.specs.declared.answer.Step.{Step}
 use Rattle.verdict_laws.specs.declared.answer.Step.TheVariants as step
-use Rattle.verdict_laws.specs.Lines.{is_end, lines_of}
+use Rattle.verdict_laws.specs.Lines.{is_end, lines_of, shown}
 use Rattle.verdict_laws.specs.Meaning.{Breaks, BrokenIsAnswered, HasTrace, IsEnded, IsLine, IsNoFact, IsPassed, Means, MeantIsAnswered, SafeIsAnswered, Tell, TellsUpTo, UnreadIsAnswered, VerdictMeans}
 use Rattle.verdict_laws.specs.Verdict.{answered, counts_of, judged_from, most, next, seen_step, step_of, verdict}
 use Rattle.verdict_laws.proofs.LineLaws.{quiet_goes_on, told_goes_on}
@@ -74,16 +74,16 @@ record StopFrom (c : Script) (before : List Fact) (n : ℕ) (ls : List (List ℕ
   unbroken : IsUnbroken c (before ++ facts)
   it : P (before ++ facts) line
 
-abbrev BreaksSo : Script → Breach → List Fact → List ℕ → Type 0
-BreaksSo c why trace line = Breaks c trace line why
+abbrev BreaksSo : Script → Breach → List ℕ → List Fact → List ℕ → Type 0
+BreaksSo c why q trace line = Breaks c trace line why × (q ≡ shown line)
 
-abbrev UnreadSo : List Fact → List ℕ → Type 0
-UnreadSo trace line = IsNoFact line
+abbrev UnreadSo : List ℕ → List Fact → List ℕ → Type 0
+UnreadSo q trace line = IsNoFact line × (q ≡ shown line)
 
 abbrev MeansFrom : Script → List Fact → ℕ → List (List ℕ) → Answer → Type 0
 MeansFrom c before n ls (answer.Safe k) = SafeFrom c before ls k
-MeansFrom c before n ls (answer.Broken m why) = StopFrom c before n ls m (BreaksSo c why)
-MeansFrom c before n ls (answer.NoFact m) = StopFrom c before n ls m UnreadSo
+MeansFrom c before n ls (answer.Broken m why q) = StopFrom c before n ls m (BreaksSo c why q)
+MeansFrom c before n ls (answer.NoFact m q) = StopFrom c before n ls m (UnreadSo q)
 
 -- one line more at the front, which is passed over
 stop_passed : (c : Script) (before : List Fact) (n : ℕ) (l : List ℕ) (ls : List (List ℕ)) (m : ℕ) (P : List Fact → List ℕ → Type 0) → IsPassed l → StopFrom c before (next n) ls m P → StopFrom c before n (l ∷ ls) m P
@@ -113,8 +113,8 @@ passed_more c before n l ls (answer.Safe k) p s = record {
   unbroken = s.unbroken;
   counts = s.counts;
 }
-passed_more c before n l ls (answer.Broken m why) p s = stop_passed c before n l ls m (BreaksSo c why) p s
-passed_more c before n l ls (answer.NoFact m) p s = stop_passed c before n l ls m UnreadSo p s
+passed_more c before n l ls (answer.Broken m why q) p s = stop_passed c before n l ls m (BreaksSo c why q) p s
+passed_more c before n l ls (answer.NoFact m q) p s = stop_passed c before n l ls m (UnreadSo q) p s
 
 -- a fact that is no breach doesn't change the number of shards
 heard_plain : (c : Script) (before : List Fact) (f : Fact) → breach_of c before f ≡ None → not (is_reshard f) ≡ true
@@ -152,8 +152,8 @@ heard_more c before f n l ls (answer.Safe k) h s = record {
   unbroken = subst (IsUnbroken c) (append_assoc before (f ∷ []) s.facts) s.unbroken;
   counts = s.counts ∙ ap counts_of (append_assoc before (f ∷ []) s.facts);
 }
-heard_more c before f n l ls (answer.Broken m why) h s = stop_heard c before f n l ls m (BreaksSo c why) h s
-heard_more c before f n l ls (answer.NoFact m) h s = stop_heard c before f n l ls m UnreadSo h s
+heard_more c before f n l ls (answer.Broken m why q) h s = stop_heard c before f n l ls m (BreaksSo c why q) h s
+heard_more c before f n l ls (answer.NoFact m q) h s = stop_heard c before f n l ls m (UnreadSo q) h s
 
 -- here it stops
 stop_here : (c : Script) (before : List Fact) (n : ℕ) (l : List ℕ) (ls : List (List ℕ)) (P : List Fact → List ℕ → Type 0) → IsUnbroken c before → is_end l ≡ false → P before l → StopFrom c before n (l ∷ ls) (next n) P
@@ -191,15 +191,15 @@ means_from c k before n (l ∷ ls) u =
   where
     by_step : is_end l ≡ false → (s : Step) → Came c before l s → MeansFrom c before (next n) ls (judged_from c before (next n) ls)
         → ((f : Fact) → breach_of c before f ≡ None → MeansFrom c (before ++ f ∷ []) (next n) ls (judged_from c (before ++ f ∷ []) (next n) ls))
-        → MeansFrom c before n (l ∷ ls) (answered s (next n) (judged_from c before (next n) ls) (λ f. judged_from c (before ++ f ∷ []) (next n) ls))
+        → MeansFrom c before n (l ∷ ls) (answered s (next n) l (judged_from c before (next n) ls) (λ f. judged_from c (before ++ f ∷ []) (next n) ls))
     by_step e step.Quiet p quiet heard = passed_more c before n l ls (judged_from c before (next n) ls) p quiet
     by_step e (step.Heard f) h quiet heard = heard_more c before f n l ls (judged_from c (before ++ f ∷ []) (next n) ls) h (heard f h.passes)
-    by_step e (step.Broken why) b quiet heard = stop_here c before n l ls (BreaksSo c why) u e b
-    by_step e step.NoFact b quiet heard = stop_here c before n l ls UnreadSo u e b
+    by_step e (step.Broken why) b quiet heard = stop_here c before n l ls (BreaksSo c why (shown l)) u e (b, refl)
+    by_step e step.NoFact b quiet heard = stop_here c before n l ls (UnreadSo (shown l)) u e (b, refl)
 
     by_end : (b : Bool) → is_end l ≡ b → (s : Step) → Came c before l s → MeansFrom c before (next n) ls (judged_from c before (next n) ls)
         → ((f : Fact) → breach_of c before f ≡ None → MeansFrom c (before ++ f ∷ []) (next n) ls (judged_from c (before ++ f ∷ []) (next n) ls))
-        → MeansFrom c before n (l ∷ ls) (if b then answer.Safe (counts_of before) else answered s (next n) (judged_from c before (next n) ls) (λ f. judged_from c (before ++ f ∷ []) (next n) ls))
+        → MeansFrom c before n (l ∷ ls) (if b then answer.Safe (counts_of before) else answered s (next n) l (judged_from c before (next n) ls) (λ f. judged_from c (before ++ f ∷ []) (next n) ls))
     by_end true e s cm quiet heard = safe_here c before (l ∷ ls) u e
     by_end false e s cm quiet heard = by_step e s cm quiet heard
 
@@ -216,8 +216,8 @@ means_all c text (answer.Safe n) k s = record {
   has = has_trace c s.facts k s.heard s.unbroken;
   counts = s.counts;
 }
-means_all c text (answer.Broken m why) k s = record { trace = s.facts; line = s.line; tells = tells_stop c text m (BreaksSo c why) s; has = has_trace c s.facts k s.heard s.unbroken; breaks = s.it }
-means_all c text (answer.NoFact m) k s = record { trace = s.facts; line = s.line; tells = tells_stop c text m UnreadSo s; has = has_trace c s.facts k s.heard s.unbroken; no_fact = s.it }
+means_all c text (answer.Broken m why q) k s = record { trace = s.facts; line = s.line; tells = tells_stop c text m (BreaksSo c why q) s; has = has_trace c s.facts k s.heard s.unbroken; breaks = s.it.0; shows = s.it.1 }
+means_all c text (answer.NoFact m q) k s = record { trace = s.facts; line = s.line; tells = tells_stop c text m (UnreadSo q) s; has = has_trace c s.facts k s.heard s.unbroken; no_fact = s.it.0; shows = s.it.1 }
 
 pub verdict_means : VerdictMeans
 verdict_means c text k = means_all c text (verdict c text) k (means_from c k [] 0 (lines_of text) (unbroken_begins c))
@@ -237,10 +237,10 @@ all_unbroken c before (f ∷ fs) n k u h =
 
 -- by what a line comes to
 pub goes_on : (c : Script) (before : List Fact) (n : ℕ) (l : List ℕ) (ls : List (List ℕ)) (s : Step) → is_end l ≡ false → step_of c before l ≡ s
-    → judged_from c before n (l ∷ ls) ≡ answered s (next n) (judged_from c before (next n) ls) (λ f. judged_from c (before ++ f ∷ []) (next n) ls)
+    → judged_from c before n (l ∷ ls) ≡ answered s (next n) l (judged_from c before (next n) ls) (λ f. judged_from c (before ++ f ∷ []) (next n) ls)
 goes_on c before n l ls s e h =
-    ap (λ b. if b then answer.Safe (counts_of before) else answered (step_of c before l) (next n) (judged_from c before (next n) ls) (λ f. judged_from c (before ++ f ∷ []) (next n) ls)) e
-    ∙ ap (λ t. answered t (next n) (judged_from c before (next n) ls) (λ f. judged_from c (before ++ f ∷ []) (next n) ls)) h
+    ap (λ b. if b then answer.Safe (counts_of before) else answered (step_of c before l) (next n) l (judged_from c before (next n) ls) (λ f. judged_from c (before ++ f ∷ []) (next n) ls)) e
+    ∙ ap (λ t. answered t (next n) l (judged_from c before (next n) ls) (λ f. judged_from c (before ++ f ∷ []) (next n) ls)) h
 
 answered_from : (c : Script) → 0 < c.config.shards → (behind lines : List (List ℕ)) (before facts : List Fact) (n k : ℕ) → AreTold facts → Tell lines facts → broken_from c k before facts ≡ None
     → judged_from c before n (lines ++ behind) ≡ judged_from c (before ++ facts) (numbered n lines) behind
@@ -264,7 +264,7 @@ none_broken c trace k h = none_of (broken_in c trace) (sym (safe_is_unbroken c t
 
 ended_safe : (c : Script) (trace : List Fact) (n : ℕ) (ls : List (List ℕ)) → IsEnded ls → judged_from c trace n ls ≡ answer.Safe (counts_of trace)
 ended_safe c trace n [] e = refl
-ended_safe c trace n (l ∷ ls) e = ap (λ b. if b then answer.Safe (counts_of trace) else answered (step_of c trace l) (next n) (judged_from c trace (next n) ls) (λ f. judged_from c (trace ++ f ∷ []) (next n) ls)) e
+ended_safe c trace n (l ∷ ls) e = ap (λ b. if b then answer.Safe (counts_of trace) else answered (step_of c trace l) (next n) l (judged_from c trace (next n) ls) (λ f. judged_from c (trace ++ f ∷ []) (next n) ls)) e
 
 pub safe_is_answered : SafeIsAnswered
 safe_is_answered c text trace k h t =
@@ -272,7 +272,7 @@ safe_is_answered c text trace k h t =
 
 -- up to the line that is next
 up_to : (c : Script) (text : List ℕ) (trace : List Fact) (n : ℕ) (line : List ℕ) → 0 < c.config.shards → HasTrace c trace → (t : TellsUpTo text trace n line) → (s : Step) → step_of c trace line ≡ s
-    → verdict c text ≡ answered s (next (numbered 0 t.lines)) (judged_from c trace (next (numbered 0 t.lines)) t.behind) (λ f. judged_from c (trace ++ f ∷ []) (next (numbered 0 t.lines)) t.behind)
+    → verdict c text ≡ answered s (next (numbered 0 t.lines)) line (judged_from c trace (next (numbered 0 t.lines)) t.behind) (λ f. judged_from c (trace ++ f ∷ []) (next (numbered 0 t.lines)) t.behind)
 up_to c text trace n line k h t s e =
     ap (judged_from c [] 0) t.split ∙ (answered_from c k (line ∷ t.behind) t.lines [] trace 0 0 h.told t.tell (none_broken c trace k h) ∙ goes_on c trace (numbered 0 t.lines) line t.behind s t.goes_on e)
 
@@ -284,9 +284,9 @@ unbroken_trace c trace k h = all_unbroken c [] trace 0 k (unbroken_begins c) (no
 
 -- by a fact that is a breach
 breach_answered : (c : Script) (text : List ℕ) (trace : List Fact) (n : ℕ) (line : List ℕ) (f : Fact) (why : Breach) → 0 < c.config.shards → HasTrace c trace → TellsUpTo text trace n line → IsTold f → IsLine line f → breach_of c trace f ≡ Some why
-    → verdict c text ≡ answer.Broken n why
+    → verdict c text ≡ answer.Broken n why (shown line)
 breach_answered c text trace n line f why k h t told i b =
-    up_to c text trace n line k h t (step.Broken why) (step_read c trace line f told i ∙ ap (seen_step f) b) ∙ ap (λ m. answer.Broken m why) (its_number text trace n line t)
+    up_to c text trace n line k h t (step.Broken why) (step_read c trace line f told i ∙ ap (seen_step f) b) ∙ ap (λ m. answer.Broken m why (shown line)) (its_number text trace n line t)
 
 pub broken_is_answered : BrokenIsAnswered
 broken_is_answered c text trace n line k h t u =
@@ -295,9 +295,10 @@ broken_is_answered c text trace n line k h t u =
 
 pub unread_is_answered : UnreadIsAnswered
 unread_is_answered c text trace n line k h t w =
-    up_to c text trace n line k h t step.NoFact (step_unread c trace line w) ∙ ap answer.NoFact (its_number text trace n line t)
+    up_to c text trace n line k h t step.NoFact (step_unread c trace line w) ∙ ap (λ m. answer.NoFact m (shown line)) (its_number text trace n line t)
 
 pub meant_is_answered : MeantIsAnswered
 meant_is_answered c text (answer.Safe n) k m = safe_is_answered c text m.trace k m.has m.tells ∙ ap answer.Safe (sym m.counts)
-meant_is_answered c text (answer.Broken n why) k m = breach_answered c text m.trace n m.line m.breaks.it why k m.has m.tells m.breaks.told m.breaks.line_is m.breaks.why_is
-meant_is_answered c text (answer.NoFact n) k m = unread_is_answered c text m.trace n m.line k m.has m.tells m.no_fact
+meant_is_answered c text (answer.Broken n why q) k m =
+    breach_answered c text m.trace n m.line m.breaks.it why k m.has m.tells m.breaks.told m.breaks.line_is m.breaks.why_is ∙ ap (λ t. answer.Broken n why t) (sym m.shows)
+meant_is_answered c text (answer.NoFact n q) k m = unread_is_answered c text m.trace n m.line k m.has m.tells m.no_fact ∙ ap (λ t. answer.NoFact n t) (sym m.shows)

@@ -1,5 +1,5 @@
 -- The lines of a trace's text.
-use Rattle.std.specs.Prelude.{ℕ, Bool, false, ◌==◌, ◌||◌, nat_lt, List, [], ◌∷◌, length, codes, Option, Some, None, if◌then◌else◌}
+use Rattle.std.specs.Prelude.{ℕ, Bool, false, ◌==◌, ◌||◌, nat_lt, List, [], ◌∷◌, length, take, codes, Option, Some, None, if◌then◌else◌}
 use Rattle.yard_model.specs.declared.fact.Fact.{Fact}
 use Rattle.yard_model.specs.Script.{is_name}
 use Rattle.yard_model.specs.Text.{fact_line}
@@ -29,10 +29,22 @@ most_of_line = 4096
 abbrev pub is_long : List ℕ → Bool
 is_long l = nat_lt most_of_line (length l)
 
+-- the bytes up to the first of this kind
+abbrev pub up_to : (ℕ → Bool) → List ℕ → List ℕ
+up_to p [] = []
+up_to p (b ∷ bs) = if p b then [] else b ∷ up_to p bs
+
 -- the bytes up to the first space or LF
 abbrev pub first_word : List ℕ → List ℕ
-first_word [] = []
-first_word (b ∷ bs) = if is_stop b then [] else b ∷ first_word bs
+first_word l = up_to is_stop l
+
+-- the most bytes that an answer shows of a line
+abbrev pub most_shown : ℕ
+most_shown = 200
+
+-- what an answer shows of a line: its first bytes, without its LF
+abbrev pub shown : List ℕ → List ℕ
+shown l = up_to is_lf (take most_shown l)
 
 -- the first word of facts of which safety says nothing
 abbrev pub is_quiet_word : List ℕ → Bool

@@ -11,7 +11,7 @@ use Rattle.judge_laws.specs.Judged.{is_plain, is_reshard}
 use Rattle.verdict_laws.specs.declared.answer.Answer.{Answer}
 use Rattle.verdict_laws.specs.declared.answer.Answer.TheVariants as answer
 use Rattle.verdict_laws.specs.declared.answer.Counts.{Counts}
-use Rattle.verdict_laws.specs.Lines.{is_end, is_long, is_quiet, lines_of}
+use Rattle.verdict_laws.specs.Lines.{is_end, is_long, is_quiet, lines_of, shown}
 use Rattle.verdict_laws.specs.Verdict.{counts_of, most, verdict}
 
 -- the line of a fact
@@ -83,26 +83,28 @@ pub record IsSafe (c : Script) (text : List ℕ) (n : Counts) : Type 0 where
   pub has : HasTrace c trace
   pub counts : n ≡ counts_of trace
 
--- its first lines tell a safe trace, which the next line breaks
-pub record IsBroken (c : Script) (text : List ℕ) (n : ℕ) (why : Breach) : Type 0 where
+-- its first lines tell a safe trace, which the next line breaks; so much is shown of that line
+pub record IsBroken (c : Script) (text : List ℕ) (n : ℕ) (why : Breach) (q : List ℕ) : Type 0 where
   pub trace : List Fact
   pub line : List ℕ
   pub tells : TellsUpTo text trace n line
   pub has : HasTrace c trace
   pub breaks : Breaks c trace line why
+  pub shows : q ≡ shown line
 
--- its first lines tell a safe trace, and the next line is of no fact
-pub record IsUnread (c : Script) (text : List ℕ) (n : ℕ) : Type 0 where
+-- its first lines tell a safe trace, and the next line is of no fact; so much is shown of it
+pub record IsUnread (c : Script) (text : List ℕ) (n : ℕ) (q : List ℕ) : Type 0 where
   pub trace : List Fact
   pub line : List ℕ
   pub tells : TellsUpTo text trace n line
   pub has : HasTrace c trace
   pub no_fact : IsNoFact line
+  pub shows : q ≡ shown line
 
 abbrev pub Means : Script → List ℕ → Answer → Type 0
 Means c text (answer.Safe n) = IsSafe c text n
-Means c text (answer.Broken n why) = IsBroken c text n why
-Means c text (answer.NoFact n) = IsUnread c text n
+Means c text (answer.Broken n why q) = IsBroken c text n why q
+Means c text (answer.NoFact n q) = IsUnread c text n q
 
 -- each text is answered by what is so of it
 abbrev pub VerdictMeans : Type 0
@@ -126,13 +128,13 @@ pub record IsUnsafe (c : Script) (trace : List Fact) (line : List ℕ) : Type 0 
   pub with_it : safe c (trace ++ it ∷ []) ≡ false
 
 -- it is answered by its line, and by the first test that this fact fails
-pub record IsAnsweredBroken (c : Script) (text : List ℕ) (trace : List Fact) (it : Fact) (n : ℕ) : Type 0 where
+pub record IsAnsweredBroken (c : Script) (text : List ℕ) (trace : List Fact) (it : Fact) (n : ℕ) (line : List ℕ) : Type 0 where
   pub why : Breach
   pub why_is : breach_of c trace it ≡ Some why
-  pub answer_is : verdict c text ≡ answer.Broken n why
+  pub answer_is : verdict c text ≡ answer.Broken n why (shown line)
 
 abbrev pub BrokenIsAnswered : Type 0
-BrokenIsAnswered = (c : Script) (text : List ℕ) (trace : List Fact) (n : ℕ) (line : List ℕ) → 0 < c.config.shards → HasTrace c trace → TellsUpTo text trace n line → (u : IsUnsafe c trace line) → IsAnsweredBroken c text trace u.it n
+BrokenIsAnswered = (c : Script) (text : List ℕ) (trace : List Fact) (n : ℕ) (line : List ℕ) → 0 < c.config.shards → HasTrace c trace → TellsUpTo text trace n line → (u : IsUnsafe c trace line) → IsAnsweredBroken c text trace u.it n line
 
 abbrev pub UnreadIsAnswered : Type 0
-UnreadIsAnswered = (c : Script) (text : List ℕ) (trace : List Fact) (n : ℕ) (line : List ℕ) → 0 < c.config.shards → HasTrace c trace → TellsUpTo text trace n line → IsNoFact line → verdict c text ≡ answer.NoFact n
+UnreadIsAnswered = (c : Script) (text : List ℕ) (trace : List Fact) (n : ℕ) (line : List ℕ) → 0 < c.config.shards → HasTrace c trace → TellsUpTo text trace n line → IsNoFact line → verdict c text ≡ answer.NoFact n (shown line)

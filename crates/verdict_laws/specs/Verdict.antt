@@ -10,7 +10,7 @@ use Rattle.verdict_laws.specs.declared.answer.Answer.TheVariants as answer
 use Rattle.verdict_laws.specs.declared.answer.Counts.{Counts}
 use Rattle.verdict_laws.specs.declared.answer.Step.{Step}
 use Rattle.verdict_laws.specs.declared.answer.Step.TheVariants as step
-use Rattle.verdict_laws.specs.Lines.{is_end, is_long, is_quiet, lines_of, read_line}
+use Rattle.verdict_laws.specs.Lines.{is_end, is_long, is_quiet, lines_of, read_line, shown}
 
 -- the greatest count
 abbrev pub most : ℕ
@@ -72,18 +72,18 @@ counts_of trace = fold counted no_counts trace
 -- All lines.
 
 -- by what a line, of this number, came to: what is answered where it is passed over, and where it tells a fact
-abbrev pub answered : Step → ℕ → Answer → (Fact → Answer) → Answer
-answered step.Quiet n quiet heard = quiet
-answered (step.Heard f) n quiet heard = heard f
-answered (step.Broken why) n quiet heard = answer.Broken n why
-answered step.NoFact n quiet heard = answer.NoFact n
+abbrev pub answered : Step → ℕ → List ℕ → Answer → (Fact → Answer) → Answer
+answered step.Quiet n l quiet heard = quiet
+answered (step.Heard f) n l quiet heard = heard f
+answered (step.Broken why) n l quiet heard = answer.Broken n why (shown l)
+answered step.NoFact n l quiet heard = answer.NoFact n (shown l)
 
 -- what is answered of these lines, behind these facts and so many lines
 abbrev pub judged_from : Script → List Fact → ℕ → List (List ℕ) → Answer
 judged_from c before n [] = answer.Safe (counts_of before)
 judged_from c before n (l ∷ ls) =
     if is_end l then answer.Safe (counts_of before)
-    else answered (step_of c before l) (next n) (judged_from c before (next n) ls) (λ f. judged_from c (before ++ f ∷ []) (next n) ls)
+    else answered (step_of c before l) (next n) l (judged_from c before (next n) ls) (λ f. judged_from c (before ++ f ∷ []) (next n) ls)
 
 abbrev pub verdict : Script → List ℕ → Answer
 verdict c text = judged_from c [] 0 (lines_of text)

@@ -1,5 +1,6 @@
 //! What a judge answers.
 
+use crate::quote::Quote;
 use judge_laws::Breach;
 use yard_model::Fact;
 
@@ -17,7 +18,7 @@ pub struct Counts {
 
 /// Whether a trace is safe, or which line, from 1, ends its safety. The number of a line stands still at the
 /// greatest `u64`.
-#[derive(Clone, Copy, Debug, PartialEq, Eq)]
+#[derive(Drop)]
 pub enum Answer {
     /// It is safe.
     Safe(Counts),
@@ -27,11 +28,15 @@ pub enum Answer {
         line: u64,
         /// Why.
         why: Breach,
+        /// What is shown of it.
+        quote: Quote,
     },
     /// This line is that of no fact.
     NoFact {
         /// The line.
         line: u64,
+        /// What is shown of it.
+        quote: Quote,
     },
 }
 

@@ -5,8 +5,10 @@
 ghost use Rattle.verdict_laws.specs.Meaning.{BrokenIsAnswered, MeantIsAnswered, SafeIsAnswered, UnreadIsAnswered, VerdictMeans};
 
 mod answer;
+mod quote;
 
 pub use answer::{Answer, Counts, Step};
+pub use quote::Quote;
 
 /// What an answer says: of a trace that is safe up to its end, or up to a line with which it isn't, or up to a line
 /// that is that of no fact.

@@ -2,9 +2,9 @@ use Rattle.std.proofs.Common.{◌≡◌, subst, rules}
 use Rattle.std.specs.Prelude.{List, ℕ}
 use Rattle.script_text.specs.Reading.{Refused, reading}
 use Rattle.script_text.specs.declared.fault.Mode.TheVariants as mode
-use Rattle.judge_run.specs.Ends.{Alone, Answers, Behind, Refuses}
+use Rattle.judge_run.specs.Ends.{Answers, Behind, Refuses}
 use Rattle.judge_run.specs.Input.{IsCut, IsUncut}
-use Rattle.judge_run.proofs.EndLaws.{IsHead, answers_alone, answers_behind, on_ok, on_refused, refuses_alone, refuses_behind}
+use Rattle.judge_run.proofs.EndLaws.{IsHead, answers_behind, lacks_alone, on_ok, on_refused, refuses_alone, refuses_behind}
 use Rattle.judge_run.proofs.top.answer_of.Goals as goal
 
 pub returns-in-Some-clause-answers : goal.returns-in-Some-clause-answers
@@ -31,16 +31,6 @@ returns-in-Some-clause-refused g c =
     on_refused c.answer_behind.result (λ line why. (reading mode.Replay c.in-Some.script.now ≡ Refused line why) × (has ≡ mid)) (Refuses had has)
     (λ line why e. refuses_behind had mid has head c.in-Some.script.now c.in-Some.first.now 4194311 line why h k e.0 e.1) c.answer_behind.ensures.refused
 
-pub returns-clause-answers : goal.returns-clause-answers
-returns-clause-answers g c =
-    let had = g.S.Source.left c.args.source.now in
-    let mid = g.S.Source.left c.read_up_to.new.source in
-    let head : List ℕ = c.in-Ok.head.items in
-    let h : IsHead had mid head 4194311 = record { bytes = c.in-Ok.ensures.bytes; rest = c.in-Ok.ensures.rest } in
-    let k : IsUncut head = subst IsUncut c.deref.ensures.value c.in-None.ensures in
-    on_ok c.answer_alone.result (Alone c.deref-in-None.result.now) (Answers had mid)
-    (λ a b. answers_alone c.verdict_means.ensures had mid head a h k (subst (λ t. Alone t a) c.deref-in-None.ensures.value b)) c.answer_alone.ensures.answers
-
 pub returns-clause-refused : goal.returns-clause-refused
 returns-clause-refused g c =
     let had = g.S.Source.left c.args.source.now in
@@ -48,5 +38,13 @@ returns-clause-refused g c =
     let head : List ℕ = c.in-Ok.head.items in
     let h : IsHead had mid head 4194311 = record { bytes = c.in-Ok.ensures.bytes; rest = c.in-Ok.ensures.rest } in
     let k : IsUncut head = subst IsUncut c.deref.ensures.value c.in-None.ensures in
-    on_refused c.answer_alone.result (λ line why. reading mode.Replay c.deref-in-None.result.now ≡ Refused line why) (Refuses had mid)
-    (λ line why e. refuses_alone had mid head line why h k (subst (λ t. reading mode.Replay t ≡ Refused line why) c.deref-in-None.ensures.value e)) c.answer_alone.ensures.refused
+    refuses_alone had mid head c.status_alone.result h k c.status_alone.ensures
+
+pub returns-clause-no_trace : goal.returns-clause-no_trace
+returns-clause-no_trace g c =
+    let had = g.S.Source.left c.args.source.now in
+    let mid = g.S.Source.left c.read_up_to.new.source in
+    let head : List ℕ = c.in-Ok.head.items in
+    let h : IsHead had mid head 4194311 = record { bytes = c.in-Ok.ensures.bytes; rest = c.in-Ok.ensures.rest } in
+    let k : IsUncut head = subst IsUncut c.deref.ensures.value c.in-None.ensures in
+    lacks_alone had mid head c.status_alone.result h k c.status_alone.ensures

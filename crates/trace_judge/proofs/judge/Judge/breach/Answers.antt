@@ -1,9 +1,12 @@
 use Rattle.std.proofs.Common.{◌≡◌, ◌<◌, sym, subst, ap, ◌∙◌, refl, false}
-use Rattle.std.specs.Prelude.{Some}
+use Rattle.std.specs.Prelude.{Some, if◌then◌else◌}
 use Rattle.yard_model.specs.declared.fact.Fact.{Fact}
 use Rattle.yard_model.specs.declared.fact.Fact.TheVariants as fact
+use Rattle.yard_model.specs.Lawful.{is_held}
+use Rattle.yard_model.specs.Script.{setting}
+use Rattle.yard_model.specs.Trace.{lists_of}
 use Rattle.judge_laws.specs.declared.breach.Breach.TheVariants as breach
-use Rattle.judge_laws.specs.Breached.{breach_of}
+use Rattle.judge_laws.specs.Breached.{breach_of, of_node, of_shard}
 use Rattle.judge_laws.specs.Judged.{judged}
 use Rattle.trace_judge.specs.Judging.{Judged}
 use Rattle.trace_judge.proofs.JudgeLaws.{coordinator_fails, entity_fails, queued_fails}
@@ -20,21 +23,24 @@ returns-in-Registered c =
     let v = c.args.self.now in
     let some = subst (λ (v : Judged). 0 < v.script.config.shards) c.self.view_is c.self.invariant.shards in
     ap (breach_of v.script v.trace) c.in-Registered.is
-    ∙ (coordinator_fails v.script v.trace (fact.Registered c.in-Registered.field-0) breach.NotToRegister some (subst (λ (f : Fact). judged v.script v.trace f ≡ false) c.in-Registered.is c.requires) refl ∙ ap (λ b. Some b) (sym c.coordinator_breach.ensures))
+    ∙ (coordinator_fails v.script v.trace (fact.Registered c.in-Registered.field-0) (of_node v.script c.in-Registered.field-0 breach.NotToRegister) some (subst (λ (f : Fact). judged v.script v.trace f ≡ false) c.in-Registered.is c.requires) refl
+    ∙ (ap (λ b. Some (if is_held (lists_of (setting v.script) v.trace).coordinator then b else breach.Unheld)) (sym c.of_node.ensures) ∙ ap (λ b. Some b) (sym c.coordinator_breach.ensures)))
 
 pub returns-in-Allocated : goal.returns-in-Allocated
 returns-in-Allocated c =
     let v = c.args.self.now in
     let some = subst (λ (v : Judged). 0 < v.script.config.shards) c.self.view_is c.self.invariant.shards in
     ap (breach_of v.script v.trace) c.in-Allocated.is
-    ∙ (coordinator_fails v.script v.trace (fact.Allocated c.in-Allocated.field-0 c.in-Allocated.field-1) breach.NotToAllocate some (subst (λ (f : Fact). judged v.script v.trace f ≡ false) c.in-Allocated.is c.requires) refl ∙ ap (λ b. Some b) (sym c.coordinator_breach-in-Allocated.ensures))
+    ∙ (coordinator_fails v.script v.trace (fact.Allocated c.in-Allocated.field-0 c.in-Allocated.field-1) (of_shard v.script c.in-Allocated.field-0 breach.NotToAllocate) some (subst (λ (f : Fact). judged v.script v.trace f ≡ false) c.in-Allocated.is c.requires) refl
+    ∙ (ap (λ b. Some (if is_held (lists_of (setting v.script) v.trace).coordinator then b else breach.Unheld)) (sym c.of_shard.ensures) ∙ ap (λ b. Some b) (sym c.coordinator_breach-in-Allocated.ensures)))
 
 pub returns-in-Deallocated : goal.returns-in-Deallocated
 returns-in-Deallocated c =
     let v = c.args.self.now in
     let some = subst (λ (v : Judged). 0 < v.script.config.shards) c.self.view_is c.self.invariant.shards in
     ap (breach_of v.script v.trace) c.in-Deallocated.is
-    ∙ (coordinator_fails v.script v.trace (fact.Deallocated c.in-Deallocated.field-0) breach.NoHome some (subst (λ (f : Fact). judged v.script v.trace f ≡ false) c.in-Deallocated.is c.requires) refl ∙ ap (λ b. Some b) (sym c.coordinator_breach-in-Deallocated.ensures))
+    ∙ (coordinator_fails v.script v.trace (fact.Deallocated c.in-Deallocated.field-0) (of_shard v.script c.in-Deallocated.field-0 breach.NoHome) some (subst (λ (f : Fact). judged v.script v.trace f ≡ false) c.in-Deallocated.is c.requires) refl
+    ∙ (ap (λ b. Some (if is_held (lists_of (setting v.script) v.trace).coordinator then b else breach.Unheld)) (sym c.of_shard-in-Deallocated.ensures) ∙ ap (λ b. Some b) (sym c.coordinator_breach-in-Deallocated.ensures)))
 
 pub returns-in-Snapshot : goal.returns-in-Snapshot
 returns-in-Snapshot c =

@@ -3,6 +3,8 @@ use Rattle.std.specs.Prelude.{◌≡◌, ◌⊎◌, ◌≤◌, ℕ, Bool, false,
 use Rattle.std.specs.List.{flat_map, list_all}
 use Rattle.std.specs.Str.Lines.{lines}
 use Rattle.yard_io.specs.Told.{count_of, followed_by}
+use Rattle.yard_model.specs.declared.fact.Fact.{Fact}
+use Rattle.yard_model.specs.Script.{Script}
 use Rattle.yard_model.specs.Text.{Bytes}
 use Rattle.disk_log.specs.Frames.{Holds}
 use Rattle.disk_log.specs.Images.{Images, LeavesOnly}
@@ -27,6 +29,14 @@ joined groups = flat_map (λ g. g) groups
 -- the lines of each group
 abbrev pub lines_in : List Bytes → List (List Bytes)
 lines_in groups = map lines groups
+
+-- nothing is written before there are settings
+abbrev pub IsBehind : Option Script → List (List Fact) → Type 0
+IsBehind None log = log ≡ []
+IsBehind (Some c) log = Unit {0}
+
+abbrev pub IsBehindSettings : Desk → Type 0
+IsBehindSettings d = IsBehind d.so_far d.log
 
 -- what is so at a moment: the desk; what was read and isn't heard yet; what source and sink tell; and what a crash may leave
 pub record Scene : Type 1 where

@@ -4,7 +4,7 @@ ghost use Rattle.yard_io.specs.Told.{TakesFront, followed_by};
 ghost use Rattle.yard_model.specs.Text.{Bytes};
 ghost use Rattle.disk_log.specs.Rest.{Rests};
 ghost use Rattle.serve_laws.specs.Served.{frames};
-ghost use Rattle.serve_run.specs.Scenes.{Goes, Stops};
+ghost use Rattle.serve_run.specs.Scenes.{Goes, IsBehindSettings, Stops};
 ghost use Rattle.serve_run.specs.Turns.{AtEnd, IsOver, IsTold, Stopped, has_settings, scene};
 ghost use Rattle.serve_run.specs.Windows.{IsGroup};
 
@@ -12,6 +12,7 @@ use crate::service::Service;
 use crate::stop::Stop;
 use crate::window::{Window, group_end};
 use disk_log::Disk;
+use serve_laws::hearing::all_go_on;
 use std::alloc::{AllocError, Global};
 use yard_io::{Failed, Sink, Source, write_all};
 
@@ -34,6 +35,7 @@ pub(crate) fn serve_all<S: Source, K: Sink, D: Disk>(
     disk: &mut D,
 ) -> Result<(), Stop>
     requires rests { Rests D.tells service.end (D.content disk.old) (D.images disk.old) (frames service.desk) }
+    requires behind { IsBehindSettings service.desk }
     ensures ok { OnOk result (IsOver D.tells
         (scene service.desk [] (S.left source.old) (K.taken sink.old) (K.flushed sink.old) (D.images disk.old))
         (S.left source.new) (K.taken sink.new) (K.flushed sink.new) (D.images disk.new)) }
@@ -47,6 +49,7 @@ pub(crate) fn serve_all<S: Source, K: Sink, D: Disk>(
     ensures sink_faults { K.faults sink.old ≤ K.faults sink.new }
     ensures disk_faults { D.faults disk.old ≤ D.faults disk.new }
 {
+    all_go_on();
     let mut service = service;
     let mut window = Window::new(alloc);
     let mut piece = new_piece(alloc)?;

@@ -1,2 +1,3 @@
 pub mod CarryLaws
 mod ApplyLaws
+mod LeftLaws

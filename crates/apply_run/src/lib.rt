@@ -5,7 +5,9 @@
 mod apply;
 mod carry;
 mod entered;
+mod left;
 
 pub use apply::apply_text;
 pub use carry::carry_out;
 pub use entered::Entered;
+pub use left::left_of_log_is_taken;

@@ -9,7 +9,7 @@ use std::alloc::AllocError;
 use yard_model::Fact;
 
 /// Whether a fact belongs to a slot's list.
-fn belongs(fact: &Fact) -> bool
+pub fn belongs(fact: &Fact) -> bool
     ensures { result ≡ belongs fact.now }
 {
     match fact {
@@ -42,7 +42,7 @@ pub fn enter(batch: &mut Batch, fact: &Fact) -> Result<(), AllocError>
 
 /// The batch of an order with these facts, in place of what was there. The only error is want of memory, as which an
 /// entry that no log can have counts too.
-pub(crate) fn gather(batch: &mut Batch, facts: &[Fact]) -> Result<(), AllocError>
+pub fn gather(batch: &mut Batch, facts: &[Fact]) -> Result<(), AllocError>
     ensures { OnOk result (Gathers facts.now batch.new) }
 {
     batch.clear();

@@ -5,5 +5,5 @@
 mod gather;
 mod orders;
 
-pub use gather::enter;
+pub use gather::{belongs, enter, gather};
 pub use orders::{CommitFault, commit_batch, commit_order};

@@ -2,13 +2,10 @@
 use Rattle.std.specs.Prelude.{ℕ, Bool, true, false, ◌==◌, ◌&&◌, codes, decimal, if◌then◌else◌, List, [], ◌∷◌, ◌++◌, length, map, Option, Some, None}
 use Rattle.std.specs.List.{flat_map}
 use Rattle.yard_model.specs.declared.charter.Config.{Config}
-use Rattle.yard_model.specs.declared.charter.Line.{Line}
-use Rattle.yard_model.specs.declared.charter.Order.TheVariants as order
 use Rattle.yard_model.specs.declared.event.Kind.{Kind}
 use Rattle.yard_model.specs.declared.event.Kind.TheVariants as kind
 use Rattle.yard_model.specs.declared.event.Reply.{Reply}
 use Rattle.yard_model.specs.declared.fact.Fact.{Fact}
-use Rattle.yard_model.specs.declared.fact.Fact.TheVariants as fact
 use Rattle.yard_model.specs.declared.packet.Record.{Record}
 use Rattle.yard_model.specs.Behaviour.{folded}
 use Rattle.yard_model.specs.Script.{Script, setting}
@@ -20,6 +17,7 @@ use Rattle.script_text.specs.Faults.{number_of}
 use Rattle.disk_log.specs.Spelled.{lines}
 use Rattle.log_resume.specs.Restored.{entries}
 use Rattle.apply_laws.specs.Applied.{lists_in, log_after}
+use Rattle.serve_laws.specs.Queues.{sends_of}
 use Rattle.serve_laws.specs.Hearing.{Answer, Silent, Refused, InForce, Others, Done, Gap, Conflict, Report, Show, after_all, answers_all, heard}
 
 -- what is kept: the settings and what was accepted, and the batches on the disk
@@ -133,10 +131,6 @@ answers_in d [] = []
 answers_in d (ls ∷ groups) = answers d ls ++ answers_in (grouped d ls) groups
 
 -- The desk that a log alone says.
-
-abbrev pub sends_of : Fact → List Line
-sends_of (fact.Queued p e n k) = record { number = n; order = order.Send p e k } ∷ []
-sends_of f = []
 
 -- these settings, and the sends of the `queued` entries
 abbrev pub desk_of : Config → List (List Fact) → Desk

@@ -1,18 +1,29 @@
 //! The answers of lines, once what they asked for is on the disk.
-ghost use Rattle.std.specs.Prelude.{◌≡◌, ◌++◌, OnOk, map, true};
+ghost use Rattle.std.specs.Prelude.{◌≡◌, ◌<◌, ◌++◌, ◌∷◌, [], ℕ, List, IsTrue, OnOk, codes, decimal, length, map, true};
 ghost use Rattle.std.specs.List.{flat_map};
 ghost use Rattle.yard_model.specs.declared.fact.Fact.{Fact};
+ghost use Rattle.yard_model.specs.Behaviour.{empty_state, folded};
+ghost use Rattle.yard_model.specs.Entry.{shard_fact};
 ghost use Rattle.yard_model.specs.Lawful.{lawful};
+ghost use Rattle.yard_model.specs.Script.{setting};
+ghost use Rattle.yard_model.specs.Setting.{shard_of};
+ghost use Rattle.yard_model.specs.SlotLists.{shard_list};
+ghost use Rattle.yard_model.specs.SlotReads.{journal};
+ghost use Rattle.yard_model.specs.Text.{line};
+ghost use Rattle.trace_text.specs.Foldable.{are_foldable};
 ghost use Rattle.shard_store.specs.Stores.{lists_at};
 ghost use Rattle.apply_laws.specs.Applied.{lists_in};
-ghost use Rattle.serve_laws.specs.Served.{text_in};
+ghost use Rattle.serve_laws.specs.Served.{entity_words, reply_at, reply_words, text_in};
 ghost use Rattle.serve_run.specs.Books.{ReadsAs};
-ghost use Rattle.serve_run.specs.Told.{answer_value};
+ghost use Rattle.serve_run.specs.Told.{AreRecorded, IfDone, IsRecorded, answer_value};
 
 use script_text::Why;
+use serve_lines::{push_conflict, push_done, push_entity, push_gap, push_other_settings, push_refused, push_settings};
+use shard_extract::shard_of;
 use shard_store::Stores;
 use std::alloc::AllocError;
-use yard_model::{Charter, Command, EntityName, ProducerNo};
+use trace_text::{apply_events, push_report};
+use yard_model::{Charter, Command, EntityName, Kind, Lists, ProducerNo, Reply, ShardEntry, State};
 
 /// What a line is answered.
 #[derive(Clone, Copy, Debug, PartialEq, Eq)]
@@ -46,7 +57,7 @@ pub(crate) fn push_answers(
 ) -> Result<(), AllocError>
     requires script { stores.now.script ≡ charter.now }
     requires lawful { lawful charter.now (lists_at charter.now.config stores.now.places) ≡ true }
-    requires recorded { (p n : ℕ) (e : Bytes) → Contains (map answer_value answers.now) (Told.Done p e n) → IsRecorded charter.now (lists_at charter.now.config stores.now.places) p e n }
+    requires recorded { AreRecorded charter.now (lists_at charter.now.config stores.now.places) (map answer_value answers.now) }
     ensures { OnOk result ((log : List (List Fact)) → ReadsAs charter.now (lists_at charter.now.config stores.now.places) (lists_in charter.now log) →
         text.new.items ≡ text.old.items ++ flat_map (text_in charter.now log) (map answer_value answers.now)) }
 {
@@ -65,7 +76,7 @@ fn push_answer(
 ) -> Result<(), AllocError>
     requires script { stores.now.script ≡ charter.now }
     requires lawful { lawful charter.now (lists_at charter.now.config stores.now.places) ≡ true }
-    requires recorded { (p n : ℕ) (e : Bytes) → answer_value answer.now ≡ Told.Done p e n → IsRecorded charter.now (lists_at charter.now.config stores.now.places) p e n }
+    requires recorded { IfDone (answer_value answer.now) (IsRecorded charter.now (lists_at charter.now.config stores.now.places)) }
     ensures { OnOk result ((log : List (List Fact)) → ReadsAs charter.now (lists_at charter.now.config stores.now.places) (lists_in charter.now log) →
         text.new.items ≡ text.old.items ++ text_in charter.now log (answer_value answer.now)) }
 {

@@ -1,10 +1,11 @@
 //! Lines are heard, one after the other.
-ghost use Rattle.std.specs.Prelude.{◌≡◌, ◌++◌, false, IfOk, IsTrue, OnOk, Some, map};
+ghost use Rattle.std.specs.Prelude.{◌≡◌, ◌++◌, ◌∷◌, [], false, IfOk, IsTrue, OnOk, Some, map, if◌then◌else◌};
 ghost use Rattle.std.specs.Str.Lines.{lines};
 ghost use Rattle.yard_model.specs.Script.{is_config};
 ghost use Rattle.yard_model.specs.Text.{Bytes};
 ghost use Rattle.serve_laws.specs.Hearing.{after_all, answers_all, heard};
-ghost use Rattle.serve_run.specs.Told.{IfBegins, IsFirst, answer_value};
+ghost use Rattle.serve_laws.specs.Hearing.{InForce, Others, is_config_of};
+ghost use Rattle.serve_run.specs.Told.{IfBegins, IsFirst, answer_value, heard_answer, is_accepted};
 
 use crate::answers::Answer;
 use script_text::next_line;
@@ -49,13 +50,18 @@ fn hear_line(desk: &mut Desk, line: &[u8]) -> Result<(Answer, bool), AllocError>
     ensures same { IfOk result (λ r. r.1 ≡ false → desk.new ≡ desk.old) }
 {
     let config = *desk.config();
-    match read_request(line, Some(&config)) {
+    match read_request(line, Some(config)) {
         Request::Nothing => Ok((Answer::Silent, false)),
         Request::Refused(why) => Ok((Answer::Refused(why), false)),
         Request::Settings(settings) => Ok((settings_answer(&config, &settings), false)),
         Request::Report => Ok((Answer::Report, false)),
         Request::Show(entity) => Ok((Answer::Show(entity), false)),
-        Request::Send(producer, entity, number, command) => {
+        Request::Send {
+            producer,
+            entity,
+            number,
+            command,
+        } => {
             let heard = desk.hear(producer, &entity, number, &command)?;
             Ok(answer_to(producer, entity, number, heard))
         }
@@ -80,7 +86,7 @@ fn answer_to(
     number: u32,
     heard: Heard,
 ) -> (Answer, bool)
-    ensures answer { answer_value result.0 ≡ heard_answer (request_for producer entity number) heard }
+    ensures answer { answer_value result.0 ≡ heard_answer producer entity number heard }
     ensures accepted { result.1 ≡ false → is_accepted heard ≡ false }
 {
     match heard {

@@ -24,7 +24,7 @@ use Rattle.serve_laws.specs.Hearing.{after_all}
 use Rattle.serve_laws.specs.Hearings.{AllGoOn, GoOn}
 use Rattle.serve_laws.specs.Served.{Desk, answers_in, config_words, frames, grouped, head_of, log_of, served}
 use Rattle.serve_laws.specs.Servings.{IsDesk, IsLogOf}
-use Rattle.serve_run.specs.Scenes.{Goes, IsBehind, IsBehindSettings, IsFlushed, IsLeft, Scene, Stops, ahead, ends_line, joined, lines_in}
+use Rattle.serve_run.specs.Scenes.{Goes, Hears, IsBehind, IsBehindSettings, IsTold, Scene, Stopped, ahead, desk_behind, ends_line, joined, lines_in}
 
 -- Lists of groups.
 
@@ -63,7 +63,7 @@ followed_both None xs ys = refl
 followed_both (Some zs) xs ys = ap Some (append_assoc zs xs ys)
 
 -- two cuts of what came, one behind the other
-cut_both : (window x y gs hs middle last : Bytes) → window ++ x ≡ gs ++ middle → middle ++ y ≡ hs ++ last → window ++ (x ++ y) ≡ (gs ++ hs) ++ last
+pub cut_both : (window x y gs hs middle last : Bytes) → window ++ x ≡ gs ++ middle → middle ++ y ≡ hs ++ last → window ++ (x ++ y) ≡ (gs ++ hs) ++ last
 cut_both window x y gs hs middle last first second =
     sym (append_assoc window x y) ∙ (ap (λ t. t ++ y) first ∙ (append_assoc gs middle y ∙ (ap (λ t. gs ++ t) second ∙ sym (append_assoc gs hs last))))
 
@@ -170,8 +170,8 @@ leaves_on on old mid new a b c xs ys n behind bs cs le first second =
 -- Scenes.
 
 -- nothing was read or heard
-pub goes_none : (tells : Bool) (a : Scene) → (IsTrue tells → (image : Bytes) → a.images.now image → HoldsPrefix (frames a.desk) (length (frames a.desk)) image) → IsTimed a.images → Goes tells a a
-goes_none tells a here timed = record {
+pub hears_none : (a : Scene) → Hears a a
+hears_none a = record {
   groups = [];
   bytes = [];
   told = ahead_none a.left;
@@ -180,16 +180,15 @@ goes_none tells a here timed = record {
   desk = refl;
   taken = followed_none a.taken;
   flushed = inl (refl, refl);
-  moment = λ told. leaves_none a.images timed (here told);
 }
 
-flushed_both : (a b c : Scene) → IsFlushed a b → IsFlushed b c → IsFlushed a c
-flushed_both a b c (inl x) (inl y) = inl (y.0 ∙ x.0, y.1 ∙ x.1)
-flushed_both a b c (inr x) (inl y) = inr (y.1 ∙ (x ∙ ap count_of (sym y.0)))
-flushed_both a b c first (inr y) = inr y
+told_both : (x y z : Option Bytes) (i j k : Option ℕ) → IsTold x y i j → IsTold y z j k → IsTold x z i k
+told_both x y z i j k (inl a) (inl b) = inl (b.0 ∙ a.0, b.1 ∙ a.1)
+told_both x y z i j k (inr a) (inl b) = inr (b.1 ∙ (a ∙ ap count_of (sym b.0)))
+told_both x y z i j k first (inr b) = inr b
 
-pub goes_then : AllGoOn → (tells : Bool) (a b c : Scene) → IsBehindSettings a.desk → Goes tells a b → Goes tells b c → Goes tells a c
-goes_then on tells a b c behind first second =
+pub hears_then : (a b c : Scene) → Hears a b → Hears b c → Hears a c
+hears_then a b c first second =
     let xs : List (List Bytes) = lines_in first.groups in
     let ys : List (List Bytes) = lines_in second.groups in
     let all : lines_in (first.groups ++ second.groups) ≡ xs ++ ys = lines_both first.groups second.groups in
@@ -203,28 +202,57 @@ goes_then on tells a b c behind first second =
       taken =
         second.taken ∙ (ap (λ t. followed_by t (answers_in b.desk ys)) first.taken ∙ (followed_both a.taken (answers_in a.desk xs) (answers_in b.desk ys)
         ∙ ap (followed_by a.taken) (ap (λ (d : Desk). answers_in a.desk xs ++ answers_in d ys) first.desk ∙ (sym (answers_both a.desk xs ys) ∙ ap (answers_in a.desk) (sym all)))));
-      flushed = flushed_both a b c first.flushed second.flushed;
-      moment = λ told. leaves_on on a.images b.images c.images a.desk b.desk c.desk xs ys (length (frames a.desk)) behind first.desk second.desk (omega arith) (first.moment told) (second.moment told);
+      flushed = told_both a.taken b.taken c.taken a.flushed b.flushed c.flushed first.flushed second.flushed;
     }
 
 -- the desk of a later moment
-pub behind_then : AllGoOn → (tells : Bool) (a b : Scene) → IsBehindSettings a.desk → Goes tells a b → IsBehindSettings b.desk
-behind_then on tells a b behind goes = subst IsBehindSettings (sym goes.desk) (behind_on on a.desk (lines_in goes.groups) behind)
+pub behind_then : AllGoOn → (a b : Scene) → IsBehindSettings a.desk → Hears a b → IsBehindSettings b.desk
+behind_then on a b behind hears = subst IsBehindSettings (sym hears.desk) (behind_on on a.desk (lines_in hears.groups) behind)
+
+pub goes_none : (tells : Bool) (images : Images) (a : Scene) → (IsTrue tells → (image : Bytes) → images.now image → HoldsPrefix (frames a.desk) (length (frames a.desk)) image) → IsTimed images → Goes tells images images a a
+goes_none tells images a here timed = record { hears = hears_none a; moment = λ told. leaves_none images timed (here told) }
+
+pub goes_then : AllGoOn → (tells : Bool) (old mid new : Images) (a b c : Scene) → IsBehindSettings a.desk → Goes tells old mid a b → Goes tells mid new b c → Goes tells old new a c
+goes_then on tells old mid new a b c behind first second = record {
+  hears = hears_then a b c first.hears second.hears;
+  moment = λ told.
+      leaves_on on old mid new a.desk b.desk c.desk (lines_in first.hears.groups) (lines_in second.hears.groups) (length (frames a.desk)) behind first.hears.desk second.hears.desk (omega arith) (first.moment told)
+      (second.moment told);
+}
+
+pub stopped_then : AllGoOn → (tells : Bool) (old mid new : Images) (a b : Scene) (left taken : Option Bytes) → IsBehindSettings a.desk → Goes tells old mid a b → Stopped tells mid new b left taken → Stopped tells old new a left taken
+stopped_then on tells old mid new a b left taken behind first stopped =
+    let before : Scene = stopped.before in
+    let last : Desk = desk_behind before.desk stopped.halts.groups in
+    let ys : List (List Bytes) = lines_in stopped.hears.groups ++ lines_in stopped.halts.groups in
+    let is : last ≡ served b.desk ys =
+    ap (λ (d : Desk). desk_behind d stopped.halts.groups) stopped.hears.desk ∙ sym (served_both b.desk (lines_in stopped.hears.groups) (lines_in stopped.halts.groups)) in
+    record {
+      before = before;
+      hears = hears_then a b before first.hears stopped.hears;
+      halts = stopped.halts;
+      moment = λ told.
+          leaves_on on old mid new a.desk b.desk last (lines_in first.hears.groups) ys (length (frames a.desk)) behind first.hears.desk is (omega arith) (first.moment told) (stopped.moment told);
+    }
 
 -- it stopped with nothing in work, and these bytes were read
-pub stops_none : (tells : Bool) (a : Scene) (left : Option Bytes) (bytes : Bytes) → a.left ≡ ahead bytes left
-    → (IsTrue tells → (image : Bytes) → a.images.now image → HoldsPrefix (frames a.desk) (length (frames a.desk)) image) → IsTimed a.images → Stops tells a left a.taken a.images
-stops_none tells a left bytes told here timed = record {
-  groups = [];
-  rest = a.window ++ bytes;
-  bytes = bytes;
-  few = omega arith;
-  told = told;
-  cut = refl;
-  whole = refl;
-  count = 0;
-  within = omega arith;
-  taken_is = followed_none a.taken;
-  at_exit = λ tell. inl (refl, here tell);
-  moment = λ tell. leaves_none a.images timed (here tell);
+pub stopped_none : (tells : Bool) (images : Images) (a : Scene) (left : Option Bytes) (bytes : Bytes) → a.left ≡ ahead bytes left
+    → (IsTrue tells → (image : Bytes) → images.now image → HoldsPrefix (frames a.desk) (length (frames a.desk)) image) → IsTimed images → Stopped tells images images a left a.taken
+stopped_none tells images a left bytes told here timed = record {
+  before = a;
+  hears = hears_none a;
+  halts = record {
+    groups = [];
+    rest = a.window ++ bytes;
+    bytes = bytes;
+    few = omega arith;
+    told = told;
+    cut = refl;
+    whole = refl;
+    count = 0;
+    within = omega arith;
+    taken_is = followed_none a.taken;
+    at_exit = λ tell. inl (refl, here tell);
+  };
+  moment = λ tell. leaves_none images timed (here tell);
 }

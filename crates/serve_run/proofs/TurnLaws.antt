@@ -12,24 +12,26 @@ use Rattle.disk_log.specs.Images.{Images, IsTimed, LeavesOnly}
 use Rattle.disk_log.specs.Rest.{HoldsPrefix, Rests}
 use Rattle.disk_log.proofs.CommitLaws.{rests_hold}
 use Rattle.serve_laws.specs.Served.{Desk, answers, answers_in, frames, grouped}
-use Rattle.serve_run.specs.Scenes.{Goes, Scene, Stops, ends_line, joined}
-use Rattle.serve_run.specs.Turns.{AtEnd, IsOver, IsTold, scene}
+use Rattle.serve_run.specs.Scenes.{Goes, IsTold, Scene, Stopped, ends_line, joined, scene}
+use Rattle.serve_run.specs.Turns.{AtEnd, IsOver}
 use Rattle.serve_run.specs.Windows.{Came, IsGroup, Lost, is_lf}
-use Rattle.serve_run.proofs.SceneLaws.{ahead_none, followed_none, leaves_none, now_of, rest_prefix, stops_none}
+use Rattle.serve_run.proofs.SceneLaws.{ahead_none, followed_none, hears_none, leaves_none, now_of, rest_prefix, stopped_none}
 
 -- More is read.
 
 pub goes_read : (tells : Bool) (d : Desk) (end : ℕ) (content : Bytes) (images : Images) (window next : Bytes) (n : ℕ) (had has taken : Option Bytes) (flushed : Option ℕ)
-    → Rests tells end content images (frames d) → IsTimed images → Came window next n had has → Goes tells (scene d window had taken flushed images) (scene d next has taken flushed images)
+    → Rests tells end content images (frames d) → IsTimed images → Came window next n had has → Goes tells images images (scene d window had taken flushed) (scene d next has taken flushed)
 goes_read tells d end content images window next n had has taken flushed rests timed came = record {
-  groups = [];
-  bytes = came.bytes;
-  told = came.told;
-  cut = sym came.behind;
-  whole = refl;
-  desk = refl;
-  taken = followed_none taken;
-  flushed = inl (refl, refl);
+  hears = record {
+    groups = [];
+    bytes = came.bytes;
+    told = came.told;
+    cut = sym came.behind;
+    whole = refl;
+    desk = refl;
+    taken = followed_none taken;
+    flushed = inl (refl, refl);
+  };
   moment = λ told. leaves_none images timed (λ c now. rest_prefix tells end content images (frames d) rests told c now);
 }
 
@@ -40,10 +42,10 @@ end_read window next n had has came z none = record {
   no_line = ap (position is_lf) (came.behind ∙ (ap (λ t. window ++ t) (came.end z).0 ∙ append-nil window)) ∙ none;
 }
 
-pub stops_read : (tells : Bool) (d : Desk) (end : ℕ) (content : Bytes) (images : Images) (window : Bytes) (had has taken : Option Bytes) (flushed : Option ℕ)
-    → Rests tells end content images (frames d) → IsTimed images → Lost had has → Stops tells (scene d window had taken flushed images) has taken images
-stops_read tells d end content images window had has taken flushed rests timed lost =
-    stops_none tells (scene d window had taken flushed images) has lost.bytes lost.told (λ told c now. rest_prefix tells end content images (frames d) rests told c now) timed
+pub stopped_read : (tells : Bool) (d : Desk) (end : ℕ) (content : Bytes) (images : Images) (window : Bytes) (had has taken : Option Bytes) (flushed : Option ℕ)
+    → Rests tells end content images (frames d) → IsTimed images → Lost had has → Stopped tells images images (scene d window had taken flushed) has taken
+stopped_read tells d end content images window had has taken flushed rests timed lost =
+    stopped_none tells images (scene d window had taken flushed) has lost.bytes lost.told (λ told c now. rest_prefix tells end content images (frames d) rests told c now) timed
 
 -- A group is served.
 
@@ -58,67 +60,75 @@ whole_here : (bytes : Bytes) → IsTrue (ends_line bytes) → IsTrue (list_all e
 whole_here bytes ends = both (ends_line bytes) true ends refl
 
 module _ (tells : Bool) (d : Desk) (window : Bytes) (n : ℕ) (alone : Bool) (group : IsGroup alone window n) (left taken : Option Bytes) (flushed : Option ℕ) (old : Images) where
-  abbrev heard : List Bytes
-  heard = lines (take n window)
-
-  pub goes_group : (next : Desk) (rest text : Bytes) (taken' : Option Bytes) (flushed' : Option ℕ) (new : Images) → next ≡ grouped d heard → rest ≡ drop n window → text ≡ answers d heard
-      → taken' ≡ followed_by taken text → IsTold taken taken' flushed flushed' → (IsTrue tells → LeavesOnly old new (HoldsPrefix (frames (grouped d heard)) (length (frames d))))
-      → Goes tells (scene d window left taken flushed old) (scene next rest left taken' flushed' new)
+  pub goes_group : (next : Desk) (rest text : Bytes) (taken' : Option Bytes) (flushed' : Option ℕ) (new : Images) → next ≡ grouped d (lines (take n window)) → rest ≡ drop n window → text ≡ answers d (lines (take n window))
+      → taken' ≡ followed_by taken text → IsTold taken taken' flushed flushed' → (IsTrue tells → LeavesOnly old new (HoldsPrefix (frames (grouped d (lines (take n window)))) (length (frames d))))
+      → Goes tells old new (scene d window left taken flushed) (scene next rest left taken' flushed')
   goes_group next rest text taken' flushed' new desk rest_is text_is is told moment = record {
-    groups = take n window ∷ [];
-    bytes = [];
-    told = ahead_none left;
-    cut = cut_here window n ∙ ap (λ t. joined (take n window ∷ []) ++ t) (sym rest_is);
-    whole = whole_here (take n window) group.ends;
-    desk = desk;
-    taken = is ∙ ap (followed_by taken) (text_is ∙ sym (one_answer d heard));
-    flushed = told;
+    hears = record {
+      groups = take n window ∷ [];
+      bytes = [];
+      told = ahead_none left;
+      cut = cut_here window n ∙ ap (λ t. joined (take n window ∷ []) ++ t) (sym rest_is);
+      whole = whole_here (take n window) group.ends;
+      desk = desk;
+      taken = is ∙ ap (followed_by taken) (text_is ∙ sym (one_answer d (lines (take n window))));
+      flushed = told;
+    };
     moment = λ tell. subst (λ (x : Desk). LeavesOnly old new (HoldsPrefix (frames x) (length (frames d)))) (sym desk) (moment tell);
   }
 
   -- it wasn't carried out
-  pub stops_group : (taken' : Option Bytes) (new : Images) → taken' ≡ taken → IsTimed new → (IsTrue tells → LeavesOnly old new (HoldsPrefix (frames (grouped d heard)) (length (frames d))))
-      → Stops tells (scene d window left taken flushed old) left taken' new
-  stops_group taken' new same timed moment = record {
-    groups = take n window ∷ [];
-    rest = drop n window;
-    bytes = [];
-    few = omega arith;
-    told = ahead_none left;
-    cut = cut_here window n;
-    whole = whole_here (take n window) group.ends;
-    count = 0;
-    within = omega arith;
-    taken_is = same ∙ followed_none taken;
-    at_exit = λ tell. inl (refl, λ c now. now_of old new timed (moment tell) c now);
+  pub stopped_group : (taken' : Option Bytes) (new : Images) → taken' ≡ taken → IsTimed new → (IsTrue tells → LeavesOnly old new (HoldsPrefix (frames (grouped d (lines (take n window)))) (length (frames d))))
+      → Stopped tells old new (scene d window left taken flushed) left taken'
+  stopped_group taken' new same timed moment = record {
+    before = scene d window left taken flushed;
+    hears = hears_none (scene d window left taken flushed);
+    halts = record {
+      groups = take n window ∷ [];
+      rest = drop n window;
+      bytes = [];
+      few = omega arith;
+      told = ahead_none left;
+      cut = cut_here window n;
+      whole = whole_here (take n window) group.ends;
+      count = 0;
+      within = omega arith;
+      taken_is = same ∙ followed_none taken;
+      at_exit = λ tell. inl (refl, λ c now. now_of old new timed (moment tell) c now);
+    };
     moment = moment;
   }
 
   -- a front of its answers was written
-  pub stops_told : (next : Desk) (end : ℕ) (content text : Bytes) (taken' : Option Bytes) (new : Images) → next ≡ grouped d heard → text ≡ answers d heard → TakesFront taken taken' text
-      → Rests tells end content new (frames next) → (IsTrue tells → LeavesOnly old new (HoldsPrefix (frames (grouped d heard)) (length (frames d)))) → Stops tells (scene d window left taken flushed old) left taken' new
-  stops_told next end content text taken' new desk text_is front rests moment =
-      let same : text ≡ answers_in d (heard ∷ []) = text_is ∙ sym (one_answer d heard) in
+  pub stopped_told : (next : Desk) (end : ℕ) (content text : Bytes) (taken' : Option Bytes) (new : Images) → next ≡ grouped d (lines (take n window)) → text ≡ answers d (lines (take n window)) → TakesFront taken taken' text
+      → Rests tells end content new (frames next) → (IsTrue tells → LeavesOnly old new (HoldsPrefix (frames (grouped d (lines (take n window)))) (length (frames d))))
+      → Stopped tells old new (scene d window left taken flushed) left taken'
+  stopped_told next end content text taken' new desk text_is front rests moment =
+      let same : text ≡ answers_in d (lines (take n window) ∷ []) = text_is ∙ sym (one_answer d (lines (take n window))) in
       record {
-        groups = take n window ∷ [];
-        rest = drop n window;
-        bytes = [];
-        few = omega arith;
-        told = ahead_none left;
-        cut = cut_here window n;
-        whole = whole_here (take n window) group.ends;
-        count = front.0;
-        within = subst (λ (t : Bytes). front.0 ≤ length t) same front.1;
-        taken_is = front.2 ∙ ap (λ (t : Bytes). followed_by taken (take front.0 t)) same;
-        at_exit = λ tell. inr (λ c now. subst (λ (x : Desk). Holds (frames x) c) desk (rests_hold tells end content new (frames next) rests tell c now));
+        before = scene d window left taken flushed;
+        hears = hears_none (scene d window left taken flushed);
+        halts = record {
+          groups = take n window ∷ [];
+          rest = drop n window;
+          bytes = [];
+          few = omega arith;
+          told = ahead_none left;
+          cut = cut_here window n;
+          whole = whole_here (take n window) group.ends;
+          count = front.0;
+          within = subst (λ (t : Bytes). front.0 ≤ length t) same front.1;
+          taken_is = front.2 ∙ ap (λ (t : Bytes). followed_by taken (take front.0 t)) same;
+          at_exit = λ tell. inr (λ c now. subst (λ (x : Desk). Holds (frames x) c) desk (rests_hold tells end content new (frames next) rests tell c now));
+        };
         moment = moment;
       }
 
 -- The run.
 
-pub over_so : (tells : Bool) (a : Scene) (d : Desk) (window : Bytes) (left taken : Option Bytes) (flushed : Option ℕ) (end : ℕ) (content : Bytes) (images : Images)
-    → Goes tells a (scene d window left taken flushed images) → AtEnd window left → Rests tells end content images (frames d) → IsOver tells a left taken flushed images
-over_so tells a d window left taken flushed end content images goes at rests = record {
+pub over_so : (tells : Bool) (old images : Images) (a : Scene) (d : Desk) (window : Bytes) (left taken : Option Bytes) (flushed : Option ℕ) (end : ℕ) (content : Bytes)
+    → Goes tells old images a (scene d window left taken flushed) → AtEnd window left → Rests tells end content images (frames d) → IsOver tells old images a left taken flushed
+over_so tells old images a d window left taken flushed end content goes at rests = record {
   desk = d;
   window = window;
   goes = goes;

@@ -8,9 +8,9 @@ use Rattle.disk_log.specs.Rest.{HoldsPrefix}
 use Rattle.serve_laws.specs.Restarts.{HoldsDesk}
 use Rattle.serve_laws.specs.Served.{Desk, answers_in, frames, grouped, served}
 use Rattle.serve_laws.specs.Servings.{IsDesk, IsDone}
-use Rattle.serve_run.specs.Openings.{Begins, IsForeignFrame, IsFound, LeftBy, Stays}
-use Rattle.serve_run.specs.Scenes.{IsLeft, ahead, joined, lines_in}
-use Rattle.serve_run.specs.Turns.{IsOver, Stopped, scene}
+use Rattle.serve_run.specs.Openings.{IsForeignFrame, IsFound, LeftBy, Stays}
+use Rattle.serve_run.specs.Scenes.{Halts, Hears, IsLeft, Scene, ahead, desk_behind, joined, lines_in, scene}
+use Rattle.serve_run.specs.Turns.{AtEnd, IsDurable}
 use Rattle.serve_run.specs.declared.status.Status.{Status}
 use Rattle.serve_run.specs.declared.status.Status.TheVariants as status
 
@@ -25,19 +25,38 @@ pub record Sides : Type 1 where
 abbrev pub sides : Option Bytes → Option Bytes → Option ℕ → Bytes → Images → Sides
 sides left taken flushed content images = record { left = left; taken = taken; flushed = flushed; content = content; images = images }
 
+-- the log was opened: what it said, and with what it left to do carried out
+pub record Starts (tells : Bool) (content : Bytes) (d : Desk) : Type 0 where
+  pub found : Desk
+  pub is_found : IsFound found
+  pub holds : IsTrue tells → HoldsDesk found content
+  pub desk : d ≡ grouped found []
+  pub done : IsDone d.so_far d.log
+
+-- a crash meanwhile leaves the frames of the last desk, at least so many as one might have left before
+abbrev pub LeavesUpTo : Bool → Desk → Desk → Images → Images → Type 0
+LeavesUpTo tells found last old new =
+    IsTrue tells → (n : ℕ) → n ≤ length (frames found) → ((image : Bytes) → old.now image → HoldsPrefix (frames found) n image) → LeavesOnly old new (HoldsPrefix (frames last) n)
+
 -- the input was served to its end
-pub record ServedAll (tells : Bool) (old new : Sides) : Type 1 where
+pub record ServedAll (tells : Bool) (old new : Sides) : Type 0 where
   pub started : Desk
-  pub first : Images
-  pub begins : Begins tells old.content old.images first started
-  pub over : IsOver tells (scene started [] old.left old.taken old.flushed first) new.left new.taken new.flushed new.images
+  pub starts : Starts tells old.content started
+  pub desk : Desk
+  pub window : Bytes
+  pub hears : Hears (scene started [] old.left old.taken old.flushed) (scene desk window new.left new.taken new.flushed)
+  pub end : AtEnd window new.left
+  pub durable : IsDurable tells desk new.images
+  pub moment : LeavesUpTo tells starts.found desk old.images new.images
 
 -- or up to some group
-pub record ServedSome (tells : Bool) (old new : Sides) : Type 1 where
+pub record ServedSome (tells : Bool) (old new : Sides) : Type 0 where
   pub started : Desk
-  pub first : Images
-  pub begins : Begins tells old.content old.images first started
-  pub stopped : Stopped tells (scene started [] old.left old.taken old.flushed first) new.left new.taken new.images
+  pub starts : Starts tells old.content started
+  pub before : Scene
+  pub hears : Hears (scene started [] old.left old.taken old.flushed) before
+  pub halts : Halts tells before new.left new.taken new.images
+  pub moment : LeavesUpTo tells starts.found (desk_behind before.desk halts.groups) old.images new.images
 
 -- or the log wasn't opened: nothing was read or written
 pub record Unopened (tells : Bool) (old new : Sides) : Type 0 where
@@ -45,9 +64,9 @@ pub record Unopened (tells : Bool) (old new : Sides) : Type 0 where
   pub unwritten : new.taken ≡ old.taken
   pub left : IsTrue tells → LeftBy tells old.content old.images new.images
 
-abbrev pub EndsAs : Bool → Sides → Sides → Status → Type 1
+abbrev pub EndsAs : Bool → Sides → Sides → Status → Type 0
 EndsAs tells old new status.Served = ServedAll tells old new
-EndsAs tells old new status.Usage = Empty {1}
+EndsAs tells old new status.Usage = ⊥
 EndsAs tells old new status.ReadFault = ServedSome tells old new
 EndsAs tells old new status.WriteFault = ServedSome tells old new
 EndsAs tells old new status.OutOfMemory = ServedSome tells old new ⊎ Unopened tells old new

@@ -1,8 +1,10 @@
 pub mod Books
 pub mod Ends
+pub mod Explained
 pub mod Faults
 pub mod Openings
 pub mod Scenes
 pub mod Statuses
 pub mod Turns
 pub mod Windows
+pub mod Words

@@ -1,5 +1,5 @@
 -- How a run ends.
-use Rattle.std.specs.Prelude.{ℕ, [], ◌++◌, codes, decimal}
+use Rattle.std.specs.Prelude.{ℕ, Bool, true, false, [], ◌++◌, codes, decimal}
 use Rattle.yard_model.specs.Text.{Bytes}
 use Rattle.serve_run.specs.declared.status.Status.{Status}
 use Rattle.serve_run.specs.declared.status.Status.TheVariants as status
@@ -41,3 +41,8 @@ complaint status.OutOfMemory = codes "serve: out of memory"
 complaint status.DiskFault = codes "serve: disk fault"
 complaint (status.LogDamaged at) = codes "serve: log damaged at " ++ decimal at
 complaint (status.LogForeign frame) = codes "serve: log of another script, batch " ++ decimal frame
+
+-- whether there is a line
+abbrev pub complains : Status → Bool
+complains status.Served = false
+complains s = true

@@ -1,21 +1,13 @@
 -- A run from its beginning to where it is over.
-use Rattle.std.specs.Prelude.{◌≡◌, ◌⊎◌, ℕ, Bool, true, false, List, [], Option, Some, None, IsTrue}
+use Rattle.std.specs.Prelude.{◌≡◌, ℕ, Bool, true, false, List, [], Option, Some, None, IsTrue}
 use Rattle.std.specs.List.{position}
-use Rattle.yard_io.specs.Told.{count_of}
 use Rattle.yard_model.specs.Script.{Script}
 use Rattle.yard_model.specs.Text.{Bytes}
 use Rattle.disk_log.specs.Frames.{Holds}
 use Rattle.disk_log.specs.Images.{Images}
 use Rattle.serve_laws.specs.Served.{Desk, frames}
-use Rattle.serve_run.specs.Scenes.{Goes, Scene, Stops}
+use Rattle.serve_run.specs.Scenes.{Goes, Scene, scene}
 use Rattle.serve_run.specs.Windows.{is_lf, left_of}
-
-abbrev pub scene : Desk → Bytes → Option Bytes → Option Bytes → Option ℕ → Images → Scene
-scene d window left taken flushed images = record { desk = d; window = window; left = left; taken = taken; flushed = flushed; images = images }
-
--- nothing was written, or all of it is flushed
-abbrev pub IsTold : Option Bytes → Option Bytes → Option ℕ → Option ℕ → Type 0
-IsTold old new was is = ((new ≡ old) × (is ≡ was)) ⊎ (is ≡ count_of new)
 
 -- settings are in force
 abbrev pub has_settings_in : Option Script → Bool
@@ -30,16 +22,14 @@ pub record AtEnd (window : Bytes) (left : Option Bytes) : Type 0 where
   pub none_left : left_of left ≡ []
   pub no_line : position is_lf window ≡ None
 
+-- each crash leaves the frames of this desk, and no others
+abbrev pub IsDurable : Bool → Desk → Images → Type 0
+IsDurable tells d images = IsTrue tells → (image : Bytes) → images.now image → Holds (frames d) image
+
 -- It came to the end: all whole lines of the input were heard, and each crash leaves the frames of the desk then.
-pub record IsOver (tells : Bool) (a : Scene) (left taken : Option Bytes) (flushed : Option ℕ) (images : Images) : Type 0 where
+pub record IsOver (tells : Bool) (old new : Images) (a : Scene) (left taken : Option Bytes) (flushed : Option ℕ) : Type 0 where
   pub desk : Desk
   pub window : Bytes
-  pub goes : Goes tells a (scene desk window left taken flushed images)
+  pub goes : Goes tells old new a (scene desk window left taken flushed)
   pub end : AtEnd window left
-  pub durable : IsTrue tells → (image : Bytes) → images.now image → Holds (frames desk) image
-
--- or it was stopped in a group
-pub record Stopped (tells : Bool) (a : Scene) (left taken : Option Bytes) (images : Images) : Type 1 where
-  pub before : Scene
-  pub goes : Goes tells a before
-  pub stops : Stops tells before left taken images
+  pub durable : IsDurable tells desk new

@@ -5,6 +5,7 @@
 mod answers;
 mod books;
 mod commit;
+mod explain;
 mod hearing;
 mod opening;
 mod service;
@@ -13,8 +14,10 @@ mod stop;
 mod top;
 mod turn;
 mod window;
+mod words;
 
 pub use service::Service;
 pub use status::Status;
 pub use stop::OpenFault;
 pub use top::serve;
+pub use words::{Asked, asked_for};

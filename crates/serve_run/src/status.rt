@@ -1,6 +1,6 @@
 //! How a run of `serve` ends.
 ghost use Rattle.std.specs.Prelude.{◌≡◌};
-ghost use Rattle.serve_run.specs.Statuses.{code_of, of_open, of_stop};
+ghost use Rattle.serve_run.specs.Statuses.{code_of, complains, of_open, of_stop};
 
 use crate::stop::{OpenFault, Stop};
 use std::fmt;
@@ -48,7 +48,27 @@ impl Status {
             Status::LogForeign { .. } => 11,
         }
     }
+
+    /// Whether a line stands on standard error beside it: where the input wasn't served to its end.
+    pub fn complains(self) -> bool
+        ensures { result ≡ complains self }
+    {
+        match self {
+            Status::Served => false,
+            Status::Usage
+            | Status::ReadFault
+            | Status::WriteFault
+            | Status::OutOfMemory
+            | Status::DiskFault
+            | Status::LogDamaged { .. }
+            | Status::LogForeign { .. } => true,
+        }
+    }
 }
+
+/// How it is called.
+const USAGE: &str =
+    "usage: serve, with lines on standard input and its log, sharder.log, in the current folder";
 
 /// How a run ends that stopped so.
 pub(crate) fn status_of(stop: Stop) -> Status
@@ -84,7 +104,7 @@ impl fmt::Display for Status {
     fn fmt<W: fmt::Write>(&self, f: &mut fmt::Formatter<W>) -> fmt::Result {
         match *self {
             Status::Served => Ok(()),
-            Status::Usage => f.write_str("usage: serve, with lines on standard input and its log, sharder.log, in the current folder"),
+            Status::Usage => f.write_str(USAGE),
             Status::ReadFault => f.write_str("serve: read fault"),
             Status::WriteFault => f.write_str("serve: write fault"),
             Status::OutOfMemory => f.write_str("serve: out of memory"),

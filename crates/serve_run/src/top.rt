@@ -2,16 +2,17 @@
 ghost use Rattle.std.specs.Prelude.{◌≡◌, ◌<◌, ◌≤◌, IsTrue};
 ghost use Rattle.serve_laws.specs.Hearings.{AgainIsDone, CutsDontMatter};
 ghost use Rattle.serve_laws.specs.Restarts.{RestartIsSame};
-ghost use Rattle.serve_laws.specs.Series.{SeriesIsExact, ServedSeries};
+ghost use Rattle.serve_laws.specs.Series.{RunsAreOne, SeriesIsExact, ServedSeries};
+ghost use Rattle.serve_run.specs.Scenes.{LinesAddUp};
 ghost use Rattle.serve_run.specs.Ends.{AnyMoment, AtExit, EndsAs, IsComplete, Rose, sides};
 
 use crate::service::Service;
 use crate::status::{Status, status_of, status_without};
 use crate::turn::serve_all;
-use disk_log::Disk;
-use serve_laws::hearing::{again_is_done, cuts_dont_matter};
-use serve_laws::restarting::restart_is_same;
-use serve_laws::series::{series_is_exact, served_series};
+use disk_log::{Disk, one_head, one_holding};
+use serve_laws::hearing::{again_is_done, all_go_on, cuts_dont_matter};
+use serve_laws::restarting::{found_is_desk, one_desk, restart_is_same};
+use serve_laws::series::{runs_are_one, series_is_exact, served_series};
 use std::alloc::Global;
 use yard_io::{Sink, Source};
 
@@ -41,20 +42,28 @@ pub fn serve<S: Source, K: Sink, D: Disk>(
     ensures source_faults { S.faults source.old ≤ S.faults source.new }
     ensures sink_faults { K.faults sink.old ≤ K.faults sink.new }
     ensures disk_faults { D.faults disk.old ≤ D.faults disk.new }
+    // Groups of whole lines have the lines of all their bytes, each once and in order.
+    ensures lines_add_up { LinesAddUp }
     // However the lines are cut into groups, the same are accepted; one that was answered `done` is answered so again.
     ensures cuts_dont_matter { CutsDontMatter }
     ensures again_is_done { AgainIsDone }
-    // A run goes on where the last one was cut off; what any run told is so on the disk at the end of all, and each
+    // A run goes on where the last one was cut off, as if it never was; what any run told is so on the disk at the end of all, and each
     // accepted command is recorded once, and in order.
     ensures restart_is_same { RestartIsSame }
+    ensures runs_are_one { RunsAreOne }
     ensures served_series { ServedSeries }
     ensures exactly_once { SeriesIsExact }
 {
     cuts_dont_matter();
     again_is_done();
     restart_is_same();
+    runs_are_one();
     served_series();
     series_is_exact();
+    one_head();
+    one_holding();
+    found_is_desk();
+    one_desk();
     serve_input(alloc, source, sink, disk)
 }
 
@@ -73,6 +82,7 @@ fn serve_input<S: Source, K: Sink, D: Disk>(
     ensures sink_faults { K.faults sink.old ≤ K.faults sink.new }
     ensures disk_faults { D.faults disk.old ≤ D.faults disk.new }
 {
+    all_go_on();
     match Service::open(alloc, disk) {
         Ok(service) => match serve_all(alloc, service, source, sink, disk) {
             Ok(()) => Status::Served,

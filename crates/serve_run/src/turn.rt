@@ -4,16 +4,17 @@ ghost use Rattle.yard_io.specs.Told.{TakesFront, followed_by};
 ghost use Rattle.yard_model.specs.Text.{Bytes};
 ghost use Rattle.disk_log.specs.Rest.{Rests};
 ghost use Rattle.serve_laws.specs.Served.{frames};
-ghost use Rattle.serve_run.specs.Scenes.{Goes, Stops};
-ghost use Rattle.serve_run.specs.Turns.{AtEnd, IsOver, IsTold, Stopped, has_settings, scene};
+ghost use Rattle.serve_run.specs.Scenes.{Goes, IsBehindSettings, IsTold, Stopped, scene};
+ghost use Rattle.serve_run.specs.Turns.{AtEnd, IsOver, has_settings};
 ghost use Rattle.serve_run.specs.Windows.{IsGroup};
 
 use crate::service::Service;
 use crate::stop::Stop;
 use crate::window::{Window, group_end};
 use disk_log::Disk;
+use serve_laws::hearing::all_go_on;
 use std::alloc::{AllocError, Global};
-use yard_io::{Failed, Sink, Source, write_all};
+use yard_io::{Failed, Sink, Source, write_all, writes_add_up};
 
 /// How many bytes are read at a time at most.
 const PIECE: usize = 65_536;
@@ -34,12 +35,13 @@ pub(crate) fn serve_all<S: Source, K: Sink, D: Disk>(
     disk: &mut D,
 ) -> Result<(), Stop>
     requires rests { Rests D.tells service.end (D.content disk.old) (D.images disk.old) (frames service.desk) }
-    ensures ok { OnOk result (IsOver D.tells
-        (scene service.desk [] (S.left source.old) (K.taken sink.old) (K.flushed sink.old) (D.images disk.old))
-        (S.left source.new) (K.taken sink.new) (K.flushed sink.new) (D.images disk.new)) }
-    ensures stopped { OnErr result (Stopped D.tells
-        (scene service.desk [] (S.left source.old) (K.taken sink.old) (K.flushed sink.old) (D.images disk.old))
-        (S.left source.new) (K.taken sink.new) (D.images disk.new)) }
+    requires behind { IsBehindSettings service.desk }
+    ensures ok { OnOk result (IsOver D.tells (D.images disk.old) (D.images disk.new)
+        (scene service.desk [] (S.left source.old) (K.taken sink.old) (K.flushed sink.old))
+        (S.left source.new) (K.taken sink.new) (K.flushed sink.new)) }
+    ensures stopped { OnErr result (Stopped D.tells (D.images disk.old) (D.images disk.new)
+        (scene service.desk [] (S.left source.old) (K.taken sink.old) (K.flushed sink.old))
+        (S.left source.new) (K.taken sink.new)) }
     ensures read { result ≡ Err Stop.Read → S.faults source.old < S.faults source.new }
     ensures write { result ≡ Err Stop.Write → K.faults sink.old < K.faults sink.new }
     ensures disk { result ≡ Err Stop.Disk → D.faults disk.old < D.faults disk.new }
@@ -47,6 +49,7 @@ pub(crate) fn serve_all<S: Source, K: Sink, D: Disk>(
     ensures sink_faults { K.faults sink.old ≤ K.faults sink.new }
     ensures disk_faults { D.faults disk.old ≤ D.faults disk.new }
 {
+    all_go_on();
     let mut service = service;
     let mut window = Window::new(alloc);
     let mut piece = new_piece(alloc)?;
@@ -74,14 +77,14 @@ fn turn<S: Source, K: Sink, D: Disk>(
     requires room { 0 < length piece.old }
     requires rests { Rests D.tells service.end (D.content disk.old) (D.images disk.old) (frames service.desk) }
     ensures room { length piece.new ≡ length piece.old }
-    ensures goes { IfOk result (λ r. Goes D.tells
-        (scene service.desk window.old (S.left source.old) (K.taken sink.old) (K.flushed sink.old) (D.images disk.old))
-        (scene r.0.desk window.new (S.left source.new) (K.taken sink.new) (K.flushed sink.new) (D.images disk.new))) }
+    ensures goes { IfOk result (λ r. Goes D.tells (D.images disk.old) (D.images disk.new)
+        (scene service.desk window.old (S.left source.old) (K.taken sink.old) (K.flushed sink.old))
+        (scene r.0.desk window.new (S.left source.new) (K.taken sink.new) (K.flushed sink.new))) }
     ensures rests { IfOk result (λ r. Rests D.tells r.0.end (D.content disk.new) (D.images disk.new) (frames r.0.desk)) }
     ensures end { IfOk result (λ r. r.1 ≡ false → AtEnd window.new (S.left source.new)) }
-    ensures stops { OnErr result (Stops D.tells
-        (scene service.desk window.old (S.left source.old) (K.taken sink.old) (K.flushed sink.old) (D.images disk.old))
-        (S.left source.new) (K.taken sink.new) (D.images disk.new)) }
+    ensures stopped { OnErr result (Stopped D.tells (D.images disk.old) (D.images disk.new)
+        (scene service.desk window.old (S.left source.old) (K.taken sink.old) (K.flushed sink.old))
+        (S.left source.new) (K.taken sink.new)) }
     ensures read { result ≡ Err Stop.Read → S.faults source.old < S.faults source.new }
     ensures write { result ≡ Err Stop.Write → K.faults sink.old < K.faults sink.new }
     ensures disk { result ≡ Err Stop.Disk → D.faults disk.old < D.faults disk.new }
@@ -112,13 +115,13 @@ fn serve_front<K: Sink, D: Disk>(
 ) -> Result<Service, Stop>
     requires group { IsGroup (not (has_settings service.desk)) window.old end }
     requires rests { Rests D.tells service.end (D.content disk.old) (D.images disk.old) (frames service.desk) }
-    ensures goes { IfOk result (λ next. (left : Option Bytes) → Goes D.tells
-        (scene service.desk window.old left (K.taken sink.old) (K.flushed sink.old) (D.images disk.old))
-        (scene next.desk window.new left (K.taken sink.new) (K.flushed sink.new) (D.images disk.new))) }
+    ensures goes { IfOk result (λ next. (left : Option Bytes) → Goes D.tells (D.images disk.old) (D.images disk.new)
+        (scene service.desk window.old left (K.taken sink.old) (K.flushed sink.old))
+        (scene next.desk window.new left (K.taken sink.new) (K.flushed sink.new))) }
     ensures rests { IfOk result (λ next. Rests D.tells next.end (D.content disk.new) (D.images disk.new) (frames next.desk)) }
-    ensures stops { OnErr result ((left : Option Bytes) → Stops D.tells
-        (scene service.desk window.old left (K.taken sink.old) (K.flushed sink.old) (D.images disk.old))
-        left (K.taken sink.new) (D.images disk.new)) }
+    ensures stopped { OnErr result ((left : Option Bytes) → Stopped D.tells (D.images disk.old) (D.images disk.new)
+        (scene service.desk window.old left (K.taken sink.old) (K.flushed sink.old))
+        left (K.taken sink.new)) }
     ensures read { result ≡ Err Stop.Read → ⊥ }
     ensures write { result ≡ Err Stop.Write → K.faults sink.old < K.faults sink.new }
     ensures disk { result ≡ Err Stop.Disk → D.faults disk.old < D.faults disk.new }
@@ -139,6 +142,7 @@ fn tell<K: Sink>(sink: &mut K, text: &[u8]) -> Result<(), Failed>
     ensures cause { OnErr result (K.faults sink.old < K.faults sink.new) }
     ensures never_falls { K.faults sink.old ≤ K.faults sink.new }
 {
+    writes_add_up();
     if text.is_empty() {
         return Ok(());
     }

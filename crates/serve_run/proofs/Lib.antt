@@ -1,3 +1,0 @@
-mod AnswerLaws
-mod BookLaws
-mod TextLaws

@@ -26,7 +26,7 @@ module _ (tells : Bool) (content : List ℕ) (old mid : Ahead) (filled : Filled 
   ahead_there after stays = subst (λ xs. IsAhead tells xs mid) (sym stays) filled.ahead
 
   module _ (gate : ℕ) (some : 0 < length bytes) (is : gate ≡ slice_index bytes 0) where
-    gate_is : IsTrue tells → drop old.place content ≡ gate ∷ drop (old.place + 1) content
+    pub gate_is : IsTrue tells → drop old.place content ≡ gate ∷ drop (old.place + 1) content
     gate_is told =
         let rest : List ℕ = (filled.ahead.front told).0 in
         let whole : drop old.place content ≡ bytes ++ rest = ap (λ k. drop k content) (sym filled.place) ∙ ((filled.ahead.front told).1 ∙ ap (λ (l : List ℕ). l ++ rest) (sym hand)) in

@@ -158,4 +158,4 @@ pub ended_rests : (tells : Bool) (content after : List ℕ) (images : Images) (s
     → (IsTrue tells → Only content images) → Rests tells end after images (map lines batches)
 ended_rests tells content after images start end batches front ends same durable =
     let e : EndsAt tells content 0 end batches = subst (λ k. EndsAt tells content k end batches) front ends in
-    rests_behind tells content after images end (map lines batches) e.far e.shut same durable
+    rests_behind tells content after images end (map lines batches) (omega (arith, e.far)) e.shut same durable

@@ -1,8 +1,12 @@
 -- The first text of a log that has a head.
 use Rattle.std.proofs.Common.{◌≡◌, ◌⊎◌, inl, inr, ℕ, ◌+◌, ◌-◌, ◌<◌, ◌≤◌, Bool, List, [], ◌∷◌, ◌++◌, length, map, take, drop, refl, sym, ◌∙◌, ap, subst, arith, length-take-le, take-append-drop}
-use Rattle.std.specs.Prelude.{IsTrue, Some}
+use Rattle.std.specs.Prelude.{IsTrue, IfNone, IfSome, Option, None, Some}
 use Rattle.std.proofs.lemmas.List.{drop-drop, length-drop, take-append-le}
 use Rattle.yard_model.specs.declared.fact.Fact.{Fact}
+use Rattle.disk_log.specs.declared.headed.HeadedFault.TheVariants as headed
+use Rattle.disk_log.specs.declared.reading.ReadLogFault.{ReadLogFault}
+use Rattle.disk_log.specs.declared.reading.ReadLogFault.TheVariants as reading
+use Rattle.disk_log.specs.Faults.{of_reading}
 use Rattle.disk_log.specs.Frames.{framed, Holds, IsText}
 use Rattle.disk_log.specs.Headed.{HeadRead, IsDamagedBehind, IsHead, IsHeadless, IsLongHead, IsOpenFront, IsTextless, headed_texts}
 use Rattle.disk_log.specs.Images.{Images, Only}
@@ -15,8 +19,24 @@ use Rattle.disk_log.proofs.GoingLaws.{rests_behind}
 use Rattle.disk_log.proofs.ReadLaws.{pass_ahead, text_frame}
 use Rattle.disk_log.proofs.SpellLaws.{length-frame}
 
+-- what is so of what is there
+pub if_some : {X : Type 0} (P : X → Type 0) (o : Option X) (x : X) → o ≡ Some x → IfSome o P → P x
+if_some {X} P (Some y) x e p = let same : y ≡ x = cc in subst P same p
+if_some P None x e p = cc
+
+-- and where nothing is
+pub if_none : {X : Type 0} (o : Option X) (P : Type 0) → o ≡ None → IfNone o P → P
+if_none (Some y) P e p = cc
+if_none None P e p = p
+
+-- a fault of reading
+pub was_damaged : (r : ReadLogFault) (at : ℕ) → of_reading r ≡ headed.Damaged at → r ≡ reading.Damaged at
+was_damaged reading.Failed at e = cc
+was_damaged reading.OutOfMemory at e = cc
+was_damaged (reading.Damaged k) at e = cc
+
 at_front : (content : List ℕ) (k n : ℕ) → k ≡ 0 → drop (k + n) content ≡ drop n content
-at_front content k n first = ap (λ j. drop (j + n) content) first
+at_front content k n first = let same : k + n ≡ n = omega (arith, first) in ap (λ j. drop j content) same
 
 -- a gate at the front, by where the window stands
 pub open_front : (content : List ℕ) (place gate : ℕ) → place ≡ 0 → 0 < gate → drop place content ≡ gate ∷ drop (place + 1) content → IsOpenFront content

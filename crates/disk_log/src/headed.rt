@@ -282,11 +282,7 @@ fn read_text<D: Disk>(
 }
 
 /// So many of the bytes that are at hand, if they are so many.
-fn take_head(
-    alloc: Global,
-    window: &mut Window,
-    want: usize,
-) -> Result<Option<Head>, AllocError>
+fn take_head(alloc: Global, window: &mut Window, want: usize) -> Result<Option<Head>, AllocError>
     requires some { 0 < want }
     requires few { want ≤ 1024 }
     ensures none { IfOk result (λ head. IfNone head (length window.old.bytes < want)) }

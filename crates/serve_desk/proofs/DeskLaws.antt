@@ -335,3 +335,19 @@ done_told c d p e n k t room is =
     ap (λ s. told s (request_for p e n k) say.Done) is
     ∙ sym (ap₂ (λ a b. if a then still (Some c) (Refused why.OutOfRange) else if b then still (Some c) (Refused why.TooManyLines)
     else record { so_far = Some (with_request c (request_for p e n k)); answer = Done p e n }) t (past 20000 (length c.orders) room))
+
+-- Names and pairs that are counted.
+
+pub over_by_names : (c : Script) (n p : ℕ) (e : List ℕ) (k : Command) (names : ℕ) → names ≡ length (names_in (with_command c n p e k).orders) → 1000 < names → true ≡ is_over mode.Log (with_command c n p e k)
+over_by_names c n p e k names is over =
+    sym (ap (λ b. b || nat_lt 4000 (length (pairs_in (with_command c n p e k).orders))) (ap (nat_lt 1000) (sym is) ∙ is_below 1000 names over))
+
+pub over_by_pairs : (c : Script) (n p : ℕ) (e : List ℕ) (k : Command) (names pairs : ℕ) → names ≡ length (names_in (with_command c n p e k).orders) → names ≤ 1000
+    → pairs ≡ length (pairs_in (with_command c n p e k).orders) → nat_lt 4000 pairs ≡ is_over mode.Log (with_command c n p e k)
+over_by_pairs c n p e k names pairs is few are =
+    ap (nat_lt 4000) are ∙ sym (ap (λ b. b || nat_lt 4000 (length (pairs_in (with_command c n p e k).orders))) (ap (nat_lt 1000) (sym is) ∙ within_limits 1000 names few))
+
+-- how many names there are with that of a command more
+pub names_counted : (c d : Script) (rows : List (List ℕ × List (List Command))) (count n p : ℕ) (e : List ℕ) (k : Command) (names : ℕ) → IsDesk c rows count → c ≡ d
+    → names ≡ length (insert_key (slice_cmp nat_cmp) (keys_of rows) e) → names ≡ length (names_in (with_command d n p e k).orders)
+names_counted c d rows count n p e k names desk same is = is ∙ (ap length (names_more c rows count n p e k desk) ∙ ap (λ (v : Script). length (names_in (with_command v n p e k).orders)) same)

@@ -338,9 +338,9 @@ done_told c d p e n k t room is =
 
 -- Names and pairs that are counted.
 
-pub over_by_names : (c : Script) (n p : ℕ) (e : List ℕ) (k : Command) (names : ℕ) → names ≡ length (names_in (with_command c n p e k).orders) → 1000 < names → true ≡ is_over mode.Log (with_command c n p e k)
+pub over_by_names : (c : Script) (n p : ℕ) (e : List ℕ) (k : Command) (names : ℕ) → names ≡ length (names_in (with_command c n p e k).orders) → 1000 < names → nat_lt 1000 names ≡ is_over mode.Log (with_command c n p e k)
 over_by_names c n p e k names is over =
-    sym (ap (λ b. b || nat_lt 4000 (length (pairs_in (with_command c n p e k).orders))) (ap (nat_lt 1000) (sym is) ∙ is_below 1000 names over))
+    is_below 1000 names over ∙ sym (ap (λ b. b || nat_lt 4000 (length (pairs_in (with_command c n p e k).orders))) (ap (nat_lt 1000) (sym is) ∙ is_below 1000 names over))
 
 pub over_by_pairs : (c : Script) (n p : ℕ) (e : List ℕ) (k : Command) (names pairs : ℕ) → names ≡ length (names_in (with_command c n p e k).orders) → names ≤ 1000
     → pairs ≡ length (pairs_in (with_command c n p e k).orders) → nat_lt 4000 pairs ≡ is_over mode.Log (with_command c n p e k)

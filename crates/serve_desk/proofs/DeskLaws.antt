@@ -7,7 +7,7 @@ use Rattle.std.specs.Cmp.Lexicographic.{slice_cmp}
 use Rattle.std.specs.BTreeSet.{insert_key}
 use Rattle.std.specs.Map.{keys_of}
 use Rattle.std.proofs.lemmas.Bool.Decides.{nat_tests}
-use Rattle.std.proofs.lemmas.List.{append-nil, length-append, length-map, map-append}
+use Rattle.std.proofs.lemmas.List.{append-nil, length-append, map-append}
 use Rattle.std.proofs.lemmas.List.Elements.{filter-append}
 use Rattle.std.proofs.lemmas.List.Folds.{list_all-append, list_any-append}
 use Rattle.std.proofs.lemmas.List.Sums.{fold-append}
@@ -17,16 +17,14 @@ use Rattle.yard_model.specs.declared.charter.Order.{Order}
 use Rattle.yard_model.specs.declared.charter.Order.TheVariants as order
 use Rattle.yard_model.specs.declared.charter.Sending.{Sending}
 use Rattle.yard_model.specs.declared.event.Command.{Command}
-use Rattle.yard_model.specs.Behaviour.{is_in, is_of_kind}
 use Rattle.yard_model.specs.Equal.{is_command}
 use Rattle.yard_model.specs.Script.{Script, Pair, count_to, is_config, is_name, is_order, is_pair, names_in, pairs_in, plan, sends, with_name_of, with_order, with_pair, with_send, with_send_of}
 use Rattle.script_text.specs.declared.fault.Mode.TheVariants as mode
 use Rattle.script_text.specs.declared.fault.Why.TheVariants as why
 use Rattle.script_text.specs.Fit.{is_send}
 use Rattle.script_text.specs.Reading.{is_over, with_line}
-use Rattle.plain_laws.proofs.Booleans.{and_both, at_most, below, both, is_below, not_below, of_not, or_both, same_name, same_number, number_itself, within}
-use Rattle.plain_laws.proofs.Names.{name_itself}
-use Rattle.serve_laws.specs.Hearing.{Done, Conflict, Gap, Refused, Request, accepted, again, most_accepted, requested, still, with_request}
+use Rattle.plain_laws.proofs.Booleans.{and_both, both, is_below, not_below, of_not, or_both, same_name, same_number, number_itself, within}
+use Rattle.serve_laws.specs.Hearing.{Done, Conflict, Gap, Refused, accepted, again, requested, still, with_request}
 use Rattle.serve_laws.specs.Hearings.{IsHeard, request_for}
 use Rattle.serve_desk.specs.declared.desk.Heard.{Heard as Told}
 use Rattle.serve_desk.specs.declared.desk.Heard.TheVariants as say

@@ -17,7 +17,6 @@ use script_text::Why;
 use std::alloc::{AllocError, Global};
 use std::collections::BTreeMap;
 use std::marker::{Model, PhantomData};
-
 use yard_model::{Charter, Command, Config, EntityName, Line, Order, ProducerNo};
 
 /// The most commands.

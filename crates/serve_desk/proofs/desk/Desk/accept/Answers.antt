@@ -1,4 +1,4 @@
-use Rattle.std.proofs.Common.{◌≡◌, ◌<◌, ◌+◌, ◌∙◌, ap, sym, length, ℕ}
+use Rattle.std.proofs.Common.{◌+◌, ◌∙◌, ap, sym, length}
 use Rattle.plain_laws.proofs.Booleans.{at_most}
 use Rattle.serve_desk.proofs.DeskLaws.{done_told, full_told, heard_more, not_full, over_told, with_command}
 use Rattle.serve_desk.proofs.desk.Desk.accept.Goals as goal

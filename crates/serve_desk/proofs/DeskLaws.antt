@@ -7,7 +7,7 @@ use Rattle.std.specs.Cmp.Lexicographic.{slice_cmp}
 use Rattle.std.specs.BTreeSet.{insert_key}
 use Rattle.std.specs.Map.{keys_of}
 use Rattle.std.proofs.lemmas.Bool.Decides.{nat_tests}
-use Rattle.std.proofs.lemmas.List.{append-nil, length-append, length-map, map-append}
+use Rattle.std.proofs.lemmas.List.{append-nil, length-append, map-append}
 use Rattle.std.proofs.lemmas.List.Elements.{filter-append}
 use Rattle.std.proofs.lemmas.List.Folds.{list_all-append, list_any-append}
 use Rattle.std.proofs.lemmas.List.Sums.{fold-append}
@@ -17,16 +17,14 @@ use Rattle.yard_model.specs.declared.charter.Order.{Order}
 use Rattle.yard_model.specs.declared.charter.Order.TheVariants as order
 use Rattle.yard_model.specs.declared.charter.Sending.{Sending}
 use Rattle.yard_model.specs.declared.event.Command.{Command}
-use Rattle.yard_model.specs.Behaviour.{is_in, is_of_kind}
 use Rattle.yard_model.specs.Equal.{is_command}
 use Rattle.yard_model.specs.Script.{Script, Pair, count_to, is_config, is_name, is_order, is_pair, names_in, pairs_in, plan, sends, with_name_of, with_order, with_pair, with_send, with_send_of}
 use Rattle.script_text.specs.declared.fault.Mode.TheVariants as mode
 use Rattle.script_text.specs.declared.fault.Why.TheVariants as why
 use Rattle.script_text.specs.Fit.{is_send}
 use Rattle.script_text.specs.Reading.{is_over, with_line}
-use Rattle.plain_laws.proofs.Booleans.{and_both, at_most, below, both, is_below, not_below, of_not, or_both, same_name, same_number, number_itself, within}
-use Rattle.plain_laws.proofs.Names.{name_itself}
-use Rattle.serve_laws.specs.Hearing.{Done, Conflict, Gap, Refused, Request, accepted, again, most_accepted, requested, still, with_request}
+use Rattle.plain_laws.proofs.Booleans.{and_both, both, is_below, not_below, of_not, or_both, same_name, same_number, number_itself, within}
+use Rattle.serve_laws.specs.Hearing.{Done, Conflict, Gap, Refused, accepted, again, requested, still, with_request}
 use Rattle.serve_laws.specs.Hearings.{IsHeard, request_for}
 use Rattle.serve_desk.specs.declared.desk.Heard.{Heard as Told}
 use Rattle.serve_desk.specs.declared.desk.Heard.TheVariants as say
@@ -335,3 +333,19 @@ done_told c d p e n k t room is =
     ap (λ s. told s (request_for p e n k) say.Done) is
     ∙ sym (ap₂ (λ a b. if a then still (Some c) (Refused why.OutOfRange) else if b then still (Some c) (Refused why.TooManyLines)
     else record { so_far = Some (with_request c (request_for p e n k)); answer = Done p e n }) t (past 20000 (length c.orders) room))
+
+-- Names and pairs that are counted.
+
+pub over_by_names : (c : Script) (n p : ℕ) (e : List ℕ) (k : Command) (names : ℕ) → names ≡ length (names_in (with_command c n p e k).orders) → 1000 < names → nat_lt 1000 names ≡ is_over mode.Log (with_command c n p e k)
+over_by_names c n p e k names is over =
+    is_below 1000 names over ∙ sym (ap (λ b. b || nat_lt 4000 (length (pairs_in (with_command c n p e k).orders))) (ap (nat_lt 1000) (sym is) ∙ is_below 1000 names over))
+
+pub over_by_pairs : (c : Script) (n p : ℕ) (e : List ℕ) (k : Command) (names pairs : ℕ) → names ≡ length (names_in (with_command c n p e k).orders) → names ≤ 1000
+    → pairs ≡ length (pairs_in (with_command c n p e k).orders) → nat_lt 4000 pairs ≡ is_over mode.Log (with_command c n p e k)
+over_by_pairs c n p e k names pairs is few are =
+    ap (nat_lt 4000) are ∙ sym (ap (λ b. b || nat_lt 4000 (length (pairs_in (with_command c n p e k).orders))) (ap (nat_lt 1000) (sym is) ∙ within_limits 1000 names few))
+
+-- how many names there are with that of a command more
+pub names_counted : (c d : Script) (rows : List (List ℕ × List (List Command))) (count n p : ℕ) (e : List ℕ) (k : Command) (names : ℕ) → IsDesk c rows count → c ≡ d
+    → names ≡ length (insert_key (slice_cmp nat_cmp) (keys_of rows) e) → names ≡ length (names_in (with_command d n p e k).orders)
+names_counted c d rows count n p e k names desk same is = is ∙ (ap length (names_more c rows count n p e k desk) ∙ ap (λ (v : Script). length (names_in (with_command v n p e k).orders)) same)

@@ -1,11 +1,11 @@
 -- The commands that were accepted, by name and producer, with one more.
-use Rattle.std.proofs.Common.{◌≡◌, ◌≢◌, ℕ, ◌+◌, ◌<◌, sym, ap, ◌∙◌, refl, subst, arith, zero, suc, true≢false, Vec, Global}
-use Rattle.std.specs.Prelude.{Bool, true, false, ◌==◌, ◌&&◌, cond, List, [], ◌∷◌, ◌++◌, length, map, replicate, slice_index_or, slice_set, Option, Some, None, is_some, Result, Ok, Err, OnOk, OnErr}
+use Rattle.std.proofs.Common.{◌≡◌, ℕ, ◌+◌, ◌<◌, sym, ap, ◌∙◌, refl, subst, arith, zero, suc, true≢false, Vec, Global}
+use Rattle.std.specs.Prelude.{Bool, true, false, ◌==◌, ◌&&◌, cond, List, [], ◌∷◌, ◌++◌, length, map, replicate, slice_index_or, slice_set, Some, None, is_some, Result, Ok, Err, OnOk, OnErr}
 use Rattle.std.specs.declared.cmp.Ordering.{Ordering}
 use Rattle.std.specs.declared.cmp.Ordering.TheVariants.{Less, Equal, Greater}
 use Rattle.std.specs.Ordering.{nat_cmp, match_ordering, ordering_reverse, is_eq}
 use Rattle.std.specs.Cmp.Lexicographic.{slice_cmp, texts_ties, nat_list_cmp_total}
-use Rattle.std.specs.BTreeMap.{BTreeMap, get, keys, is_at, Updates, IsOrdered, insert_entry}
+use Rattle.std.specs.BTreeMap.{BTreeMap, get, keys, is_at, Updates, IsOrdered}
 use Rattle.std.specs.BTreeSet.{insert_key}
 use Rattle.std.specs.Map.{keys_of, lookup}
 use Rattle.std.specs.List.{AllByRecursion}
@@ -13,7 +13,6 @@ use Rattle.std.specs.List.Sorted.{IsStrictlySortedBy}
 use Rattle.std.proofs.lemmas.List.{get_or-set_same, get_or-set_other, get_or-map, length-map, map-set, set-get_or}
 use Rattle.yard_model.specs.declared.event.Command.{Command}
 use Rattle.yard_model.specs.Script.{is_name}
-use Rattle.yard_model.proofs.CountsLaws.{keys_more}
 use Rattle.plain_laws.proofs.Booleans.{same_name, other_number, get_replicate}
 use Rattle.serve_desk.specs.Rows.{HasOneMore, RowHasOneMore, kept_of, row_in}
 

@@ -1,5 +1,6 @@
 //! What was accepted so far.
-ghost use Rattle.std.specs.Prelude.{◌≡◌, ◌==◌, nat_le, ◌+◌, ◌-◌, ◌≤◌, ◌<◌, ℕ, true, false, if◌then◌else◌, [], List, length, slice_index_or, IfOk, OnOk, OnErr, IsTrue};
+ghost use Rattle.std.specs.Prelude.{◌≡◌, ◌==◌, nat_le, ◌+◌, ◌-◌, ◌≤◌, ◌<◌, ℕ, true, false, if◌then◌else◌, [], List};
+ghost use Rattle.std.specs.Prelude.{length, slice_index_or, IfOk, OnOk, OnErr, IsTrue};
 ghost use Rattle.yard_model.specs.declared.charter.Order.TheVariants as order;
 ghost use Rattle.yard_model.specs.Equal.{is_command};
 ghost use Rattle.yard_model.specs.declared.event.Command.{Command};
@@ -17,7 +18,6 @@ use script_text::Why;
 use std::alloc::{AllocError, Global};
 use std::collections::BTreeMap;
 use std::marker::{Model, PhantomData};
-
 use yard_model::{Charter, Command, Config, EntityName, Line, Order, ProducerNo};
 
 /// The most commands.
@@ -102,7 +102,8 @@ impl Desk {
     ) -> Result<Heard, AllocError>
         requires number { 1 ≤ number }
         requires fits { IsTrue (is_order self.old.config (order.Send producer entity.now command.now)) }
-        ensures heard { IfOk result (λ h. told self.new (request_for producer entity.now number command.now) h ≡ requested self.old (request_for producer entity.now number command.now)) }
+        ensures heard { IfOk result (λ h. told self.new (request_for producer entity.now number command.now) h
+            ≡ requested self.old (request_for producer entity.now number command.now)) }
         ensures kept { OnErr result (self.new ≡ self.old) }
     {
         let before = self.commands(producer, entity);
@@ -154,7 +155,8 @@ impl Desk {
         command: &Command,
     ) -> Result<Heard, AllocError>
         requires fits { IsTrue (is_order self.old.config (order.Send producer entity.now command.now)) }
-        ensures heard { IfOk result (λ h. (n : ℕ) → told self.new (request_for producer entity.now n command.now) h ≡ accepted self.old (request_for producer entity.now n command.now)) }
+        ensures heard { IfOk result (λ h. (n : ℕ) → told self.new (request_for producer entity.now n command.now) h
+            ≡ accepted self.old (request_for producer entity.now n command.now)) }
         ensures kept { OnErr result (self.new ≡ self.old) }
     {
         if self.is_over_with(producer, entity) {
@@ -254,7 +256,8 @@ impl Desk {
 fn heard_again(before: &[Command], place: usize, command: &Command) -> Heard
     requires { place < length before.now }
     ensures { (p : ℕ) (e : List ℕ) (n : ℕ) → n - 1 ≡ place → answer_to (request_for p e n command.now) result
-        ≡ (if is_command (slice_index_or before.now place command.now) command.now then Done p e n else Conflict p e n (slice_index_or before.now place command.now)) }
+        ≡ (if is_command (slice_index_or before.now place command.now) command.now then Done p e n
+        else Conflict p e n (slice_index_or before.now place command.now)) }
 {
     let known = before[place];
     if known == *command {

@@ -1,6 +1,5 @@
-use Rattle.std.proofs.Common.{sym, ap, ◌∙◌, refl}
+use Rattle.std.proofs.Common.{sym, ap}
 use Rattle.std.specs.Prelude.{is_some}
-use Rattle.std.specs.Option.{option_copied}
 use Rattle.serve_desk.proofs.RowLaws.{names_found, names_absent}
 use Rattle.serve_desk.proofs.table.names_with.Goals as goal
 

@@ -1,8 +1,8 @@
-use Rattle.std.proofs.Common.{◌≡◌, true, List, sym, ap, ◌∙◌, subst, ℕ}
+use Rattle.std.proofs.Common.{◌≡◌, List, sym, ap, ◌∙◌, subst}
 use Rattle.std.specs.Prelude.{is_some, Option, Some, None}
 use Rattle.std.specs.Ordering.{nat_cmp}
 use Rattle.std.specs.Cmp.Lexicographic.{slice_cmp}
-use Rattle.std.specs.BTreeMap.{BTreeMap, Updates, get, is_at, keys}
+use Rattle.std.specs.BTreeMap.{Updates, get, is_at, keys}
 use Rattle.std.specs.BTreeSet.{insert_key}
 use Rattle.std.specs.Map.{keys_of, set_value}
 use Rattle.std.specs.Option.{option_copied_mut}

@@ -1,4 +1,4 @@
-use Rattle.std.proofs.Common.{◌≡◌, ◌<◌, ◌+◌, ◌∙◌, ap, sym, length, ℕ}
+use Rattle.std.proofs.Common.{◌+◌, ◌∙◌, ap, sym, length}
 use Rattle.plain_laws.proofs.Booleans.{at_most}
 use Rattle.serve_desk.proofs.DeskLaws.{done_told, full_told, heard_more, not_full, over_told, with_command}
 use Rattle.serve_desk.proofs.desk.Desk.accept.Goals as goal
@@ -14,7 +14,7 @@ returns-then-is_full-clause-heard c = λ n.
 
 pub add-requires : goal.add-requires
 add-requires c =
-    heard_more c.args.self.now c.next_line-line.result c.args.producer c.args.entity.now c.args.command.now c.is_full.ensures.heard c.requires
+    heard_more c.args.self.now c.next_line-line.result c.args.producer c.args.entity.now c.args.command.now c.is_full.ensures.heard c.requires.fits
     (sym (c.is_over_with.ensures c.next_line-line.result c.args.command.now) ∙ c.if-is_over_with.false) (not_full (length c.args.self.now.orders) (sym c.is_full.ensures.value ∙ c.if-is_full.false))
 
 pub returns-clause-heard : goal.returns-clause-heard

@@ -1,4 +1,4 @@
-use Rattle.std.proofs.Common.{◌≡◌, ◌∙◌, ap, subst, sym, length}
+use Rattle.std.proofs.Common.{◌∙◌, ap, subst, sym, length}
 use Rattle.yard_model.specs.Script.{Script, pairs_in}
 use Rattle.serve_laws.specs.Hearings.{IsHeard}
 use Rattle.serve_desk.specs.Desks.{IsDesk}

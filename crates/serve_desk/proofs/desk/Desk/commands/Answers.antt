@@ -1,4 +1,4 @@
-use Rattle.std.proofs.Common.{◌≡◌, ◌≤◌, ◌∙◌, length, arith, ap, sym, subst, List}
+use Rattle.std.proofs.Common.{◌≤◌, ◌∙◌, length, arith, ap, sym, subst, List}
 use Rattle.yard_model.specs.declared.event.Command.{Command}
 use Rattle.yard_model.specs.Script.{Script, plan}
 use Rattle.serve_desk.proofs.DeskLaws.{plan_short}

@@ -1,4 +1,4 @@
-use Rattle.std.proofs.Common.{[], replicate, subst, List}
+use Rattle.std.proofs.Common.{subst, List}
 use Rattle.yard_model.specs.declared.event.Command.{Command}
 use Rattle.serve_desk.specs.Rows.{RowHasOneMore}
 use Rattle.serve_desk.proofs.RowLaws.{row_begun}

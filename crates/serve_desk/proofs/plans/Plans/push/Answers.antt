@@ -1,4 +1,4 @@
-use Rattle.std.proofs.Common.{◌≡◌, ◌<◌, ◌∙◌, length, arith, subst, List}
+use Rattle.std.proofs.Common.{◌<◌, ◌∙◌, length, arith, subst, List}
 use Rattle.yard_model.specs.declared.event.Command.{Command}
 use Rattle.serve_desk.specs.Rows.{RowHasOneMore}
 use Rattle.serve_desk.proofs.RowLaws.{on_err, row_pushed, row_stays}

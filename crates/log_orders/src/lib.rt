@@ -2,8 +2,8 @@
 //! written.
 #![tactic(auto)]
 
-mod gather;
+mod gathering;
 mod orders;
 
-pub use gather::{belongs, enter, gather};
+pub use gathering::{belongs, enter, gather};
 pub use orders::{CommitFault, commit_batch, commit_order};

@@ -7,7 +7,7 @@ ghost use Rattle.disk_log.specs.Spelled.{AreBatches, SpellsPrefix, lines};
 ghost use Rattle.log_orders.specs.Orders.{batch_of};
 ghost use Rattle.log_orders.specs.Gathered.{Gathers, RestsOn};
 
-use crate::gather::gather;
+use crate::gathering::gather;
 use disk_log::{Batch, Disk, Log};
 use std::alloc::AllocError;
 use yard_io::Failed;

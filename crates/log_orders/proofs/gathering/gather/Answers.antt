@@ -2,7 +2,7 @@ use Rattle.std.proofs.Common.{◌≡◌, ◌+◌, ◌++◌, ◌∷◌, [], take,
 use Rattle.std.proofs.lemmas.List.{take_all, take_more}
 use Rattle.log_orders.specs.Gathered.{Gathers}
 use Rattle.log_orders.proofs.GatherLaws.{gathers_more, gathers_none}
-use Rattle.log_orders.proofs.gather.gather.Goals as goal
+use Rattle.log_orders.proofs.gathering.gather.Goals as goal
 
 pub loop-fact-init : goal.loop-fact-init
 loop-fact-init c = gathers_none c.clear.new.self c.clear.ensures

@@ -1,6 +1,6 @@
 use Rattle.std.proofs.Common.{◌≡◌, true, false, sym, ◌∙◌}
 use Rattle.log_orders.proofs.GatherLaws.{one_entry, one_other}
-use Rattle.log_orders.proofs.gather.enter.Goals as goal
+use Rattle.log_orders.proofs.gathering.enter.Goals as goal
 
 pub returns-then-not-belongs-clause-ok : goal.returns-then-not-belongs-clause-ok
 returns-then-not-belongs-clause-ok c = one_other c.args.batch.now c.args.fact.now (sym c.belongs.ensures ∙ c.if-not-belongs.true)

@@ -1,5 +1,5 @@
 -- A line is heard as what it asks.
-use Rattle.std.proofs.Common.{◌≡◌, ℕ, ◌<◌, ◌≤◌, Bool, true, false, not, List, [], ◌∷◌, length, refl, sym, ap, subst, ◌∙◌, arith}
+use Rattle.std.proofs.Common.{◌≡◌, ℕ, ◌<◌, ◌≤◌, Bool, true, false, List, [], ◌∷◌, refl, sym, ap, ◌∙◌}
 use Rattle.std.specs.Prelude.{◌&&◌, ◌||◌, nat_lt, codes, if◌then◌else◌, Option, Some, None, Result, Ok, Err}
 use Rattle.std.specs.List.{list_all}
 use Rattle.yard_model.specs.declared.charter.Config.{Config}
@@ -22,12 +22,6 @@ answered_as c (Err w) = refl
 answered_as c (Ok OfReport) = refl
 answered_as c (Ok (OfEntity e)) = refl
 answered_as c (Ok (ToDo r)) = refl
-
-configured_as : (so : Option Script) (x : Result Config Why) → configured so x ≡ heard_as so (of_settings x)
-configured_as None (Ok config) = refl
-configured_as (Some c) (Ok config) = refl
-configured_as None (Err w) = refl
-configured_as (Some c) (Err w) = refl
 
 same_settings : (a b : Config) → Some a ≡ Some b → a ≡ b
 same_settings a b e = cc
@@ -92,55 +86,3 @@ pub known_asked : (so : Option Script) (config : Config) (ws : List (List ℕ)) 
 known_asked None config ws r e h = absurd (no_settings config (sym e))
 known_asked (Some c) config ws r e h =
     ap (λ (k : Config). answered c (ask k ws)) (same_settings c.config config e) ∙ answered_as c (ask config ws) ∙ ap (heard_as (Some c)) (sym h)
-
-pub unknown_asked : (so : Option Script) (ws : List (List ℕ)) → settings_in so ≡ None → asked so ws ≡ heard_as so (request.Refused why.NoConfig)
-unknown_asked None ws e = refl
-unknown_asked (Some c) ws e = absurd (no_settings c.config e)
-
--- Words.
-
-pub told_blank : (so : Option Script) (ws : List (List ℕ)) → ws ≡ [] → told so ws ≡ heard_as so request.Nothing
-told_blank so ws e = ap (told so) e
-
-pub told_comment : (so : Option Script) (ws : List (List ℕ)) (w : List ℕ) (more : List (List ℕ)) → ws ≡ w ∷ more → begins_comment w ≡ true → told so ws ≡ heard_as so request.Nothing
-told_comment so ws w more e h = ap (told so) e ∙ ap (λ (b : Bool). if b then still so Silent else if is_text w (codes "config") then configured so (settings more) else asked so (w ∷ more)) h
-
-pub told_config : (so : Option Script) (ws : List (List ℕ)) (w : List ℕ) (more : List (List ℕ)) (r : Request) → ws ≡ w ∷ more → begins_comment w ≡ false → is_text w (codes "config") ≡ true
-    → r ≡ of_settings (settings more) → told so ws ≡ heard_as so r
-told_config so ws w more r e h g k =
-    ap (told so) e ∙ ap (λ (b : Bool). if b then still so Silent else if is_text w (codes "config") then configured so (settings more) else asked so (w ∷ more)) h
-    ∙ ap (λ (b : Bool). if b then configured so (settings more) else asked so (w ∷ more)) g ∙ configured_as so (settings more) ∙ ap (heard_as so) (sym k)
-
-pub told_other : (so : Option Script) (ws : List (List ℕ)) (w : List ℕ) (more : List (List ℕ)) (r : Request) → ws ≡ w ∷ more → begins_comment w ≡ false → is_text w (codes "config") ≡ false
-    → asked so (w ∷ more) ≡ heard_as so r → told so ws ≡ heard_as so r
-told_other so ws w more r e h g k =
-    ap (told so) e ∙ ap (λ (b : Bool). if b then still so Silent else if is_text w (codes "config") then configured so (settings more) else asked so (w ∷ more)) h
-    ∙ ap (λ (b : Bool). if b then configured so (settings more) else asked so (w ∷ more)) g ∙ k
-
--- Lines.
-
-neither : (a b : Bool) → (a || b) ≡ false → (not a && not b) ≡ true
-neither true b h = cc
-neither false true h = cc
-neither false false h = refl
-
-either : (a b : Bool) → (a || b) ≡ true → (not a && not b) ≡ false
-either true b h = refl
-either false true h = refl
-either false false h = cc
-
-abbrev by_tests : Option Script → List ℕ → Bool → Bool → Heard
-by_tests so line long garbled = if long then still so (Refused why.LongLine) else if garbled then still so (Refused why.NotText) else told so (words line)
-
-pub heard_long : (so : Option Script) (line : List ℕ) → nat_lt 256 (length line) ≡ true → heard so line ≡ heard_as so (request.Refused why.LongLine)
-heard_long so line h = ap (λ b. by_tests so line b (not (is_comment (words line)) && not (list_all is_plain line))) h
-
-pub heard_garbled : (so : Option Script) (line : List ℕ) → nat_lt 256 (length line) ≡ false → (is_comment (words line) || list_all is_plain line) ≡ false
-    → heard so line ≡ heard_as so (request.Refused why.NotText)
-heard_garbled so line h g =
-    ap (λ b. by_tests so line b (not (is_comment (words line)) && not (list_all is_plain line))) h ∙ ap (by_tests so line false) (neither (is_comment (words line)) (list_all is_plain line) g)
-
-pub heard_read : (so : Option Script) (line : List ℕ) (r : Request) → nat_lt 256 (length line) ≡ false → (is_comment (words line) || list_all is_plain line) ≡ true
-    → told so (words line) ≡ heard_as so r → heard so line ≡ heard_as so r
-heard_read so line r h g k =
-    ap (λ b. by_tests so line b (not (is_comment (words line)) && not (list_all is_plain line))) h ∙ ap (by_tests so line false) (either (is_comment (words line)) (list_all is_plain line) g) ∙ k

@@ -1,21 +1,17 @@
 -- A line is heard as what it asks.
-use Rattle.std.proofs.Common.{◌≡◌, ℕ, ◌<◌, ◌≤◌, Bool, true, false, List, [], ◌∷◌, refl, sym, ap, ◌∙◌}
-use Rattle.std.specs.Prelude.{◌&&◌, ◌||◌, nat_lt, codes, if◌then◌else◌, Option, Some, None, Result, Ok, Err}
-use Rattle.std.specs.List.{list_all}
+use Rattle.std.proofs.Common.{◌≡◌, ℕ, List, refl, sym, ap, ◌∙◌}
+use Rattle.std.specs.Prelude.{Option, Some, None, Result, Ok, Err}
 use Rattle.yard_model.specs.declared.charter.Config.{Config}
 use Rattle.yard_model.specs.declared.event.Command.{Command}
 use Rattle.yard_model.specs.Script.{Script}
 use Rattle.script_text.specs.declared.fault.Why.{Why}
-use Rattle.script_text.specs.declared.fault.Why.TheVariants as why
 use Rattle.script_text.specs.Faults.{◌>>=◌, ◌&◌}
 use Rattle.script_text.specs.Orders.{command_of, first, name, number}
-use Rattle.script_text.specs.Settings.{settings}
-use Rattle.script_text.specs.Words.{begins_comment, is_comment, is_plain, is_text, words}
-use Rattle.serve_laws.specs.Hearing.{Ask, Heard, OfEntity, OfReport, Refused, Silent, ToDo, answered, ask, asked, configured, heard, still, told}
+use Rattle.serve_laws.specs.Hearing.{Ask, OfEntity, OfReport, ToDo, answered, ask, asked}
 use Rattle.serve_laws.specs.Hearing.{Request as Numbered, request as numbered}
 use Rattle.serve_lines.specs.declared.requests.Request.{Request}
 use Rattle.serve_lines.specs.declared.requests.Request.TheVariants as request
-use Rattle.serve_lines.specs.Asking.{heard_as, of_ask, of_parts, of_request, of_settings, of_words, read_as, settings_in}
+use Rattle.serve_lines.specs.Asking.{heard_as, of_ask, of_parts, of_request, of_words, read_as, settings_in}
 
 answered_as : (c : Script) (x : Result Ask Why) → answered c x ≡ heard_as (Some c) (of_words x)
 answered_as c (Err w) = refl

@@ -1,6 +1,6 @@
 -- The line of settings, read back.
-use Rattle.std.proofs.Common.{◌≡◌, ℕ, ◌+◌, ◌-◌, ◌*◌, ◌^◌, ◌<◌, ◌≤◌, Bool, true, false, not, List, [], ◌∷◌, ◌++◌, length, take, drop, suc, refl, sym, ap, ap₂, ◌∙◌, arith}
-use Rattle.std.specs.Prelude.{◌&&◌, ◌||◌, ◌==◌, cond, nat_lt, nat_le, codes, decimal, filter, fold, if◌then◌else◌, IsTrue, Option, Some, None, Result, Ok, Err}
+use Rattle.std.proofs.Common.{◌≡◌, ℕ, ◌+◌, ◌^◌, ◌<◌, ◌≤◌, Bool, true, false, not, List, [], ◌∷◌, ◌++◌, length, take, drop, suc, refl, sym, ap, ap₂, ◌∙◌, arith}
+use Rattle.std.specs.Prelude.{◌&&◌, ◌||◌, ◌==◌, cond, nat_lt, nat_le, codes, decimal, filter, fold, if◌then◌else◌, IsTrue, Option, Some, None, Ok, Err}
 use Rattle.std.specs.List.{join_with_byte, list_all, list_any, onto_first, position, position_or_len, slice_split}
 use Rattle.std.proofs.lemmas.Bool.Decides.{nat_tests}
 use Rattle.std.proofs.lemmas.Fmt.{decimal_nonempty, length-decimal-le, digits_decimal, digits_value-decimal}
@@ -423,8 +423,8 @@ settings_pushed c t x y z last h g k l =
     let m : List ℕ = six (codes " buffer=") (decimal c.buffer) (codes " window=") (decimal c.window) (codes " snapshot=") (decimal c.snapshot) in
     let all : z ≡ t ++ (s ++ (m ++ ways c)) = k ∙ ap (λ v. v ++ ways c) (g ∙ ap (λ v. v ++ m) h) ∙ append_assoc (t ++ s) m (ways c) ∙ append_assoc t s (m ++ ways c) in
     let spelled : s ++ (m ++ ways c) ≡ join_with_byte 32 (config_words c) =
-        six_behind (codes "config nodes=") (decimal c.nodes) (codes " shards=") (decimal c.shards) (codes " producers=") (decimal c.producers) (m ++ ways c)
-        ∙ ap (sizes c) (six_behind (codes " buffer=") (decimal c.buffer) (codes " window=") (decimal c.window) (codes " snapshot=") (decimal c.snapshot) (ways c)) ∙ sym (words_are c) in
+    six_behind (codes "config nodes=") (decimal c.nodes) (codes " shards=") (decimal c.shards) (codes " producers=") (decimal c.producers) (m ++ ways c)
+    ∙ ap (sizes c) (six_behind (codes " buffer=") (decimal c.buffer) (codes " window=") (decimal c.window) (codes " snapshot=") (decimal c.snapshot) (ways c)) ∙ sym (words_are c) in
     l ∙ ap (λ v. v ++ 10 ∷ []) (all ∙ ap (λ v. t ++ v) spelled) ∙ append_assoc t (join_with_byte 32 (config_words c)) (10 ∷ [])
 
 -- Read back.

@@ -14,6 +14,6 @@ returns-in_default c config h e =
 pub returns : goal.returns
 returns c config h e =
     let same : c.in-Some.config ≡ config =
-        same_found c.in-Some.config config
-        (sym c.in-Some.is ∙ read_back config c.without_end.result.now c.settings_of.result h (c.without_end.ensures (join_with_byte 32 (config_words config)) e) c.settings_of.ensures.value) in
+    same_found c.in-Some.config config
+    (sym c.in-Some.is ∙ read_back config c.without_end.result.now c.settings_of.result h (c.without_end.ensures (join_with_byte 32 (config_words config)) e) c.settings_of.ensures.value) in
     other_text c.as_slice.result.now c.args.head.now (sym c.if-eq.false ∙ c.eq.ensures) (c.as_slice.ensures.value ∙ c.in_ok-text.ensures ∙ ap head_line same ∙ sym e)

@@ -1,4 +1,4 @@
-use Rattle.std.proofs.Common.{sym, ◌∷◌, ◌∙◌}
+use Rattle.std.proofs.Common.{◌∷◌, ◌∙◌}
 use Rattle.script_text.specs.Words.{words}
 use Rattle.serve_lines.proofs.AskingLaws.{known_asked}
 use Rattle.serve_lines.proofs.requests.read_other.Goals as goal

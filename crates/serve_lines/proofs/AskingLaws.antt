@@ -1,17 +1,17 @@
 -- A line is heard as what it asks.
-use Rattle.std.proofs.Common.{◌≡◌, ℕ, ◌<◌, ◌≤◌, Bool, true, false, not, List, [], ◌∷◌, length, refl, sym, ap, subst, ◌∙◌, arith}
-use Rattle.std.specs.Prelude.{◌&&◌, ◌||◌, nat_lt, codes, if◌then◌else◌, Option, Some, None, Result, Ok, Err}
-use Rattle.std.specs.List.{list_all}
+use Rattle.std.proofs.Common.{◌≡◌, ℕ, List, refl, sym, ap, ◌∙◌}
+use Rattle.std.specs.Prelude.{Option, Some, None, Result, Ok, Err}
 use Rattle.yard_model.specs.declared.charter.Config.{Config}
+use Rattle.yard_model.specs.declared.event.Command.{Command}
 use Rattle.yard_model.specs.Script.{Script}
 use Rattle.script_text.specs.declared.fault.Why.{Why}
-use Rattle.script_text.specs.declared.fault.Why.TheVariants as why
-use Rattle.script_text.specs.Settings.{settings}
-use Rattle.script_text.specs.Words.{begins_comment, is_comment, is_plain, is_text, words}
-use Rattle.serve_laws.specs.Hearing.{Ask, Heard, OfEntity, OfReport, Refused, Silent, ToDo, answered, ask, asked, configured, heard, still, told}
+use Rattle.script_text.specs.Faults.{◌>>=◌, ◌&◌}
+use Rattle.script_text.specs.Orders.{command_of, first, name, number}
+use Rattle.serve_laws.specs.Hearing.{Ask, OfEntity, OfReport, ToDo, answered, ask, asked}
+use Rattle.serve_laws.specs.Hearing.{Request as Numbered, request as numbered}
 use Rattle.serve_lines.specs.declared.requests.Request.{Request}
 use Rattle.serve_lines.specs.declared.requests.Request.TheVariants as request
-use Rattle.serve_lines.specs.Asking.{heard_as, of_ask, of_settings, of_words, settings_in}
+use Rattle.serve_lines.specs.Asking.{heard_as, of_ask, of_parts, of_request, of_words, read_as, settings_in}
 
 answered_as : (c : Script) (x : Result Ask Why) → answered c x ≡ heard_as (Some c) (of_words x)
 answered_as c (Err w) = refl
@@ -19,72 +19,66 @@ answered_as c (Ok OfReport) = refl
 answered_as c (Ok (OfEntity e)) = refl
 answered_as c (Ok (ToDo r)) = refl
 
-configured_as : (so : Option Script) (x : Result Config Why) → configured so x ≡ heard_as so (of_settings x)
-configured_as None (Ok config) = refl
-configured_as (Some c) (Ok config) = refl
-configured_as None (Err w) = refl
-configured_as (Some c) (Err w) = refl
-
 same_settings : (a b : Config) → Some a ≡ Some b → a ≡ b
 same_settings a b e = cc
 
 no_settings : (a : Config) → Some a ≡ None → ⊥
 no_settings a e = cc
 
+-- A request, word by word.
+
+abbrev Parts : Type 0
+Parts = ((ℕ × List ℕ) × ℕ) × Command
+
+abbrev numbered_of : Parts → Result Numbered Why
+numbered_of x = Ok (record { producer = x.0.0.0; entity = x.0.0.1; number = x.0.1; command = x.1 })
+
+abbrev Word : Type 0
+Word = List ℕ × List (List ℕ)
+
+abbrev parts_of : Config → List ℕ → List ℕ → List ℕ → Word → Result Parts Why
+parts_of c p e n k = number 1 c.producers p & name e & number 1 4294967295 n & command_of c.kind k.0 k.1
+
+abbrev after_number : Config → List ℕ → List ℕ → Word → Result Numbered Why
+after_number c p e n = first n.1 >>= λ k. parts_of c p e n.0 k >>= numbered_of
+
+abbrev after_name : Config → List ℕ → Word → Result Numbered Why
+after_name c p e = first e.1 >>= after_number c p e.0
+
+abbrev after_producer : Config → Word → Result Numbered Why
+after_producer c p = first p.1 >>= after_name c p.0
+
+same_parts : (x : Result Parts Why) → read_as of_parts x ≡ read_as of_request (x >>= numbered_of)
+same_parts (Ok x) = refl
+same_parts (Err w) = refl
+
+pub words_joined : (c : Config) (ws : List (List ℕ)) (p e n k : Word) → first ws ≡ Ok p → first p.1 ≡ Ok e → first e.1 ≡ Ok n → first n.1 ≡ Ok k
+    → read_as of_parts (parts_of c p.0 e.0 n.0 k) ≡ read_as of_request (numbered c ws)
+words_joined c ws p e n k f g h i =
+    same_parts (parts_of c p.0 e.0 n.0 k)
+    ∙ sym (ap (λ x. read_as of_request (x >>= after_producer c)) f ∙ ap (λ x. read_as of_request (x >>= after_name c p.0)) g
+    ∙ ap (λ x. read_as of_request (x >>= after_number c p.0 e.0)) h ∙ ap (λ x. read_as of_request (x >>= λ k. parts_of c p.0 e.0 n.0 k >>= numbered_of)) i)
+
+-- What is refused.
+
+abbrev refusal : Why → Result Request Why
+refusal w = Err w
+
+abbrev taken : Request → Result Request Why
+taken r = Ok r
+
+same_reason : (v w : Why) → refusal v ≡ refusal w → v ≡ w
+same_reason v w e = cc
+
+not_taken : (r : Request) (w : Why) → taken r ≡ refusal w → ⊥
+not_taken r w e = cc
+
+pub words_refused : (x : Result Ask Why) (w : Why) → read_as of_ask x ≡ Err w → request.Refused w ≡ of_words x
+words_refused (Ok a) w e = absurd (not_taken (of_ask a) w e)
+words_refused (Err v) w e = ap request.Refused (sym (same_reason v w e))
+
 -- where settings are in force, and where none are
 pub known_asked : (so : Option Script) (config : Config) (ws : List (List ℕ)) (r : Request) → settings_in so ≡ Some config → r ≡ of_words (ask config ws) → asked so ws ≡ heard_as so r
 known_asked None config ws r e h = absurd (no_settings config (sym e))
 known_asked (Some c) config ws r e h =
     ap (λ (k : Config). answered c (ask k ws)) (same_settings c.config config e) ∙ answered_as c (ask config ws) ∙ ap (heard_as (Some c)) (sym h)
-
-pub unknown_asked : (so : Option Script) (ws : List (List ℕ)) → settings_in so ≡ None → asked so ws ≡ heard_as so (request.Refused why.NoConfig)
-unknown_asked None ws e = refl
-unknown_asked (Some c) ws e = absurd (no_settings c.config e)
-
--- Words.
-
-pub told_blank : (so : Option Script) (ws : List (List ℕ)) → ws ≡ [] → told so ws ≡ heard_as so request.Nothing
-told_blank so ws e = ap (told so) e
-
-pub told_comment : (so : Option Script) (ws : List (List ℕ)) (w : List ℕ) (more : List (List ℕ)) → ws ≡ w ∷ more → begins_comment w ≡ true → told so ws ≡ heard_as so request.Nothing
-told_comment so ws w more e h = ap (told so) e ∙ ap (λ (b : Bool). if b then still so Silent else if is_text w (codes "config") then configured so (settings more) else asked so (w ∷ more)) h
-
-pub told_config : (so : Option Script) (ws : List (List ℕ)) (w : List ℕ) (more : List (List ℕ)) (r : Request) → ws ≡ w ∷ more → begins_comment w ≡ false → is_text w (codes "config") ≡ true
-    → r ≡ of_settings (settings more) → told so ws ≡ heard_as so r
-told_config so ws w more r e h g k =
-    ap (told so) e ∙ ap (λ (b : Bool). if b then still so Silent else if is_text w (codes "config") then configured so (settings more) else asked so (w ∷ more)) h
-    ∙ ap (λ (b : Bool). if b then configured so (settings more) else asked so (w ∷ more)) g ∙ configured_as so (settings more) ∙ ap (heard_as so) (sym k)
-
-pub told_other : (so : Option Script) (ws : List (List ℕ)) (w : List ℕ) (more : List (List ℕ)) (r : Request) → ws ≡ w ∷ more → begins_comment w ≡ false → is_text w (codes "config") ≡ false
-    → asked so (w ∷ more) ≡ heard_as so r → told so ws ≡ heard_as so r
-told_other so ws w more r e h g k =
-    ap (told so) e ∙ ap (λ (b : Bool). if b then still so Silent else if is_text w (codes "config") then configured so (settings more) else asked so (w ∷ more)) h
-    ∙ ap (λ (b : Bool). if b then configured so (settings more) else asked so (w ∷ more)) g ∙ k
-
--- Lines.
-
-neither : (a b : Bool) → (a || b) ≡ false → (not a && not b) ≡ true
-neither true b h = cc
-neither false true h = cc
-neither false false h = refl
-
-either : (a b : Bool) → (a || b) ≡ true → (not a && not b) ≡ false
-either true b h = refl
-either false true h = refl
-either false false h = cc
-
-abbrev by_tests : Option Script → List ℕ → Bool → Bool → Heard
-by_tests so line long garbled = if long then still so (Refused why.LongLine) else if garbled then still so (Refused why.NotText) else told so (words line)
-
-pub heard_long : (so : Option Script) (line : List ℕ) → nat_lt 256 (length line) ≡ true → heard so line ≡ heard_as so (request.Refused why.LongLine)
-heard_long so line h = ap (λ b. by_tests so line b (not (is_comment (words line)) && not (list_all is_plain line))) h
-
-pub heard_garbled : (so : Option Script) (line : List ℕ) → nat_lt 256 (length line) ≡ false → (is_comment (words line) || list_all is_plain line) ≡ false
-    → heard so line ≡ heard_as so (request.Refused why.NotText)
-heard_garbled so line h g =
-    ap (λ b. by_tests so line b (not (is_comment (words line)) && not (list_all is_plain line))) h ∙ ap (by_tests so line false) (neither (is_comment (words line)) (list_all is_plain line) g)
-
-pub heard_read : (so : Option Script) (line : List ℕ) (r : Request) → nat_lt 256 (length line) ≡ false → (is_comment (words line) || list_all is_plain line) ≡ true
-    → told so (words line) ≡ heard_as so r → heard so line ≡ heard_as so r
-heard_read so line r h g k =
-    ap (λ b. by_tests so line b (not (is_comment (words line)) && not (list_all is_plain line))) h ∙ ap (by_tests so line false) (either (is_comment (words line)) (list_all is_plain line) g) ∙ k

@@ -1,10 +1,10 @@
 -- The line of settings, read back.
-use Rattle.std.proofs.Common.{◌≡◌, ℕ, ◌+◌, ◌-◌, ◌*◌, ◌^◌, ◌<◌, ◌≤◌, Bool, true, false, not, List, [], ◌∷◌, ◌++◌, length, take, drop, suc, refl, sym, ap, ap₂, ◌∙◌, arith}
-use Rattle.std.specs.Prelude.{◌&&◌, ◌||◌, ◌==◌, cond, nat_lt, nat_le, codes, decimal, filter, fold, if◌then◌else◌, IsTrue, Some, None, Result, Ok, Err}
+use Rattle.std.proofs.Common.{◌≡◌, ℕ, ◌+◌, ◌^◌, ◌<◌, ◌≤◌, Bool, true, false, not, List, [], ◌∷◌, ◌++◌, length, take, drop, suc, refl, sym, ap, ap₂, ◌∙◌, arith}
+use Rattle.std.specs.Prelude.{◌&&◌, ◌||◌, ◌==◌, cond, nat_lt, nat_le, codes, decimal, filter, fold, if◌then◌else◌, IsTrue, Option, Some, None, Ok, Err}
 use Rattle.std.specs.List.{join_with_byte, list_all, list_any, onto_first, position, position_or_len, slice_split}
 use Rattle.std.proofs.lemmas.Bool.Decides.{nat_tests}
 use Rattle.std.proofs.lemmas.Fmt.{decimal_nonempty, length-decimal-le, digits_decimal, digits_value-decimal}
-use Rattle.std.proofs.lemmas.List.{length-append}
+use Rattle.std.proofs.lemmas.List.{append_assoc, length-append}
 use Rattle.std.proofs.lemmas.List.Splits.{slice_split-cons_yes, slice_split-cons_no}
 use Rattle.std.proofs.lemmas.Str.Parse.{FoldsDigits, IsDigitsTest, IsNumeralModel, numerals_by_fold}
 use Rattle.plain_laws.proofs.Booleans.{and_both, at_most, both, of_not, within}
@@ -23,7 +23,7 @@ use Rattle.script_text.specs.Settings.{defaults, has_key, is_equals, is_reason, 
 use Rattle.script_text.specs.Words.{is_digit, is_gap, is_number, is_some_word, is_text, value_of, with_digit, words}
 use Rattle.serve_laws.specs.Hearing.{rest_of}
 use Rattle.serve_laws.specs.Served.{config_words, kind_text, switch_text}
-use Rattle.serve_lines.specs.Heads.{if_read, settings_behind}
+use Rattle.serve_lines.specs.Heads.{head_line, if_read, settings_behind}
 
 -- Words.
 
@@ -382,15 +382,55 @@ words_read : (c : Config) → IsTrue (is_config c) → words (join_with_byte 32 
 words_read c h = words_joined (codes "config") (rest_of (config_words c)) (all_words (config_words c) (are_words c (ranges_of c h)))
 
 -- the words of the line of settings say them
-pub head_read : (c : Config) → IsTrue (is_config c) → settings_behind (words (join_with_byte 32 (config_words c))) ≡ Some c
+head_read : (c : Config) → IsTrue (is_config c) → settings_behind (words (join_with_byte 32 (config_words c))) ≡ Some c
 head_read c h = ap settings_behind (words_read c h) ∙ ap if_read (settings_read c h)
 
--- a line without its end
-pub end_cut : (xs : List ℕ) (b : ℕ) → take (length (xs ++ b ∷ []) - 1) (xs ++ b ∷ []) ≡ xs
-end_cut xs b =
-    let count : length (xs ++ b ∷ []) - 1 ≡ length xs = omega (arith, length-append xs (b ∷ [])) in
-    ap (λ n. take n (xs ++ b ∷ [])) count ∙ front xs
-  where
-    front : (ys : List ℕ) → take (length ys) (ys ++ b ∷ []) ≡ ys
-    front [] = refl
-    front (y ∷ ys) = ap (λ zs. y ∷ zs) (front ys)
+-- Pushed in turn.
+
+pub three_pushed : (t x y z a b c d e f : List ℕ) → x ≡ t ++ (a ++ b) → y ≡ x ++ (c ++ d) → z ≡ y ++ (e ++ f) → z ≡ t ++ (a ++ (b ++ (c ++ (d ++ (e ++ f)))))
+three_pushed t x y z a b c d e f h g k =
+    k ∙ ap (λ l. l ++ (e ++ f)) (g ∙ ap (λ l. l ++ (c ++ d)) h) ∙ append_assoc (t ++ (a ++ b)) (c ++ d) (e ++ f) ∙ append_assoc t (a ++ b) ((c ++ d) ++ (e ++ f))
+    ∙ ap (λ l. t ++ l) (append_assoc a b ((c ++ d) ++ (e ++ f)) ∙ ap (λ l. a ++ (b ++ l)) (append_assoc c d (e ++ f)))
+
+abbrev six : List ℕ → List ℕ → List ℕ → List ℕ → List ℕ → List ℕ → List ℕ
+six a b c d e f = a ++ (b ++ (c ++ (d ++ (e ++ f))))
+
+six_behind : (a b c d e f m : List ℕ) → six a b c d e f ++ m ≡ six a b c d e (f ++ m)
+six_behind a b c d e f m =
+    append_assoc a (b ++ (c ++ (d ++ (e ++ f)))) m
+    ∙ ap (λ l. a ++ l) (append_assoc b (c ++ (d ++ (e ++ f))) m
+    ∙ ap (λ l. b ++ l) (append_assoc c (d ++ (e ++ f)) m ∙ ap (λ l. c ++ l) (append_assoc d (e ++ f) m ∙ ap (λ l. d ++ l) (append_assoc e f m))))
+
+-- the parts of the line of settings, with what is behind them
+abbrev sizes : Config → List ℕ → List ℕ
+sizes c m = six (codes "config nodes=") (decimal c.nodes) (codes " shards=") (decimal c.shards) (codes " producers=") (decimal c.producers ++ m)
+
+abbrev limits : Config → List ℕ → List ℕ
+limits c m = six (codes " buffer=") (decimal c.buffer) (codes " window=") (decimal c.window) (codes " snapshot=") (decimal c.snapshot ++ m)
+
+abbrev ways : Config → List ℕ
+ways c = six (codes " keep=") (decimal c.keep) (codes " remember=") (switch_text c.remember) (codes " kind=") (kind_text c.kind)
+
+words_are : (c : Config) → join_with_byte 32 (config_words c) ≡ sizes c (limits c (ways c))
+words_are c = refl
+
+pub settings_pushed : (c : Config) (t x y z last : List ℕ)
+    → x ≡ t ++ six (codes "config nodes=") (decimal c.nodes) (codes " shards=") (decimal c.shards) (codes " producers=") (decimal c.producers)
+    → y ≡ x ++ six (codes " buffer=") (decimal c.buffer) (codes " window=") (decimal c.window) (codes " snapshot=") (decimal c.snapshot)
+    → z ≡ y ++ ways c → last ≡ z ++ 10 ∷ [] → last ≡ t ++ head_line c
+settings_pushed c t x y z last h g k l =
+    let s : List ℕ = six (codes "config nodes=") (decimal c.nodes) (codes " shards=") (decimal c.shards) (codes " producers=") (decimal c.producers) in
+    let m : List ℕ = six (codes " buffer=") (decimal c.buffer) (codes " window=") (decimal c.window) (codes " snapshot=") (decimal c.snapshot) in
+    let all : z ≡ t ++ (s ++ (m ++ ways c)) = k ∙ ap (λ v. v ++ ways c) (g ∙ ap (λ v. v ++ m) h) ∙ append_assoc (t ++ s) m (ways c) ∙ append_assoc t s (m ++ ways c) in
+    let spelled : s ++ (m ++ ways c) ≡ join_with_byte 32 (config_words c) =
+    six_behind (codes "config nodes=") (decimal c.nodes) (codes " shards=") (decimal c.shards) (codes " producers=") (decimal c.producers) (m ++ ways c)
+    ∙ ap (sizes c) (six_behind (codes " buffer=") (decimal c.buffer) (codes " window=") (decimal c.window) (codes " snapshot=") (decimal c.snapshot) (ways c)) ∙ sym (words_are c) in
+    l ∙ ap (λ v. v ++ 10 ∷ []) (all ∙ ap (λ v. t ++ v) spelled) ∙ append_assoc t (join_with_byte 32 (config_words c)) (10 ∷ [])
+
+-- Read back.
+
+pub read_back : (c : Config) (cut : List ℕ) (found : Option Config) → IsTrue (is_config c) → cut ≡ join_with_byte 32 (config_words c) → found ≡ settings_behind (words cut) → found ≡ Some c
+read_back c cut found h e v = v ∙ ap (λ l. settings_behind (words l)) e ∙ head_read c h
+
+pub same_found : (a b : Config) → Some a ≡ Some b → a ≡ b
+same_found a b e = cc

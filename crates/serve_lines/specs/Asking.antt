@@ -1,11 +1,11 @@
 -- What a line asks, and what becomes of that.
-use Rattle.std.specs.Prelude.{◌≡◌, ℕ, ◌<◌, List, Option, Some, None, Result, Ok, Err, IsTrue}
+use Rattle.std.specs.Prelude.{ℕ, ◌<◌, List, Option, Some, None, Result, Ok, Err, IsTrue}
 use Rattle.yard_model.specs.declared.charter.Config.{Config}
 use Rattle.yard_model.specs.declared.charter.Order.TheVariants as order
+use Rattle.yard_model.specs.declared.event.Command.{Command}
 use Rattle.yard_model.specs.Script.{Script, is_config, is_order}
 use Rattle.script_text.specs.declared.fault.Why.{Why}
 use Rattle.script_text.specs.declared.fault.Why.TheVariants as why
-use Rattle.script_text.specs.Faults.{◌>>=◌}
 use Rattle.serve_laws.specs.Hearing.{Ask, Heard, OfEntity, OfReport, Refused, Report, Show, Silent, ToDo, configured, requested, still}
 use Rattle.serve_laws.specs.Hearing.{Request as Numbered}
 use Rattle.serve_lines.specs.declared.requests.Request.{Request}
@@ -44,10 +44,18 @@ IsRequest None (request.Show e) = ⊥
 abbrev pub of_request : Numbered → Request
 of_request r = request.Send r.producer r.entity r.number r.command
 
+abbrev pub of_parts : ((ℕ × List ℕ) × ℕ) × Command → Request
+of_parts x = request.Send x.0.0.0 x.0.0.1 x.0.1 x.1
+
 abbrev pub of_ask : Ask → Request
 of_ask OfReport = request.Report
 of_ask (OfEntity e) = request.Show e
 of_ask (ToDo r) = of_request r
+
+-- the same, of what may be refused
+abbrev pub read_as : {A : Type 0} → (A → Request) → Result A Why → Result Request Why
+read_as f (Ok a) = Ok (f a)
+read_as f (Err w) = Err w
 
 abbrev pub of_words : Result Ask Why → Request
 of_words (Ok a) = of_ask a

@@ -1,14 +1,13 @@
 //! What a line asks.
-ghost use Rattle.std.specs.Prelude.{◌≡◌, ◌||◌, ◌∷◌, Ok, Option, Some, IfOk, IfSome, IsTrue};
+ghost use Rattle.std.specs.Prelude.{◌≡◌, ◌||◌, ◌∷◌, Option, Some, IfOk, IfSome, IsTrue};
 ghost use Rattle.std.specs.List.{list_all};
 ghost use Rattle.yard_model.specs.declared.charter.Config.{Config};
 ghost use Rattle.yard_model.specs.Script.{Script, is_config};
-ghost use Rattle.script_text.specs.Faults.{◌>>=◌, ◌&◌};
+ghost use Rattle.script_text.specs.Faults.{◌&◌};
 ghost use Rattle.script_text.specs.Settings.{settings};
 ghost use Rattle.script_text.specs.Words.{is_comment, is_plain, words};
 ghost use Rattle.serve_laws.specs.Hearing.{ask, asked, heard, request, told};
-ghost use Rattle.serve_lines.specs.declared.requests.Request.TheVariants as request_is;
-ghost use Rattle.serve_lines.specs.Asking.{IsRequest, heard_as, of_ask, of_request, of_settings, of_words, settings_in};
+ghost use Rattle.serve_lines.specs.Asking.{IsRequest, heard_as, of_ask, of_parts, of_request, of_settings, of_words, read_as, settings_in};
 
 use script_text::words::{
     begins_comment, both, first, is, is_comment, is_plain_text, name, no_more, number_of, only,
@@ -124,7 +123,7 @@ fn read_known(config: &Config, word: &[u8], rest: &[u8]) -> Request
 /// The same, or the reason for which the words are refused.
 fn read_ask(config: &Config, word: &[u8], rest: &[u8]) -> Result<Request, Why>
     requires { IsTrue (is_config config.now) }
-    ensures value { result ≡ (ask config.now (word.now ∷ words rest.now) >>= λ a. Ok (of_ask a)) }
+    ensures value { result ≡ read_as of_ask (ask config.now (word.now ∷ words rest.now)) }
     ensures valid { IfOk result (λ r. IsRequest (Some config.now) r) }
 {
     if is(word, "report") {
@@ -143,7 +142,7 @@ fn read_ask(config: &Config, word: &[u8], rest: &[u8]) -> Result<Request, Why>
 /// What the words behind `send` ask: P E N COMMAND.
 fn read_send(config: &Config, line: &[u8]) -> Result<Request, Why>
     requires { IsTrue (is_config config.now) }
-    ensures value { result ≡ (request config.now (words line.now) >>= λ r. Ok (of_request r)) }
+    ensures value { result ≡ read_as of_request (request config.now (words line.now)) }
     ensures valid { IfOk result (λ r. IsRequest (Some config.now) r) }
 {
     let (sender, line) = first(line)?;
@@ -165,7 +164,7 @@ fn joined(
     number: Result<u32, Why>,
     command: Result<Command, Why>,
 ) -> Result<Request, Why>
-    ensures value { result ≡ (producer & entity & number & command >>= λ x. Ok (request_is.Send x.0.0.0 x.0.0.1 x.0.1 x.1)) }
+    ensures value { result ≡ read_as of_parts (producer & entity & number & command) }
 {
     let (((producer, entity), number), command) = both(
         both(both(producer, entity), number),

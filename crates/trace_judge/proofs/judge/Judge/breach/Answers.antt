@@ -23,7 +23,7 @@ returns-in-Registered c =
     let v = c.args.self.now in
     let some = subst (λ (v : Judged). 0 < v.script.config.shards) c.self.view_is c.self.invariant.shards in
     ap (breach_of v.script v.trace) c.in-Registered.is
-    ∙ (coordinator_fails v.script v.trace (fact.Registered c.in-Registered.field-0) (of_node v.script c.in-Registered.field-0 breach.NotToRegister) some (subst (λ (f : Fact). judged v.script v.trace f ≡ false) c.in-Registered.is c.requires) refl
+    ∙ (coordinator_fails v.script v.trace (fact.Registered c.in-Registered.who) (of_node v.script c.in-Registered.who breach.NotToRegister) some (subst (λ (f : Fact). judged v.script v.trace f ≡ false) c.in-Registered.is c.requires) refl
     ∙ (ap (λ b. Some (if is_held (lists_of (setting v.script) v.trace).coordinator then b else breach.Unheld)) (sym c.of_node.ensures) ∙ ap (λ b. Some b) (sym c.coordinator_breach.ensures)))
 
 pub returns-in-Allocated : goal.returns-in-Allocated
@@ -31,7 +31,7 @@ returns-in-Allocated c =
     let v = c.args.self.now in
     let some = subst (λ (v : Judged). 0 < v.script.config.shards) c.self.view_is c.self.invariant.shards in
     ap (breach_of v.script v.trace) c.in-Allocated.is
-    ∙ (coordinator_fails v.script v.trace (fact.Allocated c.in-Allocated.field-0 c.in-Allocated.field-1) (of_shard v.script c.in-Allocated.field-0 breach.NotToAllocate) some (subst (λ (f : Fact). judged v.script v.trace f ≡ false) c.in-Allocated.is c.requires) refl
+    ∙ (coordinator_fails v.script v.trace (fact.Allocated c.in-Allocated.shard c.in-Allocated.field-1) (of_shard v.script c.in-Allocated.shard breach.NotToAllocate) some (subst (λ (f : Fact). judged v.script v.trace f ≡ false) c.in-Allocated.is c.requires) refl
     ∙ (ap (λ b. Some (if is_held (lists_of (setting v.script) v.trace).coordinator then b else breach.Unheld)) (sym c.of_shard.ensures) ∙ ap (λ b. Some b) (sym c.coordinator_breach-in-Allocated.ensures)))
 
 pub returns-in-Deallocated : goal.returns-in-Deallocated
@@ -39,7 +39,7 @@ returns-in-Deallocated c =
     let v = c.args.self.now in
     let some = subst (λ (v : Judged). 0 < v.script.config.shards) c.self.view_is c.self.invariant.shards in
     ap (breach_of v.script v.trace) c.in-Deallocated.is
-    ∙ (coordinator_fails v.script v.trace (fact.Deallocated c.in-Deallocated.field-0) (of_shard v.script c.in-Deallocated.field-0 breach.NoHome) some (subst (λ (f : Fact). judged v.script v.trace f ≡ false) c.in-Deallocated.is c.requires) refl
+    ∙ (coordinator_fails v.script v.trace (fact.Deallocated c.in-Deallocated.shard) (of_shard v.script c.in-Deallocated.shard breach.NoHome) some (subst (λ (f : Fact). judged v.script v.trace f ≡ false) c.in-Deallocated.is c.requires) refl
     ∙ (ap (λ b. Some (if is_held (lists_of (setting v.script) v.trace).coordinator then b else breach.Unheld)) (sym c.of_shard-in-Deallocated.ensures) ∙ ap (λ b. Some b) (sym c.coordinator_breach-in-Deallocated.ensures)))
 
 pub returns-in-Snapshot : goal.returns-in-Snapshot

@@ -9,7 +9,9 @@ use std::test::Fail;
 
 /// A head, and two batches.
 const HEAD: &[u8] = b"config nodes=1\n";
+
 const FIRST: &[u8] = b"registered 1.1\n";
+
 const SECOND: &[u8] = b"queued 1 c1 1 add 5\n";
 
 /// The log of these.
@@ -211,12 +213,7 @@ fn add<D: Disk>(
 }
 
 /// Opens a log, and adds a text behind it; whether it has this then.
-fn grows<D: Disk>(
-    alloc: Global,
-    disk: &mut D,
-    text: &[u8],
-    came: Came,
-) -> Result<bool, AllocError>
+fn grows<D: Disk>(alloc: Global, disk: &mut D, text: &[u8], came: Came) -> Result<bool, AllocError>
     requires { 0 < length text.now }
 {
     let Ok(opened) = open_headed(alloc, disk) else {

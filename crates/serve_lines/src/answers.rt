@@ -29,7 +29,8 @@ pub fn push_done(
     number: u32,
     reply: &Reply,
 ) -> Result<(), AllocError>
-    ensures { OnOk result (text.new.items ≡ text.old.items ++ line (codes "done" ∷ decimal producer ∷ entity.now ∷ decimal number ∷ reply_text reply.now ∷ [])) }
+    ensures { OnOk result (text.new.items ≡ text.old.items
+        ++ line (codes "done" ∷ decimal producer ∷ entity.now ∷ decimal number ∷ reply_text reply.now ∷ [])) }
 {
     push_numbered(text, b"done ", producer, entity, number)?;
     push(text, b" ")?;
@@ -45,7 +46,8 @@ pub fn push_gap(
     number: u32,
     next: u32,
 ) -> Result<(), AllocError>
-    ensures { OnOk result (text.new.items ≡ text.old.items ++ line (codes "gap" ∷ decimal producer ∷ entity.now ∷ decimal number ∷ codes "next" ∷ decimal next ∷ [])) }
+    ensures { OnOk result (text.new.items ≡ text.old.items
+        ++ line (codes "gap" ∷ decimal producer ∷ entity.now ∷ decimal number ∷ codes "next" ∷ decimal next ∷ [])) }
 {
     push_numbered(text, b"gap ", producer, entity, number)?;
     push_counted(text, b" next ", u64::from(next))?;
@@ -60,7 +62,8 @@ pub fn push_conflict(
     number: u32,
     command: &Command,
 ) -> Result<(), AllocError>
-    ensures { OnOk result (text.new.items ≡ text.old.items ++ line (codes "conflict" ∷ decimal producer ∷ entity.now ∷ decimal number ∷ command_text command.now ∷ [])) }
+    ensures { OnOk result (text.new.items ≡ text.old.items
+        ++ line (codes "conflict" ∷ decimal producer ∷ entity.now ∷ decimal number ∷ command_text command.now ∷ [])) }
 {
     let queued = queued_line(*text.allocator(), producer, entity, number, command)?;
     push(text, b"conflict")?;
@@ -93,7 +96,9 @@ pub fn push_entity(
     count: u32,
     state: &State,
 ) -> Result<(), AllocError>
-    ensures { OnOk result (text.new.items ≡ text.old.items ++ line (codes "entity" ∷ entity.now ∷ codes "shard" ∷ decimal shard ∷ codes "records" ∷ decimal count ∷ codes "state" ∷ state_text state.now ∷ [])) }
+    ensures { OnOk result (text.new.items ≡ text.old.items
+        ++ line (codes "entity" ∷ entity.now ∷ codes "shard" ∷ decimal shard
+        ∷ codes "records" ∷ decimal count ∷ codes "state" ∷ state_text state.now ∷ [])) }
 {
     let mut cells = [0; ENTITY_CELLS];
     let end = put_entity(&mut cells, shard, entity, count, state);

@@ -79,7 +79,8 @@ fn settings_of(line: &[u8]) -> Option<Config>
 /// How many nodes, shards and producers there are.
 fn push_sizes(text: &mut Vec<u8>, config: &Config) -> Result<(), AllocError>
     ensures { OnOk result (text.new.items ≡ text.old.items
-        ++ (codes "config nodes=" ++ (decimal config.now.nodes ++ (codes " shards=" ++ (decimal config.now.shards ++ (codes " producers=" ++ decimal config.now.producers)))))) }
+        ++ (codes "config nodes=" ++ (decimal config.now.nodes ++ (codes " shards=" ++ (decimal config.now.shards
+        ++ (codes " producers=" ++ decimal config.now.producers)))))) }
 {
     push_counted(text, b"config nodes=", u64::from(config.nodes))?;
     push_counted(text, b" shards=", u64::from(config.shards))?;
@@ -89,7 +90,8 @@ fn push_sizes(text: &mut Vec<u8>, config: &Config) -> Result<(), AllocError>
 /// How much is kept of messages, numbers and records.
 fn push_limits(text: &mut Vec<u8>, config: &Config) -> Result<(), AllocError>
     ensures { OnOk result (text.new.items ≡ text.old.items
-        ++ (codes " buffer=" ++ (decimal config.now.buffer ++ (codes " window=" ++ (decimal config.now.window ++ (codes " snapshot=" ++ decimal config.now.snapshot)))))) }
+        ++ (codes " buffer=" ++ (decimal config.now.buffer ++ (codes " window=" ++ (decimal config.now.window
+        ++ (codes " snapshot=" ++ decimal config.now.snapshot)))))) }
 {
     push_counted(text, b" buffer=", u64::from(config.buffer))?;
     push_counted(text, b" window=", u64::from(config.window))?;
@@ -99,7 +101,8 @@ fn push_limits(text: &mut Vec<u8>, config: &Config) -> Result<(), AllocError>
 /// How many snapshots stay, whether entities start again, and their kind.
 fn push_ways(text: &mut Vec<u8>, config: &Config) -> Result<(), AllocError>
     ensures { OnOk result (text.new.items ≡ text.old.items
-        ++ (codes " keep=" ++ (decimal config.now.keep ++ (codes " remember=" ++ (switch_text config.now.remember ++ (codes " kind=" ++ kind_text config.now.kind)))))) }
+        ++ (codes " keep=" ++ (decimal config.now.keep ++ (codes " remember=" ++ (switch_text config.now.remember
+        ++ (codes " kind=" ++ kind_text config.now.kind)))))) }
 {
     push_counted(text, b" keep=", u64::from(config.keep))?;
     push(text, b" remember=")?;

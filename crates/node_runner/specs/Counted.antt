@@ -11,7 +11,7 @@ next_up ups = if nat_lt ups number_limit then ups + 1 else number_limit
 abbrev pub IsCounted : Option Standing → ℕ → Option Standing → ℕ → Type 0
 IsCounted None ups (Some v) now = (now ≡ next_up ups) × (v.state.who.number ≡ now)
 IsCounted None ups None now = now ≡ ups
-IsCounted (Some u) ups node now = now ≡ ups
+IsCounted (Some u) ups later now = now ≡ ups
 
 -- so many more, up to the end of the count
 abbrev pub and_more : ℕ → ℕ → ℕ

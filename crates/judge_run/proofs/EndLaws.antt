@@ -220,10 +220,10 @@ is_tellable : (a : Answer) (s : Status) → s ≡ status_of a → IsTellable s
 is_tellable a s e = subst IsTellable (sym e) (tellable a)
 
 pub told_wrote : (had has : Option (List ℕ)) (a : Answer) (s : Status) (old new : Sunk) → Answers had has a → Tells a s old new → IfAnswered s (Wrote had has s old.taken new.taken)
-told_wrote had has a status.Safe old new x t = record { it = a; answers = x; status_is = t.0; written = t.1.0; flushed = t.1.1.0 }
-told_wrote had has a status.Unsafe old new x t = record { it = a; answers = x; status_is = t.0; written = t.1.0; flushed = t.1.1.0 }
-told_wrote had has a status.NoFact old new x t = record { it = a; answers = x; status_is = t.0; written = t.1.0; flushed = t.1.1.0 }
-told_wrote had has a status.NotJudged old new x t = record { it = a; answers = x; status_is = t.0; written = t.1.0; flushed = t.1.1.0 }
+told_wrote had has a status.Safe old new x t = record { it = a; answers = x; status_is = t.0; written = t.1; flushed = t.2 }
+told_wrote had has a status.Unsafe old new x t = record { it = a; answers = x; status_is = t.0; written = t.1; flushed = t.2 }
+told_wrote had has a status.NoFact old new x t = record { it = a; answers = x; status_is = t.0; written = t.1; flushed = t.2 }
+told_wrote had has a status.NotJudged old new x t = record { it = a; answers = x; status_is = t.0; written = t.1; flushed = t.2 }
 told_wrote had has a s old new x t = tt
 
 pub told_refused : (a : Answer) (s : Status) (old new : Sunk) (P : ℕ → Why → Type 0) → Tells a s old new → IfRefused s P

@@ -137,7 +137,7 @@ fn answer_of<S: Source>(alloc: Global, source: &mut S) -> Result<Answer, Status>
     };
     match cut(&head) {
         Some((script, first)) => answer_behind(alloc, script, first, source),
-        None => Err(status_alone(head.len())),
+        None => Err(status_alone(head.as_slice().len())),
     }
 }
 

@@ -1,5 +1,5 @@
 use Rattle.std.proofs.Common.{◌≡◌, ◌∙◌, ap, subst, rules}
-use Rattle.std.specs.Prelude.{List, ℕ}
+use Rattle.std.specs.Prelude.{List, ℕ, length}
 use Rattle.script_text.specs.Reading.{Refused, reading}
 use Rattle.script_text.specs.declared.fault.Mode.TheVariants as mode
 use Rattle.judge_run.specs.Ends.{Answers, Behind, Lacks, Refuses, wanted_alone}
@@ -38,7 +38,7 @@ returns-clause-refused g c =
     let head : List ℕ = c.in-Ok.head.items in
     let h : IsHead had mid head 4194311 = record { bytes = c.in-Ok.ensures.bytes; rest = c.in-Ok.ensures.rest } in
     let k : IsUncut head = subst IsUncut c.deref.ensures.value c.in-None.ensures in
-    refuses_alone had mid head c.status_alone.result h k (c.status_alone.ensures ∙ ap wanted_alone c.len.ensures)
+    refuses_alone had mid head c.status_alone.result h k (c.status_alone.ensures ∙ ap (λ (l : List ℕ). wanted_alone (length l)) c.as_slice.ensures.value)
 
 pub returns-clause-no_trace : goal.returns-clause-no_trace
 returns-clause-no_trace g c =
@@ -47,7 +47,7 @@ returns-clause-no_trace g c =
     let head : List ℕ = c.in-Ok.head.items in
     let h : IsHead had mid head 4194311 = record { bytes = c.in-Ok.ensures.bytes; rest = c.in-Ok.ensures.rest } in
     let k : IsUncut head = subst IsUncut c.deref.ensures.value c.in-None.ensures in
-    lacks_alone had mid head c.status_alone.result h k (c.status_alone.ensures ∙ ap wanted_alone c.len.ensures)
+    lacks_alone had mid head c.status_alone.result h k (c.status_alone.ensures ∙ ap (λ (l : List ℕ). wanted_alone (length l)) c.as_slice.ensures.value)
 
 pub returns-in-Some-clause-no_trace : goal.returns-in-Some-clause-no_trace
 returns-in-Some-clause-no_trace g c = unheard_there c.answer_behind.result (Lacks (g.S.Source.left c.args.source.now) (g.S.Source.left c.answer_behind.new.source)) c.answer_behind.ensures.early

@@ -21,7 +21,7 @@ use Rattle.judge_text.specs.Reads.{ahead, left_of}
 use Rattle.judge_text.proofs.ReadLaws.{ahead_both}
 use Rattle.judge_run.specs.declared.status.Status.{Status}
 use Rattle.judge_run.specs.declared.status.Status.TheVariants as status
-use Rattle.judge_run.specs.Ends.{Answers, Behind, HasRun, IfNoTrace, IfReadFault, IfRefused, IsComplete, IsEarly, IsInput, Lacks, Refuses, Sunk, Tells, status_by, status_of, wanted, wanted_alone, wanted_of}
+use Rattle.judge_run.specs.Ends.{Answers, Behind, HasRun, IfNoTrace, IfReadFault, IfRefused, IsComplete, IsEarly, IsInput, IsUnheard, Began, IfAnswered, IfUnwritten, IfWriteFault, Lacks, Refuses, Sunk, Tells, Wrote, status_by, status_of, wanted, wanted_alone, wanted_of}
 use Rattle.judge_run.specs.Input.{IsCut, IsUncut, has_trace, script_in, trace_in}
 
 -- What was read at first: this head, up to this limit.
@@ -198,7 +198,76 @@ pub told_runs : (a : Answer) (s : Status) (old new : Sunk) → Tells a s old new
 told_runs a status.Usage old new t = absurd (never_usage a t.0)
 told_runs a s old new t = tt
 
+-- What was told.
+
+abbrev IsTellable : Status → Type 0
+IsTellable status.Safe = Unit {0}
+IsTellable status.Unsafe = Unit {0}
+IsTellable status.NoFact = Unit {0}
+IsTellable status.NotJudged = Unit {0}
+IsTellable s = ⊥
+
+tellable : (a : Answer) → IsTellable (status_of a)
+tellable (answer.Safe n) = tt
+tellable (answer.Broken n y q) = by y
+  where
+    by : (b : Breach) → IsTellable (status_by b)
+    by breach.NotJudged = tt
+    by b = tt
+tellable (answer.NoFact n q) = tt
+
+is_tellable : (a : Answer) (s : Status) → s ≡ status_of a → IsTellable s
+is_tellable a s e = subst IsTellable (sym e) (tellable a)
+
+pub told_wrote : (had has : Option (List ℕ)) (a : Answer) (s : Status) (old new : Sunk) → Answers had has a → Tells a s old new → IfAnswered s (Wrote had has s old.taken new.taken)
+told_wrote had has a status.Safe old new x t = record { it = a; answers = x; status_is = t.0; written = t.1; flushed = t.2 }
+told_wrote had has a status.Unsafe old new x t = record { it = a; answers = x; status_is = t.0; written = t.1; flushed = t.2 }
+told_wrote had has a status.NoFact old new x t = record { it = a; answers = x; status_is = t.0; written = t.1; flushed = t.2 }
+told_wrote had has a status.NotJudged old new x t = record { it = a; answers = x; status_is = t.0; written = t.1; flushed = t.2 }
+told_wrote had has a s old new x t = tt
+
+pub told_refused : (a : Answer) (s : Status) (old new : Sunk) (P : ℕ → Why → Type 0) → Tells a s old new → IfRefused s P
+told_refused a (status.Refused line y) old new P t = absurd (is_tellable a (status.Refused line y) t.0)
+told_refused a s old new P t = tt
+
+pub told_there : (a : Answer) (s : Status) (old new : Sunk) (P : Type 0) → Tells a s old new → IfNoTrace s P
+told_there a status.NoTrace old new P t = absurd (is_tellable a status.NoTrace t.0)
+told_there a s old new P t = tt
+
+pub told_read : (a : Answer) (s : Status) (old new : Sunk) (P : Type 0) → Tells a s old new → IfReadFault s P
+told_read a status.ReadFault old new P t = absurd (is_tellable a status.ReadFault t.0)
+told_read a s old new P t = tt
+
+pub told_began : (had has : Option (List ℕ)) (a : Answer) (s : Status) (old new : Sunk) → Answers had has a → Tells a s old new → IfWriteFault s (Began had has old.taken new.taken)
+told_began had has a status.WriteFault old new x t = record { it = a; answers = x; begun = t.0 }
+told_began had has a s old new x t = tt
+
+pub told_unwritten : (a : Answer) (s : Status) (old new : Sunk) → Tells a s old new → IfUnwritten s ((new.taken.bytes ≡ old.taken.bytes) × (new.taken.flushed ≡ old.taken.flushed))
+told_unwritten a (status.Refused line y) old new t = absurd (is_tellable a (status.Refused line y) t.0)
+told_unwritten a status.NoTrace old new t = absurd (is_tellable a status.NoTrace t.0)
+told_unwritten a status.ReadFault old new t = absurd (is_tellable a status.ReadFault t.0)
+told_unwritten a status.OutOfMemory old new t = (ap (λ (k : Sunk). k.taken.bytes) t, ap (λ (k : Sunk). k.taken.flushed) t)
+told_unwritten a s old new t = tt
+
 -- Of what a call answers.
+
+pub unheard_early : {A : Type 0} (r : Result A Status) → IfErr r (λ s. IsUnheard s) → IfErr r (λ s. IsEarly s)
+unheard_early (Ok a) h = tt
+unheard_early (Err s) h = by s h
+  where
+    by : (s : Status) → IsUnheard s → IsEarly s
+    by (status.Refused line y) h = tt
+    by status.ReadFault h = tt
+    by status.OutOfMemory h = tt
+    by s h = absurd h
+
+pub unheard_there : {A : Type 0} (r : Result A Status) (P : Type 0) → IfErr r (λ s. IsUnheard s) → IfErr r (λ s. IfNoTrace s P)
+unheard_there (Ok a) P h = tt
+unheard_there (Err s) P h = by s h
+  where
+    by : (s : Status) → IsUnheard s → IfNoTrace s P
+    by status.NoTrace h = absurd h
+    by s h = tt
 
 pub on_ok : {A E : Type 0} (r : Result A E) (P Q : A → Type 0) → ((a : A) → P a → Q a) → IfOk r P → IfOk r Q
 on_ok (Ok a) P Q f h = f a h

@@ -175,6 +175,13 @@ IsEarly status.ReadFault = Unit {0}
 IsEarly status.OutOfMemory = Unit {0}
 IsEarly s = ⊥
 
+-- one behind whose line `trace` there is no answer
+abbrev pub IsUnheard : Status → Type 0
+IsUnheard (status.Refused line why) = Unit {0}
+IsUnheard status.ReadFault = Unit {0}
+IsUnheard status.OutOfMemory = Unit {0}
+IsUnheard s = ⊥
+
 -- one whose script is refused, or isn't read for want of memory
 abbrev pub IsScriptEnd : Status → Type 0
 IsScriptEnd (status.Refused line why) = Unit {0}

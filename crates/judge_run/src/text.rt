@@ -1,27 +1,27 @@
 //! An answer, as it is written.
 ghost use Rattle.std.specs.Prelude.{◌≡◌, ◌++◌, ◌∷◌, [], codes, IfOk, OnOk, string_bytes};
-ghost use Rattle.judge_run.specs.Texts.{answer_line, answer_text, shown_line};
+ghost use Rattle.judge_run.specs.Texts.{answer_text, answer_words, shown_line};
 
 use crate::sentences::sentence_of;
 use std::alloc::{AllocError, Global};
 use verdict_laws::{Answer, Quote};
 
-/// The first line of an answer. The only error is want of memory.
-fn line_of(alloc: Global, answer: &Answer) -> Result<String, AllocError>
-    ensures { IfOk result (λ text. string_bytes text ≡ answer_line answer.now) }
+/// The first line of an answer, without its LF. The only error is want of memory.
+fn words_of(alloc: Global, answer: &Answer) -> Result<String, AllocError>
+    ensures { IfOk result (λ text. string_bytes text ≡ answer_words answer.now) }
 {
     match answer {
         Answer::Safe(counts) => {
             let (facts, entries, records) = (counts.facts, counts.entries, counts.records);
-            format!(in alloc; "safe {facts} {entries} {records}\n")
+            format!(in alloc; "safe {facts} {entries} {records}")
         }
         Answer::Broken { line, why, .. } => {
             let (line, sentence) = (*line, sentence_of(*why));
-            format!(in alloc; "line {line}: {sentence}\n")
+            format!(in alloc; "line {line}: {sentence}")
         }
         Answer::NoFact { line, .. } => {
             let line = *line;
-            format!(in alloc; "line {line}: no fact\n")
+            format!(in alloc; "line {line}: no fact")
         }
     }
 }
@@ -50,8 +50,9 @@ fn push_shown(text: &mut Vec<u8>, answer: &Answer) -> Result<(), AllocError>
 pub fn text_of(alloc: Global, answer: &Answer) -> Result<Vec<u8>, AllocError>
     ensures { IfOk result (λ text. text.items ≡ answer_text answer.now) }
 {
-    let line = line_of(alloc, answer)?;
-    let mut text = Vec::from_slice(alloc, line.as_bytes())?;
+    let words = words_of(alloc, answer)?;
+    let mut text = Vec::from_slice(alloc, words.as_bytes())?;
+    text.push(b'\n')?;
     push_shown(&mut text, answer)?;
     Ok(text)
 }

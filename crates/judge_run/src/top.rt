@@ -3,7 +3,7 @@ ghost use Rattle.std.specs.Prelude.{◌≡◌, ◌<◌, ◌≤◌, IfErr, IfOk, 
 ghost use Rattle.yard_io.specs.Told.{TakesFront, count_of, followed_by};
 ghost use Rattle.script_text.specs.Reading.{Refused, Spelled, reading};
 ghost use Rattle.verdict_laws.specs.Meaning.{BrokenIsAnswered, MeantIsAnswered, SafeIsAnswered, UnreadIsAnswered, VerdictMeans};
-ghost use Rattle.judge_run.specs.Ends.{Answers, Began, Behind, HasRun, IfAnswered, IfNoTrace, IfReadFault, IfRefused, IfUnwritten, IfWriteFault, IsComplete, IsEarly, IsScriptEnd, JudgesWhole, Lacks, Refuses, Tells, Wrote, status_without, wanted_alone};
+ghost use Rattle.judge_run.specs.Ends.{Answers, Began, Behind, HasRun, IfAnswered, IfNoTrace, IfReadFault, IfRefused, IfUnwritten, IfWriteFault, IsComplete, IsEarly, IsScriptEnd, IsUnheard, JudgesWhole, Lacks, Refuses, Tells, Wrote, status_without, wanted_alone};
 
 use crate::input::cut;
 use crate::status::{Status, status_of};
@@ -137,7 +137,7 @@ fn answer_of<S: Source>(alloc: Global, source: &mut S) -> Result<Answer, Status>
     };
     match cut(&head) {
         Some((script, first)) => answer_behind(alloc, script, first, source),
-        None => Err(status_alone(head.len())),
+        None => Err(status_alone(head.as_slice().len())),
     }
 }
 
@@ -192,7 +192,7 @@ fn answer_behind<S: Source>(
     ensures answers { IfOk result (λ a. Behind script.now first.now (S.left source.old) (S.left source.new) a) }
     ensures refused { IfErr result (λ s. IfRefused s (λ line why. (reading Mode.Replay script.now ≡ Refused line why) × (S.left source.new ≡ S.left source.old))) }
     ensures read_fault { IfErr result (λ s. IfReadFault s (S.faults source.old < S.faults source.new)) }
-    ensures early { IfErr result (λ s. IsEarly s) }
+    ensures early { IfErr result (λ s. IsUnheard s) }
     ensures never_falls { S.faults source.old ≤ S.faults source.new }
 {
     let charter = match charter_of(alloc, script) {

@@ -74,7 +74,7 @@ fn push_own(text: &mut Vec<u8>) -> Result<(), Fail> {
 
 /// The line of `alice`, who has 100.
 fn push_shown(text: &mut Vec<u8>) -> Result<(), Fail> {
-    let shard = ShardNo::new(0).ok_or(Fail::Sample)?;
+    let shard = ShardNo::new(0, 8).ok_or(Fail::Sample)?;
     let alice = EntityName::new(b"alice").ok_or(Fail::Sample)?;
     let open = State::Open {
         balance: 100,

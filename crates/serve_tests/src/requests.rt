@@ -1,4 +1,7 @@
 //! Lines, and what they ask.
+ghost use Rattle.std.specs.Prelude.{IfSome, IsTrue};
+ghost use Rattle.yard_model.specs.Script.{is_config};
+
 use script_text::Why;
 use serve_lines::{Request, read_request};
 use std::process::Abort;
@@ -39,7 +42,9 @@ const REFUSED: [(&str, u8); 17] = [
 ];
 
 /// The number of the reason for which a line is refused; 0 where it isn't.
-fn reason_of(line: &[u8], settings: Option<Config>) -> u8 {
+fn reason_of(line: &[u8], settings: Option<Config>) -> u8
+    requires { IfSome settings (λ c. IsTrue (is_config c)) }
+{
     match read_request(line, settings) {
         Request::Refused(why) => why.number(),
         _ => 0,

@@ -22,8 +22,6 @@ mod mails;
 #[cfg(test)]
 mod meeting;
 #[cfg(test)]
-mod rosters;
-#[cfg(test)]
 mod stored;
 #[cfg(test)]
 mod texts;

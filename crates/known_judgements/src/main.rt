@@ -141,12 +141,12 @@ const JUDGED: [Judged; 3] = [
     (
         b"config nodes=1 shards=1 producers=1\nsend 1 c1 add 5\ntrace\nregistered 1.1\n",
         1,
-        b"line 1: an entry of a slot that nobody holds\n",
+        b"line 1: an entry of a slot that nobody holds\n  registered 1.1\n",
     ),
     (
         b"config nodes=1 shards=1 producers=1\nsend 1 c1 add 5\ntrace\nreport",
         3,
-        b"line 1: no fact\n",
+        b"line 1: no fact\n  report\n",
     ),
 ];
 
@@ -175,7 +175,13 @@ fn count_failing(alloc: Global, judged: &Judged) -> Result<u32, AllocError> {
         comes_to(alloc, input, (&[], &[2]), 5, answer)?,
         comes_to(alloc, input, (&[], &[]), code, answer)?,
     ];
-    Ok(runs.iter().map(|run| u32::from(*run)).sum())
+    let mut count: u32 = 0;
+    for run in &runs {
+        if *run {
+            count = count.saturating_add(1);
+        }
+    }
+    Ok(count)
 }
 
 /// Judges inputs over streams of which one call fails, and says how many runs came as they must.

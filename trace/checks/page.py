@@ -163,9 +163,10 @@ def faults_at(seen: Dict[str, object], state: State, row: int) -> Iterator[str]:
     shown = by_item(seen['words'])      # type: ignore[arg-type]
     for of, should in SHOULD.items():
         begun = {item for item, words in state.histories[of].items() if any(history[0] <= row for history in words.values())}
-        if of != 'coordinator' and len(begun) <= MOST_ITEMS and set(shown.get(of, ())) != begun:
+        is_whole = of == 'node' or len(begun) <= MOST_ITEMS     # of nodes each has its line
+        if of != 'coordinator' and is_whole and set(shown.get(of, ())) != begun:
             yield f'{of}: {sorted(shown.get(of, ()))}, and not {sorted(begun)}'
-        if len(begun) > MOST_ITEMS and len(shown.get(of, ())) != MOST_ITEMS:
+        if not is_whole and len(shown.get(of, ())) != MOST_ITEMS:
             yield f'{of}: {len(shown.get(of, ()))} items, and not {MOST_ITEMS}'
         for item, words in shown.get(of, {}).items():
             standing = should(words_at(state.histories[of].get(item, {}), row))

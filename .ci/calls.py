@@ -8,7 +8,7 @@ have, and for all of them where that can't be seen.
 import os
 import re
 
-DOCUMENTS = ("README.md", "docs/ARCHITECTURE.md", "docs/ASSURANCE.md")
+DOCUMENTS = ("README.md", "docs/dev/ARCHITECTURE.md", "docs/ASSURANCE.md")
 CLAUSE = re.compile(r"\b(?:requires|ensures|ghost)\b[^{};]*\{")
 WORD = r"[a-z_][a-z0-9_]*"
 

@@ -2,10 +2,13 @@
 
 `faults_of(root, documents)` gives a line for each longer one. Blocks of code don't count, and of a table each cell has
 sentences of its own.
+
+And there are few of them: README and what stands in docs/ have at most 25,000 words, as `wc -w` counts. `words_of` gives
+how many each has, `too_many` a line where they are more.
 """
 import re
 
-SENTENCE, ROW = 35, 150
+SENTENCE, ROW, MOST_WORDS = 35, 150, 25_000
 
 
 def words(text):
@@ -52,3 +55,18 @@ def faults_of(root, documents):
         with open(f"{root}/{document}", encoding="utf-8") as it:
             faults += [f"{document}:{number}: {what}" for number, what in too_long(it.read())]
     return faults
+
+
+def words_of(root, documents):
+    """How many words README and each page of docs/ have."""
+    counts = {}
+    for document in documents:
+        if re.fullmatch(r"README\.md|docs/(dev/)?[^/]+\.md", document):
+            with open(f"{root}/{document}", encoding="utf-8") as it:
+                counts[document] = len(it.read().split())
+    return counts
+
+
+def too_many(counts):
+    many = sum(counts.values())
+    return [f"docs: {many:,} words in README and docs/, and not {MOST_WORDS:,} at most"] if many > MOST_WORDS else []

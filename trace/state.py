@@ -13,7 +13,8 @@ rows, counted from 0, after which it was another, and what it was then. So the s
     world        always `world`              members, shards, version
 
 S is a shard, X an incarnation; kept.ROW is the message that was kept in that row, and is there as long as it is kept. A
-word that isn't there is None. What a `got` shows, and what else no line tells, is read as docs/RULES.md says it, section 11.
+word that isn't there is None. What a `got` shows, and what else no line tells, is read as docs/dev/RULES.md says
+it, section 11.
 """
 from __future__ import annotations
 

@@ -21,6 +21,16 @@ function drawDiagram(row, width) {
   return pieces.join('') + '</svg>';
 }
 
+// What the arrows and bars of the whole trace are.
+const ARROWS = { command: 'command', answer: 'answer', homes: 'home of a shard', handoff: 'move of a shard', inner: 'to an entity', members: 'members' };
+const BARS = { coordinator: 'coordinator’s lease', shard: 'shard’s', queue: 'queue’s' };
+
+function legendHtml() {
+  const families = new Set(packets.map(it => packetForms[it.kind]?.family)), slots = new Set(Object.keys(data.histories.slot).map(it => it.split(':')[0]));
+  const shown = (all, names, of) => Object.keys(names).filter(it => all.has(it)).map(it => `<span><i class="${of}${it}"></i>${names[it]}</span>`);
+  return [...shown(families, ARROWS, ''), ...shown(slots, BARS, 'lease '), Object.keys(data.lost).length ? '<span><b>×</b> nobody takes it</span>' : ''].join('');
+}
+
 function diagramText(first, until, nodes) {
   return `Sequence diagram of lines ${lineOf(first)} to ${lineOf(until)}; lanes: ${nodes.map(it => `node ${it}`).join(', ') || 'none'}`;
 }

@@ -29,9 +29,13 @@ function stepOrder(by) {
   go(by < 0 && !begins && at >= 0 ? headingRows[at] : headingRows[at + by] ?? (by < 0 ? 0 : last));
 }
 
-function stepEntity(by, name = wanted.entity || subjectOf(now.row).entity || '') {
-  for (let row = now.row + by; row >= 0 && row <= last; row += by) if (subjectOf(row).entity === name) return go(row);
-  say(name ? `No ${by > 0 ? 'later' : 'earlier'} fact of ${name}.` : 'This line is of no entity.');
+// The next fact of an entity: of this line's, or of any where this line is of none.
+function stepEntity(by, name = wanted.entity || subjectOf(now.row).entity) {
+  for (let row = now.row + by; row >= 0 && row <= last; row += by) {
+    const entity = subjectOf(row).entity;
+    if (entity && (!name || entity === name)) return go(row);
+  }
+  say(`No ${by > 0 ? 'later' : 'earlier'} fact of ${name || 'an entity'}.`);
 }
 
 function otherEnd() {
@@ -48,6 +52,14 @@ function play(on = !now.timer) {
   $('play').setAttribute('aria-pressed', String(on));
   $('play').setAttribute('aria-label', on ? 'Pause' : 'Play');
   $('now').setAttribute('aria-live', on ? 'off' : 'polite');
+}
+
+// To a pane by its name, or back to the line: it is in view, and has the focus.
+function lead(of) {
+  const title = of ? $(`${of}-title`) : $('now');
+  if (!title) return;
+  if (of) title.scrollIntoView({ block: 'start' }); else window.scrollTo(0, 0);
+  title.focus({ preventScroll: true });
 }
 
 const say = text => { $('said').textContent = text; };
@@ -187,7 +199,7 @@ function pressed(event) {
   if (event.key === 'Escape' && at.id === 'filter') { setFilter(''); $('lines').focus(); return; }
   if (event.key === 'Enter' && at.id === 'filter') { $('lines').focus(); return; }
   if (isField || (event.key === ' ' && at.closest('button, a, summary'))) return;
-  let act = keys[event.key];
+  let act = keys[event.key] ?? (/^[0-9]$/.test(event.key) ? () => lead(framed[event.key - 1]) : null);
   if (event.shiftKey && event.key === 'ArrowRight') act = () => stepOrder(1);
   if (event.shiftKey && event.key === 'ArrowLeft') act = () => stepOrder(-1);
   if (!act) return;
@@ -202,20 +214,23 @@ function clicked(event) {
   if (at.dataset.row) return go(+at.dataset.row);
   if (at.dataset.packet) { now.packet = packetByRow.get(+at.dataset.packet); render(); return $('packet-title').scrollIntoView({ block: 'nearest' }); }
   if (at.dataset.jump) return stepEntity(+at.dataset.jump, at.dataset.entity);
-  if (at.dataset.to) return $(`${at.dataset.to}-title`).scrollIntoView({ block: 'start' });
+  if (at.dataset.to) return lead(at.dataset.to);
   if (at.dataset.node) { openNodes[openNodes.has(at.dataset.node) ? 'delete' : 'add'](at.dataset.node); event.preventDefault(); return render(); }
   if (at.dataset.whole) { shownWhole.add(at.dataset.whole); return render(); }
 }
 
 // ---- the beginning
+const framed = [];                  // the panes that are there, each by its key
 function begin() {
   document.title = data.title;
   for (const of in panes) {
     if (of !== 'wire' && !Object.keys(data.histories[of]).length || of === 'wire' && !packets.length) continue;
     const frame = $(['node', 'slot'].includes(of) ? 'left' : 'right');
-    frame.insertAdjacentHTML('beforeend', `<section class="card pane-${of}" aria-labelledby="${of}-title"><h2 id="${of}-title">${
-        panes[of].title}<span class="badge" hidden>changed</span></h2><p class="hint">${panes[of].help}</p><div id="${of}"></div></section>`);
+    framed.push(of);
+    frame.insertAdjacentHTML('beforeend', `<section class="card pane-${of}" aria-labelledby="${of}-title"><h2 id="${of}-title" tabindex="-1">${
+        panes[of].title}<span class="badge" hidden>changed</span><kbd aria-hidden="true">${framed.length}</kbd></h2><p class="hint">${panes[of].help}</p><div id="${of}"></div></section>`);
   }
+  $('legend').innerHTML = legendHtml();
   $('slider').max = last;
   $('number').min = lineOf(0);
   $('number').max = lineOf(last);

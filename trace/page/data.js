@@ -9,6 +9,9 @@ const rowOf = number => {
   return row < 0 ? last : Math.min(Math.max(row, 0), last);
 };
 
+// The colour of a node, as a class; from the ninth on a ring.
+const tint = node => `node-${node % 8}${node > 8 ? ' ring' : ''}`;
+
 // ---- parts
 const factForms = mapped(data.facts, ([forms, says]) => ({ forms: forms.map(it => new RegExp(`^${it}$`)), says }));
 const orderForms = mapped(data.orders, ([form, says]) => ({ form: new RegExp(`^${form}$`), says }));

@@ -68,7 +68,7 @@ function laneOf(node, x, wide, first, until, yOf) {
     if (name === null || end < first || history[n] > until) continue;
     const top = history[n] < first ? 26 : yOf(history[n]) - ROW / 2 + 2;
     const foot = end > until ? yOf(until) + ROW / 2 : yOf(end) - ROW / 2 + 2;
-    pieces.push(`<rect class="life node-${node % 8}" x="${x - wide / 2}" y="${top}" width="${wide}" height="${
+    pieces.push(`<rect class="life ${tint(node)}" x="${x - wide / 2}" y="${top}" width="${wide}" height="${
         Math.max(foot - top, 2)}" rx="5"><title>${name} is up</title></rect>`);
   }
   const up = wordAt(history, first) || wordAt(history, until);
@@ -121,7 +121,7 @@ function drawRow(at, row, textAt, xOf, yOf, wide) {
   if (kinds[at] === 'got' && packetOfRow(at)) shown += ` ${packetOfRow(at).kind}`;
   if (kinds[at] === 'at' && data.hasScript) shown += `  ${orderText(at)}`;
   const cut = shown.length > most ? `${shown.slice(0, most - 1)}…` : shown;
-  const dot = node === null || data.lost[at] ? '' : `<circle class="node-${node % 8}" cx="${xOf(String(node))}" cy="${y}" r="${at === row ? 5.5 : 4}"/>`;
+  const dot = node === null || data.lost[at] ? '' : `<circle class="${tint(node)}" cx="${xOf(String(node))}" cy="${y}" r="${at === row ? 5.5 : 4}"/>`;
   return `<g class="row ${toneOf(at)}" data-row="${at}"><rect class="hit" x="0" y="${y - ROW / 2}" width="${wide}" height="${ROW}"/>`
     + `<text class="number" x="36" y="${y + 4}" text-anchor="end">${lineOf(at)}</text>${dot}`
     + `<text x="${textAt}" y="${y + 4}">${escaped(cut)}<title>${escaped(lines[at])}</title></text></g>`;

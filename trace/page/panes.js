@@ -14,7 +14,7 @@ function word(of, item, name, row, value, html = escaped(value)) {
 
 // An incarnation, with the colour of its node.
 const chip = name => name === null || name === undefined ? '<span class="none">–</span>' : !name.includes('.') ? escaped(name)
-  : `<span class="chip"><i class="node-${parseInt(name, 10) % 8}"></i>${escaped(name)}</span>`;
+  : `<span class="chip"><i class="${tint(parseInt(name, 10))}"></i>${escaped(name)}</span>`;
 const chips = names => names.map(chip).join(' ');
 const link = (row, text) => `<a href="#${lineOf(row)}">${escaped(text)}</a>`;
 
@@ -168,7 +168,7 @@ function table(heads, rows, without) {
 
 function nodeHtml(node, row, holders, isFew) {
   const words = itemAt('node', node, row), name = words.incarnation;
-  const head = `<h3><i class="node-${node % 8}"></i> Node ${node} <span>${word('node', node, 'incarnation', row, name ?? '', name ? `is up as ${
+  const head = `<h3><i class="${tint(node)}"></i> Node ${node} <span>${word('node', node, 'incarnation', row, name ?? '', name ? `is up as ${
       name}` : 'is down')}</span></h3>`;
   if (!name) return `<article class="down">${head}</article>`;
   if (!isFew && !openNodes.has(node)) return `<article><details data-node="${node}"><summary data-key="node-${node}">${head}</summary></details></article>`;
@@ -217,7 +217,7 @@ function timeBar(slot) {
     for (let n = 0; n < history.length; n += 2) {
       if (history[n + 1] === null) continue;
       const end = n + 2 < history.length ? history[n + 2] : last + 1, wide = 100 * (end - history[n]) / (last + 1);
-      if (pieces.length < 200) pieces.push(`<i class="node-${parseInt(history[n + 1], 10) % 8}" style="left:${
+      if (pieces.length < 200) pieces.push(`<i class="${tint(parseInt(history[n + 1], 10))}" style="left:${
           (100 * history[n] / (last + 1)).toFixed(2)}%;width:${Math.max(wide, 0.6).toFixed(2)}%" title="${history[n + 1]} from line ${
           lineOf(history[n])}"></i>`);
     }

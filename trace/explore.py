@@ -31,7 +31,7 @@ sys.dont_write_bytecode = True      # no __pycache__ beside these files
 from draw import line_number                                            # noqa: E402
 from ending import run                                                  # noqa: E402
 from facts import NoTrace                                               # noqa: E402
-from parts import FACT_PATTERNS, FACTS, PACKET_PATTERNS, PACKETS        # noqa: E402
+from parts import FACT_PATTERNS, FACTS, ORDER_PATTERNS, ORDERS, PACKET_PATTERNS, PACKETS, SAID       # noqa: E402
 from sources import Source, read_source                                 # noqa: E402
 from state import Histories, State, setting                             # noqa: E402
 
@@ -57,6 +57,7 @@ def table_of(source: Source, state: State, title: str, window: Tuple[int, int]) 
         'nodes': state.nodes[first:last + 1], 'lost': lost, 'headings': headings,
         'histories': shifted(state.histories, first, last),
         'facts': {kind: [[browser_source(it.pattern) for it in FACT_PATTERNS[kind]], says] for kind, (_, says) in FACTS.items()},
+        'orders': {kind: [browser_source(ORDER_PATTERNS[kind].pattern), says] for kind, (_, says) in ORDERS.items()}, 'said': SAID,
         'packets': {kind: [browser_source(PACKET_PATTERNS[kind].pattern), says, family] for kind, (_, says, family) in PACKETS.items()},
     }
 

@@ -51,9 +51,10 @@ FACTS: Dict[str, Tuple[List[str], str]] = {
     'active': (['{incarnation} {entity} {records} {state}'], 'Entity {entity} has read {records} records, and is in state {state}.'),
     'stop': (['{incarnation} {entity}'], 'Entity {entity} stops at {incarnation}.'),
     'writefailed': (['{incarnation} {entity}'], 'The write of {entity} fails, and {entity} is gone from {incarnation}.'),
-    'armed': (['{entity} {keep}'], 'The next write of {entity} will fail; its record is {keep}.'),
+    'armed': (['{entity} {keep}'], 'The next write of {entity} will fail: {keep}.'),
     'wrote': (['{entity} {number} epoch {epoch} by {producer}:{place} {command} / {events} / {reply}'],
-              'Entity {entity} records command {place} of producer {producer}, {command}: record {number}, under epoch {epoch}.'),
+              'Entity {entity} records command {place} of producer {producer}, {command}: record {number}, under epoch {epoch}. '
+              'Its events: {events}; its answer: {reply}.'),
     'snapshot': (['{entity} {records}'], 'A snapshot of {entity} stands for its first {records} records.'),
     'remembered': (['{entity}'], 'Entity {entity} will start with its shard from now on.'),
     'forgotten': (['{entity}'], "Entity {entity} won't start with its shard any more."),
@@ -94,6 +95,34 @@ PACKETS: Dict[str, Tuple[str, str, str]] = {
 }
 
 
+# the orders of a script: their forms, and a sentence
+ORDERS: Dict[str, Tuple[str, str]] = {
+    'up': ('{node}', 'Node {node} is started.'),
+    'crash': ('{node}', 'Node {node} stops at once, and forgets all that it knew.'),
+    'leave': ('{node}', 'Node {node} asks that its shards go elsewhere; it stays up.'),
+    'tick': ('{node}', "The timer of node {node} runs: what isn't answered is asked again, what isn't confirmed is sent again."),
+    'produce': ('{producer} {node}', 'Node {node} takes the queue of producer {producer}.'),
+    'rest': ('{producer}', 'The queue of producer {producer} is given back.'),
+    'send': ('{producer} {entity} {command}', 'Producer {producer} has a command for {entity}: {command}.'),
+    'passivate': ('{entity}', 'Entity {entity} asks to be stopped.'),
+    'failwrite': ('{entity} {keep}', 'The next write of {entity} will fail: {keep}.'),
+    'deliver': ('{packet}', 'Packet {packet} is delivered.'),
+    'pump': ('{number}', 'Packets are delivered, the oldest first, until none is left, or {number} were.'),
+    'rebalance': ('{number}', 'The coordinator moves shards from nodes with many to nodes with few, at most {number}.'),
+    'settle': ('', 'All nodes stop; node 1 starts alone, and runs until every command is confirmed.'),
+    'reshard': ('{shards}', 'The entities are grouped anew, in {shards} shards.'),
+    'upgrade': ('', 'Entities behave by version 2 from here on.'),
+}
+
+# parts that a sentence tells in other words: what they begin with, and what it says for that
+SAID: Dict[str, List[Tuple[str, str]]] = {
+    'slot': [('shard:', 'shard '), ('queue:', 'the queue of producer '), ('coordinator', 'the coordinator')],
+    'cause': [('released', 'its holder gives it back'), ('stopped', 'its holder is down')],
+    'keep': [('kept', 'its record stands, but nobody is told'), ('lost', 'nothing is recorded')],
+    'events': [('-', 'none')],
+}
+
+
 def source_of(form: str) -> str:
     """The regular expression of a form, with a group for each part."""
     pieces = re.split(r'\{(\w+)\}', form)
@@ -109,6 +138,8 @@ FACT_PATTERNS: Dict[str, List[Pattern[str]]] = {
     kind: [re.compile(source_of(f'{kind} {form}'.rstrip())) for form in forms] for kind, (forms, _) in FACTS.items()}
 PACKET_PATTERNS: Dict[str, Pattern[str]] = {
     kind: re.compile(source_of(f'{kind} {form}'.rstrip())) for kind, (form, _, _) in PACKETS.items()}
+ORDER_PATTERNS: Dict[str, Pattern[str]] = {
+    kind: re.compile(source_of(f'{kind} {form}'.rstrip())) for kind, (form, _) in ORDERS.items()}
 
 Part = Union[str, int, List[str], Dict[str, object]]
 

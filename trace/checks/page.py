@@ -170,8 +170,8 @@ def faults_at(seen: Dict[str, object], state: State, row: int) -> Iterator[str]:
             yield f'{of}: {len(shown.get(of, ()))} items, and not {MOST_ITEMS}'
         for item, words in shown.get(of, {}).items():
             standing = should(words_at(state.histories[of].get(item, {}), row))
-            if of == 'node' and state.is_pull:
-                standing.pop('registered', None)
+            if state.is_pull:               # there is no coordinator, and no entity that asks
+                standing.pop({'node': 'registered', 'pair': 'demanded'}.get(of, ''), None)
             expected = {word: value if isinstance(value, list) else str(value) for word, value in standing.items()}
             if words != expected:
                 yield f'{of} {item}: {words}, and not {expected}'

@@ -9,8 +9,12 @@ const rowOf = number => {
   return row < 0 ? last : Math.min(Math.max(row, 0), last);
 };
 
+// The colour of a node, as a class; from the ninth on a ring.
+const tint = node => `node-${node % 8}${node > 8 ? ' ring' : ''}`;
+
 // ---- parts
 const factForms = mapped(data.facts, ([forms, says]) => ({ forms: forms.map(it => new RegExp(`^${it}$`)), says }));
+const orderForms = mapped(data.orders, ([form, says]) => ({ form: new RegExp(`^${form}$`), says }));
 const packetForms = mapped(data.packets, ([form, says, family]) => ({ form: new RegExp(`^${form}$`), says, family }));
 
 function mapped(object, change) {
@@ -31,12 +35,18 @@ function packetParts(text) {
 }
 
 const filled = (says, parts) => says.replace(/\{(\w+)(\.node)?\}/g,
-  (_, name, node) => node ? parts[name].split('.')[0] : parts[name] ?? '');
+  (_, name, node) => node ? parts[name].split('.')[0] : said(name, parts[name] ?? ''));
+
+// A part as a sentence tells it.
+function said(name, part) {
+  const [from, to] = data.said[name]?.find(it => part.startsWith(it[0])) ?? ['', ''];
+  return to + part.slice(from.length);
+}
 
 // A line in a sentence; of a packet what it says too.
 function sentence(row) {
   const kind = kinds[row], parts = { ...factParts(row) };
-  if (kind === 'at') return `${filled(factForms.at.says, parts)} ${orderText(row)}`.trim();
+  if (kind === 'at') return `${filled(factForms.at.says, parts)} ${data.hasScript ? orderSays(orderText(row)) : ''}`.trim();
   const packet = packetOfRow(row);
   if (!packet) return filled(factForms[kind].says, parts) + (kind === 'got' ? ' It was sent before this trace.' : '');
   Object.assign(parts, { from: packet.from, to: packet.to });
@@ -48,6 +58,12 @@ function sentence(row) {
 
 function packetSays(packet) {
   return filled(packetForms[packet.kind]?.says ?? packet.text, packetParts(packet.text));
+}
+
+// An order of the script in a sentence; the order itself where no form is its own.
+function orderSays(text) {
+  const form = orderForms[text.split(' ', 1)[0]], found = form?.form.exec(text);
+  return found ? filled(form.says, found.groups || {}) : text;
 }
 
 const orderText = row => data.headings[orderAt(row)]?.[1] ?? '';

@@ -21,6 +21,16 @@ function drawDiagram(row, width) {
   return pieces.join('') + '</svg>';
 }
 
+// What the arrows and bars of the whole trace are.
+const ARROWS = { command: 'command', answer: 'answer', homes: 'home of a shard', handoff: 'move of a shard', inner: 'to an entity', members: 'members' };
+const BARS = { coordinator: 'coordinator’s lease', shard: 'shard’s', queue: 'queue’s' };
+
+function legendHtml() {
+  const families = new Set(packets.map(it => packetForms[it.kind]?.family)), slots = new Set(Object.keys(data.histories.slot).map(it => it.split(':')[0]));
+  const shown = (all, names, of) => Object.keys(names).filter(it => all.has(it)).map(it => `<span><i class="${of}${it}"></i>${names[it]}</span>`);
+  return [...shown(families, ARROWS, ''), ...shown(slots, BARS, 'lease '), Object.keys(data.lost).length ? '<span><b>×</b> nobody takes it</span>' : ''].join('');
+}
+
 function diagramText(first, until, nodes) {
   return `Sequence diagram of lines ${lineOf(first)} to ${lineOf(until)}; lanes: ${nodes.map(it => `node ${it}`).join(', ') || 'none'}`;
 }
@@ -58,7 +68,7 @@ function laneOf(node, x, wide, first, until, yOf) {
     if (name === null || end < first || history[n] > until) continue;
     const top = history[n] < first ? 26 : yOf(history[n]) - ROW / 2 + 2;
     const foot = end > until ? yOf(until) + ROW / 2 : yOf(end) - ROW / 2 + 2;
-    pieces.push(`<rect class="life node-${node % 8}" x="${x - wide / 2}" y="${top}" width="${wide}" height="${
+    pieces.push(`<rect class="life ${tint(node)}" x="${x - wide / 2}" y="${top}" width="${wide}" height="${
         Math.max(foot - top, 2)}" rx="5"><title>${name} is up</title></rect>`);
   }
   const up = wordAt(history, first) || wordAt(history, until);
@@ -111,7 +121,7 @@ function drawRow(at, row, textAt, xOf, yOf, wide) {
   if (kinds[at] === 'got' && packetOfRow(at)) shown += ` ${packetOfRow(at).kind}`;
   if (kinds[at] === 'at' && data.hasScript) shown += `  ${orderText(at)}`;
   const cut = shown.length > most ? `${shown.slice(0, most - 1)}…` : shown;
-  const dot = node === null || data.lost[at] ? '' : `<circle class="node-${node % 8}" cx="${xOf(String(node))}" cy="${y}" r="${at === row ? 5.5 : 4}"/>`;
+  const dot = node === null || data.lost[at] ? '' : `<circle class="${tint(node)}" cx="${xOf(String(node))}" cy="${y}" r="${at === row ? 5.5 : 4}"/>`;
   return `<g class="row ${toneOf(at)}" data-row="${at}"><rect class="hit" x="0" y="${y - ROW / 2}" width="${wide}" height="${ROW}"/>`
     + `<text class="number" x="36" y="${y + 4}" text-anchor="end">${lineOf(at)}</text>${dot}`
     + `<text x="${textAt}" y="${y + 4}">${escaped(cut)}<title>${escaped(lines[at])}</title></text></g>`;

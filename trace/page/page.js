@@ -1,6 +1,6 @@
 // Where one is, and how one moves: lines and orders, the list, filters, keys.
 const $ = id => document.getElementById(id);
-const now = { row: 0, packet: null, timer: null };
+const now = { row: 0, packet: null, timer: null, noting: null };
 const PITCH = 26;                   // the height of a row of the list, as in page.css
 let listed = null;                  // the rows that the filter leaves; null: all
 let wanted = {};
@@ -24,14 +24,24 @@ function step(by) {
   if (listed[at] !== undefined) go(listed[at]);
 }
 
+// To the first line of the list from this one on, else to the last before it.
+function stepIntoList() {
+  const at = countUpTo(listed ?? [], now.row - 1);
+  if (listed?.length) go(listed[Math.min(at, listed.length - 1)]);
+}
+
 function stepOrder(by) {
   const at = orderAt(now.row), begins = headingRows[at] === now.row;
   go(by < 0 && !begins && at >= 0 ? headingRows[at] : headingRows[at + by] ?? (by < 0 ? 0 : last));
 }
 
-function stepEntity(by, name = wanted.entity || subjectOf(now.row).entity || '') {
-  for (let row = now.row + by; row >= 0 && row <= last; row += by) if (subjectOf(row).entity === name) return go(row);
-  say(name ? `No ${by > 0 ? 'later' : 'earlier'} fact of ${name}.` : 'This line is of no entity.');
+// The next fact of an entity: of this line's, or of any where this line is of none.
+function stepEntity(by, name = wanted.entity || subjectOf(now.row).entity) {
+  for (let row = now.row + by; row >= 0 && row <= last; row += by) {
+    const entity = subjectOf(row).entity;
+    if (entity && (!name || entity === name)) return go(row);
+  }
+  say(`No ${by > 0 ? 'later' : 'earlier'} fact of ${name || 'an entity'}.`);
 }
 
 function otherEnd() {
@@ -50,6 +60,15 @@ function play(on = !now.timer) {
   $('now').setAttribute('aria-live', on ? 'off' : 'polite');
 }
 
+// To a pane by its name, or back to the line: it is in view, and has the focus.
+function lead(of) {
+  const title = of ? $(`${of}-title`) : $('now');
+  if (!title) return;
+  if (of) title.scrollIntoView({ block: 'start' }); else window.scrollTo(0, 0);
+  title.focus({ preventScroll: true });
+}
+
+const grouped = number => number.toLocaleString('en');
 const say = text => { $('said').textContent = text; };
 
 // ---- drawing all of it
@@ -80,7 +99,8 @@ function render() {
     $(`${of}-title`).querySelector('.badge').hidden = !touched.includes(of);
   }
   for (const it of document.querySelectorAll('.bar > b')) it.style.transform = `translateX(${(100 * (row + 0.5) / (last + 1)).toFixed(2)}%)`;
-  if (history.replaceState && location.hash !== hashNow()) history.replaceState(null, '', hashNow());
+  clearTimeout(now.noting);
+  now.noting = setTimeout(noteAddress, 100);
 }
 
 // Puts a pane's text in place, where it is another; what had the focus in it has it again.
@@ -94,6 +114,12 @@ function fill(id, html) {
 }
 
 // ---- the list of lines: only what is seen of it is there
+// A line as the list has it: of an order its words too, of a packet that is got its kind.
+function listText(row) {
+  if (kinds[row] === 'at') return data.hasScript ? `${lines[row]} · ${orderText(row)}` : lines[row];
+  return kinds[row] === 'got' ? `${lines[row]} · ${packetOfRow(row)?.kind ?? ''}` : lines[row];
+}
+
 function drawList(follow = true) {
   const list = $('lines'), at = inList(now.row), height = list.clientHeight || 400;
   $('room').style.height = `${listLength() * PITCH}px`;
@@ -102,14 +128,12 @@ function drawList(follow = true) {
   const shown = [];
   for (let n = from; n < until; n++) {
     const row = listRow(n), node = data.nodes[row];
-    const behind = kinds[row] === 'at' && data.hasScript ? ` · ${orderText(row)}` : kinds[row] === 'got' ? ` · ${packetOfRow(row)?.kind ?? ''}` : '';
-    const text = lines[row] + behind;
     shown.push(`<div role="option" id="line-${row}" data-row="${row}" class="${toneOf(row)}" aria-selected="${row === now.row}" aria-posinset="${
         n + 1}" aria-setsize="${listLength()}" style="top:${n * PITCH}px">`
-      + `<span class="number">${lineOf(row)}</span>${node === null ? '<i></i>' : `<i class="node-${node % 8}" title="node ${
-          node}"></i>`}<span class="fact">${escaped(text)}</span></div>`);
+      + `<span class="number">${lineOf(row)}</span>${node === null ? '<i></i>' : `<i class="${tint(node)}" title="node ${
+          node}"></i>`}<span class="fact">${escaped(listText(row))}</span></div>`);
   }
-  $('room').innerHTML = shown.join('') || '<p class="none">No line is so.</p>';
+  $('room').innerHTML = shown.join('') || '<p class="none">No line fits the filter.</p>';
   $('lines').setAttribute('aria-activedescendant', `line-${listRow(at)}`);
 }
 
@@ -120,18 +144,18 @@ function readFilter(text) {
   wanted = {};
   for (const part of text.trim().split(/\s+/).filter(Boolean)) {
     const [field, value] = part.split(/:(.*)/);
-    if (FIELDS.includes(field) && value) wanted[field] = value; else wanted.text = `${wanted.text ? `${wanted.text} ` : ''}${part}`;
+    if (FIELDS.includes(field) && value) wanted[field] = value; else wanted.text = `${wanted.text ? `${wanted.text} ` : ''}${part.toLowerCase()}`;
   }
   listed = Object.keys(wanted).length ? [...lines.keys()].filter(isLineWanted) : null;
   for (const field of FIELDS) $(`by-${field}`).value = wanted[field] || '';
-  $('count').textContent = listed ? `${listed.length} of ${last + 1} lines` : `${last + 1} lines`;
+  $('count').textContent = `${listed ? `${grouped(listed.length)} of ` : ''}${grouped(last + 1)} lines`;
   $('clear').hidden = !listed;
 }
 
 function isLineWanted(row) {
   const about = wanted.entity || wanted.shard || wanted.producer ? subjectOf(row) : {};
-  return (!wanted.kind || kinds[row] === wanted.kind || kinds[row] === 'sent' && packetOfRow(row).kind === wanted.kind)
-    && (!wanted.node || nodesOf(row).includes(wanted.node)) && (!wanted.text || lines[row].includes(wanted.text))
+  return (!wanted.kind || kinds[row] === wanted.kind || packetOfRow(row)?.kind === wanted.kind)
+    && (!wanted.node || nodesOf(row).includes(wanted.node)) && (!wanted.text || listText(row).toLowerCase().includes(wanted.text))
     && ['shard', 'entity', 'producer'].every(it => !wanted[it] || about[it] === wanted[it]);
 }
 
@@ -167,6 +191,11 @@ function setField(field, value) {
 // ---- links: #65, or #65/entity:c1
 const hashNow = () => `#${lineOf(now.row)}${$('filter').value ? `/${encodeURIComponent($('filter').value)}` : ''}`;
 
+// (a browser drops such notes where they come fast: so one waits for the end of a move)
+function noteAddress() {
+  if (location.hash !== hashNow()) history.replaceState(null, '', hashNow());
+}
+
 function readHash() {
   const [line, filter] = location.hash.slice(1).split('/');
   if (filter !== undefined) { $('filter').value = decodeURIComponent(filter); readFilter($('filter').value); }
@@ -185,9 +214,9 @@ function pressed(event) {
   const at = event.target.closest ? event.target : document.body, isField = at.matches('input:not([type=range]), select, textarea');
   if (event.ctrlKey || event.metaKey || event.altKey || $('help').open) return;
   if (event.key === 'Escape' && at.id === 'filter') { setFilter(''); $('lines').focus(); return; }
-  if (event.key === 'Enter' && at.id === 'filter') { $('lines').focus(); return; }
+  if (event.key === 'Enter' && at.id === 'filter') { $('lines').focus(); return stepIntoList(); }
   if (isField || (event.key === ' ' && at.closest('button, a, summary'))) return;
-  let act = keys[event.key];
+  let act = keys[event.key] ?? (/^[0-9]$/.test(event.key) ? () => lead(framed[event.key - 1]) : null);
   if (event.shiftKey && event.key === 'ArrowRight') act = () => stepOrder(1);
   if (event.shiftKey && event.key === 'ArrowLeft') act = () => stepOrder(-1);
   if (!act) return;
@@ -200,27 +229,30 @@ function clicked(event) {
   if (!at) return;
   if (at.dataset.node && !event.target.closest('summary')) return;
   if (at.dataset.row) return go(+at.dataset.row);
-  if (at.dataset.packet) { now.packet = packetByRow.get(+at.dataset.packet); render(); return $('packet-title').scrollIntoView({ block: 'nearest' }); }
+  if (at.dataset.packet) { now.packet = packetByRow.get(+at.dataset.packet); render(); return lead('packet'); }
   if (at.dataset.jump) return stepEntity(+at.dataset.jump, at.dataset.entity);
-  if (at.dataset.to) return $(`${at.dataset.to}-title`).scrollIntoView({ block: 'start' });
+  if (at.dataset.to) return lead(at.dataset.to);
   if (at.dataset.node) { openNodes[openNodes.has(at.dataset.node) ? 'delete' : 'add'](at.dataset.node); event.preventDefault(); return render(); }
   if (at.dataset.whole) { shownWhole.add(at.dataset.whole); return render(); }
 }
 
 // ---- the beginning
+const framed = [];                  // the panes that are there, each by its key
 function begin() {
   document.title = data.title;
   for (const of in panes) {
     if (of !== 'wire' && !Object.keys(data.histories[of]).length || of === 'wire' && !packets.length) continue;
     const frame = $(['node', 'slot'].includes(of) ? 'left' : 'right');
-    frame.insertAdjacentHTML('beforeend', `<section class="card pane-${of}" aria-labelledby="${of}-title"><h2 id="${of}-title">${
-        panes[of].title}<span class="badge" hidden>changed</span></h2><p class="hint">${panes[of].help}</p><div id="${of}"></div></section>`);
+    framed.push(of);
+    frame.insertAdjacentHTML('beforeend', `<section class="card pane-${of}" aria-labelledby="${of}-title"><h2 id="${of}-title" tabindex="-1">${
+        panes[of].title}<span class="badge" hidden>changed</span><kbd aria-hidden="true">${framed.length}</kbd></h2><p class="hint">${panes[of].help}</p><div id="${of}"></div></section>`);
   }
+  $('legend').innerHTML = legendHtml();
   $('slider').max = last;
   $('number').min = lineOf(0);
   $('number').max = lineOf(last);
   $('of').textContent = `of ${lineOf(last)}`;
-  for (const kind of [...new Set(kinds)].sort()) $('by-kind').add(new Option(kind, kind));
+  for (const kind of [...new Set([...kinds, ...packets.map(it => it.kind)])].sort()) $('by-kind').add(new Option(kind, kind));
   const names = { node: Object.keys(data.histories.node), producer: [...new Set(Object.keys(data.histories.pair).map(it => it.split(' ')[0]))],
     shard: Object.keys(data.histories.slot).filter(it => it.startsWith('shard:')).map(it => it.slice(6)) };
   for (const field in names) for (const name of names[field].sort(byName)) $(`by-${field}`).add(new Option(`${field} ${name}`, name));

@@ -13,8 +13,8 @@ function word(of, item, name, row, value, html = escaped(value)) {
 }
 
 // An incarnation, with the colour of its node.
-const chip = name => name === null || name === undefined ? '<span class="none">–</span>'
-  : `<span class="chip"><i class="node-${parseInt(name, 10) % 8}"></i>${escaped(name)}</span>`;
+const chip = name => name === null || name === undefined ? '<span class="none">–</span>' : !name.includes('.') ? escaped(name)
+  : `<span class="chip"><i class="${tint(parseInt(name, 10))}"></i>${escaped(name)}</span>`;
 const chips = names => names.map(chip).join(' ');
 const link = (row, text) => `<a href="#${lineOf(row)}">${escaped(text)}</a>`;
 
@@ -59,8 +59,8 @@ const note = (shown, total, of, what) => shown === total ? '' :
 
 const panes = {
   node: {
-    title: 'Nodes', help: data.isPull ? 'Each node that is up is a worker. One holds the queue.' : 'What each node knows. A node knows only what it was told, so views and homes may lag behind. A mark is the newest stamp '
-        + '(the coordinator’s epoch / its round) that it has taken of a shard: older words change nothing.',
+    title: 'Nodes', help: data.isPull ? 'Each node that is up is a worker. One holds the queue.'
+      : 'What each node knows. A node knows only what it was told, so views, homes and marks may lag behind.',
     html(row, isWanted, isAll) {
       const holders = {};
       for (const slot in data.histories.slot) {
@@ -74,7 +74,7 @@ const panes = {
     },
   },
   slot: {
-    title: 'Leases', help: 'Whoever holds a slot may write its list. The epoch rises with each grant. The bar is the whole trace.',
+    title: 'Leases', help: 'Whoever holds a slot may write its list. The epoch rises with each grant. The bar is the whole trace: a colour for each node.',
     html(row, isWanted, isAll) {
       const { items, total } = itemsUpTo('slot', row, most('slot'), isWanted, isAll);
       const rows = items.map(it => {
@@ -96,8 +96,8 @@ const panes = {
     },
   },
   pair: {
-    title: 'Queues', help: 'By producer and entity: commands in the durable queue, those that are confirmed, '
-        + 'and up to which number the entity has asked for more.',
+    title: 'Queues', help: data.isPull ? 'Commands in the durable queue of the producer, and those that are confirmed.'
+      : 'By producer and entity: commands in the durable queue, those that are confirmed, and up to which number the entity has asked for more.',
     html(row, isWanted, isAll) {
       const { items, total } = itemsUpTo('pair', row, most('pair'), isWanted, isAll);
       const rows = items.map(it => {
@@ -107,9 +107,9 @@ const panes = {
         return `<tr><th scope="row">${producer} → ${escaped(entity)}</th><td>${word('pair', it, 'queued', row, queued)}${waiting}</td>`
           + `<td>${word('pair', it, 'confirmed', row, confirmed)} <i class="part" aria-hidden="true"><b style="width:${
               queued ? 100 * confirmed / queued : 0}%"></b></i></td>`
-          + `<td>${word('pair', it, 'demanded', row, words.demanded ?? 0)}</td></tr>`;
+          + (data.isPull ? '' : `<td>${word('pair', it, 'demanded', row, words.demanded ?? 0)}</td>`) + '</tr>';
       });
-      return table(['producer → entity', 'queued', 'confirmed', 'asked up to'], rows, 'Nothing has been sent yet.') + note(items.length, total,
+      return table(['producer → entity', 'queued', 'confirmed', ...(data.isPull ? [] : ['asked up to'])], rows, 'Nothing has been sent yet.') + note(items.length, total,
           'pair', 'pairs');
     },
   },
@@ -126,7 +126,8 @@ const panes = {
         + line('regions', regions.map(it => word('coordinator', 'coordinator', `region.${
             it}`, row, it, chip(it) + (leaving.includes(it) ? ' <small>leaves</small>' : ''))).join(' ') || '<span class="none">none</span>')
         + line('homes', byValueHtml('coordinator', 'coordinator', words, 'home', row, chip))
-        + line('started', `<span data-of="coordinator" data-item="coordinator" data-word="started">${started}</span>` || '')
+        + line('started', `<span data-of="coordinator" data-item="coordinator" data-word="started">${started}</span>`
+          + (started ? '' : '<span class="none">none</span>'))
         + line('open round', words.round ? `${word('coordinator', 'coordinator', 'round', row, words.round)}<ul>${
             moving}</ul>` : '<span class="none">none</span>') + '</dl>';
     },
@@ -167,7 +168,7 @@ function table(heads, rows, without) {
 
 function nodeHtml(node, row, holders, isFew) {
   const words = itemAt('node', node, row), name = words.incarnation;
-  const head = `<h3><i class="node-${node % 8}"></i> Node ${node} <span>${word('node', node, 'incarnation', row, name ?? '', name ? `is up as ${
+  const head = `<h3><i class="${tint(node)}"></i> Node ${node} <span>${word('node', node, 'incarnation', row, name ?? '', name ? `is up as ${
       name}` : 'is down')}</span></h3>`;
   if (!name) return `<article class="down">${head}</article>`;
   if (!isFew && !openNodes.has(node)) return `<article><details data-node="${node}"><summary data-key="node-${node}">${head}</summary></details></article>`;
@@ -216,7 +217,7 @@ function timeBar(slot) {
     for (let n = 0; n < history.length; n += 2) {
       if (history[n + 1] === null) continue;
       const end = n + 2 < history.length ? history[n + 2] : last + 1, wide = 100 * (end - history[n]) / (last + 1);
-      if (pieces.length < 200) pieces.push(`<i class="node-${parseInt(history[n + 1], 10) % 8}" style="left:${
+      if (pieces.length < 200) pieces.push(`<i class="${tint(parseInt(history[n + 1], 10))}" style="left:${
           (100 * history[n] / (last + 1)).toFixed(2)}%;width:${Math.max(wide, 0.6).toFixed(2)}%" title="${history[n + 1]} from line ${
           lineOf(history[n])}"></i>`);
     }
@@ -228,7 +229,7 @@ function timeBar(slot) {
 function causeHtml(row) {
   if (chosenPacket(row)) return packetHtml(chosenPacket(row), row);
   const cause = causeOf(row);
-  if (cause < 0) return data.part === 'order' ? empty('Nothing says of what this line came.') : partHtml(row);
+  if (cause < 0) return data.part === 'order' ? empty('This trace doesn’t tell: no “at” and no “got” stands before this line.') : partHtml(row);
   if (kinds[cause] === 'got' && packetOfRow(cause)) return packetHtml(packetOfRow(cause), row);
   return `<p class="says">${link(cause, `line ${lineOf(cause)}`)} <code>${
       escaped(data.hasScript ? orderText(cause) : lines[cause])}</code> gave</p><ul class="story">${rowsHtml(givenBy(cause)) || '<li>nothing</li>'}</ul>`;
@@ -237,7 +238,8 @@ function causeHtml(row) {
 function causeTitle(row) {
   if (chosenPacket(row)) return `Packet ${chosenPacket(row).number}`;
   const packet = packetOfRow(causeOf(row));
-  return packet ? `Came of packet ${packet.number}` : data.part === 'order' ? 'Came of an order' : `In this ${data.part}`;
+  if (packet) return `Came of packet ${packet.number}`;
+  return data.part !== 'order' ? `In this ${data.part}` : causeOf(row) < 0 ? 'What it came of' : 'Came of an order';
 }
 
 // A list of a slot, or a batch of a log: the lines of it.

@@ -1,7 +1,7 @@
 //! Nodes as threads: what every run of a script comes to, and runs whose reads and writes fail.
 ghost use Rattle.std.specs.Prelude.{◌<◌};
 
-use crate::fixtures::{Drain, Feed, Nowhere, run_alone, words_of};
+use crate::fixtures::{run_alone, words_of};
 use crate::meeting::{LOOKS, Meeting, Side};
 use script_text::Why;
 use std::alloc::{AllocError, Global};
@@ -9,6 +9,7 @@ use std::process::Abort;
 use std::sync::Wait;
 use std::test::Fail;
 use std::thread::Threads;
+use test_streams::{A_BYTE, Drain, Feed, Nowhere, WHOLE};
 use yard_io::{Sink, StdSink};
 use yard_top::{Status, sharder};
 
@@ -112,7 +113,7 @@ fn run_script<R: Threads + Wait + Sync, K: Sink>(
     script: &[u8],
     sink: &mut K,
 ) -> Result<Status, AllocError> {
-    let mut source = Feed::new(script, 0, false);
+    let mut source = Feed::new(script, WHOLE, 0);
     run(rt, alloc, form, &mut source, sink)
 }
 
@@ -124,7 +125,7 @@ fn run_two<R: Threads + Wait + Sync>(
     sink: &mut Drain,
     gate: &Meeting,
 ) -> Result<Status, AllocError> {
-    let mut source = Feed::new(TWO_PRODUCERS, 0, false);
+    let mut source = Feed::new(TWO_PRODUCERS, WHOLE, 0);
     run_at(rt, alloc, form, &mut source, sink, gate)
 }
 
@@ -231,7 +232,7 @@ fn registered_at<R: Threads + Wait + Sync>(
     sink: &mut Drain,
     gate: &Meeting,
 ) -> Result<Option<bool>, AllocError> {
-    sink.restart(0, false);
+    sink.restart(WHOLE, 0);
     let end = run_two(rt, alloc, &["live", "200", seed], sink, gate)?;
     Ok(both_in(end, text_of(sink.bytes())))
 }
@@ -335,7 +336,7 @@ fn reports_the_same<R: Threads + Wait + Sync>(
     text: &str,
     sink: &mut Drain,
 ) -> Result<bool, AllocError> {
-    sink.restart(0, false);
+    sink.restart(WHOLE, 0);
     let end = end_of_seed(rt, alloc, seed, sink)?;
     Ok(end == Status::Ok && is_same_report(text, text_of(sink.bytes())))
 }
@@ -386,8 +387,8 @@ fn each_seed_reports_the_same(rt: HostRuntime) -> Result<(), Fail> {
 /// Whether a run is as it is to be whose sink fails at the call after so many, if it comes. Where one byte goes with
 /// a call, it writes one with each before. Where whole pieces do, it ends well only with a whole report, after no
 /// more calls.
-fn is_stopped(end: Status, sink: &Drain, done: u32, is_slow: bool) -> bool {
-    if is_slow {
+fn is_stopped(end: Status, sink: &Drain, done: u32, most: usize) -> bool {
+    if most == A_BYTE {
         end == Status::WriteFault && sink.bytes().len() == done as usize
     } else if done < sink.calls() {
         end == Status::WriteFault
@@ -401,40 +402,45 @@ fn stops<R: Threads + Wait + Sync>(
     rt: &R,
     alloc: Global,
     done: u32,
-    is_slow: bool,
+    most: usize,
     sink: &mut Drain,
 ) -> Result<bool, AllocError>
-    requires { done < 200 }
+    requires done { done < 200 }
+    requires most { 0 < most }
 {
-    sink.restart(done + 1, is_slow);
+    sink.restart(most, done + 1);
     let end = run_script(rt, alloc, &["live", "50", "1"], TWO_PRODUCERS, sink)?;
-    Ok(is_stopped(end, sink, done, is_slow))
+    Ok(is_stopped(end, sink, done, most))
 }
 
 /// Whether each of these runs is.
 fn all_stop<R: Threads + Wait + Sync>(
     rt: &R,
     alloc: Global,
-    is_slow: bool,
+    most: usize,
     sink: &mut Drain,
-) -> Result<bool, AllocError> {
+) -> Result<bool, AllocError>
+    requires { 0 < most }
+{
     for done in 0..RUNS {
-        if !stops(rt, alloc, done, is_slow, sink)? {
+        if !stops(rt, alloc, done, most, sink)? {
             return Ok(false);
         }
     }
     Ok(true)
 }
 
-/// Runs the program whose source fails at this call: how it ends.
+/// Runs the program whose source gives so many bytes a call, and fails at this one: how it ends.
 fn end_at_read<R: Threads + Wait + Sync>(
     rt: &R,
     alloc: Global,
     call: u32,
-    is_slow: bool,
+    most: usize,
     sink: &mut Drain,
-) -> Result<Status, AllocError> {
-    let mut source = Feed::new(TWO_PRODUCERS, call, is_slow);
+) -> Result<Status, AllocError>
+    requires { 0 < most }
+{
+    let mut source = Feed::new(TWO_PRODUCERS, most, call);
     run(rt, alloc, &["live", "50", "1"], &mut source, sink)
 }
 
@@ -443,12 +449,14 @@ fn reads_fail<R: Threads + Wait + Sync>(
     rt: &R,
     alloc: Global,
     count: u32,
-    is_slow: bool,
+    most: usize,
     sink: &mut Drain,
-) -> Result<bool, AllocError> {
-    sink.restart(0, false);
+) -> Result<bool, AllocError>
+    requires { 0 < most }
+{
+    sink.restart(WHOLE, 0);
     for call in 1..=count {
-        if end_at_read(rt, alloc, call, is_slow, sink)? != Status::ReadFault {
+        if end_at_read(rt, alloc, call, most, sink)? != Status::ReadFault {
             return Ok(false);
         }
     }
@@ -461,8 +469,8 @@ fn ends_slowly<R: Threads + Wait + Sync>(
     alloc: Global,
     sink: &mut Drain,
 ) -> Result<bool, AllocError> {
-    sink.restart(0, true);
-    let end = end_at_read(rt, alloc, 0, true, sink)?;
+    sink.restart(A_BYTE, 0);
+    let end = end_at_read(rt, alloc, 0, A_BYTE, sink)?;
     let calls = sink.bytes().len().saturating_add(1);
     let is_whole = sink.bytes().ends_with(b"\nend\n") && sink.calls() as usize == calls;
     Ok(end == Status::Ok && is_whole)
@@ -482,10 +490,10 @@ fn all_fail<R: Threads + Wait + Sync>(
     sink: &mut Drain,
 ) -> Result<bool, AllocError> {
     Ok(
-        all_stop(rt, alloc, true, sink)?
-            && all_stop(rt, alloc, false, sink)?
-            && reads_fail(rt, alloc, 2, false, sink)?
-            && reads_fail(rt, alloc, READS, true, sink)?
+        all_stop(rt, alloc, A_BYTE, sink)?
+            && all_stop(rt, alloc, WHOLE, sink)?
+            && reads_fail(rt, alloc, 2, WHOLE, sink)?
+            && reads_fail(rt, alloc, READS, A_BYTE, sink)?
             && ends_slowly(rt, alloc, sink)?
             && nothing_is_taken(rt, alloc)?,
     )
@@ -506,7 +514,7 @@ fn has_numbers<R: Threads + Wait + Sync>(
     seed: &str,
     sink: &mut Drain,
 ) -> Result<bool, AllocError> {
-    sink.restart(0, false);
+    sink.restart(WHOLE, 0);
     let end = run_script(rt, alloc, &["live", "100", seed], UP_AGAIN, sink)?;
     Ok(end == Status::Ok && text_of(sink.bytes()).contains(HELD_BY))
 }
@@ -589,7 +597,7 @@ fn words_leave_script<R: Threads + Wait + Sync>(
     alloc: Global,
     sink: &mut Drain,
 ) -> Result<bool, AllocError> {
-    let mut source = Feed::new(b"config\n", 0, false);
+    let mut source = Feed::new(b"config\n", WHOLE, 0);
     leave_script(rt, alloc, &mut source, sink)
 }
 

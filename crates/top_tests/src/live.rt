@@ -74,9 +74,9 @@ send 1 a add 1
 /// How the list of its queue begins.
 const HELD_BY: &str = "
 granted queue:1 1 1.1
-freed queue:1 1 crashed
+freed queue:1 1 stopped
 granted queue:1 2 1.2
-freed queue:1 2 crashed
+freed queue:1 2 stopped
 granted queue:1 3 1.3
 ";
 

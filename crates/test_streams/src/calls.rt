@@ -7,7 +7,7 @@ use yard_io::FaultCount;
 ///
 /// The count stands still at the greatest `u32`.
 #[derive(Drop)]
-pub struct Calls {
+pub(crate) struct Calls {
     made: u32,
     failing: u32,
     faults: FaultCount,
@@ -15,7 +15,7 @@ pub struct Calls {
 
 impl Calls {
     /// No call yet; the one of this number is to fail.
-    pub fn new(failing: u32) -> Calls
+    pub(crate) fn new(failing: u32) -> Calls
         ensures made { result.made ≡ 0 }
         ensures failing { result.failing ≡ failing }
         ensures faults { result.faults ≡ 0 }
@@ -28,14 +28,14 @@ impl Calls {
     }
 
     /// How many there were.
-    pub fn made(&self) -> u32
+    pub(crate) fn made(&self) -> u32
         ensures { result ≡ self.now.made }
     {
         self.made
     }
 
     /// Counts one call, and tells whether it fails, which is a fault then.
-    pub fn fails_next(&mut self) -> bool
+    pub(crate) fn fails_next(&mut self) -> bool
         ensures planned { IsTrue result ↔ (self.new.made ≡ self.old.failing) }
         ensures made { self.new.made ≡ min (self.old.made + 1) (2 ^ 32 - 1) }
         ensures failing { self.new.failing ≡ self.old.failing }
@@ -51,7 +51,7 @@ impl Calls {
     }
 
     /// A call fails that was not to.
-    pub fn fail(&mut self)
+    pub(crate) fn fail(&mut self)
         ensures made { self.new.made ≡ self.old.made }
         ensures failing { self.new.failing ≡ self.old.failing }
         ensures once { self.new.faults ≡ self.old.faults + 1 }
@@ -60,7 +60,7 @@ impl Calls {
     }
 
     /// None was made again, and the one of this number is to fail. The faults stay.
-    pub fn restart(&mut self, failing: u32)
+    pub(crate) fn restart(&mut self, failing: u32)
         ensures made { self.new.made ≡ 0 }
         ensures failing { self.new.failing ≡ failing }
         ensures faults { self.new.faults ≡ self.old.faults }

@@ -1,4 +1,5 @@
 //! A source that gives its bytes in pieces.
+ghost use Rattle.std.specs.Prelude.{◌≡◌, ◌+◌, ◌-◌, ◌^◌, ◌<◌, ◌≤◌, min, [], ◌++◌, length, take, drop, ◌↔◌, IfOk, IsErr, OnErr, Some};
 
 use crate::calls::Calls;
 use yard_io::{Failed, Source};
@@ -36,7 +37,25 @@ impl Source for Feed<'_> {
 
     ghost faults = { λ f. f.calls.faults };
 
-    fn read(&mut self, buf: &mut [u8]) -> Result<usize, Failed> {
+    fn read(&mut self, buf: &mut [u8]) -> Result<usize, Failed>
+        // As of every source.
+        ensures within { IfOk result (λ n. n ≤ length buf.new) }
+        ensures there { IfOk result (λ n. n ≤ length self.old.bytes.now) }
+        ensures front { IfOk result (λ n. buf.new ≡ take n self.old.bytes.now ++ drop n buf.old) }
+        ensures rest { IfOk result (λ n. Some self.new.bytes.now ≡ Some (drop n self.old.bytes.now)) }
+        ensures end { IfOk result (λ n. n ≡ 0 → 0 < length buf.new → self.old.bytes.now ≡ []) }
+        ensures kept { OnErr result (Some self.new.bytes.now ≡ Some self.old.bytes.now) }
+        ensures untouched { OnErr result (buf.new ≡ buf.old) }
+        ensures cause { OnErr result (self.old.calls.faults < self.new.calls.faults) }
+        ensures never_falls { self.old.calls.faults ≤ self.new.calls.faults }
+
+        // Of this source alone.
+        ensures planned { IsErr result ↔ (self.new.calls.made ≡ self.old.calls.failing) }
+        ensures count { IfOk result (λ n. n ≡ min self.old.most (min (length buf.new) (length self.old.bytes.now))) }
+        ensures made { self.new.calls.made ≡ min (self.old.calls.made + 1) (2 ^ 32 - 1) }
+        ensures failing { self.new.calls.failing ≡ self.old.calls.failing }
+        ensures most { self.new.most ≡ self.old.most }
+    {
         if self.calls.fails_next() {
             return Err(Failed);
         }

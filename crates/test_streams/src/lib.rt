@@ -7,7 +7,6 @@ mod drain;
 mod feed;
 mod nowhere;
 
-pub use calls::Calls;
 pub use drain::Drain;
 pub use feed::Feed;
 pub use nowhere::Nowhere;

@@ -1,4 +1,7 @@
 //! A writer that takes nothing.
+ghost use Rattle.std.specs.Prelude.{◌≡◌, IsOk};
+ghost use Rattle.std.specs.Io.KnownBytes.{Keeps, WriteAppends};
+ghost use Rattle.std.specs.Io.{WritesAtMost};
 
 use std::io::{self, Write};
 
@@ -7,11 +10,24 @@ use std::io::{self, Write};
 pub struct Nowhere;
 
 impl Write for Nowhere {
-    fn write(&mut self, _piece: &[u8]) -> io::Result<usize> {
+    fn write(&mut self, piece: &[u8]) -> io::Result<usize>
+        // As of every writer.
+        ensures bound { WritesAtMost result piece.now }
+        ensures bytes { WriteAppends None None result piece.now }
+
+        // Of this one alone.
+        ensures nothing { result ≡ Ok 0 }
+    {
         Ok(0)
     }
 
-    fn flush(&mut self) -> io::Result<()> {
+    fn flush(&mut self) -> io::Result<()>
+        // As of every writer.
+        ensures bytes { Keeps None None }
+
+        // Of this one alone.
+        ensures well { IsOk result }
+    {
         Ok(())
     }
 }

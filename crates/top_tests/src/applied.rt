@@ -1,7 +1,6 @@
 //! `apply` over a disk in memory: known images, a stop before each call and another run, and calls that fail in turn.
 ghost use Rattle.std.specs.Prelude.{◌<◌};
 
-use crate::fixtures::Drain;
 use crate::logs::{Case, TORN, comes_out_on, fail_in_turn, is_left, ran};
 use crate::stored::MOVED_COMMAND;
 use disk_log::MemDisk;
@@ -9,6 +8,7 @@ use script_text::Why;
 use std::alloc::{AllocError, Global};
 use std::process::Abort;
 use std::test::Fail;
+use test_streams::Drain;
 use yard_top::Status;
 
 /// One command, and one more behind it.

@@ -1,10 +1,11 @@
 //! A script that is cut off after each of its bytes.
-use crate::fixtures::{Drain, run_script};
+use crate::fixtures::run_script;
 use crate::stored::{FIRST_COMMAND, FIRST_TEXT};
 use script_text::Why;
 use std::alloc::{AllocError, Global};
 use std::process::Abort;
 use std::test::Fail;
+use test_streams::{Drain, WHOLE};
 use yard_top::Status;
 
 /// What comes of the front of a script.
@@ -105,7 +106,7 @@ fn is_outcome(end: Status, text: &[u8], cut: usize) -> bool {
 
 /// Replays the front of a script of so many bytes: whether what is to come of it does.
 fn comes_out(alloc: Global, sink: &mut Drain, cut: usize) -> Result<bool, AllocError> {
-    sink.restart(0, false);
+    sink.restart(WHOLE, 0);
     let end = run_script(alloc, &["replay"], front_of(cut), sink)?;
     Ok(is_outcome(end, sink.bytes(), cut))
 }

@@ -1,13 +1,14 @@
 //! Runs whose reads, writes and flush fail, each in its turn.
 ghost use Rattle.std.specs.Prelude.{◌<◌};
 
-use crate::fixtures::{Drain, Feed, Nowhere, run_alone, run_script};
+use crate::fixtures::{run_alone, run_script};
 use crate::stored::{
     FIRST_COMMAND, FIRST_TEXT, ONE_COMMAND, ONE_DONE, ONE_INSTANCE, ONE_JOB, ONE_PING, ONE_RECORD,
 };
 use std::alloc::{AllocError, Global};
 use std::process::Abort;
 use std::test::Fail;
+use test_streams::{A_BYTE, Drain, Feed, Nowhere, WHOLE};
 use yard_io::StdSink;
 use yard_top::Status;
 
@@ -73,18 +74,20 @@ fn length_of_front(text: &[u8], bytes: &[u8]) -> Option<usize> {
     }
 }
 
-/// Runs a form over a source and a sink whose calls of these numbers fail: how it ends, and how long a front of the
-/// text it writes; None where it writes something else.
+/// Runs a form over a source and a sink of so many bytes a call, whose calls of these numbers fail: how it ends, and
+/// how long a front of the text it writes; None where it writes something else.
 fn written(
     alloc: Global,
     case: &Case<'_>,
     read: u32,
     write: u32,
-    is_slow: bool,
+    most: usize,
     sink: &mut Drain,
-) -> Result<(Status, Option<usize>), AllocError> {
-    sink.restart(write, is_slow);
-    let mut source = Feed::new(case.1, read, is_slow);
+) -> Result<(Status, Option<usize>), AllocError>
+    requires { 0 < most }
+{
+    sink.restart(most, write);
+    let mut source = Feed::new(case.1, most, read);
     let end = run_alone(alloc, case.0, &mut source, sink)?;
     Ok((end, length_of_front(case.2, sink.bytes())))
 }
@@ -100,9 +103,9 @@ fn written_after(
     requires { done < 1000 }
 {
     match calls {
-        Calls::Reads => written(alloc, case, done + 1, 0, true, sink),
-        Calls::Writes => written(alloc, case, 0, done + 1, true, sink),
-        Calls::Pieces => written(alloc, case, 0, done + 1, false, sink),
+        Calls::Reads => written(alloc, case, done + 1, 0, A_BYTE, sink),
+        Calls::Writes => written(alloc, case, 0, done + 1, A_BYTE, sink),
+        Calls::Pieces => written(alloc, case, 0, done + 1, WHOLE, sink),
     }
 }
 

@@ -22,6 +22,8 @@ mod mails;
 #[cfg(test)]
 mod meeting;
 #[cfg(test)]
+mod rosters;
+#[cfg(test)]
 mod stored;
 #[cfg(test)]
 mod texts;

@@ -1,7 +1,7 @@
 //! Nodes as threads: what every run of a script comes to, and runs whose reads and writes fail.
 ghost use Rattle.std.specs.Prelude.{◌<◌};
 
-use crate::fixtures::{Drain, Feed, run_alone, words_of};
+use crate::fixtures::{run_alone, words_of};
 use crate::meeting::{LOOKS, Meeting, Side};
 use script_text::Why;
 use std::alloc::{AllocError, Global};
@@ -9,6 +9,8 @@ use std::process::Abort;
 use std::sync::Wait;
 use std::test::Fail;
 use std::thread::Threads;
+use test_streams::{A_BYTE, Drain, Feed, Nowhere, WHOLE};
+use yard_io::{Sink, StdSink};
 use yard_top::{Status, sharder};
 
 /// Two nodes; a producer on each sends ten commands.
@@ -50,13 +52,41 @@ const REPORTED: [&str; 4] = [
 /// How many runs have a call that fails.
 const RUNS: u32 = 200;
 
+/// How many reads there are of the script, where each gives one byte: so many bytes, and the end.
+const READS: u32 = 359;
+
+/// A node comes up three times, each time for its producer's queue, and stops twice.
+const UP_AGAIN: &[u8] = b"config nodes=1 shards=1
+up 1
+produce 1 1
+crash 1
+up 1
+produce 1 1
+crash 1
+up 1
+produce 1 1
+send 1 a add 1
+send 1 a add 1
+send 1 a add 1
+send 1 a add 1
+";
+
+/// How the list of its queue begins.
+const HELD_BY: &str = "
+granted queue:1 1 1.1
+freed queue:1 1 stopped
+granted queue:1 2 1.2
+freed queue:1 2 stopped
+granted queue:1 3 1.3
+";
+
 /// Runs the program on these words, at this gate.
-fn run_at<R: Threads + Wait + Sync>(
+fn run_at<R: Threads + Wait + Sync, K: Sink>(
     rt: &R,
     alloc: Global,
     form: &[&str],
     source: &mut Feed<'_>,
-    sink: &mut Drain,
+    sink: &mut K,
     gate: &Meeting,
 ) -> Result<Status, AllocError> {
     let words = words_of(alloc, form)?;
@@ -64,26 +94,26 @@ fn run_at<R: Threads + Wait + Sync>(
 }
 
 /// Runs the program on these words, and holds no thread.
-fn run<R: Threads + Wait + Sync>(
+fn run<R: Threads + Wait + Sync, K: Sink>(
     rt: &R,
     alloc: Global,
     form: &[&str],
     source: &mut Feed<'_>,
-    sink: &mut Drain,
+    sink: &mut K,
 ) -> Result<Status, AllocError> {
     let gate = Meeting::free();
     run_at(rt, alloc, form, source, sink, &gate)
 }
 
 /// Runs the program on these words and this script, and holds no thread.
-fn run_script<R: Threads + Wait + Sync>(
+fn run_script<R: Threads + Wait + Sync, K: Sink>(
     rt: &R,
     alloc: Global,
     form: &[&str],
     script: &[u8],
-    sink: &mut Drain,
+    sink: &mut K,
 ) -> Result<Status, AllocError> {
-    let mut source = Feed::new(script, 0, false);
+    let mut source = Feed::new(script, WHOLE, 0);
     run(rt, alloc, form, &mut source, sink)
 }
 
@@ -95,7 +125,7 @@ fn run_two<R: Threads + Wait + Sync>(
     sink: &mut Drain,
     gate: &Meeting,
 ) -> Result<Status, AllocError> {
-    let mut source = Feed::new(TWO_PRODUCERS, 0, false);
+    let mut source = Feed::new(TWO_PRODUCERS, WHOLE, 0);
     run_at(rt, alloc, form, &mut source, sink, gate)
 }
 
@@ -202,7 +232,7 @@ fn registered_at<R: Threads + Wait + Sync>(
     sink: &mut Drain,
     gate: &Meeting,
 ) -> Result<Option<bool>, AllocError> {
-    sink.restart(0, false);
+    sink.restart(WHOLE, 0);
     let end = run_two(rt, alloc, &["live", "200", seed], sink, gate)?;
     Ok(both_in(end, text_of(sink.bytes())))
 }
@@ -306,7 +336,7 @@ fn reports_the_same<R: Threads + Wait + Sync>(
     text: &str,
     sink: &mut Drain,
 ) -> Result<bool, AllocError> {
-    sink.restart(0, false);
+    sink.restart(WHOLE, 0);
     let end = end_of_seed(rt, alloc, seed, sink)?;
     Ok(end == Status::Ok && is_same_report(text, text_of(sink.bytes())))
 }
@@ -357,8 +387,8 @@ fn each_seed_reports_the_same(rt: HostRuntime) -> Result<(), Fail> {
 /// Whether a run is as it is to be whose sink fails at the call after so many, if it comes. Where one byte goes with
 /// a call, it writes one with each before. Where whole pieces do, it ends well only with a whole report, after no
 /// more calls.
-fn is_stopped(end: Status, sink: &Drain, done: u32, is_slow: bool) -> bool {
-    if is_slow {
+fn is_stopped(end: Status, sink: &Drain, done: u32, most: usize) -> bool {
+    if most == A_BYTE {
         end == Status::WriteFault && sink.bytes().len() == done as usize
     } else if done < sink.calls() {
         end == Status::WriteFault
@@ -372,52 +402,85 @@ fn stops<R: Threads + Wait + Sync>(
     rt: &R,
     alloc: Global,
     done: u32,
-    is_slow: bool,
+    most: usize,
     sink: &mut Drain,
 ) -> Result<bool, AllocError>
-    requires { done < 200 }
+    requires done { done < 200 }
+    requires most { 0 < most }
 {
-    sink.restart(done + 1, is_slow);
+    sink.restart(most, done + 1);
     let end = run_script(rt, alloc, &["live", "50", "1"], TWO_PRODUCERS, sink)?;
-    Ok(is_stopped(end, sink, done, is_slow))
+    Ok(is_stopped(end, sink, done, most))
 }
 
 /// Whether each of these runs is.
 fn all_stop<R: Threads + Wait + Sync>(
     rt: &R,
     alloc: Global,
-    is_slow: bool,
+    most: usize,
     sink: &mut Drain,
-) -> Result<bool, AllocError> {
+) -> Result<bool, AllocError>
+    requires { 0 < most }
+{
     for done in 0..RUNS {
-        if !stops(rt, alloc, done, is_slow, sink)? {
+        if !stops(rt, alloc, done, most, sink)? {
             return Ok(false);
         }
     }
     Ok(true)
 }
 
-/// Runs the program whose source fails at this call: how it ends.
+/// Runs the program whose source gives so many bytes a call, and fails at this one: how it ends.
 fn end_at_read<R: Threads + Wait + Sync>(
     rt: &R,
     alloc: Global,
     call: u32,
+    most: usize,
     sink: &mut Drain,
-) -> Result<Status, AllocError> {
-    let mut source = Feed::new(TWO_PRODUCERS, call, false);
+) -> Result<Status, AllocError>
+    requires { 0 < most }
+{
+    let mut source = Feed::new(TWO_PRODUCERS, most, call);
     run(rt, alloc, &["live", "50", "1"], &mut source, sink)
 }
 
-/// Whether each of two reads that fail ends a run that writes nothing.
+/// Whether each of so many reads that fail ends a run that writes nothing.
 fn reads_fail<R: Threads + Wait + Sync>(
+    rt: &R,
+    alloc: Global,
+    count: u32,
+    most: usize,
+    sink: &mut Drain,
+) -> Result<bool, AllocError>
+    requires { 0 < most }
+{
+    sink.restart(WHOLE, 0);
+    for call in 1..=count {
+        if end_at_read(rt, alloc, call, most, sink)? != Status::ReadFault {
+            return Ok(false);
+        }
+    }
+    Ok(sink.bytes().is_empty())
+}
+
+/// Whether a run ends well where one byte goes with each call: one write for each byte, and the flush.
+fn ends_slowly<R: Threads + Wait + Sync>(
     rt: &R,
     alloc: Global,
     sink: &mut Drain,
 ) -> Result<bool, AllocError> {
-    sink.restart(0, false);
-    let first = end_at_read(rt, alloc, 1, sink)?;
-    let second = end_at_read(rt, alloc, 2, sink)?;
-    Ok(first == Status::ReadFault && second == Status::ReadFault && sink.bytes().is_empty())
+    sink.restart(A_BYTE, 0);
+    let end = end_at_read(rt, alloc, 0, A_BYTE, sink)?;
+    let calls = sink.bytes().len().saturating_add(1);
+    let is_whole = sink.bytes().ends_with(b"\nend\n") && sink.calls() as usize == calls;
+    Ok(end == Status::Ok && is_whole)
+}
+
+/// Whether a run over a writer which takes nothing ends so, and its sink has failed once.
+fn nothing_is_taken<R: Threads + Wait + Sync>(rt: &R, alloc: Global) -> Result<bool, AllocError> {
+    let mut sink = StdSink::new(alloc, Nowhere)?;
+    let end = run_script(rt, alloc, &["live", "50", "1"], TWO_PRODUCERS, &mut sink)?;
+    Ok(end == Status::WriteFault && sink.faults() == 1)
 }
 
 /// Whether all runs with a call that fails are as they are to be.
@@ -427,9 +490,12 @@ fn all_fail<R: Threads + Wait + Sync>(
     sink: &mut Drain,
 ) -> Result<bool, AllocError> {
     Ok(
-        all_stop(rt, alloc, true, sink)?
-            && all_stop(rt, alloc, false, sink)?
-            && reads_fail(rt, alloc, sink)?,
+        all_stop(rt, alloc, A_BYTE, sink)?
+            && all_stop(rt, alloc, WHOLE, sink)?
+            && reads_fail(rt, alloc, 2, WHOLE, sink)?
+            && reads_fail(rt, alloc, READS, A_BYTE, sink)?
+            && ends_slowly(rt, alloc, sink)?
+            && nothing_is_taken(rt, alloc)?,
     )
 }
 
@@ -437,6 +503,50 @@ fn all_fail<R: Threads + Wait + Sync>(
 fn a_call_fails(rt: HostRuntime) -> Result<(), Fail> {
     let mut sink = Drain::new(rt.alloc());
     assert!(rt; all_fail(&rt, rt.alloc(), &mut sink)?);
+    Ok(())
+}
+
+/// Runs the program with this seed on the script of the node that comes up again: whether its queue is held by its
+/// incarnations, whose numbers count how often it came up.
+fn has_numbers<R: Threads + Wait + Sync>(
+    rt: &R,
+    alloc: Global,
+    seed: &str,
+    sink: &mut Drain,
+) -> Result<bool, AllocError> {
+    sink.restart(WHOLE, 0);
+    let end = run_script(rt, alloc, &["live", "100", seed], UP_AGAIN, sink)?;
+    Ok(end == Status::Ok && text_of(sink.bytes()).contains(HELD_BY))
+}
+
+/// Whether a run with another seed has such numbers, and writes another text.
+fn differs<R: Threads + Wait + Sync>(
+    rt: &R,
+    alloc: Global,
+    first: &Drain,
+    sink: &mut Drain,
+) -> Result<bool, AllocError> {
+    let mut is_other = false;
+    for seed in &["2", "3", "4", "5"] {
+        if !has_numbers(rt, alloc, seed, sink)? {
+            return Ok(false);
+        }
+        is_other = is_other || first.bytes() != sink.bytes();
+    }
+    Ok(is_other)
+}
+
+/// Whether runs with different seeds have such numbers, and don't all write one text: of one node alone the seed
+/// tells all.
+fn seeds_differ<R: Threads + Wait + Sync>(rt: &R, alloc: Global) -> Result<bool, AllocError> {
+    let mut first = Drain::new(alloc);
+    let mut sink = Drain::new(alloc);
+    Ok(has_numbers(rt, alloc, "1", &mut first)? && differs(rt, alloc, &first, &mut sink)?)
+}
+
+#[test]
+fn a_node_counts_how_often_it_came_up(rt: HostRuntime) -> Result<(), Fail> {
+    assert!(rt; seeds_differ(&rt, rt.alloc())?);
     Ok(())
 }
 
@@ -487,7 +597,7 @@ fn words_leave_script<R: Threads + Wait + Sync>(
     alloc: Global,
     sink: &mut Drain,
 ) -> Result<bool, AllocError> {
-    let mut source = Feed::new(b"config\n", 0, false);
+    let mut source = Feed::new(b"config\n", WHOLE, 0);
     leave_script(rt, alloc, &mut source, sink)
 }
 

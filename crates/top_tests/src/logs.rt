@@ -1,7 +1,7 @@
 //! `log` and `resume` over a disk in memory: known images, a crash before each call, and calls that fail in turn.
 ghost use Rattle.std.specs.Prelude.{◌<◌};
 
-use crate::fixtures::{Drain, Feed, run_on, run_script};
+use crate::fixtures::{run_on, run_script};
 use crate::stored::{
     FIRST_COMMAND, FIRST_LOG, FIRST_TEXT, MOVED_COMMAND, OTHER_COMMAND, RESUMED_EMPTY,
     RESUMED_GRANT, RESUMED_QUEUED,
@@ -10,6 +10,7 @@ use disk_log::MemDisk;
 use std::alloc::{AllocError, Global};
 use std::process::Abort;
 use std::test::Fail;
+use test_streams::{Drain, Feed, WHOLE};
 use yard_top::Status;
 
 /// More calls than any run here makes.
@@ -23,7 +24,7 @@ fn end_on(
     disk: &mut MemDisk,
     sink: &mut Drain,
 ) -> Result<Status, AllocError> {
-    let mut source = Feed::new(script, 0, false);
+    let mut source = Feed::new(script, WHOLE, 0);
     run_on(alloc, &[word], &mut source, sink, disk)
 }
 
@@ -36,7 +37,7 @@ pub(crate) fn ran(
     text: &[u8],
     sink: &mut Drain,
 ) -> Result<(Status, bool), AllocError> {
-    sink.restart(0, false);
+    sink.restart(WHOLE, 0);
     let end = end_on(alloc, word, script, disk, sink)?;
     Ok((end, sink.bytes() == text))
 }
@@ -222,7 +223,7 @@ fn resumed(
     confirmed: &[u8],
     sink: &mut Drain,
 ) -> Result<Option<usize>, AllocError> {
-    sink.restart(0, false);
+    sink.restart(WHOLE, 0);
     let mut disk = MemDisk::new(alloc, image, &[])?;
     let end = end_on(alloc, "resume", script, &mut disk, sink)?;
     Ok(report_in(end, sink.bytes(), confirmed))
@@ -366,7 +367,7 @@ fn fail_call(
 ) -> Result<Option<bool>, AllocError>
     requires { done < 1000 }
 {
-    sink.restart(0, false);
+    sink.restart(WHOLE, 0);
     let (end, calls) = end_at_call(alloc, word, script, image, done, sink)?;
     Ok(judged(end, calls == done as usize, sink.bytes(), text))
 }

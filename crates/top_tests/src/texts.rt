@@ -1,9 +1,10 @@
 //! What no clause says: that memory is there where there is plenty, for the longest script that is refused.
-use crate::fixtures::{Drain, run_script};
+use crate::fixtures::run_script;
 use script_text::Why;
 use std::alloc::{AllocError, Global};
 use std::process::Abort;
 use std::test::Fail;
+use test_streams::Drain;
 use yard_top::Status;
 
 /// Whether a form refuses a script for its length, and writes nothing.

@@ -5,6 +5,8 @@ are shown. A block that begins with `# ./run.sh ..` is a script for that command
 if that is no script and no command, is of its output. In a block that begins with `$ ./run.sh ..`, the output is behind
 that line. `..` stands for lines that are left out; what stands behind three spaces is a comment.
 
+`prints_of(text, text_of)` gives each file that a document says it prints ("This is `FILE`"), and whether it does, in the next fence.
+
 `lacking(shown, printed)` gives the first line that isn't printed where it is shown, or None.
 """
 import re
@@ -56,3 +58,9 @@ def lacking(shown, printed):
             return wanted[fronts[-1]]
         at = places[0] + len(wanted)
     return None
+
+
+def prints_of(text, text_of):
+    for found in re.finditer(r"This is `([^`]+)`", text):
+        fence = re.search(r"\n```\n(.*?)\n```\n", text[found.end() :], re.DOTALL)
+        yield found[1], bool(fence) and fence[1].rstrip() == text_of(found[1]).rstrip()

@@ -5,6 +5,7 @@ import tempfile
 
 import calls
 import lengths
+import samples
 
 SOURCES = {
     "crates.txt": "low: \nmiddle: low\nhigh: low middle\n",
@@ -106,6 +107,46 @@ LENGTHS = [
 ]
 
 
+PAGE = """# A page
+
+A script
+
+    # ./run.sh solo
+    config
+
+    up 1
+
+gives
+
+    one 1   a comment
+    ..
+    three
+
+## Another
+
+    $ ./run.sh replay < a
+    one 1
+
+    ./run.sh judge < b
+
+This is `a`:
+
+```
+x
+
+y
+```
+
+Behind it:
+"""
+SAMPLES = [
+    (5, "./run.sh solo", "# ./run.sh solo\nconfig\n\nup 1\n", "one 1   a comment\n..\nthree"),
+    (18, "./run.sh replay < a", "", "one 1\n\n./run.sh judge < b"),
+]
+# What is printed, and the first line that isn't as SAMPLES' first shows it.
+PRINTED = [("zero\none 1\ntwo\nthree\n", None), ("one 1\nthree\n", None), ("three\none 1\n", "three"), ("one 1 2\nthree\n", "one 1"), ("", "one 1")]
+
+
 def faults_with(path, text):
     with tempfile.TemporaryDirectory() as root:
         for name, content in {**SOURCES, path: text}.items():
@@ -122,6 +163,15 @@ def main():
     for text, many in LENGTHS:
         found = list(lengths.too_long(text))
         assert len(found) == many, f"lengths, {text!r}: {found}"
+
+    found = list(samples.samples_of(PAGE))
+    assert found == SAMPLES, f"samples: {found}"
+    for printed, line in PRINTED:
+        found = samples.lacking(SAMPLES[0][3], printed)
+        assert found == line, f"lacking, {printed!r}: {found}"
+    assert samples.lacking("a\nb", "a\nc\na\nb\n") is None and samples.lacking("a\nb", "a\nc\nb\n") == "b"
+    assert list(samples.prints_of(PAGE, lambda file: "x\n\ny\n")) == [("a", True)]
+    assert list(samples.prints_of(PAGE, lambda file: "x\ny\n")) == [("a", False)]
 
 
 main()

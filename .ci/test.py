@@ -90,23 +90,6 @@ PLANTED = [
     ("docs/ASSURANCE.md", "No body calls `Node::run`.\n", ["docs/ASSURANCE.md: `Node::run` is said to be called by no body, and is, or is no function"]),
 ]
 
-LONG = "word " * 36
-LENGTHS = [
-    (f"{'word ' * 35}.\n", 0),
-    (f"{LONG}.\n", 1),
-    (f"{'word ' * 20}\n{'word ' * 16}.\n", 1),
-    (f"{'word ' * 20}. {'Word ' * 20}.\n", 0),
-    (f"- {'word ' * 20}\n- {'word ' * 20}\n", 0),
-    (f"- {LONG}\n", 1),
-    (f"    {LONG}\n", 0),
-    (f"```\n{LONG}\n```\n", 0),
-    (f"| {'word ' * 30}. {'Word ' * 30} | {'Word ' * 30} |\n", 0),
-    (f"| {'word ' * 30}. {'Word ' * 30}. {'Word ' * 30} | {'Word ' * 30}. {'Word ' * 31} |\n", 1),
-    (f"| {LONG} |\n", 1),
-    (f"{'word ' * 30} `a b c d e f g`, `x.y z`.\n", 0),
-]
-
-
 PAGE = """# A page
 
 A script
@@ -146,6 +129,22 @@ SAMPLES = [
 # What is printed, and the first line that isn't as SAMPLES' first shows it.
 PRINTED = [("zero\none 1\ntwo\nthree\n", None), ("one 1\nthree\n", None), ("three\none 1\n", "three"), ("one 1 2\nthree\n", "one 1"), ("", "one 1")]
 
+LONG = "word " * 36
+LENGTHS = [
+    (f"{'word ' * 35}.\n", 0),
+    (f"{LONG}.\n", 1),
+    (f"{'word ' * 20}\n{'word ' * 16}.\n", 1),
+    (f"{'word ' * 20}. {'Word ' * 20}.\n", 0),
+    (f"- {'word ' * 20}\n- {'word ' * 20}\n", 0),
+    (f"- {LONG}\n", 1),
+    (f"    {LONG}\n", 0),
+    (f"```\n{LONG}\n```\n", 0),
+    (f"| {'word ' * 30}. {'Word ' * 30} | {'Word ' * 30} |\n", 0),
+    (f"| {'word ' * 30}. {'Word ' * 30}. {'Word ' * 30} | {'Word ' * 30}. {'Word ' * 31} |\n", 1),
+    (f"| {LONG} |\n", 1),
+    (f"{'word ' * 30} `a b c d e f g`, `x.y z`.\n", 0),
+]
+
 
 def faults_with(path, text):
     with tempfile.TemporaryDirectory() as root:
@@ -156,14 +155,7 @@ def faults_with(path, text):
         return calls.faults_of(root)
 
 
-def main():
-    for path, text, said in [("README.md", SOURCES["README.md"], []), *PLANTED]:
-        found = faults_with(path, text)
-        assert found == said, f"calls, {text!r}: {found}"
-    for text, many in LENGTHS:
-        found = list(lengths.too_long(text))
-        assert len(found) == many, f"lengths, {text!r}: {found}"
-
+def try_samples():
     found = list(samples.samples_of(PAGE))
     assert found == SAMPLES, f"samples: {found}"
     for printed, line in PRINTED:
@@ -172,6 +164,16 @@ def main():
     assert samples.lacking("a\nb", "a\nc\na\nb\n") is None and samples.lacking("a\nb", "a\nc\nb\n") == "b"
     assert list(samples.prints_of(PAGE, lambda file: "x\n\ny\n")) == [("a", True)]
     assert list(samples.prints_of(PAGE, lambda file: "x\ny\n")) == [("a", False)]
+
+
+def main():
+    try_samples()
+    for path, text, said in [("README.md", SOURCES["README.md"], []), *PLANTED]:
+        found = faults_with(path, text)
+        assert found == said, f"calls, {text!r}: {found}"
+    for text, many in LENGTHS:
+        found = list(lengths.too_long(text))
+        assert len(found) == many, f"lengths, {text!r}: {found}"
 
 
 main()

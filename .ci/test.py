@@ -90,7 +90,7 @@ PLANTED = [
     ("docs/ASSURANCE.md", "No body calls `Node::run`.\n", ["docs/ASSURANCE.md: `Node::run` is said to be called by no body, and is, or is no function"]),
 ]
 
-PAGE = """# A page
+SHOWN = """# A page
 
 A script
 
@@ -156,14 +156,14 @@ def faults_with(path, text):
 
 
 def try_samples():
-    found = list(samples.samples_of(PAGE))
+    found = list(samples.samples_of(SHOWN))
     assert found == SAMPLES, f"samples: {found}"
     for printed, line in PRINTED:
         found = samples.lacking(SAMPLES[0][3], printed)
         assert found == line, f"lacking, {printed!r}: {found}"
     assert samples.lacking("a\nb", "a\nc\na\nb\n") is None and samples.lacking("a\nb", "a\nc\nb\n") == "b"
-    assert list(samples.prints_of(PAGE, lambda file: "x\n\ny\n")) == [("a", True)]
-    assert list(samples.prints_of(PAGE, lambda file: "x\ny\n")) == [("a", False)]
+    assert list(samples.prints_of(SHOWN, lambda file: "x\n\ny\n")) == [("a", True)]
+    assert list(samples.prints_of(SHOWN, lambda file: "x\ny\n")) == [("a", False)]
 
 
 def main():

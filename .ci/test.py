@@ -110,6 +110,11 @@ gives
     $ ./run.sh replay < a
     one 1
 
+## And
+
+    $ echo | ./run.sh judge
+    one 1
+
     ./run.sh judge < b
 
 This is `a`:
@@ -124,7 +129,8 @@ Behind it:
 """
 SAMPLES = [
     (5, "./run.sh solo", "# ./run.sh solo\nconfig\n\nup 1\n", "one 1   a comment\n..\nthree"),
-    (18, "./run.sh replay < a", "", "one 1\n\n./run.sh judge < b"),
+    (18, "./run.sh replay < a", "", "one 1"),
+    (23, "echo | ./run.sh judge", "", "one 1\n\n./run.sh judge < b"),
 ]
 # What is printed, and the first line that isn't as SAMPLES' first shows it.
 PRINTED = [("zero\none 1\ntwo\nthree\n", None), ("one 1\nthree\n", None), ("three\none 1\n", "three"), ("one 1 2\nthree\n", "one 1"), ("", "one 1")]

@@ -7,7 +7,7 @@ from typing import Dict, List, Optional, Sequence, Set, Tuple
 
 from behaviour import shard_of
 from facts import Fact, Trace
-from parts import packet_of, parts_of
+from parts import Part, packet_of, parts_of
 from state import shards_at_first
 from story import Row, Story
 
@@ -116,7 +116,7 @@ def rows_about(story: Story, trace: Trace, choice: Choice) -> Set[int]:
     return found if is_named else set()
 
 
-def told_parts(fact: Fact) -> Dict[str, object]:
+def told_parts(fact: Fact) -> Dict[str, Part]:
     """The parts of a fact; of a packet that is sent, those of what it says."""
     if fact.kind != 'sent':
         return parts_of(fact)

@@ -221,7 +221,7 @@ function pressed(event) {
   if (event.key === 'Escape' && at.id === 'filter') { setFilter(''); $('lines').focus(); return; }
   if (event.key === 'Enter' && at.id === 'filter') { $('lines').focus(); return stepIntoList(); }
   if (isField || (event.key === ' ' && at.closest('button, a, summary'))) return;
-  let act = keys[event.key] ?? (/^[0-9]$/.test(event.key) ? () => lead(framed[event.key - 1]) : null);
+  let act = keys[event.key] ?? (event.key === '0' || framed[event.key - 1] ? () => lead(framed[event.key - 1]) : null);
   if (event.shiftKey && event.key === 'ArrowRight') act = () => stepOrder(1);
   if (event.shiftKey && event.key === 'ArrowLeft') act = () => stepOrder(-1);
   if (!act) return;
@@ -253,6 +253,7 @@ function begin() {
         panes[of].title}<span class="badge" hidden>changed</span><kbd aria-hidden="true">${framed.length}</kbd></h2><p class="hint">${panes[of].help}</p><div id="${of}"></div></section>`);
   }
   $('legend').innerHTML = legendHtml();
+  $('most').textContent = framed.length;
   if (data.breaks) $('verdict').innerHTML = `<b>Not safe</b> from ${lineHtml(data.breaks.line)} on: ${breakHtml()}.`;
   $('verdict').hidden = !data.breaks;
   $('slider').max = last;

@@ -3,11 +3,11 @@ from __future__ import annotations
 
 from bisect import bisect_right
 from dataclasses import dataclass
-from typing import List, Optional, Sequence, Set, Tuple
+from typing import Dict, List, Optional, Sequence, Set, Tuple
 
 from behaviour import shard_of
 from facts import Fact, Trace
-from parts import packet_of, parts_of
+from parts import Part, packet_of, parts_of
 from state import shards_at_first
 from story import Row, Story
 
@@ -63,9 +63,12 @@ class Window:
 def choose(story: Story, trace: Trace, choice: Choice) -> Window:
     rows = story.rows
     first, last = ends_of(rows, choice)
-    kept = rows_about(story, trace, choice) if choice.entity is not None or choice.shard is not None else None
-    if kept is not None and not kept & set(range(first, last + 1)):
-        raise WrongWords('no fact is about ' + (f'the entity {choice.entity}' if choice.entity is not None else f'shard {choice.shard}'))
+    kept = None
+    if choice.entity is not None or choice.shard is not None:
+        kept = rows_about(story, trace, choice)
+        if kept.isdisjoint(range(first, last + 1)):
+            raise WrongWords(f'no fact{" there" if kept else ""} is about ' + (f'the entity {choice.entity}' if choice.entity is not None else f'shard {choice.shard}'))
+        kept |= {n for n, row in enumerate(rows) if row.fact.kind in ALWAYS}
     if choice.is_folded:
         loud = {row for row in range(first, last + 1) if rows[row].fact.kind in LOUD or rows[row].tone == 'bad' or rows[row].note_tone == 'bad'}
         kept = loud | packets_of_loud(story, first, last) if kept is None else kept & loud
@@ -94,25 +97,34 @@ def ends_of(rows: Sequence[Row], choice: Choice) -> Tuple[int, int]:
 
 
 def rows_about(story: Story, trace: Trace, choice: Choice) -> Set[int]:
-    """The rows that are about an entity, or a shard."""
+    """The rows that are about an entity, or a shard; none where no fact names the entity."""
     shards = shards_at_first(trace)
     packets = {packet.row: packet for packet in story.packets}
     found: Set[int] = set()
+    is_named = choice.entity is None
     for n, row in enumerate(story.rows):
         fact = row.fact
         if fact.kind == 'reshard':
             shards = int(fact.words[1])
         if fact.kind == 'got':
             continue
-        if fact.kind in ALWAYS or is_about(fact, choice, shards):
+        if is_about(fact, choice, shards):
+            is_named = is_named or told_parts(fact).get('entity') == choice.entity
             found.add(n)
             if n in packets:
                 found |= {delivery.row for delivery in packets[n].deliveries}
-    return found
+    return found if is_named else set()
+
+
+def told_parts(fact: Fact) -> Dict[str, Part]:
+    """The parts of a fact; of a packet that is sent, those of what it says."""
+    if fact.kind != 'sent':
+        return parts_of(fact)
+    return packet_of(fact.text.split(' ', 4)[-1] if '.' in fact.words[2] else ' '.join(fact.words[2:])) or {}
 
 
 def is_about(fact: Fact, choice: Choice, shards: Optional[int]) -> bool:
-    parts = parts_of(fact) if fact.kind != 'sent' else packet_of(fact.text.split(' ', 4)[-1] if '.' in fact.words[2] else ' '.join(fact.words[2:])) or {}
+    parts = told_parts(fact)
     entity, slot = parts.get('entity'), str(parts.get('slot', ''))
     shard = int(slot[6:]) if slot.startswith('shard:') else parts.get('shard')
     if choice.entity is not None:

@@ -12,11 +12,12 @@ as far as these tell. A script may also stand before the trace, as for draw.py. 
     --title TEXT      the page's title; the script's name without it
     --lines FROM TO   these lines alone are listed; what stood before them is known
 
+Where the script is there, `judge` is asked; the page marks the line that ends the trace's safety, and tells why.
 At most MOST_LINES lines are listed; what is left out is said in the page and on standard error. Status 0; 1 where the
 input isn't a trace or FILE can't be read, with a line on standard error; 2 where the words are wrong.
 
 How it is made: `sources.py` (bytes to facts), `state.py` (what stands after each), `parts.py` (the parts of facts by
-name, and sentences), and the page's own files in `page/`, put into one. Only Python's standard library, 3.8 or later.
+name, and sentences), `explaining.py` (what the judge says), and the page's own files in `page/`, put into one. Only Python's standard library, 3.8 or later.
 """
 from __future__ import annotations
 
@@ -24,13 +25,16 @@ import argparse
 import json
 import os
 import sys
-from typing import Dict, List, NoReturn, Optional, Sequence, Tuple
+from concurrent.futures import ThreadPoolExecutor
+from typing import Callable, Dict, List, NoReturn, Optional, Sequence, Tuple
 
 sys.dont_write_bytecode = True      # no __pycache__ beside these files
 
+from actors import is_pulled                                            # noqa: E402
 from draw import line_number                                            # noqa: E402
 from ending import run                                                  # noqa: E402
-from facts import NoTrace                                               # noqa: E402
+from explaining import Case, NoAnswer, answer, judge_words              # noqa: E402
+from facts import NoTrace, Trace                                        # noqa: E402
 from parts import FACT_PATTERNS, FACTS, ORDER_PATTERNS, ORDERS, PACKET_PATTERNS, PACKETS, SAID       # noqa: E402
 from sources import Source, read_source                                 # noqa: E402
 from state import Histories, State, setting                             # noqa: E402
@@ -41,7 +45,7 @@ PARTS_OF = {'trace': 'order', 'lists': 'list', 'log': 'batch'}          # what t
 SCRIPTS = ('data.js', 'panes.js', 'diagram.js', 'page.js')
 
 
-def table_of(source: Source, state: State, title: str, window: Tuple[int, int]) -> Dict[str, object]:
+def table_of(source: Source, state: State, title: str, window: Tuple[int, int], case: Optional[Case]) -> Dict[str, object]:
     """What the page is given; rows count from the first one that is listed."""
     first, last = window
     facts = source.trace.facts[first:last + 1]
@@ -54,12 +58,40 @@ def table_of(source: Source, state: State, title: str, window: Tuple[int, int]) 
         'title': title, 'part': PARTS_OF[source.what], 'hasScript': bool(source.trace.orders), 'isPull': state.is_pull,
         'lines': '\n'.join(fact.text for fact in facts),
         'numbers': None if numbers == list(range(1, len(numbers) + 1)) else numbers,
-        'nodes': state.nodes[first:last + 1], 'lost': lost, 'headings': headings,
+        'nodes': state.nodes[first:last + 1], 'lost': lost, 'headings': headings, 'breaks': breaks_of(case),
         'histories': shifted(state.histories, first, last),
         'facts': {kind: [[browser_source(it.pattern) for it in FACT_PATTERNS[kind]], says] for kind, (_, says) in FACTS.items()},
         'orders': {kind: [browser_source(ORDER_PATTERNS[kind].pattern), says] for kind, (_, says) in ORDERS.items()}, 'said': SAID,
         'packets': {kind: [browser_source(PACKET_PATTERNS[kind].pattern), says, family] for kind, (_, says, family) in PACKETS.items()},
     }
+
+
+def case_of(source: Source) -> Optional[Case]:
+    """What the judge says of a trace with its script, where it says whether it is safe."""
+    trace = source.trace
+    if source.what != 'trace' or not trace.orders or is_pulled(trace.facts):
+        return None
+    text = input_of(trace)
+    try:
+        said = answer(text, judge_words())
+    except NoAnswer:
+        return None
+    return Case(text, said) if said.status in (0, 1) else None
+
+
+def input_of(trace: Trace) -> str:
+    """A trace and its script as the judge reads them: each line has its number, and remarks say nothing."""
+    lines = ['#'] * trace.facts[-1].line
+    for fact in trace.facts:
+        lines[fact.line - 1] = fact.text
+    return '\n'.join([*trace.orders.values(), 'trace', *lines, ''])
+
+
+def breaks_of(case: Optional[Case]) -> Optional[Dict[str, object]]:
+    """The line that ends the trace's safety, why, and what stands against it: lines with a text each."""
+    if case is None or not case.number:
+        return None
+    return {'line': case.number, 'says': case.answer.sentence, 'against': [[it.line, it.text] for it in case.against]}
 
 
 def browser_source(pattern: str) -> str:
@@ -91,7 +123,7 @@ def cut_before(history: List[object], first: int, last: int) -> List[object]:
     return found
 
 
-def about(source: Source, state: State, left_out: str) -> str:
+def about(source: Source, state: State, left_out: str, case: Optional[Case]) -> str:
     """The line below the title."""
     said = [f'{len(source.trace.facts):,} lines']
     if source.headings:
@@ -104,6 +136,8 @@ def about(source: Source, state: State, left_out: str) -> str:
         said.append(f'{state.shards} shard{"s" if state.shards > 1 else ""}' + ('' if source.trace.orders else ', as far as can be told'))
     if source.trace.orders:
         said.append(f'kind {setting(source.trace, "kind", "counter")}')
+    if case is not None and not case.number:
+        said.append('judged safe')
     return ' · '.join(said) + (f' · {left_out}' if left_out else '')
 
 
@@ -123,13 +157,14 @@ def text_of(name: str) -> str:
         return file.read()
 
 
-def page_of(source: Source, title: str, lines: Optional[Sequence[int]] = None) -> Tuple[str, str]:
-    """The page, and what it leaves out."""
+def page_of(source: Source, title: str, lines: Optional[Sequence[int]] = None, ask: Callable[[], Optional[Case]] = lambda: None) -> Tuple[str, str]:
+    """The page, and what it leaves out; the judge's answer is asked for when the states are there."""
     state = State(source.trace)
     window, left_out = window_of(source, lines)
-    data = json.dumps(table_of(source, state, title, window), separators=(',', ':')).replace('<', '\\u003c')
+    case = ask()
+    data = json.dumps(table_of(source, state, title, window, case), separators=(',', ':')).replace('<', '\\u003c')
     pieces = {
-        '/*STYLE*/': text_of('page.css'), '<!--TITLE-->': in_html(title), '<!--ABOUT-->': in_html(about(source, state, left_out)),
+        '/*STYLE*/': text_of('page.css'), '<!--TITLE-->': in_html(title), '<!--ABOUT-->': in_html(about(source, state, left_out, case)),
         '<!--PART-->': PARTS_OF[source.what], '/*SCRIPT*/': "'use strict';\n" + '\n'.join(map(text_of, SCRIPTS)), '<!--DATA-->': data,
     }
     page = text_of('page.html')
@@ -166,7 +201,9 @@ def main() -> None:
             fail(1, f'{words.script}: {why.strerror}')
         title = words.title or f'A trace of {os.path.basename(words.script)}'
     try:
-        page, left_out = page_of(read_source(sys.stdin.buffer.read(), script), title, words.lines)
+        source = read_source(sys.stdin.buffer.read(), script)
+        with ThreadPoolExecutor(1) as pool:         # (the judge is a program of its own, and works beside this one)
+            page, left_out = page_of(source, title, words.lines, pool.submit(case_of, source).result)
     except NoTrace as why:
         fail(1, why)
     sys.stdout.buffer.write(page.encode('utf-8'))

@@ -6,13 +6,14 @@ rows, counted from 0, after which it was another, and what it was then. So the s
     of           what they are of            words
     node         a node's number             incarnation, view, members, registered, leaving, home.S, mark.S, asked.S, kept.ROW
     slot         as the trace names it       epoch, holder, stopping
-    entity       its name                    shard, phase, at, records, state, remembered, armed, snapshot, stash.ROW
+    entity       its name                    shard, phase, at, live.X, records, state, remembered, armed, snapshot, stash.ROW
     pair         a producer and an entity    queued, confirmed, demanded, waiting
     coordinator  always `coordinator`        region.X, home.S, leaving.X, started.S, round, moving.S
     job          under work pulling          state, at, dids
     world        always `world`              members, shards, version
 
-S is a shard, X an incarnation; kept.ROW is the message that was kept in that row, and is there as long as it is kept. A
+S is a shard, X an incarnation. An entity that lives at two, as in no trace of `sharder`, is `at` that of its last start,
+and there is a live.X for each. kept.ROW is the message that was kept in that row, and is there as long as it is kept. A
 word that isn't there is None. What a `got` shows, and what else no line tells, is read as docs/dev/RULES.md says
 it, section 11.
 """
@@ -141,7 +142,7 @@ class State:
         name = words[1]
         self._clear('node', str(node_of(name)))
         for entity in sorted(self._live.pop(name, ())):
-            self._end(entity)
+            self._end(entity, name)
             self._drop_stash(entity)
         self._kept = {key: kept for key, kept in self._kept.items() if key[0] != name}
         if name in self._members:
@@ -296,6 +297,7 @@ class State:
         self._live.setdefault(name, set()).add(entity)
         self._set('entity', entity, 'phase', 'loading')
         self._set('entity', entity, 'at', name)
+        self._set('entity', entity, f'live.{name}', 'yes')
         self._set('entity', entity, 'armed', None)
 
     def _active(self, words: Words) -> None:
@@ -307,18 +309,21 @@ class State:
         self._set('entity', entity, 'at', name)
         self._set('entity', entity, 'records', int(records))
         self._set('entity', entity, 'state', ' '.join(state))
+        self._set('entity', entity, f'live.{name}', 'yes')
         self._live.setdefault(name, set()).add(entity)
         self._drop_stash(entity)
 
     def _stop(self, words: Words) -> None:
         self._live.get(words[1], set()).discard(words[2])
-        self._end(words[2])
+        self._end(words[2], words[1])
 
-    def _end(self, entity: str) -> None:
-        """It isn't live any more. Its stash stays for the `start` or the `dropped` that may follow."""
-        self._set('entity', entity, 'phase', None)
-        self._set('entity', entity, 'at', None)
-        self._set('entity', entity, 'armed', None)
+    def _end(self, entity: str, name: str) -> None:
+        """It isn't live there any more. Its stash stays for the `start` or the `dropped` that may follow."""
+        self._set('entity', entity, f'live.{name}', None)
+        if self._get('entity', entity, 'at') in (name, None):
+            self._set('entity', entity, 'phase', None)
+            self._set('entity', entity, 'at', None)
+            self._set('entity', entity, 'armed', None)
 
     def _drop_stash(self, entity: str) -> None:
         for word in self._stashed.pop(entity, ()):

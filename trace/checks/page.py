@@ -2,7 +2,7 @@
 """Looks at pages of explore.py in a headless browser: trace/checks/page.py [--pictures FOLDER] [PROGRAM]
 
 Each page is moved to fifty lines, by slider, keys and links, and each pane is compared with the state after that line as
-`state.py` has it. With PROGRAM, as ./run.sh, the traces are those of three examples and of a script of 20,000 lines, whose
+`state.py` has it. A table of keys is pressed, and what comes of each is looked at. With PROGRAM, as ./run.sh, the traces are those of three examples and of a script of 20,000 lines, whose
 size and times are looked at too; without it, those of crates/known_replays. Where no Chromium is, a line says so.
 """
 from __future__ import annotations
@@ -22,7 +22,7 @@ TOP = os.path.dirname(os.path.dirname(HERE))
 sys.path[:0] = [os.path.dirname(HERE), HERE]
 
 from browser import Browser, program                    # noqa: E402
-from explore import page_of                             # noqa: E402
+from explore import case_of, page_of                    # noqa: E402
 from sources import Source, read_source                 # noqa: E402
 from state import State, words_at                       # noqa: E402
 
@@ -33,6 +33,7 @@ MOST_BYTES, MOST_SECONDS, MOST_MILLISECONDS = 15_000_000, 3.0, 50.0
 SLACK = 2
 KNOWN = ('rebalanced', 'coordinator_crashes', 'crash_and_return', 'node_leaves', 'more_shards', 'passivated_remembered', 'job_given_again',
          'full_buffer', 'failed_write_lost')
+UNSAFE = 'examples/unsafe_two_incarnations.trace'
 PICTURES = (('failover', 99, 1280, 900, False), ('handoff', 106, 1280, 900, True))
 
 Shown = Dict[str, object]
@@ -45,6 +46,7 @@ def read(path: str) -> bytes:
 
 def cases(player: Optional[str]) -> Iterator[Tuple[str, bytes, bytes]]:
     """Names, scripts and traces."""
+    yield 'unsafe', b'', read(UNSAFE)
     if player is None:
         for name in KNOWN:
             yield name, read(f'crates/known_replays/data/{name}.in'), read(f'crates/known_replays/data/{name}.out')
@@ -103,6 +105,9 @@ def of_entity(words: Shown) -> Shown:
     found.update({word: words[word] for word in ('armed', 'remembered', 'snapshot', 'at') if word in words})
     if 'remembered' in words:
         found['remembered'] = 'remembered'
+    others = [name for name in below(words, 'live') if name != words.get('at')]
+    if others:
+        found['live'] = ' '.join(sorted(others, key=lambda name: tuple(map(int, name.split('.')))))
     if below(words, 'stash'):
         found['stash'] = sorted(map(str, below(words, 'stash').values()))
     return found
@@ -205,6 +210,91 @@ def look_at(page: Browser, name: str, source: Source, path: str) -> List[str]:
     return found
 
 
+# ---- what keys do
+LINE, FOCUS, ORDER = 'lineOf(now.row)', 'document.activeElement.id', "document.getElementById('sentence').textContent"
+LISTED = "[...document.querySelectorAll('#room .number')].map(it => +it.textContent)"
+# of each page: the line at which one begins, the keys, what is looked at, and what it is then. A word is typed letter by letter, `_` as a space
+KEYS: Dict[str, List[Tuple[int, str, str, object]]] = {
+    'unsafe': [
+        (2, 'b', LINE, 15),
+        (2, '', "document.querySelector('#verdict').textContent", 'Not safe from line 15 on: two live incarnations; c1 is live at 1.1 since line 9.'),
+        (15, '', "document.querySelector('#breaks').textContent", 'This line breaks the trace: two live incarnations; c1 is live at 1.1 since line 9.'),
+        (14, '', "document.querySelector('#breaks').textContent", ''),
+        (2, '', "[...document.querySelectorAll('#room .breaks .number')].map(it => +it.textContent)", [15]),
+        (2, '', "[...document.querySelectorAll('#verdict a')].map(it => it.getAttribute('href'))", ['#15', '#9']),
+        (2, '', "(document.querySelector('#verdict a').click(), new Promise(done => setTimeout(() => done(lineOf(now.row)), 200)))", 15),
+        (15, '', "document.querySelector('#entity [data-word=live]').textContent.trim()", '1.1'),
+        (15, '', "[...document.querySelectorAll('#diagram .lease.entity title')].map(it => it.textContent)", ['c1 is live at 1.1', 'c1 is live at 2.1']),
+        (2, '', "[...document.querySelectorAll('#legend span')].map(it => it.textContent)", [
+            'coordinator’s lease', 'shard’s', 'queue’s', 'the line’s entity lives']),
+    ],
+    'rebalanced': [
+        (1, 'ArrowRight', LINE, 2), (2, 'ArrowLeft', LINE, 1), (1, 'ArrowDown', LINE, 2), (2, 'ArrowUp', LINE, 1), (1, 'ArrowLeft', LINE, 1),
+        (9, 'PageDown', LINE, 13), (9, 'PageUp', LINE, 4), (4, 'PageUp', LINE, 1), (9, 'End', LINE, 109), (9, 'Home', LINE, 1),
+        (9, 'Shift+ArrowRight', LINE, 13), (9, 'Shift+ArrowLeft', LINE, 4),
+        (3, 'p', LINE, 5), (5, 'p', LINE, 3), (1, 'p', "document.getElementById('said').textContent", 'This line is of no packet.'),
+        (36, 'e', LINE, 37), (36, 'E', LINE, 17), (1, 'e', LINE, 16), (109, 'e', "document.getElementById('said').textContent", 'No later fact of an entity.'),
+        (9, 'b', "document.getElementById('said').textContent", 'No line is known to break this trace.'),
+        (9, 'g', FOCUS, 'number'), (9, '/', FOCUS, 'filter'), (9, '?', "document.getElementById('help').open", True), (9, '? ArrowRight', LINE, 9),
+        *((9, str(n), FOCUS, f'{of}-title') for n, of in enumerate(('node', 'slot', 'entity', 'pair', 'coordinator', 'wire'), 1)),
+        (9, '0', FOCUS, 'now'), (9, '3 0', FOCUS, 'now'), (9, '3 7', FOCUS, 'entity-title'), (9, '3 ArrowRight', LINE, 10),
+        (9, '', "document.getElementById('most').textContent", '6'),
+        # the filter: what the list shows, in any case; of all lines these are left, and Enter goes to the first from here on
+        (1, '/ MOVING', LISTED, [81]), (1, '/ moving Enter', LINE, 81), (1, '/ moving Enter', FOCUS, 'lines'), (90, '/ moving Enter', LINE, 81),
+        (1, '/ pump', LISTED, [4, 23, 70, 84]), (1, '/ kind:moving', LISTED, [81]),
+        (1, '/ shardStopped', LISTED, [98, 99]), (99, '/ shardstopped Enter ArrowLeft', LINE, 98), (1, '/ shardstopped Enter End', LINE, 99),
+        (1, '/ entity:Aa_kind:stop', LISTED, [96]), (1, '/ node:2_granted', LISTED, [105]), (1, '/ producer:1_kind:queued', LISTED, [16, 20]),
+        (1, '/ shard:1_kind:granted', LISTED, [42]), (1, '/ xyz', "document.querySelector('#room').textContent", 'No line fits the filter.'),
+        (1, '/ xyz Enter', LINE, 1), (1, '/ moving Escape', "document.getElementById('filter').value + listed", 'null'),
+        (1, '/ moving', "document.getElementById('count').textContent", '1 of 109 lines'),
+        # what each order says
+        (1, '', ORDER, 'Line 2 of the script begins. Node 1 is started.'),
+        (4, '', ORDER, 'Line 3 of the script begins. Packets are delivered, the oldest first, until none is left, or 9 were.'),
+        (13, '', ORDER, 'Line 4 of the script begins. Node 1 takes the queue of producer 1.'),
+        (15, '', ORDER, 'Line 5 of the script begins. Producer 1 has a command for Aa: add 1.'),
+        (80, '', ORDER, 'Line 10 of the script begins. The coordinator moves shards from nodes with many to nodes with few, at most 1.'),
+        (1, '', "[...document.querySelectorAll('#legend span')].map(it => it.textContent)", [
+            'answer', 'home of a shard', 'move of a shard', 'to an entity', 'members', 'coordinator’s lease', 'shard’s', 'queue’s',
+            'the line’s entity lives']),
+    ],
+    'job_given_again': [
+        *((9, str(n), FOCUS, f'{of}-title') for n, of in enumerate(('node', 'slot', 'pair', 'job', 'wire'), 1)),
+        (9, '2 6', FOCUS, 'slot-title'), (1, '', "document.getElementById('verdict').hidden", True),
+    ],
+}
+
+
+def press_all(page: Browser, keys: str) -> None:
+    for key in keys.split():
+        if key.isalpha() and key[0].isupper() and not key.isupper() or len(key) == 1:
+            page.press(key)
+        elif key.startswith('Shift+'):
+            page.press(key[6:], shift=True)
+        else:
+            for letter in key.replace('_', ' '):
+                page.press(letter)
+
+
+def look_at_keys(page: Browser, folder: str) -> List[str]:
+    found: List[str] = []
+    for name, them in KEYS.items():
+        base = f'crates/known_replays/data/{name}'
+        source = read_source(read(UNSAFE)) if name == 'unsafe' else read_source(read(f'{base}.out'), read(f'{base}.in'))
+        path = os.path.join(folder, f'keys_{name}.html')
+        with open(path, 'w', encoding='utf-8') as file:
+            file.write(page_of(source, name, None, lambda: case_of(source))[0])
+        page.open(path)
+        for line, keys, look, should in them:
+            page.run(f"document.getElementById('help').close(); setFilter(''); document.activeElement.blur(); go(rowOf({line}))")
+            press_all(page, keys)
+            seen = page.run(look)
+            if seen != should:
+                found.append(f'{name}, line {line}, keys {keys}: {look} is {seen}, and not {should}')
+        found += [f'{name}: {error}' for error in page.errors]
+        page.errors.clear()
+    return found
+
+
 def look_at_times(page: Browser, size: int, seconds: float) -> List[str]:
     """Of the large page: how large it is, how long it took to make, and how long a move of the slider takes."""
     page.ask('Performance.enable', timeDomain='threadTicks')
@@ -252,6 +342,7 @@ def main() -> int:
             found += look_at(page, name, source, paths[name])
             if name == 'flow':
                 found += look_at_times(page, len(text), seconds)
+        found += look_at_keys(page, folder)
         if pictures:
             take_pictures(page, pictures, paths)
     for fault in found[:40]:

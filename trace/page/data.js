@@ -12,6 +12,10 @@ const rowOf = number => {
 // The colour of a node, as a class; from the ninth on a ring.
 const tint = node => `node-${node % 8}${node > 8 ? ' ring' : ''}`;
 
+// The line that ends the trace's safety, as the judge says; -1 where it isn't among those that are listed, or none is.
+const isListed = number => number >= lineOf(0) && number <= lineOf(last);
+const breakingRow = data.breaks && isListed(data.breaks.line) ? rowOf(data.breaks.line) : -1;
+
 // ---- parts
 const factForms = mapped(data.facts, ([forms, says]) => ({ forms: forms.map(it => new RegExp(`^${it}$`)), says }));
 const orderForms = mapped(data.orders, ([form, says]) => ({ form: new RegExp(`^${form}$`), says }));

@@ -23,10 +23,11 @@ function drawDiagram(row, width) {
 
 // What the arrows and bars of the whole trace are.
 const ARROWS = { command: 'command', answer: 'answer', homes: 'home of a shard', handoff: 'move of a shard', inner: 'to an entity', members: 'members' };
-const BARS = { coordinator: 'coordinator’s lease', shard: 'shard’s', queue: 'queue’s' };
+const BARS = { coordinator: 'coordinator’s lease', shard: 'shard’s', queue: 'queue’s', entity: 'the line’s entity lives' };
 
 function legendHtml() {
   const families = new Set(packets.map(it => packetForms[it.kind]?.family)), slots = new Set(Object.keys(data.histories.slot).map(it => it.split(':')[0]));
+  if (kinds.includes('start')) slots.add('entity');
   const shown = (all, names, of) => Object.keys(names).filter(it => all.has(it)).map(it => `<span><i class="${of}${it}"></i>${names[it]}</span>`);
   return [...shown(families, ARROWS, ''), ...shown(slots, BARS, 'lease '), Object.keys(data.lost).length ? '<span><b>×</b> nobody takes it</span>' : ''].join('');
 }
@@ -73,7 +74,7 @@ function laneOf(node, x, wide, first, until, yOf) {
   }
   const up = wordAt(history, first) || wordAt(history, until);
   pieces.push(`<text class="head" x="${x}" y="15" text-anchor="middle">${up ?? `node ${node}`}</text>`);
-  return pieces.join('') + leasesOf(node, x, wide, first, until, yOf);
+  return pieces.join('') + leasesOf(node, x, wide, first, until, yOf) + livesOf(node, x, wide, first, until, yOf);
 }
 
 // The leases that a node holds, as bars at the edge of its lane: at most three, those first that come or go here.
@@ -93,6 +94,22 @@ function leasesOf(node, x, wide, first, until, yOf) {
     return `<rect class="lease ${it.slot.split(':')[0]}" x="${x + wide / 2 - BAR - 1 - column * (BAR - 1)}" y="${top}" width="${BAR - 3}" height="${
         Math.max(foot - top, 2)}" rx="2"><title>${it.slot} is held by ${it.name}</title></rect>`;
   }).join('');
+}
+
+// Where the entity of the line that is chosen lives, as a bar at the other edge.
+function livesOf(node, x, wide, first, until, yOf) {
+  const name = subjectOf(now.row).entity, words = data.histories.entity[name] || {}, pieces = [];
+  for (const word in words) {
+    if (!word.startsWith(`live.${node}.`)) continue;
+    for (let n = 0; n < words[word].length; n += 2) {
+      const from = words[word][n], end = n + 2 < words[word].length ? words[word][n + 2] : last + 1;
+      if (words[word][n + 1] === null || from > until || end < first) continue;
+      const top = from < first ? 28 : yOf(from), foot = end > until ? yOf(until) + ROW / 2 : yOf(end);
+      pieces.push(`<rect class="lease entity" x="${x - wide / 2 + 2}" y="${top}" width="${BAR - 3}" height="${Math.max(foot - top, 2)}" rx="2"><title>${
+          escaped(name)} is live at ${word.slice(5)}</title></rect>`);
+    }
+  }
+  return pieces.join('');
 }
 
 function drawArrow({ packet, got, again }, first, until, xOf, yOf, lane) {
@@ -122,7 +139,7 @@ function drawRow(at, row, textAt, xOf, yOf, wide) {
   if (kinds[at] === 'at' && data.hasScript) shown += `  ${orderText(at)}`;
   const cut = shown.length > most ? `${shown.slice(0, most - 1)}…` : shown;
   const dot = node === null || data.lost[at] ? '' : `<circle class="${tint(node)}" cx="${xOf(String(node))}" cy="${y}" r="${at === row ? 5.5 : 4}"/>`;
-  return `<g class="row ${toneOf(at)}" data-row="${at}"><rect class="hit" x="0" y="${y - ROW / 2}" width="${wide}" height="${ROW}"/>`
+  return `<g class="row ${toneOf(at)}${at === breakingRow ? ' breaks' : ''}" data-row="${at}"><rect class="hit" x="0" y="${y - ROW / 2}" width="${wide}" height="${ROW}"/>`
     + `<text class="number" x="36" y="${y + 4}" text-anchor="end">${lineOf(at)}</text>${dot}`
     + `<text x="${textAt}" y="${y + 4}">${escaped(cut)}<title>${escaped(lines[at])}</title></text></g>`;
 }

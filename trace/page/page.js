@@ -68,6 +68,10 @@ function lead(of) {
   title.focus({ preventScroll: true });
 }
 
+function toBreak() {
+  if (breakingRow >= 0) go(breakingRow); else say(data.breaks ? `Line ${data.breaks.line} breaks the trace, and isn’t listed.` : 'No line is known to break this trace.');
+}
+
 const grouped = number => number.toLocaleString('en');
 const say = text => { $('said').textContent = text; };
 
@@ -85,6 +89,7 @@ function render() {
   $('text').textContent = lines[row];
   $('text').className = toneOf(row);
   $('sentence').textContent = sentence(row);
+  $('breaks').innerHTML = row === breakingRow ? `This line breaks the trace: ${breakHtml()}.` : '';
   $('said').textContent = '';
   $('here').href = `#${lineOf(row)}`;
   $('here').textContent = `#${lineOf(row)}`;
@@ -128,10 +133,10 @@ function drawList(follow = true) {
   const shown = [];
   for (let n = from; n < until; n++) {
     const row = listRow(n), node = data.nodes[row];
-    shown.push(`<div role="option" id="line-${row}" data-row="${row}" class="${toneOf(row)}" aria-selected="${row === now.row}" aria-posinset="${
+    shown.push(`<div role="option" id="line-${row}" data-row="${row}" class="${toneOf(row)}${row === breakingRow ? ' breaks' : ''}" aria-selected="${row === now.row}" aria-posinset="${
         n + 1}" aria-setsize="${listLength()}" style="top:${n * PITCH}px">`
       + `<span class="number">${lineOf(row)}</span>${node === null ? '<i></i>' : `<i class="${tint(node)}" title="node ${
-          node}"></i>`}<span class="fact">${escaped(listText(row))}</span></div>`);
+          node}"></i>`}<span class="fact">${escaped(listText(row))}</span>${row === breakingRow ? '<small>breaks</small>' : ''}</div>`);
   }
   $('room').innerHTML = shown.join('') || '<p class="none">No line fits the filter.</p>';
   $('lines').setAttribute('aria-activedescendant', `line-${listRow(at)}`);
@@ -207,7 +212,7 @@ const keys = {
   ArrowRight: () => step(1), ArrowLeft: () => step(-1), ArrowDown: () => step(1), ArrowUp: () => step(-1),
   PageDown: () => stepOrder(1), PageUp: () => stepOrder(-1), Home: () => go(listRow(0)), End: () => go(listRow(listLength() - 1)),
   ' ': () => play(), '/': () => $('filter').focus(), '?': () => $('help').showModal(), p: otherEnd, e: () => stepEntity(1), E: () => stepEntity(-1),
-      g: () => $('number').select(),
+      g: () => $('number').select(), b: toBreak,
 };
 
 function pressed(event) {
@@ -216,7 +221,7 @@ function pressed(event) {
   if (event.key === 'Escape' && at.id === 'filter') { setFilter(''); $('lines').focus(); return; }
   if (event.key === 'Enter' && at.id === 'filter') { $('lines').focus(); return stepIntoList(); }
   if (isField || (event.key === ' ' && at.closest('button, a, summary'))) return;
-  let act = keys[event.key] ?? (/^[0-9]$/.test(event.key) ? () => lead(framed[event.key - 1]) : null);
+  let act = keys[event.key] ?? (event.key === '0' || framed[event.key - 1] ? () => lead(framed[event.key - 1]) : null);
   if (event.shiftKey && event.key === 'ArrowRight') act = () => stepOrder(1);
   if (event.shiftKey && event.key === 'ArrowLeft') act = () => stepOrder(-1);
   if (!act) return;
@@ -248,6 +253,9 @@ function begin() {
         panes[of].title}<span class="badge" hidden>changed</span><kbd aria-hidden="true">${framed.length}</kbd></h2><p class="hint">${panes[of].help}</p><div id="${of}"></div></section>`);
   }
   $('legend').innerHTML = legendHtml();
+  $('most').textContent = framed.length;
+  if (data.breaks) $('verdict').innerHTML = `<b>Not safe</b> from ${lineHtml(data.breaks.line)} on: ${breakHtml()}.`;
+  $('verdict').hidden = !data.breaks;
   $('slider').max = last;
   $('number').min = lineOf(0);
   $('number').max = lineOf(last);

@@ -18,6 +18,11 @@ const chip = name => name === null || name === undefined ? '<span class="none">â
 const chips = names => names.map(chip).join(' ');
 const link = (row, text) => `<a href="#${lineOf(row)}">${escaped(text)}</a>`;
 
+// Why a line breaks the trace, and what stands against it.
+const lineHtml = number => isListed(number) ? link(rowOf(number), `line ${number}`) : `line ${number}`;
+const breakHtml = () => [data.breaks.says, ...data.breaks.against.map(([number, text]) => number === null ? escaped(text)
+  : text.includes('since then') ? escaped(text).replace('since then', `since ${lineHtml(number)}`) : `${escaped(text)} (${lineHtml(number)})`)].join('; ');
+
 // 0, 1, 2, 5 as 0â€“2, 5
 function ranges(numbers) {
   const sorted = numbers.map(Number).sort((a, b) => a - b), parts = [];
@@ -198,7 +203,9 @@ function entityHtml(name, row) {
   const stash = messages('entity', name, words, 'stash', row);
   const phase = words.phase ? `${word('entity', name, 'phase', row, words.phase)} at ${word('entity', name, 'at', row, words.at, chip(words.at))}`
     : word('entity', name, 'phase', row, '', '<span class="none">not live</span>');
-  const more = [words.armed ? `next write fails, ${word('entity', name, 'armed', row, words.armed)}` : '', words.remembered ? word('entity', name,
+  const others = wordsOf(words, 'live').map(it => it[0]).filter(it => it !== words.at);
+  const more = [others.length ? `<b class="bad">${words.phase ? 'and ' : ''}live at ${
+      word('entity', name, 'live', row, others.join(), chips(others))}</b>` : '', words.armed ? `next write fails, ${word('entity', name, 'armed', row, words.armed)}` : '', words.remembered ? word('entity', name,
       'remembered', row, 'yes', 'remembered') : '',
     words.snapshot ? `snapshot at ${word('entity', name, 'snapshot', row, words.snapshot)}` : ''].filter(Boolean).join(', ');
   const jumps = `<span class="jumps"><button type="button" data-jump="-1" data-entity="${name}" data-key="back-${

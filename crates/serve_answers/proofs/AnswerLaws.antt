@@ -1,0 +1,71 @@
+-- Lines that are heard, and what is answered.
+use Rattle.std.proofs.Common.{◌≡◌, ℕ, List, [], ◌∷◌, ◌++◌, map, refl, sym, ◌∙◌, ap, subst, append_assoc}
+use Rattle.std.specs.Prelude.{Option, Some, None}
+use Rattle.yard_model.specs.declared.event.Reply.{Reply}
+use Rattle.yard_model.specs.declared.fact.Fact.{Fact}
+use Rattle.yard_model.specs.Script.{Script, setting}
+use Rattle.yard_model.specs.Setting.{shard_of}
+use Rattle.yard_model.specs.SlotLists.{SlotLists, shard_list}
+use Rattle.yard_model.specs.SlotReads.{journal}
+use Rattle.yard_model.specs.Text.{Bytes}
+use Rattle.apply_laws.specs.Applied.{lists_in}
+use Rattle.serve_laws.specs.Hearing.{Answer, Conflict, Done, Gap, InForce, Others, Refused, Report, Show, Silent, after_all, answers_all, heard}
+use Rattle.serve_laws.specs.Hearings.{CutsDontMatter}
+use Rattle.serve_laws.specs.Served.{Desk, grouped, reply_at}
+use Rattle.serve_laws.specs.Servings.{DoneIsRight, IsDesk, IsRight}
+use Rattle.serve_answers.specs.Told.{ReadsAs}
+use Rattle.serve_answers.specs.Told.{AreRecorded, IfDone, IsRecorded}
+
+-- Lines, one after the other.
+
+pub after_on : (d e : Script) (line : Bytes) (ls : List Bytes) (a : Answer) → heard (Some d) line ≡ record { so_far = Some e; answer = a } → after_all (Some d) (line ∷ ls) ≡ after_all (Some e) ls
+after_on d e line ls a is = ap (λ h. after_all h.so_far ls) is
+
+pub answers_on : (d e : Script) (line : Bytes) (ls : List Bytes) (a : Answer) → heard (Some d) line ≡ record { so_far = Some e; answer = a } → answers_all (Some d) (line ∷ ls) ≡ a ∷ answers_all (Some e) ls
+answers_on d e line ls a is = ap (λ h. h.answer ∷ answers_all h.so_far ls) is
+
+-- Records.
+
+some_is : {X : Type 0} (a b : X) → Some a ≡ Some b → a ≡ b
+some_is a b e = cc
+
+module _ (law : DoneIsRight) (cuts : CutsDontMatter) (desk : Desk) (is_desk : IsDesk desk) (all : List Bytes) (d : Script) (so : (grouped desk all).so_far ≡ Some d) where
+  -- what is answered `done` in a group has a record behind it
+  pub recorded : (xs rest : List Bytes) → xs ++ rest ≡ all → AreRecorded d (lists_in d (grouped desk all).log) (answers_all (after_all desk.so_far xs) rest)
+  recorded xs [] e = tt
+  recorded xs (l ∷ ys) e =
+      (one (heard (after_all desk.so_far xs) l).answer refl,
+      subst (λ s. AreRecorded d (lists_in d (grouped desk all).log) (answers_all s ys)) (cuts desk.so_far xs (l ∷ [])).0 (recorded (xs ++ l ∷ []) ys (append_assoc xs (l ∷ []) ys ∙ e)))
+    where
+      one : (a : Answer) → (heard (after_all desk.so_far xs) l).answer ≡ a → IfDone a (IsRecorded d (lists_in d (grouped desk all).log))
+      one Silent is = tt
+      one (Refused w) is = tt
+      one InForce is = tt
+      one Others is = tt
+      one (Done p n k) is =
+          let w = law desk xs ys l [] p n k is_desk is in
+          let right = w.2.2.2.0 in
+          let same : right.0 ≡ d = some_is right.0 d (sym right.1 ∙ (ap (λ ls. (grouped desk ls).so_far) e ∙ so)) in
+          let there : reply_at p k (journal n (shard_list (lists_in right.0 (grouped desk (xs ++ l ∷ ys)).log) (shard_of (setting right.0) n))) ≡ Some w.2.0 = right.2.answer in
+          (w.2.0, subst (λ ls. reply_at p k (journal n (shard_list (lists_in d (grouped desk ls).log) (shard_of (setting d) n))) ≡ Some w.2.0) e
+            (subst (λ c. reply_at p k (journal n (shard_list (lists_in c (grouped desk (xs ++ l ∷ ys)).log) (shard_of (setting c) n))) ≡ Some w.2.0) same there))
+      one (Gap p n k m) is = tt
+      one (Conflict p n k m) is = tt
+      one Report is = tt
+      one (Show n) is = tt
+
+-- so it has in lists that tell the same
+pub recorded_as : (c : Script) (lists others : SlotLists) (answers : List Answer) → ReadsAs c lists others → AreRecorded c others answers → AreRecorded c lists answers
+recorded_as c lists others [] same are = tt
+recorded_as c lists others (a ∷ as) same are = (one a are.0, recorded_as c lists others as same are.1)
+  where
+    one : (b : Answer) → IfDone b (IsRecorded c others) → IfDone b (IsRecorded c lists)
+    one Silent is = tt
+    one (Refused w) is = tt
+    one InForce is = tt
+    one Others is = tt
+    one (Done p e n) is = (is.0, ap (reply_at p n) (same.journals (shard_of (setting c) e) e) ∙ is.1)
+    one (Gap p e n k) is = tt
+    one (Conflict p e n k) is = tt
+    one Report is = tt
+    one (Show e) is = tt

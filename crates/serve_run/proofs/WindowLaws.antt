@@ -1,10 +1,10 @@
 -- Bytes that came of a source, and the lines at their front.
-use Rattle.std.proofs.Common.{◌≡◌, ◌≢◌, ◌<◌, ◌≤◌, ℕ, zero, suc, ◌+◌, ◌-◌, All, sym, ap, ◌∙◌, refl, subst, arith, get_or, length-drop, length-take-le, ne_eqb}
+use Rattle.std.proofs.Common.{◌≡◌, ◌≢◌, ◌<◌, ◌≤◌, ℕ, zero, suc, ◌+◌, ◌-◌, All, sym, ap, ◌∙◌, refl, subst, arith, get_or, length-append, length-drop, length-take-le, ne_eqb}
 use Rattle.std.specs.Prelude.{Bool, true, false, ◌==◌, cond, nat_lt, not, List, [], ◌∷◌, ◌++◌, length, take, drop, Option, Some, None, IfSome, IsTrue}
 use Rattle.std.specs.List.{position, position_or_len, slice_split}
 use Rattle.std.specs.Str.Lines.{lines, lines_of_parts, strip_carriage_return}
 use Rattle.std.proofs.lemmas.Bool.Decides.{nat_tests}
-use Rattle.std.proofs.lemmas.List.{get_or-drop, get_or-take, take-append-drop, take_more}
+use Rattle.std.proofs.lemmas.List.{get_or-drop, get_or-take, take-append-drop, take-append-le, take_all, take_more}
 use Rattle.std.proofs.lemmas.List.Elements.{All-from_get_or, All-head, All-tail}
 use Rattle.std.proofs.lemmas.List.Splits.{slice_split_at}
 use Rattle.std.proofs.lemmas.List.Sums.{fails_before_first, passes_at_first, position_or_len_is}
@@ -13,7 +13,7 @@ use Rattle.plain_laws.proofs.Booleans.{same_number}
 use Rattle.yard_io.specs.Told.{without_first}
 use Rattle.yard_model.specs.Text.{Bytes}
 use Rattle.serve_run.specs.Scenes.{ahead, ends_line}
-use Rattle.serve_run.specs.Windows.{Came, IsGroup, Lost, is_lf, left_of}
+use Rattle.serve_run.specs.Windows.{Came, IsGroup, IsPlain, Lost, is_lf, left_of}
 
 -- What came.
 
@@ -88,6 +88,60 @@ no_end_before b bytes other none =
     at zero lt = other
     at (suc k) lt = fails_before_first is_lf bytes k 0 (omega (arith, lt, missed bytes none))
 
+-- Bytes of which the first are known to end no line.
+
+pub plain_none : (bytes : Bytes) → IsPlain bytes 0
+plain_none bytes = record { within = omega arith; none = refl }
+
+pub plain_all : (bytes : Bytes) (n : ℕ) → n ≡ length bytes → position is_lf bytes ≡ None → IsPlain bytes n
+plain_all bytes n long none = record { within = omega (arith, long); none = ap (position is_lf) (take_all n bytes (omega (arith, long))) ∙ none }
+
+pub plain_more : (bytes more : Bytes) (n : ℕ) → IsPlain bytes n → IsPlain (bytes ++ more) n
+plain_more bytes more n p = record {
+  within = omega (arith, p.within, length-append bytes more);
+  none = ap (position is_lf) (take-append-le n bytes more p.within) ∙ p.none;
+}
+
+no_lf_of : (bytes : Bytes) → position is_lf bytes ≡ None → (k : ℕ) → k < length bytes → is_lf (get_or bytes k 0) ≡ false
+no_lf_of bytes none k lt = fails_before_first is_lf bytes k 0 (omega (arith, lt, missed bytes none))
+
+no_lf_by : (bytes : Bytes) (n : ℕ) → IsPlain bytes n → (k : ℕ) → k < n → is_lf (get_or bytes k 0) ≡ false
+no_lf_by bytes n p k lt = ap is_lf (sym (get_or-take n bytes k 0 lt)) ∙ no_lf_of (take n bytes) p.none k (omega (arith, lt, length-take-le n bytes p.within))
+
+-- none of these, and none of so many behind them
+no_lf_past : (bytes : Bytes) (n m : ℕ) → IsPlain bytes n → ((j : ℕ) → j < m → is_lf (get_or (drop n bytes) j 0) ≡ false) → (k : ℕ) → k < n + m → is_lf (get_or bytes k 0) ≡ false
+no_lf_past bytes n m p behind k lt = by (nat_lt k n) refl
+  where
+    by : (t : Bool) → nat_lt k n ≡ t → is_lf (get_or bytes k 0) ≡ false
+    by true e = no_lf_by bytes n p k (grind (arith, nat_tests))
+    by false e =
+        let low : n ≤ k = grind (arith, nat_tests) in
+        let same : n + (k - n) ≡ k = omega (arith, low) in
+        subst (λ i. is_lf (get_or bytes i 0) ≡ false) same (ap is_lf (sym (get_or-drop n bytes (k - n) 0)) ∙ behind (k - n) (omega (arith, low, lt)))
+
+some_of : (bytes : Bytes) (i : ℕ) → i < length bytes → position_or_len is_lf bytes ≡ i → position is_lf bytes ≡ Some i
+some_of bytes i within e = step (nat_lt (position_or_len is_lf bytes) (length bytes)) refl
+  where
+    step : (t : Bool) → nat_lt (position_or_len is_lf bytes) (length bytes) ≡ t → cond t (Some (position_or_len is_lf bytes)) None ≡ Some i
+    step true lt = ap (λ n. Some n) e
+    step false lt = absurd (grind (arith, nat_tests))
+
+-- the first one behind them
+pub first_past : (bytes : Bytes) (n i : ℕ) → IsPlain bytes n → position is_lf (drop n bytes) ≡ Some i → position is_lf bytes ≡ Some (n + i)
+first_past bytes n i p e =
+    let f : FirstEnd (drop n bytes) i = found (drop n bytes) i e in
+    let within : n + i < length bytes = omega (arith, f.within, length-drop n bytes, p.within) in
+    let is : is_lf (get_or (drop n bytes) i 0) ≡ true =
+    subst (λ k. is_lf (get_or (drop n bytes) k 0) ≡ true) f.first (passes_at_first is_lf (drop n bytes) 0 (omega (arith, f.within, f.first))) in
+    some_of bytes (n + i) within
+    (position_or_len_is is_lf bytes (n + i) 0 (omega (arith, within)) (no_lf_past bytes n i p (λ j lt. fails_before_first is_lf (drop n bytes) j 0 (omega (arith, lt, f.first))))
+    (λ far. ap is_lf (sym (get_or-drop n bytes i 0)) ∙ is))
+
+pub none_past : (bytes : Bytes) (n : ℕ) → IsPlain bytes n → position is_lf (drop n bytes) ≡ None → position is_lf bytes ≡ None
+none_past bytes n p none =
+    none_of bytes (position_or_len_is is_lf bytes (length bytes) 0 (omega arith)
+    (λ k lt. no_lf_past bytes n (length (drop n bytes)) p (no_lf_of (drop n bytes) none) k (omega (arith, lt, length-drop n bytes, p.within))) (λ far. absurd (omega (arith, far))))
+
 ends_push : (bytes : Bytes) (b : ℕ) → ends_line (bytes ++ b ∷ []) ≡ (b == 10)
 ends_push [] b = refl
 ends_push (x ∷ []) b = refl
@@ -141,3 +195,7 @@ whole_group bytes n some within ends = record { some = some; within = within; en
 -- up to a byte that ends a line
 pub last_group : (bytes : Bytes) (i : ℕ) → i < length bytes → get_or bytes i 0 ≡ 10 → IsGroup false bytes (i + 1)
 last_group bytes i within here = whole_group bytes (i + 1) (omega arith) (omega (arith, within)) (ends_at bytes i within (ap is_lf here))
+
+-- or of those behind some
+pub last_past : (bytes : Bytes) (n i : ℕ) → i < length (drop n bytes) → get_or (drop n bytes) i 0 ≡ 10 → IsGroup false bytes (n + i + 1)
+last_past bytes n i within here = last_group bytes (n + i) (omega (arith, within, length-drop n bytes)) (sym (get_or-drop n bytes i 0) ∙ here)

@@ -1,5 +1,6 @@
 -- What is at hand of the input.
 use Rattle.std.specs.Prelude.{◌≡◌, ◌<◌, ◌≤◌, ℕ, Bool, ◌==◌, List, [], ◌∷◌, ◌++◌, length, take, Option, Some, None, IsTrue}
+use Rattle.std.specs.List.{position}
 use Rattle.std.specs.Str.Lines.{lines}
 use Rattle.yard_model.specs.Text.{Bytes}
 use Rattle.serve_run.specs.Scenes.{ahead, ends_line}
@@ -30,3 +31,8 @@ pub record IsGroup (alone : Bool) (bytes : Bytes) (n : ℕ) : Type 0 where
   pub within : n ≤ length bytes
   pub ends : IsTrue (ends_line (take n bytes))
   pub one : IsTrue alone → (l : Bytes) × (lines (take n bytes) ≡ l ∷ [])
+
+-- the first n bytes are there, and end no line
+pub record IsPlain (bytes : Bytes) (n : ℕ) : Type 0 where
+  pub within : n ≤ length bytes
+  pub none : position is_lf (take n bytes) ≡ None

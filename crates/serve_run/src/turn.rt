@@ -11,7 +11,7 @@ ghost use Rattle.serve_run.specs.Windows.{IsGroup};
 
 use serve_service::Service;
 use crate::stop::Stop;
-use crate::window::{Window, group_end};
+use crate::window::Window;
 use disk_log::Disk;
 use serve_laws::hearing::all_go_on;
 use std::alloc::{AllocError, Global};
@@ -101,7 +101,7 @@ fn turn<S: Source, K: Sink, D: Disk>(
     ensures sink_faults { K.faults sink.old ≤ K.faults sink.new }
     ensures disk_faults { D.faults disk.old ≤ D.faults disk.new }
 {
-    match group_end(window.bytes(), !service.has_settings()) {
+    match window.group_end(!service.has_settings()) {
         Some(end) => {
             let next = serve_front(alloc, service, window, end, sink, disk)?;
             Ok((next, true))

@@ -10,6 +10,7 @@ use Rattle.std.proofs.lemmas.List.Splits.{slice_split_at}
 use Rattle.std.proofs.lemmas.List.Sums.{fails_before_first, passes_at_first, position_or_len_is}
 use Rattle.std.proofs.Math.Seq.{take-append_seam}
 use Rattle.plain_laws.proofs.Booleans.{same_number}
+use Rattle.yard_io.proofs.ToldLemmas.{rest_is}
 use Rattle.yard_io.specs.Told.{without_first}
 use Rattle.yard_model.specs.Text.{Bytes}
 use Rattle.serve_run.specs.Scenes.{ahead, ends_line}
@@ -196,6 +197,27 @@ whole_group bytes n some within ends = record { some = some; within = within; en
 pub last_group : (bytes : Bytes) (i : ℕ) → i < length bytes → get_or bytes i 0 ≡ 10 → IsGroup false bytes (i + 1)
 last_group bytes i within here = whole_group bytes (i + 1) (omega arith) (omega (arith, within)) (ends_at bytes i within (ap is_lf here))
 
--- or of those behind some
-pub last_past : (bytes : Bytes) (n i : ℕ) → i < length (drop n bytes) → get_or (drop n bytes) i 0 ≡ 10 → IsGroup false bytes (n + i + 1)
-last_past bytes n i within here = last_group bytes (n + i) (omega (arith, within, length-drop n bytes)) (sym (get_or-drop n bytes i 0) ∙ here)
+-- The same of those behind the first n, as a slice of them is seen.
+
+abbrev behind : Bytes → ℕ → Bytes
+behind bytes n = take (length bytes - n) (drop n bytes)
+
+at_behind : (bytes : Bytes) (n k : ℕ) → get_or bytes (n + k) 0 ≡ get_or (behind bytes n) k 0
+at_behind bytes n k = sym (get_or-drop n bytes k 0) ∙ ap (λ (l : Bytes). get_or l k 0) (sym (rest_is n bytes))
+
+long_behind : (bytes : Bytes) (n : ℕ) → length (behind bytes n) ≡ length bytes - n
+long_behind bytes n = ap length (rest_is n bytes) ∙ length-drop n bytes
+
+pub last_past : (bytes : Bytes) (n i : ℕ) → i < length (behind bytes n) → get_or (behind bytes n) i 0 ≡ 10 → IsGroup false bytes (n + i + 1)
+last_past bytes n i within here = last_group bytes (n + i) (omega (arith, within, long_behind bytes n)) (at_behind bytes n i ∙ here)
+
+pub none_behind_past : (bytes : Bytes) (n i : ℕ) → ((k : ℕ) → i + 1 ≤ k → k < length (behind bytes n) → get_or (behind bytes n) k 0 ≢ 10) → position is_lf (drop (n + i + 1) bytes) ≡ None
+none_behind_past bytes n i reads = none_behind bytes (n + i + 1) at
+  where
+    at : (k : ℕ) → n + i + 1 ≤ k → k < length bytes → get_or bytes k 0 ≢ 10
+    at k low inside =
+        let same : n + (k - n) ≡ k = omega (arith, low) in
+        subst (λ j. get_or bytes j 0 ≢ 10) same (subst (λ x. x ≢ 10) (sym (at_behind bytes n (k - n))) (reads (k - n) (omega (arith, low)) (omega (arith, low, inside, long_behind bytes n))))
+
+pub none_in_past : (bytes : Bytes) (n : ℕ) → IsPlain bytes n → All IsOther (behind bytes n) → position is_lf bytes ≡ None
+none_in_past bytes n p all = none_past bytes n p (ap (position is_lf) (sym (rest_is n bytes)) ∙ none_all (behind bytes n) all)

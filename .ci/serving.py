@@ -16,10 +16,10 @@ SECONDS = 120
 
 def client_faults(root, room):
     """The client keeps its accounts, and ends well."""
-    ran = subprocess.run([sys.executable, f"{root}/examples/serve_client.py"], cwd=room, stdout=subprocess.PIPE, stderr=subprocess.STDOUT, timeout=SECONDS, check=False)
+    ran = subprocess.run([sys.executable, f"{root}/examples/serve_client.py"], cwd=room, stdout=subprocess.PIPE, stderr=subprocess.PIPE, timeout=SECONDS, check=False)
     said = ran.stdout.decode(errors="replace")
     if ran.returncode or len(said.splitlines()) != 4:
-        return [f"examples/serve_client.py: status {ran.returncode}: {said[-500:]}"]
+        return [f"examples/serve_client.py: status {ran.returncode}: {said[-500:]}{ran.stderr.decode(errors='replace')[-500:]}"]
     return []
 
 

@@ -79,9 +79,10 @@ class Broker:
         return b''.join(lines)
 
     def take(self, client, line):
-        """A line more: it waits for its answer from now on."""
+        """A line more: it waits for its answer from now on. (The next `serve` gets it, where this one died.)"""
         self.waiting.append((client, line))
-        self.process.stdin.write(line)
+        if not self.process.stdin.is_closing():
+            self.process.stdin.write(line)
 
     def end(self):
         """No more lines: `serve` ends once it has answered those that it has."""

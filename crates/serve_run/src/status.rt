@@ -2,7 +2,8 @@
 ghost use Rattle.std.specs.Prelude.{◌≡◌};
 ghost use Rattle.serve_run.specs.Statuses.{code_of, complains, of_end, of_open, of_stop};
 
-use crate::stop::{OpenFault, Stop};
+use crate::stop::Stop;
+use serve_service::OpenFault;
 use std::fmt;
 
 /// How a run of `serve` ends.

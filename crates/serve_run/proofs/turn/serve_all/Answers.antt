@@ -16,7 +16,7 @@ returns-in_err-piece-clause-stopped g c =
 pub loop-init : goal.loop-init
 loop-init g c = record {
   goes = goes_first g.D.Disk.tells (g.D.Disk.images c.args.disk.now) c.args.service.desk _ (g.S.Source.left c.args.source.now) (g.K.Sink.taken c.args.sink.now) (g.K.Sink.flushed c.args.sink.now) c.args.service.end
-      (g.D.Disk.content c.args.disk.now) c.new.ensures (g.met.D.Disk.timed c.args.disk.now) c.requires.rests;
+      (g.D.Disk.content c.args.disk.now) c.new-window.ensures (g.met.D.Disk.timed c.args.disk.now) c.requires.rests;
   rests = c.requires.rests;
   source = omega arith;
   sink = omega arith;

@@ -24,4 +24,3 @@ pub record IsOver (tells : Bool) (old new : Images) (a : Scene) (left taken : Op
   pub goes : Goes tells old new a (scene desk window left taken flushed)
   pub end : AtEnd window left
   pub durable : IsDurable tells desk new
-

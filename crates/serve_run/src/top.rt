@@ -6,13 +6,13 @@ ghost use Rattle.serve_laws.specs.Series.{RunsAreOne, SeriesIsExact, ServedSerie
 ghost use Rattle.serve_run.specs.Scenes.{LinesAddUp};
 ghost use Rattle.serve_run.specs.Ends.{AnyMoment, AtExit, EndsAs, IsComplete, Rose, sides};
 
-use serve_service::Service;
 use crate::status::{Status, status_with, status_without};
 use crate::turn::serve_all;
 use disk_log::{Disk, one_head, one_holding};
 use serve_laws::hearing::{again_is_done, all_go_on, cuts_dont_matter};
 use serve_laws::restarting::{found_is_desk, one_desk, restart_is_same};
 use serve_laws::series::{runs_are_one, series_is_exact, served_series};
+use serve_service::Service;
 use std::alloc::Global;
 use yard_io::{Sink, Source};
 

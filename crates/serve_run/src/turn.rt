@@ -9,11 +9,11 @@ ghost use Rattle.serve_service.specs.Services.{has_settings};
 ghost use Rattle.serve_run.specs.Turns.{AtEnd, IsOver};
 ghost use Rattle.serve_run.specs.Windows.{IsGroup};
 
-use serve_service::Service;
 use crate::stop::Stop;
 use crate::window::Window;
 use disk_log::Disk;
 use serve_laws::hearing::all_go_on;
+use serve_service::Service;
 use std::alloc::{AllocError, Global};
 use yard_io::{Failed, Sink, Source, write_all, writes_add_up};
 

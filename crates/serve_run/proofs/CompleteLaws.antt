@@ -1,7 +1,6 @@
 -- A log that a run left is gone on with: it isn't damaged, and no frame of it is foreign.
-use Rattle.std.proofs.Common.{◌≡◌, ◌⊎◌, ◌<◌, ◌≤◌, ℕ, ◌+◌, inl, inr, sym, ap, ◌∙◌, refl, subst, arith, length-append}
+use Rattle.std.proofs.Common.{◌≡◌, ◌⊎◌, ◌<◌, ◌≤◌, ℕ, ◌+◌, inl, inr, sym, ap, refl, subst, arith, length-append}
 use Rattle.std.specs.Prelude.{Bool, true, false, List, [], ◌∷◌, ◌++◌, length, map, codes, decimal, nat_le, Option, Some, None, IsTrue}
-use Rattle.std.specs.List.{flat_map}
 use Rattle.std.proofs.lemmas.Fmt.{length-decimal-le}
 use Rattle.plain_laws.proofs.Booleans.{and_both, at_most}
 use Rattle.yard_model.specs.declared.charter.Config.{Config}
@@ -11,7 +10,7 @@ use Rattle.yard_model.specs.declared.fact.Fact.{Fact}
 use Rattle.yard_model.specs.Behaviour.{is_in}
 use Rattle.yard_model.specs.Script.{Script, is_config}
 use Rattle.yard_model.specs.Text.{Bytes, line, words}
-use Rattle.disk_log.specs.Frames.{AreTexts, Holds, IsText, Says, framed}
+use Rattle.disk_log.specs.Frames.{AreTexts, Holds, Says, framed}
 use Rattle.disk_log.specs.Headed.{IsHead, IsHeadDamaged, IsHeaded, IsLongHead, headed_texts}
 use Rattle.disk_log.specs.Spelled.{AreBatches, lines}
 use Rattle.disk_log.proofs.FrameLaws.{holds_of}
@@ -19,7 +18,7 @@ use Rattle.log_resume.specs.Restored.{IsForeign, are_taken, entries}
 use Rattle.log_resume.proofs.BatchLaws.{not_whole}
 use Rattle.serve_laws.specs.Hearings.{IsHeard}
 use Rattle.serve_laws.specs.Restarts.{FoundIsDesk, HoldsDesk, OneDesk}
-use Rattle.serve_laws.specs.Served.{Desk, config_words, found, frames, head_of, kind_text, switch_text}
+use Rattle.serve_laws.specs.Served.{Desk, config_words, head_of, kind_text, switch_text}
 use Rattle.serve_laws.specs.Servings.{IsDesk, IsDone, IsLogOf}
 use Rattle.serve_run.specs.Ends.{EndsAs, IsComplete, Rose, Sides}
 use Rattle.serve_service.specs.Openings.{IsForeignBehind, IsForeignFrame, head_line, script_of}

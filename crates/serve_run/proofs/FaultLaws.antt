@@ -6,7 +6,6 @@ use Rattle.log_orders.specs.declared.orders.CommitFault.TheVariants as commit
 use Rattle.yard_io.specs.declared.transfer.ReadError.{ReadError}
 use Rattle.yard_io.specs.declared.transfer.ReadError.TheVariants as read_error
 use Rattle.serve_run.specs.Faults.{of_commit, of_read}
-use Rattle.serve_run.specs.declared.stop.Stop.{Stop}
 use Rattle.serve_run.specs.declared.stop.Stop.TheVariants as stop
 
 pub commit_disk : (f : CommitFault) → of_commit f ≡ stop.Disk → f ≡ commit.Failed

@@ -1,7 +1,7 @@
 -- Lines of groups are the lines of their bytes.
-use Rattle.std.proofs.Common.{◌≡◌, ℕ, sym, ap, ◌∙◌, refl, true≢false}
-use Rattle.std.specs.Prelude.{Bool, true, false, ◌==◌, cond, List, [], ◌∷◌, ◌++◌, map, IsTrue}
-use Rattle.std.specs.List.{flat_map, list_all, onto_first, slice_split}
+use Rattle.std.proofs.Common.{◌≡◌, sym, ap, ◌∙◌, refl, true≢false}
+use Rattle.std.specs.Prelude.{Bool, true, false, cond, List, [], ◌∷◌, ◌++◌, map, IsTrue}
+use Rattle.std.specs.List.{list_all, onto_first, slice_split}
 use Rattle.std.specs.Str.Lines.{lines, lines_of_parts, strip_carriage_return}
 use Rattle.std.proofs.lemmas.List.{append-nil}
 use Rattle.plain_laws.proofs.Booleans.{and_both}

@@ -1,7 +1,7 @@
 -- Bytes that came of a source, and the lines at their front.
 use Rattle.std.proofs.Common.{◌≡◌, ◌≢◌, ◌<◌, ◌≤◌, ℕ, zero, suc, ◌+◌, ◌-◌, All, sym, ap, ◌∙◌, refl, subst, arith, get_or, length-append, length-drop, length-take-le, ne_eqb}
-use Rattle.std.specs.Prelude.{Bool, true, false, ◌==◌, cond, nat_lt, not, List, [], ◌∷◌, ◌++◌, length, take, drop, Option, Some, None, IfSome, IsTrue}
-use Rattle.std.specs.List.{position, position_or_len, slice_split}
+use Rattle.std.specs.Prelude.{Bool, true, false, ◌==◌, cond, nat_lt, List, [], ◌∷◌, ◌++◌, length, take, drop, Option, Some, None, IfSome, IsTrue}
+use Rattle.std.specs.List.{position, position_or_len}
 use Rattle.std.specs.Str.Lines.{lines, lines_of_parts, strip_carriage_return}
 use Rattle.std.proofs.lemmas.Bool.Decides.{nat_tests}
 use Rattle.std.proofs.lemmas.List.{get_or-drop, get_or-take, take-append-drop, take-append-le, take_all, take_more}
@@ -9,7 +9,6 @@ use Rattle.std.proofs.lemmas.List.Elements.{All-from_get_or, All-head, All-tail}
 use Rattle.std.proofs.lemmas.List.Splits.{slice_split_at}
 use Rattle.std.proofs.lemmas.List.Sums.{fails_before_first, passes_at_first, position_or_len_is}
 use Rattle.std.proofs.Math.Seq.{take-append_seam}
-use Rattle.plain_laws.proofs.Booleans.{same_number}
 use Rattle.yard_io.proofs.ToldLemmas.{rest_is}
 use Rattle.yard_io.specs.Told.{without_first}
 use Rattle.yard_model.specs.Text.{Bytes}

@@ -1,5 +1,5 @@
 -- What is at hand of the input.
-use Rattle.std.specs.Prelude.{◌≡◌, ◌<◌, ◌≤◌, ℕ, Bool, ◌==◌, List, [], ◌∷◌, ◌++◌, length, take, Option, Some, None, IsTrue}
+use Rattle.std.specs.Prelude.{◌≡◌, ◌<◌, ◌≤◌, ℕ, Bool, ◌==◌, [], ◌∷◌, ◌++◌, length, take, Option, Some, None, IsTrue}
 use Rattle.std.specs.List.{position}
 use Rattle.std.specs.Str.Lines.{lines}
 use Rattle.yard_model.specs.Text.{Bytes}

@@ -1,4 +1,4 @@
-use Rattle.std.proofs.Common.{◌≡◌, ◌∙◌, ◌+◌, sym, ap, true}
+use Rattle.std.proofs.Common.{◌∙◌, ◌+◌, sym, ap, true}
 use Rattle.std.specs.List.{position}
 use Rattle.yard_io.proofs.ToldLemmas.{rest_is}
 use Rattle.serve_run.specs.Windows.{is_lf}

@@ -1,4 +1,4 @@
-use Rattle.std.proofs.Common.{◌≡◌, ◌≢◌, ◌<◌, ◌≤◌, ◌+◌, ◌-◌, ℕ, get_or, length, take, drop, rules}
+use Rattle.std.proofs.Common.{rules}
 use Rattle.serve_run.proofs.WindowLaws.{last_past, none_behind_past, none_in_past}
 use Rattle.serve_run.proofs.window.last_end.Goals as goal
 

@@ -7,8 +7,8 @@ use std::alloc::{AllocError, Global};
 use std::marker::Model;
 use yard_io::{ReadError, Source};
 
-/// Bytes that were read, of which the first were heard. The first of the others are known to hold no LF, so each byte is
-/// looked for one once.
+/// Bytes that were read, of which the first were heard. The first of the others are known to hold no LF, so that they
+/// aren't searched again.
 #[derive(Drop)]
 pub(crate) struct Window {
     alloc: Global,
@@ -66,8 +66,8 @@ impl Window {
         self.plain = 0;
     }
 
-    /// Where no line is whole, reads once, and appends what comes. The answer is how many bytes these are; none, where the
-    /// input has ended.
+    /// Where no line is whole, reads once, and appends what comes. The answer is how many bytes these are; none,
+    /// where the input has ended.
     pub(crate) fn read<S: Source>(
         &mut self,
         source: &mut S,

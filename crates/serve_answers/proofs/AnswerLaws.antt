@@ -1,7 +1,7 @@
 -- Lines that are heard, and what is answered.
 use Rattle.std.proofs.Common.{◌≡◌, ℕ, List, [], ◌∷◌, ◌++◌, map, refl, sym, ◌∙◌, ap, subst, append_assoc}
-use Rattle.std.specs.Prelude.{Option, Some, None}
-use Rattle.yard_model.specs.declared.event.Reply.{Reply}
+use Rattle.std.specs.Prelude.{Option, Some, None, filter}
+use Rattle.yard_model.specs.declared.packet.Record.{Record}
 use Rattle.yard_model.specs.declared.fact.Fact.{Fact}
 use Rattle.yard_model.specs.Script.{Script, setting}
 use Rattle.yard_model.specs.Setting.{shard_of}
@@ -11,7 +11,7 @@ use Rattle.yard_model.specs.Text.{Bytes}
 use Rattle.apply_laws.specs.Applied.{lists_in}
 use Rattle.serve_laws.specs.Hearing.{Answer, Conflict, Done, Gap, InForce, Others, Refused, Report, Show, Silent, after_all, answers_all, heard}
 use Rattle.serve_laws.specs.Hearings.{CutsDontMatter}
-use Rattle.serve_laws.specs.Served.{Desk, grouped, reply_at}
+use Rattle.serve_laws.specs.Served.{Desk, grouped, is_record_of}
 use Rattle.serve_laws.specs.Servings.{DoneIsRight, IsDesk, IsRight}
 use Rattle.serve_answers.specs.Told.{ReadsAs}
 use Rattle.serve_answers.specs.Told.{AreRecorded, IfDone, IsRecorded}
@@ -26,7 +26,7 @@ answers_on d e line ls a is = ap (λ h. h.answer ∷ answers_all h.so_far ls) is
 
 -- Records.
 
-some_is : {X : Type 0} (a b : X) → Some a ≡ Some b → a ≡ b
+some_is : (a b : Script) → Some a ≡ Some b → a ≡ b
 some_is a b e = cc
 
 module _ (law : DoneIsRight) (cuts : CutsDontMatter) (desk : Desk) (is_desk : IsDesk desk) (all : List Bytes) (d : Script) (so : (grouped desk all).so_far ≡ Some d) where
@@ -45,10 +45,10 @@ module _ (law : DoneIsRight) (cuts : CutsDontMatter) (desk : Desk) (is_desk : Is
       one (Done p n k) is =
           let w = law desk xs ys l [] p n k is_desk is in
           let right = w.2.2.2.0 in
+          let it : Record = right.2.it in
           let same : right.0 ≡ d = some_is right.0 d (sym right.1 ∙ (ap (λ ls. (grouped desk ls).so_far) e ∙ so)) in
-          let there : reply_at p k (journal n (shard_list (lists_in right.0 (grouped desk (xs ++ l ∷ ys)).log) (shard_of (setting right.0) n))) ≡ Some w.2.0 = right.2.answer in
-          (w.2.0, subst (λ ls. reply_at p k (journal n (shard_list (lists_in d (grouped desk ls).log) (shard_of (setting d) n))) ≡ Some w.2.0) e
-            (subst (λ c. reply_at p k (journal n (shard_list (lists_in c (grouped desk (xs ++ l ∷ ys)).log) (shard_of (setting c) n))) ≡ Some w.2.0) same there))
+          (it, subst (λ ls. filter (is_record_of p k) (journal n (shard_list (lists_in d (grouped desk ls).log) (shard_of (setting d) n))) ≡ it ∷ []) e
+            (subst (λ c. filter (is_record_of p k) (journal n (shard_list (lists_in c (grouped desk (xs ++ l ∷ ys)).log) (shard_of (setting c) n))) ≡ it ∷ []) same right.2.alone))
       one (Gap p n k m) is = tt
       one (Conflict p n k m) is = tt
       one Report is = tt
@@ -64,7 +64,7 @@ recorded_as c lists others (a ∷ as) same are = (one a are.0, recorded_as c lis
     one (Refused w) is = tt
     one InForce is = tt
     one Others is = tt
-    one (Done p e n) is = (is.0, ap (reply_at p n) (same.journals (shard_of (setting c) e) e) ∙ is.1)
+    one (Done p e n) is = (is.0, ap (filter (is_record_of p n)) (same.journals (shard_of (setting c) e) e) ∙ is.1)
     one (Gap p e n k) is = tt
     one (Conflict p e n k) is = tt
     one Report is = tt

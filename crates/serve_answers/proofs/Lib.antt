@@ -1,2 +1,2 @@
-mod AnswerLaws
-mod HearLaws
+pub mod AnswerLaws
+pub mod HearLaws

@@ -57,7 +57,7 @@ module _ (law : DoneIsRight) (cuts : CutsDontMatter) (desk : Desk) (is_desk : Is
 -- so it has in lists that tell the same
 pub recorded_as : (c : Script) (lists others : SlotLists) (answers : List Answer) → ReadsAs c lists others → AreRecorded c others answers → AreRecorded c lists answers
 recorded_as c lists others [] same are = tt
-recorded_as c lists others (a ∷ as) same are = (one a are.0, recorded_as c lists others as same are.1)
+recorded_as c lists others (a ∷ more) same are = (one a are.0, recorded_as c lists others more same are.1)
   where
     one : (b : Answer) → IfDone b (IsRecorded c others) → IfDone b (IsRecorded c lists)
     one Silent is = tt

@@ -56,7 +56,7 @@ IsRecorded c lists p e n = (r : Record) × (filter (is_record_of p n) (journal e
 -- so has each that is answered `done`
 abbrev pub AreRecorded : Script → SlotLists → List Told → Type 0
 AreRecorded c lists [] = Unit {0}
-AreRecorded c lists (a ∷ as) = IfDone a (IsRecorded c lists) × AreRecorded c lists as
+AreRecorded c lists (a ∷ more) = IfDone a (IsRecorded c lists) × AreRecorded c lists more
 
 -- the answer to settings that are in force now
 abbrev pub settings_told : Config → Bytes

@@ -1,6 +1,6 @@
 -- The records of an entity in a shard's list.
 use Rattle.std.proofs.Common.{◌≡◌, ◌<◌, ◌⊎◌, ℕ, ◌+◌, List, [], ◌∷◌, ◌++◌, length, map, take, drop, refl, sym, ◌∙◌, ap, subst, arith, append_assoc}
-use Rattle.std.specs.Prelude.{Bool, true, false, ◌&&◌, cond, filter, fold, Option, Some, None, if◌then◌else◌, slice_index_or, IsTrue}
+use Rattle.std.specs.Prelude.{Bool, true, false, ◌&&◌, IfSome, cond, filter, fold, Option, Some, None, if◌then◌else◌, slice_index_or, IsTrue}
 use Rattle.std.specs.List.{flat_map}
 use Rattle.std.proofs.lemmas.List.{append-nil, drop_more, take-append-drop}
 use Rattle.std.proofs.lemmas.List.Elements.{filter-append}
@@ -16,7 +16,7 @@ use Rattle.yard_model.specs.Script.{is_name}
 use Rattle.yard_model.specs.SlotReads.{journal, journal_step}
 use Rattle.serve_laws.specs.Served.{is_record_of, reply_at}
 use Rattle.serve_laws.proofs.OneLaws.{reply_stays}
-use Rattle.serve_answers.specs.Records.{record_in, records_in}
+use Rattle.serve_answers.specs.Records.{IsReplyIn, record_in, records_in}
 
 -- They are the journal.
 
@@ -79,7 +79,7 @@ some_filtered p n (x ∷ xs) r h = by (is_record_of p n x) h (some_filtered p n 
     by true e rest = (x, filter (is_record_of p n) xs, refl)
     by false e rest = rest e
 
-two_not_one : (a b it : Record) (xs ys : List Record) → (a ∷ more) ++ b ∷ bs ≡ it ∷ [] → ⊥
+two_not_one : (a b it : Record) (xs ys : List Record) → (a ∷ xs) ++ b ∷ ys ≡ it ∷ [] → ⊥
 two_not_one a b it [] ys h = cc
 two_not_one a b it (x ∷ xs) ys h = cc
 
@@ -104,3 +104,8 @@ the_reply p e n list it i r alone found = by (reply_at p n front) refl
         let two : (a.0 ∷ a.1) ++ b.0 ∷ b.1 ≡ it ∷ [] =
         sym (filter-append (is_record_of p n) front back ∙ (ap (λ l. l ++ filter (is_record_of p n) back) a.2 ∙ ap (λ l. (a.0 ∷ a.1) ++ l) b.2)) ∙ (ap (filter (is_record_of p n)) (sym parts) ∙ alone) in
         absurd (two_not_one a.0 b.0 it a.1 b.1 two)
+
+-- the entry at a place, if it is the record
+pub there : (p : ℕ) (e : List ℕ) (n : ℕ) (list : List ShardEntry) (i : ℕ) (x : ShardEntry) (o : Option Reply) → i < length list → x ≡ slice_index_or list i x → o ≡ reply_at p n (record_in e x) → IfSome o (λ r. IsReplyIn p e n list r)
+there p e n list i x None h is found = tt
+there p e n list i x (Some r) h is found = (i, found_at p e n list i x r h is (sym found))

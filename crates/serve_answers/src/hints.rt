@@ -1,5 +1,5 @@
 //! Where records may stand in the lists of shards. Nothing is said of hints: what stands there is compared.
-ghost use Rattle.std.specs.Prelude.{IfSome};
+ghost use Rattle.std.specs.Prelude.{◌≤◌, IfSome};
 ghost use Rattle.serve_answers.specs.Records.{IsReplyIn};
 
 use crate::records::reply_there;
@@ -64,7 +64,9 @@ impl Hints {
 }
 
 /// How many cells there are for the records of so many shards.
-fn cells_for(stores: &Stores, shards: u8) -> usize {
+fn cells_for(stores: &Stores, shards: u8) -> usize
+    requires { shards ≤ 128 }
+{
     let mut entries = 0usize;
     for s in 0..shards {
         if let Some(shard) = ShardNo::new(s, shards) {

@@ -116,17 +116,29 @@ folds_at c lists e rules ok some law = by (is_brought c e) refl
         (of_number (is_foldable_shard (setting c) lists) 0 c.config.shards place (folds_all c lists rules ok law) (omega arith) within) t (number_itself place place refl)
     by false t = ap (are_foldable (empty_state c.config.kind)) (none_brought c place e (shard_list lists place) t ((owns_of c lists law).0.shard place))
 
-pub some_shards : (c : Script) → IsScript c → 0 < c.config.shards
-some_shards c ok = from ok.config
-  where
-    k : Config
-    k = c.config
+-- There is a shard.
 
-    from : is_config k ≡ true → 0 < k.shards
-    from t =
-        let a : Bool = is_in 1 16 k.nodes && is_in 1 128 k.shards in
-        let h8 = (and_both (a && is_in 1 32 k.producers && is_in 1 1000 k.buffer && is_in 1 64 k.window) _ t) in
-        omega arith
+is_in_above : (a b n : ℕ) → is_in a b n ≡ true → a ≤ n
+is_in_above a b n e = at_most a n (and_both (nat_le a n) (nat_le n b) e).0
+
+shards_of : (c : Config) → is_config c ≡ true → 0 < c.shards
+shards_of c e =
+    let a : Bool = is_in 1 16 c.nodes in
+    let b : Bool = is_in 1 128 c.shards in
+    let d : Bool = is_in 1 32 c.producers in
+    let f : Bool = is_in 1 1000 c.buffer in
+    let h : Bool = is_in 1 64 c.window in
+    let i : Bool = is_in 1 10000 c.snapshot in
+    let j : Bool = is_in 1 10 c.keep in
+    let six : (a && b && d && f && h && i) ≡ true = (and_both (a && b && d && f && h && i) j e).0 in
+    let five : (a && b && d && f && h) ≡ true = (and_both (a && b && d && f && h) i six).0 in
+    let four : (a && b && d && f) ≡ true = (and_both (a && b && d && f) h five).0 in
+    let three : (a && b && d) ≡ true = (and_both (a && b && d) f four).0 in
+    let one : 1 ≤ c.shards = is_in_above 1 128 c.shards (and_both a b (and_both (a && b) d three).0).1 in
+    omega arith
+
+pub some_shards : (c : Script) → IsScript c → 0 < c.config.shards
+some_shards c ok = shards_of c.config ok.config
 
 -- What a shard's store has is the list.
 

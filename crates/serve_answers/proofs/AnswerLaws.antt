@@ -37,9 +37,10 @@ module _ (law : DoneIsRight) (cuts : CutsDontMatter) (desk : Desk) (is_desk : Is
   -- what is answered `done` in a group has a record behind it
   pub recorded : (xs rest : List Bytes) → xs ++ rest ≡ all → AreRecorded d (lists_in d (grouped desk all).log) (answers_all (after_all desk.so_far xs) rest)
   recorded xs [] e = tt
-  recorded xs (l ∷ ys) e =
-      (one (heard (after_all desk.so_far xs) l).answer refl,
-      subst (λ s. AreRecorded d (lists_in d (grouped desk all).log) (answers_all s ys)) (cuts desk.so_far xs (l ∷ [])).0 (recorded (xs ++ l ∷ []) ys (append_assoc xs (l ∷ []) ys ∙ e)))
+  recorded xs (l ∷ ys) e = (
+    one (heard (after_all desk.so_far xs) l).answer refl,
+    subst (λ s. AreRecorded d (lists_in d (grouped desk all).log) (answers_all s ys)) (cuts desk.so_far xs (l ∷ [])).0 (recorded (xs ++ l ∷ []) ys (append_assoc xs (l ∷ []) ys ∙ e)),
+  )
     where
       one : (a : Answer) → (heard (after_all desk.so_far xs) l).answer ≡ a → IfDone a (IsRecorded d (lists_in d (grouped desk all).log))
       one Silent is = tt
@@ -50,9 +51,11 @@ module _ (law : DoneIsRight) (cuts : CutsDontMatter) (desk : Desk) (is_desk : Is
           let w = law desk xs ys l [] p n k is_desk is in
           let right = w.3 in
           let it : Record = right.2.it in
-          let same : right.0 ≡ d = some_is right.0 d (sym right.1 ∙ (ap (λ ls. (grouped desk ls).so_far) e ∙ so)) in
-          (it, subst (λ ls. filter (is_record_of p k) (journal n (shard_list (lists_in d (grouped desk ls).log) (shard_of (setting d) n))) ≡ it ∷ []) e
-            (subst (λ c. filter (is_record_of p k) (journal n (shard_list (lists_in c (grouped desk (xs ++ l ∷ ys)).log) (shard_of (setting c) n))) ≡ it ∷ []) same right.2.alone))
+          let same : right.0 ≡ d = some_is right.0 d (sym right.1 ∙ (ap (λ ls. (grouped desk ls).so_far) e ∙ so)) in (
+            it,
+            subst (λ ls. filter (is_record_of p k) (journal n (shard_list (lists_in d (grouped desk ls).log) (shard_of (setting d) n))) ≡ it ∷ []) e
+                (subst (λ c. filter (is_record_of p k) (journal n (shard_list (lists_in c (grouped desk (xs ++ l ∷ ys)).log) (shard_of (setting c) n))) ≡ it ∷ []) same right.2.alone),
+          )
       one (Gap p n k m) is = tt
       one (Conflict p n k m) is = tt
       one Report is = tt

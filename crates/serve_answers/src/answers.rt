@@ -18,7 +18,10 @@ use crate::hints::Hints;
 use crate::records::{reply_of, shown_in};
 use behaviour_core::laws::decided_law;
 use script_text::Why;
-use serve_lines::{push_conflict, push_done, push_entity, push_gap, push_other_settings, push_refused, push_settings};
+use serve_lines::{
+    push_conflict, push_done, push_entity, push_gap, push_other_settings, push_refused,
+    push_settings,
+};
 use shard_extract::shard_of;
 use shard_store::Stores;
 use std::alloc::AllocError;

@@ -96,7 +96,11 @@ fn note_records(cells: &mut Vec<u32>, list: &[ShardEntry]) {
     let mut next = 1u32;
     for entry in list {
         if let ShardEntry::Wrote(entity, written) = entry {
-            note(cells, hash_of(written.producer, entity, written.place), next);
+            note(
+                cells,
+                hash_of(written.producer, entity, written.place),
+                next,
+            );
         }
         next = next.wrapping_add(1);
     }
@@ -125,7 +129,8 @@ fn hint_in(cells: &[u32], at: usize) -> usize {
 
 /// A number for a command, all of whose bits hang on all that it is of.
 fn hash_of(producer: ProducerNo, entity: &EntityName, number: u32) -> usize {
-    let mut hash = u64::from(number).wrapping_mul(0x9e37_79b9_7f4a_7c15) ^ u64::from(producer.get());
+    let mut hash = u64::from(number).wrapping_mul(0x9e37_79b9_7f4a_7c15)
+        ^ u64::from(producer.get());
     for byte in entity.bytes() {
         hash = (hash ^ u64::from(*byte)).wrapping_mul(0x0000_0100_0000_01b3);
     }

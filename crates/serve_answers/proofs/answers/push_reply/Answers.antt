@@ -24,5 +24,5 @@ returns c =
     listed c.args.charter.now c.args.stores.now.script c.config.result.now c.args.stores.now.places c.shard_of-shard.result c.args.entity.now c.shard.result.now c.requires.script c.config.ensures.value c.shard_of-shard.ensures c.shard.ensures in
     on_ok_weaker c.push_done.result
     (λ pushed. pushed ∙ ap (λ o. c.args.text.now.items ++ line (codes "done" ∷ decimal c.args.producer ∷ c.args.entity.now ∷ decimal c.args.number ∷ reply_words o))
-        (sym (ap (reply_at c.args.producer c.args.number) same ∙ c.reply_of-reply.ensures)))
+    (sym (ap (reply_at c.args.producer c.args.number) same ∙ c.reply_of-reply.ensures)))
     c.push_done.ensures

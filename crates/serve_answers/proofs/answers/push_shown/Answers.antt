@@ -22,6 +22,6 @@ returns-in-Ok c =
     listed c.args.charter.now c.args.stores.now.script c.config-config.result.now c.args.stores.now.places c.shard_of-shard.result c.args.entity.now c.shard.result.now c.requires.script c.config-config.ensures.value c.shard_of-shard.ensures c.shard.ensures in
     on_ok_weaker c.push_entity.result
     (λ pushed. pushed ∙ ap (λ l. c.args.text.now.items ++ l)
-        (shown_line c.args.charter.now c.config-config.result.now (lists_at c.args.charter.now.config c.args.stores.now.places) c.args.entity.now c.shard.result.now c.shard_of-shard.result c.in-Ok.count c.shown_in-count.result.1
-        c.config-config.ensures.value c.shard_of-shard.ensures same (c.in-Ok.ensures.1 ∙ c.shown_in-count.ensures.count) c.shown_in-count.ensures.state))
+    (shown_line c.args.charter.now c.config-config.result.now (lists_at c.args.charter.now.config c.args.stores.now.places) c.args.entity.now c.shard.result.now c.shard_of-shard.result c.in-Ok.count c.shown_in-count.result.1
+    c.config-config.ensures.value c.shard_of-shard.ensures same (c.in-Ok.ensures.1 ∙ c.shown_in-count.ensures.count) c.shown_in-count.ensures.state))
     c.push_entity.ensures

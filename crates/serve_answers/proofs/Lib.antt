@@ -1,2 +1,4 @@
-mod AnswerLaws
-mod HearLaws
+pub mod AnswerLaws
+pub mod HearLaws
+mod RecordLaws
+mod ShownLaws

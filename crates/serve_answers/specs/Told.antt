@@ -1,14 +1,14 @@
 -- What a line is answered, as it is kept until the answers are written.
-use Rattle.std.specs.Prelude.{◌≡◌, ℕ, List, [], ◌∷◌, Some}
+use Rattle.std.specs.Prelude.{◌≡◌, ℕ, List, [], ◌∷◌, filter, Some}
 use Rattle.yard_model.specs.declared.charter.Config.{Config}
-use Rattle.yard_model.specs.declared.event.Reply.{Reply}
+use Rattle.yard_model.specs.declared.packet.Record.{Record}
 use Rattle.yard_model.specs.Script.{Script, setting}
 use Rattle.yard_model.specs.Setting.{shard_of}
 use Rattle.yard_model.specs.SlotLists.{SlotLists, shard_list}
 use Rattle.yard_model.specs.SlotReads.{journal}
 use Rattle.yard_model.specs.Text.{Bytes, line, report}
 use Rattle.serve_laws.specs.Hearing.{Answer as Told, Conflict, Done, Gap, InForce, Others, Refused, Report, Show, Silent}
-use Rattle.serve_laws.specs.Served.{answers, config_words, empty_desk, grouped, reply_at, Desk}
+use Rattle.serve_laws.specs.Served.{answers, config_words, empty_desk, grouped, is_record_of, Desk}
 use Rattle.yard_model.specs.declared.fact.Fact.{Fact}
 use Rattle.serve_answers.specs.declared.answers.Answer.{Answer}
 use Rattle.serve_answers.specs.declared.answers.Answer.TheVariants as answer
@@ -49,14 +49,14 @@ abbrev pub IfDone : Told → (ℕ → List ℕ → ℕ → Type 0) → Type 0
 IfDone (Done p e n) P = P p e n
 IfDone a P = Unit {0}
 
--- the command of this number has a record
+-- the command of this number has one record
 abbrev pub IsRecorded : Script → SlotLists → ℕ → List ℕ → ℕ → Type 0
-IsRecorded c lists p e n = (r : Reply) × (reply_at p n (journal e (shard_list lists (shard_of (setting c) e))) ≡ Some r)
+IsRecorded c lists p e n = (r : Record) × (filter (is_record_of p n) (journal e (shard_list lists (shard_of (setting c) e))) ≡ r ∷ [])
 
 -- so has each that is answered `done`
 abbrev pub AreRecorded : Script → SlotLists → List Told → Type 0
 AreRecorded c lists [] = Unit {0}
-AreRecorded c lists (a ∷ as) = IfDone a (IsRecorded c lists) × AreRecorded c lists as
+AreRecorded c lists (a ∷ more) = IfDone a (IsRecorded c lists) × AreRecorded c lists more
 
 -- the answer to settings that are in force now
 abbrev pub settings_told : Config → Bytes

@@ -1,29 +1,33 @@
 //! The answers of lines, once what they asked for is on the disk.
-ghost use Rattle.std.specs.Prelude.{◌≡◌, ◌<◌, ◌++◌, ◌∷◌, [], ℕ, List, IsTrue, OnOk, codes, decimal, length, map, true};
+ghost use Rattle.std.specs.Prelude.{◌≡◌, ◌++◌, ◌∷◌, [], List, OnOk, codes, decimal, map, true};
 ghost use Rattle.std.specs.List.{flat_map};
 ghost use Rattle.yard_model.specs.declared.fact.Fact.{Fact};
-ghost use Rattle.yard_model.specs.Behaviour.{empty_state, folded};
-ghost use Rattle.yard_model.specs.Entry.{shard_fact};
 ghost use Rattle.yard_model.specs.Lawful.{lawful};
 ghost use Rattle.yard_model.specs.Script.{setting};
 ghost use Rattle.yard_model.specs.Setting.{shard_of};
 ghost use Rattle.yard_model.specs.SlotLists.{shard_list};
 ghost use Rattle.yard_model.specs.SlotReads.{journal};
-ghost use Rattle.yard_model.specs.Text.{line};
-ghost use Rattle.trace_text.specs.Foldable.{are_foldable};
+ghost use Rattle.yard_model.specs.Text.{line, report};
 ghost use Rattle.shard_store.specs.Stores.{lists_at};
 ghost use Rattle.apply_laws.specs.Applied.{lists_in};
 ghost use Rattle.serve_laws.specs.Served.{entity_words, reply_at, reply_words, text_in};
 ghost use Rattle.serve_answers.specs.Told.{ReadsAs};
 ghost use Rattle.serve_answers.specs.Told.{AreRecorded, IfDone, IsRecorded, answer_value};
 
+use crate::hints::Hints;
+use crate::records::{reply_of, shown_in};
+use behaviour_core::laws::decided_law;
 use script_text::Why;
-use serve_lines::{push_conflict, push_done, push_entity, push_gap, push_other_settings, push_refused, push_settings};
+use serve_lines::{
+    push_conflict, push_done, push_entity, push_gap, push_other_settings, push_refused,
+    push_settings,
+};
 use shard_extract::shard_of;
 use shard_store::Stores;
 use std::alloc::AllocError;
-use trace_text::{apply_events, push_report};
-use yard_model::{Charter, Command, EntityName, Kind, Lists, ProducerNo, Reply, ShardEntry, State};
+use trace_text::push_report;
+use yard_model::laws::{command_law, decision_law};
+use yard_model::{Charter, Command, EntityName, Lists, ProducerNo};
 
 /// What a line is answered.
 #[derive(Clone, Copy, Debug, PartialEq, Eq)]
@@ -61,8 +65,9 @@ pub fn push_answers(
     ensures { OnOk result ((log : List (List Fact)) → ReadsAs charter.now (lists_at charter.now.config stores.now.places) (lists_in charter.now log) →
         text.new.items ≡ text.old.items ++ flat_map (text_in charter.now log) (map answer_value answers.now)) }
 {
+    let hints = Hints::new(*text.allocator(), charter, stores, answers.len())?;
     for answer in answers {
-        push_answer(text, charter, stores, answer)?;
+        push_answer(text, charter, stores, &hints, answer)?;
     }
     Ok(())
 }
@@ -72,6 +77,7 @@ fn push_answer(
     text: &mut Vec<u8>,
     charter: &Charter,
     stores: &Stores,
+    hints: &Hints,
     answer: &Answer,
 ) -> Result<(), AllocError>
     requires script { stores.now.script ≡ charter.now }
@@ -86,7 +92,7 @@ fn push_answer(
         Answer::InForce => push_settings(text, charter.config()),
         Answer::Others => push_other_settings(text, charter.config()),
         Answer::Done(producer, entity, number) => {
-            push_reply(text, charter, stores, *producer, entity, *number)
+            push_reply(text, charter, stores, hints, *producer, entity, *number)
         }
         Answer::Gap(producer, entity, number, next) => {
             push_gap(text, *producer, entity, *number, *next)
@@ -94,9 +100,22 @@ fn push_answer(
         Answer::Conflict(producer, entity, number, command) => {
             push_conflict(text, *producer, entity, *number, command)
         }
-        Answer::Report => push_report(text, charter, stores),
+        Answer::Report => push_whole(text, charter, stores),
         Answer::Show(entity) => push_shown(text, charter, stores, entity),
     }
+}
+
+/// Appends the report.
+fn push_whole(text: &mut Vec<u8>, charter: &Charter, stores: &Stores) -> Result<(), AllocError>
+    requires script { stores.now.script ≡ charter.now }
+    requires lawful { lawful charter.now (lists_at charter.now.config stores.now.places) ≡ true }
+    ensures { OnOk result (text.new.items ≡ text.old.items ++ report (setting charter.now) (lists_at charter.now.config stores.now.places)) }
+{
+    command_law();
+    decision_law();
+    decided_law();
+    charter.config();
+    push_report(text, charter, stores)
 }
 
 /// Appends the reply of the record of this command.
@@ -104,6 +123,7 @@ fn push_reply(
     text: &mut Vec<u8>,
     charter: &Charter,
     stores: &Stores,
+    hints: &Hints,
     producer: ProducerNo,
     entity: &EntityName,
     number: u32,
@@ -114,46 +134,8 @@ fn push_reply(
         ∷ reply_words (reply_at producer number (journal entity.now (shard_list (lists_at charter.now.config stores.now.places) (shard_of (setting charter.now) entity.now)))))) }
 {
     let shard = shard_of(entity, charter.config().shards);
-    match reply_of(stores.shard(shard), producer, entity, number) {
-        Some(reply) => push_done(text, producer, entity, number, &reply),
-        None => unreachable!(),
-    }
-}
-
-/// The reply of the record that the producer's command of this number has, if it has one.
-fn reply_of(
-    list: &[ShardEntry],
-    producer: ProducerNo,
-    entity: &EntityName,
-    number: u32,
-) -> Option<Reply>
-    ensures { (s : ℕ) → result ≡ reply_at producer number (journal entity.now (map (shard_fact s) list.now)) }
-{
-    for entry in list {
-        if let Some(reply) = reply_in(entry, producer, entity, number) {
-            return Some(reply);
-        }
-    }
-    None
-}
-
-/// The reply of this entry, where it is that record.
-fn reply_in(
-    entry: &ShardEntry,
-    producer: ProducerNo,
-    entity: &EntityName,
-    number: u32,
-) -> Option<Reply>
-    ensures { (s : ℕ) → result ≡ reply_at producer number (journal entity.now (shard_fact s entry.now ∷ [])) }
-{
-    match entry {
-        ShardEntry::Wrote(name, record)
-            if name == entity && record.producer == producer && record.place == number =>
-        {
-            Some(record.reply)
-        }
-        _ => None,
-    }
+    let reply = reply_of(hints, stores.shard(shard), producer, entity, number);
+    push_done(text, producer, entity, number, &reply)
 }
 
 /// Appends an entity's line.
@@ -168,27 +150,14 @@ fn push_shown(
     ensures { OnOk result (text.new.items ≡ text.old.items ++ line (entity_words charter.now entity.now
         (journal entity.now (shard_list (lists_at charter.now.config stores.now.places) (shard_of (setting charter.now) entity.now))))) }
 {
-    let shard = shard_of(entity, charter.config().shards);
-    let (count, state) = shown_in(charter.config().kind, stores.shard(shard), entity);
-    push_entity(text, shard, entity, count, &state)
-}
-
-/// How many records an entity has in a shard's list, and the state that they lead to.
-fn shown_in(kind: Kind, list: &[ShardEntry], entity: &EntityName) -> (u32, State)
-    requires foldable { (s : ℕ) → IsTrue (are_foldable (empty_state kind) (journal entity.now (map (shard_fact s) list.now))) }
-    requires few { length list.now < 4294967296 }
-    ensures count { (s : ℕ) → result.0 ≡ length (journal entity.now (map (shard_fact s) list.now)) }
-    ensures state { (s : ℕ) → result.1 ≡ folded kind (journal entity.now (map (shard_fact s) list.now)) }
-{
-    let mut count = 0;
-    let mut state = State::empty(kind);
-    for entry in list {
-        if let ShardEntry::Wrote(name, record) = entry {
-            if name == entity {
-                count += 1;
-                apply_events(&mut state, record.events.as_slice());
-            }
-        }
+    command_law();
+    decision_law();
+    decided_law();
+    let config = charter.config();
+    let shard = shard_of(entity, config.shards);
+    let (count, state) = shown_in(config.kind, stores.shard(shard), entity);
+    match u32::try_from(count) {
+        Ok(count) => push_entity(text, shard, entity, count, &state),
+        Err(_) => Err(AllocError),
     }
-    (count, state)
 }

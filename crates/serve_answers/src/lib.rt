@@ -3,6 +3,8 @@
 
 mod answers;
 mod hearing;
+mod hints;
+mod records;
 
 pub use answers::{Answer, push_answers};
 pub use hearing::{First, first_line, hear_all};

@@ -1,4 +1,4 @@
-"""What the programs say where they end otherwise than well: each reason and status has its sentence, as SCRIPT and JUDGE do.
+"""What the programs say where they end otherwise than well: each reason and status has its sentence, as in SCRIPT, JUDGE and SERVE.
 
 `faults_of(root)` runs the programs through run.sh in folders of their own, and gives a line for each fault."""
 import os
@@ -28,14 +28,15 @@ REFUSED = {
     17: ("config\n" + "ping 1\n" * 1001, "daemon 1"),
 }
 # The errors of the system, as it numbers them.
-IS_A_FOLDER, NO_SPACE, CLOSED_PIPE = 21, 28, 32
+IS_A_FOLDER, INVALID, NO_SPACE, CLOSED_PIPE = 21, 22, 28, 32
 PLAIN = "config shards=1\nup 1\npump 9\n"
+SERVED = b"config nodes=1 shards=1 producers=1\nsend 1 c1 1 add 5\n"
 
 
 class Answers:
     def __init__(self, root):
         self.root, self.faults = root, []
-        self.sentences = {name: sentences_of(f"{root}/docs/{name}.md") for name in ("SCRIPT", "JUDGE")}
+        self.sentences = {name: sentences_of(f"{root}/docs/{name}.md") for name in ("SCRIPT", "JUDGE", "SERVE")}
 
     def run(self, words, stdin=b"", room=None, **how):
         """Runs run.sh; gives the status and the lines on standard error, but for its own."""
@@ -135,6 +136,42 @@ def check_logs(it):
         expect("a damaged log", it.run(["resume"], whole.encode(), room), 10, r"sharder: log damaged at \d+")
 
 
+def check_serving(it):
+    """`serve`: its streams, and the logs that it doesn't go on with."""
+    def expect(what, ran, status, first, cause=None):
+        it.expect(f"serve, {what}", ran, status, f"serve: {first}" if status != 2 else first, it.sentences["SERVE"].get(("status", status)), cause)
+
+    with tempfile.TemporaryDirectory() as room:
+        log, here = f"{room}/sharder.log", os.open("/", os.O_RDONLY)
+        expect("other words", it.run(["serve", "nothing"], b"", room), 2, "usage: serve, .*")
+        expect("words that are no text", it.run(["serve", b"\xff"], b"", room), 2, "usage: serve, .*")
+        expect("a folder to read", it.run(["serve"], here, room), 4, "read fault", ("standard input", IS_A_FOLDER))
+        os.close(here)
+        if it.run(["serve"], SERVED, room) != (0, []):
+            it.faults.append("serve: a good run says something, or doesn't end well")
+        with open("/dev/full", "wb") as full:
+            expect("a full disk", it.run(["serve"], SERVED, room, stdout=full), 5, "write fault", ("standard output", NO_SPACE))
+            expect("a full disk for the help", it.run(["serve", "--help"], b"", room, stdout=full), 5, "write fault", ("standard output", NO_SPACE))
+        reader, writer = os.pipe()
+        os.close(reader)
+        expect("a closed pipe", it.run(["serve"], SERVED, room, stdout=writer), 5, "write fault", ("standard output", CLOSED_PIPE))
+        os.close(writer)
+        with open(log, "r+b") as bytes_of:
+            bytes_of.seek(2)
+            bytes_of.write(b"\xff\xff\xff")
+        expect("a damaged log", it.run(["serve"], SERVED, room), 10, r"log damaged at \d+")
+        os.remove(log)
+        # (the first call of the disk is a sync, which that device refuses)
+        os.symlink("/dev/full", log)
+        expect("a full disk for the log", it.run(["serve"], SERVED, room), 8, "disk fault", ("sharder.log", INVALID))
+        os.remove(log)
+        os.mkdir(log)
+        expect("a folder for the log", it.run(["serve"], SERVED, room), 8, "disk fault", ("sharder.log", IS_A_FOLDER))
+        os.rmdir(log)
+        it.run(["log"], f"{PLAIN}produce 1 1\nsend 1 a add 1\npump 40\n".encode(), room)
+        expect("a log of log", it.run(["serve"], SERVED, room), 11, r"log of another script, batch \d+")
+
+
 def check_rest(it):
     sentence = it.sentences["SCRIPT"].get(("status", 7))
     with open(f"{it.root}/crates/known_replays/data/full_wire_json.in", "rb") as script:
@@ -148,11 +185,12 @@ def check_rest(it):
 
 def check_terminal(it):
     """At a terminal the programs say what they await, where they read anything."""
-    for words, first in ((["replay"], "sharder: a script is awaited"), (["judge"], "judge: a script, a line `trace`"), (["bulk", "1"], None)):
+    for words, first in ((["replay"], "sharder: a script is awaited"), (["judge"], "judge: a script, a line `trace`"), (["serve"], "serve: lines are awaited"), (["bulk", "1"], None)):
         upper, lower = pty.openpty()
         # (an end of input)
         os.write(upper, b"\x04")
-        lines = it.run(words, lower)[1]
+        with tempfile.TemporaryDirectory() as room:
+            lines = it.run(words, lower, room)[1]
         os.close(upper)
         os.close(lower)
         if not (lines[0].startswith(first) if first and lines else lines == [] and first is None):
@@ -166,8 +204,7 @@ def few():
 
 def check_memory(it):
     """Without run.sh, which would want more."""
-    for name, words, text in (("SCRIPT", ["replay"], PLAIN), ("JUDGE", [], f"{PLAIN}trace\n")):
-        program = "sharder" if words else "judge"
+    for name, program, words, text in (("SCRIPT", "sharder", ["replay"], PLAIN), ("JUDGE", "judge", [], f"{PLAIN}trace\n"), ("SERVE", "serve", [], SERVED.decode())):
         place = text_of(f"{it.root}/out/run/{program}").split("\n", maxsplit=1)[0]
         ran = subprocess.run([f"{it.root}/{place}", *words], check=False, input=text.encode(), capture_output=True, preexec_fn=few)
         said = (ran.returncode, ran.stderr.decode().splitlines())
@@ -176,6 +213,6 @@ def check_memory(it):
 
 def faults_of(root):
     it = Answers(root)
-    for check in (check_refusals, check_streams, check_logs, check_rest, check_terminal, check_memory):
+    for check in (check_refusals, check_streams, check_logs, check_serving, check_rest, check_terminal, check_memory):
         check(it)
     return it.faults

@@ -1,0 +1,4 @@
+pub mod AnswerLaws
+pub mod HearLaws
+mod RecordLaws
+mod ShownLaws

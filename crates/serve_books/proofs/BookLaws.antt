@@ -1,0 +1,107 @@
+-- What a group of lines makes of what is kept.
+use Rattle.std.proofs.Common.{◌≡◌, ◌⊎◌, ◌<◌, ◌≤◌, ◌^◌, ℕ, zero, suc, List, [], ◌∷◌, ◌++◌, length, map, take, inl, inr, refl, sym, ◌∙◌, ap, subst, arith}
+use Rattle.std.specs.Prelude.{Bool, true, false, Option, Some, None, IsTrue, if◌then◌else◌}
+use Rattle.std.proofs.lemmas.List.{append-nil}
+use Rattle.plain_laws.proofs.Booleans.{true_is_not_false}
+use Rattle.yard_model.specs.declared.fact.Fact.{Fact}
+use Rattle.yard_model.specs.Lawful.{lawful}
+use Rattle.yard_model.specs.Script.{Script, IsScript, setting}
+use Rattle.yard_model.specs.SlotLists.{SlotLists}
+use Rattle.yard_model.specs.Text.{Bytes}
+use Rattle.yard_model.specs.World.{settled_from}
+use Rattle.shard_store.specs.Stores.{Shelves, lists_at}
+use Rattle.disk_log.specs.Spelled.{AreBatches, IsBatch, lines}
+use Rattle.disk_log.proofs.SpellLaws.{are_more}
+use Rattle.log_resume.specs.Restored.{IsForeign, are_taken, entries, restored}
+use Rattle.log_orders.specs.Gathered.{Gathers}
+use Rattle.log_orders.specs.Orders.{batch_of, listed}
+use Rattle.log_orders.proofs.GatherLaws.{batch_is, long_of, none_listed, some_listed}
+use Rattle.grow_laws.specs.Growths.{GrownIsTaken}
+use Rattle.grow_laws.specs.Grown.{GoesOn}
+use Rattle.apply_laws.specs.Applied.{applied, is_done, lists_in, log_after}
+use Rattle.apply_laws.specs.Applying.{AppliedIsBatch, AppliedIsTaken, AppliedLists, AppliedSettles, DoneAddsNothing, FrontIsTaken}
+use Rattle.resume_run.proofs.FreedLaws.{restored_journals, restored_report}
+use Rattle.apply_run.specs.Applying.{lists_behind, told_behind}
+use Rattle.serve_laws.specs.Hearing.{after_all}
+use Rattle.serve_laws.specs.Hearings.{AllGoOn, GoOn, IsHeard}
+use Rattle.serve_laws.specs.Served.{Desk, grouped, log_of}
+use Rattle.serve_answers.specs.Told.{ReadsAs, desk_at}
+use Rattle.serve_books.specs.Books.{Adds, IsKept}
+
+-- What a run leads to.
+
+-- the lists that are at hand tell what the log behind the run tells
+pub reads_behind : AppliedLists → (c : Script) (log : List (List Fact)) → IsScript c → IsTrue (are_taken c (entries log)) → (lists : SlotLists) → lists ≡ lists_behind c log → ReadsAs c lists (lists_in c (log_after c log))
+reads_behind law c log ok taken lists is = by (is_done c log) refl
+  where
+    by : (b : Bool) → is_done c log ≡ b → ReadsAs c lists (lists_in c (log_after c log))
+    by true e =
+        let here : lists ≡ restored c log = is ∙ ap (λ b. if b then restored c log else (settled_from c 1 (restored c log)).world.lists) e in
+        let there : lists_in c (log_after c log) ≡ lists_in c log = law c log ok taken ∙ ap (λ b. if b then lists_in c log else (settled_from c 1 (restored c log)).world.lists) e in
+        let same : ReadsAs c (restored c log) (lists_in c log) = record { report_is = restored_report c log; journals = restored_journals c log } in
+        subst (λ l. ReadsAs c l (lists_in c (log_after c log))) (sym here) (subst (ReadsAs c (restored c log)) (sym there) same)
+    by false e =
+        let here : lists ≡ (settled_from c 1 (restored c log)).world.lists = is ∙ ap (λ b. if b then restored c log else (settled_from c 1 (restored c log)).world.lists) e in
+        let there : lists_in c (log_after c log) ≡ (settled_from c 1 (restored c log)).world.lists = law c log ok taken ∙ ap (λ b. if b then lists_in c log else (settled_from c 1 (restored c log)).world.lists) e in
+        subst (ReadsAs c lists) (here ∙ sym there) (record { report_is = refl; journals = λ s e. refl })
+
+-- what is told is the batch that the run adds
+pub added_is : AppliedIsBatch → (c : Script) (log : List (List Fact)) (told : List Fact) → told ≡ told_behind c log → log ++ batch_of told ≡ log_after c log
+added_is law c log told is = ap (λ l. log ++ l) (ap batch_of is ∙ sym (law c log))
+
+pub carried_desk : AppliedIsBatch → (c : Script) (log more : List (List Fact)) (told : List Fact) → told ≡ told_behind c log → more ≡ log ++ batch_of told → desk_at c more ≡ grouped (desk_at c log) []
+carried_desk law c log more told is more_is = ap (desk_at c) (more_is ∙ added_is law c log told is)
+
+-- the text of the batch is what is added
+pub adds : (log more : List (List Fact)) (told : List Fact) (text : Bytes) → Gathers told text → length text ≤ 2 ^ 31 → more ≡ log ++ batch_of told → Adds log more text
+adds log more told [] g fits is = inl (refl, is ∙ (ap (λ l. log ++ l) (none_listed told (sym g.text_is)) ∙ append-nil log))
+adds log more told (b ∷ text) g fits is =
+    let some : lines (listed told) ≡ [] → ⊥ = λ none. let e : b ∷ text ≡ [] = g.text_is ∙ none in cc in
+    inr (listed told, is ∙ ap (λ l. log ++ l) (some_listed told some), sym g.text_is, batch_is told (b ∷ text) g (omega arith) fits)
+
+pub more_are : (log more : List (List Fact)) (text : Bytes) → AreBatches log → Adds log more text → AreBatches more
+more_are log more text are (inl (none, same)) = subst AreBatches (sym same) are
+more_are log more text are (inr (facts, is, t, batch)) = subst AreBatches (sym is) (are_more log facts are batch)
+
+-- so all of it is kept
+pub kept : AppliedIsTaken → AppliedSettles → AppliedLists → AppliedIsBatch → (c charter : Script) (log more : List (List Fact)) (stores : Shelves) (told : List Fact) → IsHeard c → charter ≡ c
+    → IsTrue (are_taken charter (entries log)) → stores.script ≡ charter → lists_at charter.config stores.places ≡ lists_behind charter log → lawful charter (lists_at charter.config stores.places) ≡ true
+    → told ≡ told_behind charter log → more ≡ log ++ batch_of told → AreBatches more → IsKept c charter more stores
+kept take_law settle_law list_law batch_law c charter log more stores told heard same taken script lists law told_is more_is are =
+    let taken_c : IsTrue (are_taken c (entries log)) = subst (λ d. IsTrue (are_taken d (entries log))) same taken in
+    let lists_c : lists_at c.config stores.places ≡ lists_behind c log = subst (λ (d : Script). lists_at d.config stores.places ≡ lists_behind d log) same lists in
+    let told_c : told ≡ told_behind c log = subst (λ d. told ≡ told_behind d log) same told_is in
+    let more_c : more ≡ log_after c log = more_is ∙ added_is batch_law c log told told_c in
+    record {
+      charter_is = same;
+      heard = heard;
+      taken = subst (λ m. IsTrue (are_taken c (entries m))) (sym more_c) (take_law c log heard.script taken_c);
+      done = subst (λ m. IsTrue (is_done c m)) (sym more_c) (settle_law c log heard.script heard.few taken_c);
+      script = script ∙ same;
+      same = subst (λ m. ReadsAs c (lists_at c.config stores.places) (lists_in c m)) (sym more_c) (reads_behind list_law c log heard.script taken_c (lists_at c.config stores.places) lists_c);
+      lawful_is = subst (λ (d : Script). lawful d (lists_at d.config stores.places) ≡ true) same law;
+      are = are;
+    }
+
+-- A group.
+
+-- the desk with this accepted, which is carried out
+abbrev desk_with : List (List Fact) → Option Script → Desk
+desk_with log so = record { so_far = so; log = log_of so log }
+
+-- nothing was accepted
+pub grouped_same : DoneAddsNothing → (c : Script) (log : List (List Fact)) (ls : List Bytes) → IsTrue (is_done c log) → after_all (Some c) ls ≡ Some c → desk_at c log ≡ grouped (desk_at c log) ls
+grouped_same law c log ls done same = ap (desk_at c) (sym (law c log done)) ∙ ap (desk_with log) (sym same)
+
+-- or something was
+pub grouped_more : (c d : Script) (log : List (List Fact)) (ls : List Bytes) → after_all (Some c) ls ≡ Some d → grouped (desk_at d log) [] ≡ grouped (desk_at c log) ls
+grouped_more c d log ls is = ap (desk_with log) (sym is)
+
+-- what was kept may stand behind one another for what was accepted since, too
+pub still_taken : AllGoOn → GrownIsTaken → (c d : Script) (log : List (List Fact)) (ls : List Bytes) → after_all (Some c) ls ≡ Some d → IsTrue (are_taken c (entries log)) → IsTrue (are_taken d (entries log))
+still_taken on_law grown c d log ls is taken =
+    let on : GoOn (Some c) (Some d) = subst (GoOn (Some c)) is (on_law (Some c) ls) in
+    grown c d (entries log) on.1 taken
+
+pub none_foreign : FrontIsTaken → (c : Script) (log : List (List Fact)) (k : ℕ) → IsTrue (are_taken c (entries log)) → IsForeign c log k → ⊥
+none_foreign law c log k taken f = true_is_not_false (sym (law c log k taken) ∙ f.with_it)

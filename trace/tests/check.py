@@ -1,5 +1,5 @@
 #!/usr/bin/env python3
-"""Tests of export.py, explain.py, break.py and draw_script.py, in a few seconds; `.ci/docs` runs them."""
+"""Tests of export.py, explain.py, break.py, draw_script.py, and of explore.py and draw.py (looking.py), in a few seconds; `.ci/docs` runs them."""
 from __future__ import annotations
 
 import json
@@ -21,6 +21,7 @@ from exporting.history import Choices                                   # noqa: 
 from exporting.logs import Logs, NoLog                                  # noqa: E402
 from exporting.merging import NoOrder                                   # noqa: E402
 from exporting.naming import fitting_name, java_hash, shard_number      # noqa: E402
+from looking import Pages, Pictures, Unsafe                             # noqa: E402, F401
 from scripts import bulk_script                                         # noqa: E402
 
 EXAMPLES = os.path.join(os.path.dirname(HERE), 'examples')

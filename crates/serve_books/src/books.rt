@@ -99,7 +99,7 @@ pub fn carry(
 
 /// The books of settings that begin: nothing is accepted yet.
 pub fn new_books(alloc: Global, config: Config) -> Result<(Books, Batch), AllocError>
-    requires { IsTrue (is_config config) }
+    requires config { IsTrue (is_config config) }
     ensures books { IfOk result (λ r. r.0 ≡ begun config) }
     ensures adds { IfOk result (λ r. Adds [] r.0.log r.1) }
 {
@@ -236,7 +236,7 @@ impl Books {
 
     /// Appends the texts of the answers to a group that these books stand behind.
     fn push_answers(&self, text: &mut Vec<u8>, heard: &[Answer]) -> Result<(), AllocError>
-        requires { AreOf self.now (map answer_value heard.now) }
+        requires heard { AreOf self.now (map answer_value heard.now) }
         ensures { OnOk result (text.new.items ≡ text.old.items ++ flat_map (answer_text self.now) (map answer_value heard.now)) }
     {
         done_is_right();

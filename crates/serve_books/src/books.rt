@@ -217,6 +217,8 @@ fn hear_group(
         };
         return Ok((books, batch, heard));
     }
+    drop(stores);
+    drop(charter);
     match carry(alloc, desk, batches) {
         Ok((books, batch)) => Ok((books, batch, heard)),
         Err(ResumeFault::OutOfMemory) => Err(AllocError),

@@ -1,25 +1,24 @@
 -- What a group of lines makes of what is kept.
-use Rattle.std.proofs.Common.{◌≡◌, ◌⊎◌, ◌<◌, ◌≤◌, ◌^◌, ℕ, zero, suc, List, [], ◌∷◌, ◌++◌, length, map, take, inl, inr, refl, sym, ◌∙◌, ap, subst, arith}
-use Rattle.std.specs.Prelude.{Bool, true, false, Option, Some, None, IsTrue, if◌then◌else◌, OnOk, Result, Ok, Err}
+use Rattle.std.proofs.Common.{◌≡◌, ◌≤◌, ◌^◌, ℕ, List, [], ◌∷◌, ◌++◌, length, inl, inr, refl, sym, ◌∙◌, ap, subst, arith}
+use Rattle.std.specs.Prelude.{Bool, true, false, Option, Some, IsTrue, if◌then◌else◌, OnOk, Result, Ok, Err}
 use Rattle.std.specs.List.{flat_map}
 use Rattle.std.proofs.lemmas.List.{append-nil}
 use Rattle.plain_laws.proofs.Booleans.{true_is_not_false}
 use Rattle.yard_model.specs.declared.fact.Fact.{Fact}
 use Rattle.yard_model.specs.Lawful.{lawful}
-use Rattle.yard_model.specs.Script.{Script, IsScript, setting}
+use Rattle.yard_model.specs.Script.{Script, IsScript}
 use Rattle.yard_model.specs.SlotLists.{SlotLists}
 use Rattle.yard_model.specs.Text.{Bytes}
 use Rattle.yard_model.specs.World.{settled_from}
 use Rattle.shard_store.specs.Stores.{Shelves, lists_at}
-use Rattle.disk_log.specs.Spelled.{AreBatches, IsBatch, lines}
+use Rattle.disk_log.specs.Spelled.{AreBatches, lines}
 use Rattle.disk_log.proofs.SpellLaws.{are_more}
 use Rattle.log_resume.specs.Restored.{IsForeign, are_taken, entries, restored}
 use Rattle.log_orders.specs.Gathered.{Gathers}
 use Rattle.log_orders.specs.Orders.{batch_of, listed}
-use Rattle.log_orders.proofs.GatherLaws.{batch_is, long_of, none_listed, some_listed}
+use Rattle.log_orders.proofs.GatherLaws.{batch_is, none_listed, some_listed}
 use Rattle.grow_laws.specs.Growths.{GrownIsTaken}
-use Rattle.grow_laws.specs.Grown.{GoesOn}
-use Rattle.apply_laws.specs.Applied.{applied, is_done, lists_in, log_after}
+use Rattle.apply_laws.specs.Applied.{is_done, lists_in, log_after}
 use Rattle.apply_laws.specs.Applying.{AppliedIsBatch, AppliedIsTaken, AppliedLists, AppliedSettles, DoneAddsNothing, FrontIsTaken}
 use Rattle.resume_run.proofs.FreedLaws.{restored_journals, restored_report}
 use Rattle.apply_run.specs.Applying.{lists_behind, told_behind}

@@ -79,4 +79,4 @@ pub record IsSaid (head : Bytes) (batches : List (List Fact)) (d : Desk) : Type 
 -- all that these batches queue is a script that was heard, or with some batch it isn't
 abbrev pub QueuedIn : Config → List (List Fact) → Queued → Type 0
 QueuedIn config batches (queued.All desk) = desk ≡ script_of config (entries batches)
-QueuedIn config batches (queued.Refused k) = IsHeard (script_of config (entries batches)) → ⊥
+QueuedIn config batches (queued.Refused k) = (k ≤ length batches) × (IsHeard (script_of config (entries batches)) → ⊥)

@@ -50,9 +50,9 @@ fn queued_in(alloc: Global, config: Config, batches: &Batches) -> Result<Queued,
     ensures { IfOk result (λ q. QueuedIn config batches.now q) }
 {
     let mut desk = Desk::new(alloc, config)?;
-    for batch in 1..=batches.len() {
-        if !enter_all(&mut desk, batches.get(batch))? {
-            return Ok(Queued::Refused(batch));
+    for k in 0..batches.len() {
+        if !enter_all(&mut desk, batches.get(k + 1))? {
+            return Ok(Queued::Refused(k + 1));
         }
     }
     Ok(Queued::All(desk))

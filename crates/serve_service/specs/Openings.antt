@@ -32,6 +32,10 @@ script_of config facts = record { config = config; orders = flat_map sends_of fa
 abbrev pub head_line : Config → Bytes
 head_line config = line (config_words config)
 
+-- the texts of a log that begins with this head and has these batches
+abbrev pub texts_of : Bytes → List (List Fact) → List Bytes
+texts_of head batches = head ∷ map lines batches
+
 -- The desk that a log says: its settings, what its batches queue, and these, which may stand behind one another. None where it has no frame.
 pub record IsFound (d : Desk) : Type 0 where
   pub desk : (d ≡ empty_desk) ⊎ ((config : Config) × (log : List (List Fact)) × (d ≡ desk_of config log) × IsTrue (is_config config) × AreBatches log)
@@ -75,6 +79,10 @@ pub record IsSaid (head : Bytes) (batches : List (List Fact)) (d : Desk) : Type 
   pub heard : IsHeard (script_of config (entries batches))
   pub taken : IsTrue (are_taken (script_of config (entries batches)) (entries batches))
   pub desk : d ≡ grouped (desk_of config batches) []
+
+-- what a crash leaves was there before, or some of the frames with what was left to do carried out, and no fewer than before
+abbrev pub LeftOff : Bytes → List (List Fact) → Images → Images → Type 0
+LeftOff head batches old new = LeavesOnly old new old.now ⊎ ((d : Desk) × IsSaid head batches d × LeavesOnly old new (HoldsPrefix (frames d) (length batches + 1)))
 
 -- all that these batches queue is a script that was heard, or with some batch it isn't
 abbrev pub QueuedIn : Config → List (List Fact) → Queued → Type 0

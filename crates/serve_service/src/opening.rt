@@ -22,7 +22,8 @@ enum Queued {
     Refused(u32),
 }
 
-/// The books of a log that begins with this line and has these batches; and what is to be committed.
+/// The books of a log that begins with this line and has these batches; and what is to be committed. As many batches as
+/// there are numbers of frames count as want of memory.
 pub(crate) fn books_of(
     alloc: Global,
     head: &[u8],
@@ -38,8 +39,14 @@ pub(crate) fn books_of(
     let Some(config) = read_head(alloc, head)? else {
         return Err(OpenFault::Foreign { frame: 1 });
     };
+    if batches.len() == u32::MAX {
+        return Err(OpenFault::OutOfMemory);
+    }
     match queued_in(alloc, config, &batches)? {
-        Queued::All(desk) => Ok(carry(alloc, desk, batches)?),
+        Queued::All(desk) => {
+            let _ = desk.config();
+            Ok(carry(alloc, desk, batches)?)
+        }
         Queued::Refused(batch) => Err(OpenFault::Foreign { frame: batch + 1 }),
     }
 }

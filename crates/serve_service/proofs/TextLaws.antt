@@ -45,6 +45,13 @@ lifted texts more n c p = record {
   holds = subst (λ l. Holds l c) (sym (take-append-le p.count texts more p.at_most)) p.holds;
 }
 
+pub of_more : (texts longer more : List Bytes) (n : ℕ) (c : Bytes) → longer ≡ texts ++ more → HoldsPrefix texts n c → HoldsPrefix longer n c
+of_more texts longer more n c is p = subst (λ l. HoldsPrefix l n c) (sym is) (lifted texts more n c p)
+
+-- some of none or more
+pub none_held : (texts more : List Bytes) (c : Bytes) → texts ≡ [] → Holds texts c → HoldsPrefix more 0 c
+none_held texts more c none holds = record { count = 0; at_least = omega arith; at_most = omega arith; holds = subst (λ l. Holds l c) none holds }
+
 pub lowered : (texts : List Bytes) (m n : ℕ) (c : Bytes) → n ≤ m → HoldsPrefix texts m c → HoldsPrefix texts n c
 lowered texts m n c le p = record { count = p.count; at_least = omega (arith, le, p.at_least); at_most = p.at_most; holds = p.holds }
 

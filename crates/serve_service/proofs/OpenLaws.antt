@@ -1,6 +1,6 @@
 -- A log that is opened and gone on with, and what a crash leaves meanwhile.
 use Rattle.std.proofs.Common.{◌≡◌, ◌⊎◌, ◌≤◌, ◌<◌, ℕ, ◌+◌, List, [], ◌∷◌, ◌++◌, length, map, inl, inr, refl, sym, ◌∙◌, ap, subst, arith}
-use Rattle.std.specs.Prelude.{Bool, IsTrue, OnErr, Result, Ok, Err, Some}
+use Rattle.std.specs.Prelude.{Bool, IfNone, IfOk, IsTrue, OnErr, Option, Result, Ok, Err, None, Some}
 use Rattle.std.proofs.lemmas.List.{length-map}
 use Rattle.yard_model.specs.declared.fact.Fact.{Fact}
 use Rattle.yard_model.specs.Text.{Bytes}
@@ -110,3 +110,11 @@ left_off tells head batches content old mid new timed law stay are told holds fi
 pub on_err : {T E : Type 0} (r : Result T E) (P : Type 0) → P → OnErr r P
 on_err (Ok x) P h = tt
 on_err (Err e) P h = h
+
+pub if_ok_both : {T E : Type 0} {P Q R : T → Type 0} (r : Result T E) → ((x : T) → P x → Q x → R x) → IfOk r P → IfOk r Q → IfOk r R
+if_ok_both (Ok x) f p q = f x p q
+if_ok_both (Err e) f p q = tt
+
+pub if_none : {X : Type 0} (o : Option X) (P : Type 0) → o ≡ None → IfNone o P → P
+if_none (Some y) P e p = cc
+if_none None P e p = p

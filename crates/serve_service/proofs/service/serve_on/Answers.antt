@@ -18,22 +18,22 @@ returns-in_err-books-clause-any_moment g c told =
 pub returns-in_err-log-clause-any_moment : goal.returns-in_err-log-clause-any_moment
 returns-in_err-log-clause-any_moment g c told =
     let some = c.has_settings.ensures.some in
-    let is = c.in_ok-books.ensures.books in
+    let it = c.in_ok-books in
     subst (λ l. LeavesOnly (g.D.Disk.images c.args.disk.now) (g.D.Disk.images c.commit.new.disk) (HoldsPrefix l (length (frames c.args.books))))
-    (frames_after c.all_go_on.ensures c.args.books c.in_ok-books.books some.0 (lines c.args.group.now) c.in_ok-books.batch some.1 is c.in_ok-books.ensures.adds ∙ ap frames is)
+    (frames_after c.all_go_on.ensures c.args.books it.field-0.books some.0 (lines c.args.group.now) it.field-0.batch some.1 it.ensures.books it.ensures.adds ∙ ap frames it.ensures.books)
     (c.commit.ensures.any_moment (frames c.args.books) c.requires.rests told)
 
 pub returns-clause-any_moment : goal.returns-clause-any_moment
 returns-clause-any_moment g c told =
     let some = c.has_settings.ensures.some in
-    let is = c.in_ok-books.ensures.books in
+    let it = c.in_ok-books in
     subst (λ l. LeavesOnly (g.D.Disk.images c.args.disk.now) (g.D.Disk.images c.commit.new.disk) (HoldsPrefix l (length (frames c.args.books))))
-    (frames_after c.all_go_on.ensures c.args.books c.in_ok-books.books some.0 (lines c.args.group.now) c.in_ok-books.batch some.1 is c.in_ok-books.ensures.adds ∙ ap frames is)
+    (frames_after c.all_go_on.ensures c.args.books it.field-0.books some.0 (lines c.args.group.now) it.field-0.batch some.1 it.ensures.books it.ensures.adds ∙ ap frames it.ensures.books)
     (c.commit.ensures.any_moment (frames c.args.books) c.requires.rests told)
 
 pub returns-clause-rests : goal.returns-clause-rests
 returns-clause-rests g c =
     let some = c.has_settings.ensures.some in
+    let it = c.in_ok-books in
     subst (Rests g.D.Disk.tells c.in_ok-log.log (g.D.Disk.content c.commit.new.disk) (g.D.Disk.images c.commit.new.disk))
-    (frames_after c.all_go_on.ensures c.args.books c.in_ok-books.books some.0 (lines c.args.group.now) c.in_ok-books.batch some.1 c.in_ok-books.ensures.books c.in_ok-books.ensures.adds)
-    (c.in_ok-log.ensures.ok (frames c.args.books) c.requires.rests)
+    (frames_after c.all_go_on.ensures c.args.books it.field-0.books some.0 (lines c.args.group.now) it.field-0.batch some.1 it.ensures.books it.ensures.adds) (c.in_ok-log.ensures.ok (frames c.args.books) c.requires.rests)

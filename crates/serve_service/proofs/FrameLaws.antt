@@ -1,12 +1,11 @@
 -- The frames of a desk, one more at a time.
-use Rattle.std.proofs.Common.{◌≡◌, ◌⊎◌, ◌≤◌, ◌<◌, ℕ, List, [], ◌∷◌, ◌++◌, length, map, inl, inr, refl, sym, ◌∙◌, ap, subst, arith, append_assoc}
+use Rattle.std.proofs.Common.{◌≡◌, List, [], ◌∷◌, ◌++◌, length, map, inl, inr, sym, ◌∙◌, ap, subst, arith, append_assoc}
 use Rattle.std.specs.Prelude.{Option, Some, None}
 use Rattle.std.proofs.lemmas.List.{map-append, map_push}
-use Rattle.yard_model.specs.declared.charter.Config.{Config}
 use Rattle.yard_model.specs.declared.fact.Fact.{Fact}
 use Rattle.yard_model.specs.Script.{Script}
 use Rattle.yard_model.specs.Text.{Bytes, line}
-use Rattle.disk_log.specs.Spelled.{IsBatch, lines}
+use Rattle.disk_log.specs.Spelled.{lines}
 use Rattle.serve_laws.specs.Hearing.{after_all}
 use Rattle.serve_laws.specs.Hearings.{AllGoOn, GoOn}
 use Rattle.serve_laws.specs.Served.{Desk, config_words, frames, grouped, head_of}

@@ -1,5 +1,5 @@
 -- A log that is opened and gone on with, and what a crash leaves meanwhile.
-use Rattle.std.proofs.Common.{◌≡◌, ◌⊎◌, ◌≤◌, ◌<◌, ℕ, ◌+◌, List, [], ◌∷◌, ◌++◌, length, map, inl, inr, refl, sym, ◌∙◌, ap, subst, arith}
+use Rattle.std.proofs.Common.{◌≡◌, ◌≤◌, ℕ, ◌+◌, List, [], ◌∷◌, ◌++◌, length, map, inl, inr, refl, sym, ◌∙◌, ap, subst, arith}
 use Rattle.std.specs.Prelude.{Bool, IfNone, IfOk, IsTrue, OnErr, Option, Result, Ok, Err, None, Some}
 use Rattle.std.proofs.lemmas.List.{length-map}
 use Rattle.yard_model.specs.declared.fact.Fact.{Fact}

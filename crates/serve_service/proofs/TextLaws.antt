@@ -1,13 +1,12 @@
 -- The texts of a log, one more at a time, and what a crash leaves of them.
-use Rattle.std.proofs.Common.{◌≡◌, ◌⊎◌, ◌≤◌, ℕ, List, [], ◌∷◌, ◌++◌, length, take, inl, inr, refl, sym, ◌∙◌, ap, subst, arith, length-append}
+use Rattle.std.proofs.Common.{◌≡◌, ◌≤◌, ℕ, List, [], ◌∷◌, ◌++◌, length, inl, inr, refl, sym, subst, arith, length-append}
 use Rattle.std.specs.Prelude.{Bool, IsTrue}
 use Rattle.std.proofs.lemmas.List.{append-nil, take_all, take_at, take-append-le}
 use Rattle.yard_model.specs.Text.{Bytes}
 use Rattle.disk_log.specs.Frames.{Holds}
-use Rattle.disk_log.specs.Images.{Images, IsTimed, LeavesOnly}
+use Rattle.disk_log.specs.Images.{Images}
 use Rattle.disk_log.specs.Rest.{HoldsPrefix, IsBeforeOrAfter, Rests}
 use Rattle.disk_log.proofs.CommitLaws.{rests_hold}
-use Rattle.disk_log.proofs.Moments.{leaves_then, leaves_weaker}
 use Rattle.serve_service.specs.Services.{with_text}
 
 pub text_none : (texts : List Bytes) (t : Bytes) → t ≡ [] → with_text texts t ≡ texts

@@ -1,5 +1,5 @@
 -- A log that a run goes on with, and those that it doesn't.
-use Rattle.std.specs.Prelude.{◌≡◌, ◌⊎◌, ◌<◌, ◌≤◌, ℕ, ◌+◌, Bool, List, [], ◌∷◌, ◌++◌, length, map, take, Option, Some, None, IsTrue}
+use Rattle.std.specs.Prelude.{◌≡◌, ◌⊎◌, ◌≤◌, ℕ, ◌+◌, Bool, List, [], ◌∷◌, ◌++◌, length, map, Some, IsTrue}
 use Rattle.std.specs.List.{flat_map}
 use Rattle.yard_model.specs.declared.charter.Config.{Config}
 use Rattle.yard_model.specs.declared.fact.Fact.{Fact}
@@ -18,7 +18,6 @@ use Rattle.serve_laws.specs.Restarts.{HoldsDesk}
 use Rattle.serve_laws.specs.Served.{Desk, config_words, desk_of, empty_desk, frames, grouped}
 use Rattle.serve_laws.specs.Queues.{sends_of}
 use Rattle.serve_laws.specs.Servings.{IsDesk, IsDone}
-use Rattle.serve_answers.specs.Told.{desk_at}
 
 -- a script with what these entries queue
 abbrev pub with_queued : Script → List Fact → Script
@@ -63,7 +62,7 @@ abbrev pub IsForeignBehind : Bytes → List (List Fact) → ℕ → Type 0
 IsForeignBehind head batches frame =
     ((frame ≡ 1) × ((config : Config) → head ≡ head_line config → IsTrue (is_config config) → ⊥))
     ⊎ ((config : Config) × (head ≡ head_line config) × IsTrue (is_config config) × (k : ℕ) × (frame ≡ k + 1)
-        × ((IsHeard (script_of config (entries batches)) → ⊥) ⊎ IsForeign (script_of config (entries batches)) batches k))
+    × ((IsHeard (script_of config (entries batches)) → ⊥) ⊎ IsForeign (script_of config (entries batches)) batches k))
 
 -- a log with a frame that no run of `serve` leaves: of its head alone, where that is long, or of head and batches
 abbrev pub IsForeignFrame : Bool → Bytes → ℕ → Type 0

@@ -6,9 +6,9 @@ ghost use Rattle.serve_laws.specs.Hearings.{IsHeard};
 ghost use Rattle.serve_books.specs.Books.{Adds};
 ghost use Rattle.serve_service.specs.Openings.{IsForeignBehind, IsSaid, QueuedIn, with_queued};
 
-use serve_books::{Books, carry};
 use crate::fault::OpenFault;
 use disk_log::{Batch, Batches};
+use serve_books::{Books, carry};
 use serve_desk::Desk;
 use serve_lines::read_head;
 use std::alloc::{AllocError, Global};

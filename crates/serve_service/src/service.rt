@@ -12,13 +12,13 @@ ghost use Rattle.serve_answers.specs.Told.{begun};
 ghost use Rattle.serve_service.specs.Openings.{Begins, IsForeignBehind, IsForeignFrame, IsSaid, LeftBy, LeftOff, head_line, texts_of};
 ghost use Rattle.serve_service.specs.Services.{has_settings};
 
-use serve_books::{Books, Carried, carry_group, new_books};
 use crate::commit::commit;
-use serve_answers::{First, first_line};
-use crate::opening::books_of;
 use crate::fault::OpenFault;
+use crate::opening::books_of;
 use disk_log::{Batch, Batches, Disk, Headed, Log, open_headed};
 use log_orders::CommitFault;
+use serve_answers::{First, first_line};
+use serve_books::{Books, Carried, carry_group, new_books};
 use serve_laws::hearing::all_go_on;
 use serve_laws::serving::{grouped_is_desk, log_stays};
 use serve_lines::head_text;

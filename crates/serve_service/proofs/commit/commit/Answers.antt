@@ -1,5 +1,4 @@
-use Rattle.std.proofs.Common.{◌≡◌, ◌++◌, ◌∷◌, [], List, ℕ, true, false, length, sym, subst}
-use Rattle.yard_model.specs.Text.{Bytes}
+use Rattle.std.proofs.Common.{◌≡◌, [], true, false, length, sym, subst}
 use Rattle.disk_log.specs.Images.{LeavesOnly}
 use Rattle.disk_log.specs.Rest.{HoldsPrefix, Rests}
 use Rattle.disk_log.proofs.CommitLaws.{rests_hold}

@@ -1,8 +1,7 @@
-use Rattle.std.proofs.Common.{◌≡◌, ◌<◌, ◌+◌, ◌-◌, [], List, take, length, sym, ◌∙◌, ap, subst, arith}
+use Rattle.std.proofs.Common.{◌≡◌, ◌<◌, ◌+◌, ◌-◌, [], List, length, ◌∙◌, ap, subst, arith}
 use Rattle.std.specs.Prelude.{get_or}
 use Rattle.yard_model.specs.declared.fact.Fact.{Fact}
 use Rattle.serve_laws.specs.Hearings.{IsHeard}
-use Rattle.log_resume.specs.Restored.{entries}
 use Rattle.log_resume.proofs.BatchLaws.{entries_all}
 use Rattle.serve_service.specs.Openings.{script_of, with_queued}
 use Rattle.serve_service.proofs.QueueLaws.{script_more, script_not}

@@ -1,5 +1,4 @@
-use Rattle.std.proofs.Common.{◌≡◌, List, [], ◌∷◌, ◌∙◌, refl, sym, ap, subst}
-use Rattle.yard_model.specs.Text.{Bytes}
+use Rattle.std.proofs.Common.{◌≡◌, [], ◌∷◌, ◌∙◌, refl, subst}
 use Rattle.disk_log.specs.Rest.{Rests}
 use Rattle.disk_log.proofs.CommitLaws.{rests_hold}
 use Rattle.log_orders.proofs.GatherLaws.{leaves_none}

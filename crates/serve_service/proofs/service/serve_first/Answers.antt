@@ -1,4 +1,4 @@
-use Rattle.std.proofs.Common.{◌≡◌, List, [], ◌∷◌, refl, sym, subst}
+use Rattle.std.proofs.Common.{[], refl, sym, subst}
 use Rattle.std.specs.Str.Lines.{lines}
 use Rattle.disk_log.specs.Images.{LeavesOnly}
 use Rattle.disk_log.specs.Rest.{HoldsPrefix}

@@ -1,9 +1,9 @@
-use Rattle.std.proofs.Common.{◌≡◌, List, length, sym, ◌∙◌, ap, subst}
+use Rattle.std.proofs.Common.{length, sym, ◌∙◌, ap, subst}
 use Rattle.std.specs.Str.Lines.{lines}
 use Rattle.disk_log.specs.Images.{LeavesOnly}
 use Rattle.disk_log.specs.Rest.{HoldsPrefix, Rests}
 use Rattle.log_orders.proofs.GatherLaws.{leaves_none}
-use Rattle.serve_laws.specs.Served.{frames, grouped}
+use Rattle.serve_laws.specs.Served.{frames}
 use Rattle.serve_service.proofs.FrameLaws.{frames_after, frames_longer}
 use Rattle.serve_service.proofs.TextLaws.{rest_holds}
 use Rattle.serve_service.proofs.service.serve_on.Goals as goal

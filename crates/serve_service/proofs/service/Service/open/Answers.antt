@@ -1,5 +1,4 @@
-use Rattle.std.proofs.Common.{◌≡◌, inl, inr, List, [], map, sym, subst}
-use Rattle.std.specs.Prelude.{IsTrue}
+use Rattle.std.proofs.Common.{◌≡◌, inl, inr, [], map, sym, subst}
 use Rattle.std.proofs.lemmas.Result.{on_err_weaker}
 use Rattle.disk_log.specs.Frames.{Holds}
 use Rattle.disk_log.specs.Headed.{IsHead, headed_texts}
@@ -49,7 +48,9 @@ returns-in-Some-clause-foreign g c frame is =
     let content = g.D.Disk.content c.args.disk.now in
     let batches = c.in_ok-log.field-0.batches in
     inr (
-      c.bytes.result.now, batches,
+      c.bytes.result.now,
+      batches,
       λ told. subst (λ h. Holds (texts_of h batches) content) (sym c.bytes.ensures.bytes) (subst (λ h. Holds (headed_texts h batches) content) c.in-Some.is (c.in_ok-log.ensures.spelled told)),
-      (subst IsHead (sym c.bytes.ensures.bytes) c.bytes.ensures.head, c.in_ok-log.ensures.are), c.go_on.ensures.foreign frame is,
+      (subst IsHead (sym c.bytes.ensures.bytes) c.bytes.ensures.head, c.in_ok-log.ensures.are),
+      c.go_on.ensures.foreign frame is,
     )

@@ -1,11 +1,10 @@
 -- Lines that are heard, and what is answered.
 use Rattle.std.proofs.Common.{◌≡◌, ◌<◌, ◌≤◌, ℕ, ◌+◌, List, [], ◌∷◌, ◌++◌, drop, length, map, refl, sym, ◌∙◌, ap, subst, append_assoc}
-use Rattle.std.specs.Prelude.{Option, Some, None, filter, slice_index_or}
+use Rattle.std.specs.Prelude.{Some, filter, slice_index_or}
 use Rattle.std.specs.List.{flat_map}
 use Rattle.std.proofs.lemmas.List.{append-nil, drop_all, drop_more}
 use Rattle.std.proofs.lemmas.List.Concat.{flat_map-cons}
 use Rattle.yard_model.specs.declared.packet.Record.{Record}
-use Rattle.yard_model.specs.declared.fact.Fact.{Fact}
 use Rattle.yard_model.specs.Script.{Script, setting}
 use Rattle.yard_model.specs.Setting.{shard_of}
 use Rattle.yard_model.specs.SlotLists.{SlotLists, shard_list}
@@ -15,7 +14,7 @@ use Rattle.apply_laws.specs.Applied.{lists_in}
 use Rattle.serve_laws.specs.Hearing.{Answer, Conflict, Done, Gap, InForce, Others, Refused, Report, Show, Silent, after_all, answers_all, heard}
 use Rattle.serve_laws.specs.Hearings.{CutsDontMatter}
 use Rattle.serve_laws.specs.Served.{Desk, grouped, is_record_of}
-use Rattle.serve_laws.specs.Servings.{DoneIsRight, IsDesk, IsRight}
+use Rattle.serve_laws.specs.Servings.{DoneIsRight, IsDesk}
 use Rattle.serve_answers.specs.declared.answers.Answer.{Answer as Kept}
 use Rattle.serve_answers.specs.Told.{ReadsAs, answer_value}
 use Rattle.serve_answers.specs.Told.{AreRecorded, IfDone, IsRecorded}

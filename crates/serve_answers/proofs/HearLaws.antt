@@ -1,11 +1,10 @@
 -- Lines that are heard where settings are in force.
-use Rattle.std.proofs.Common.{◌≡◌, ℕ, List, [], ◌∷◌, ◌++◌, map, refl, sym, ◌∙◌, ap, subst, append_assoc}
-use Rattle.std.specs.Prelude.{Bool, true, false, ◌||◌, Option, Some, None}
+use Rattle.std.proofs.Common.{◌≡◌, List, [], ◌∷◌, ◌++◌, map, refl, sym, ◌∙◌, ap, append_assoc}
+use Rattle.std.specs.Prelude.{Bool, true, false, ◌||◌, Some}
 use Rattle.std.proofs.lemmas.List.{append-nil, map_push}
 use Rattle.yard_model.specs.Script.{Script}
 use Rattle.yard_model.specs.Text.{Bytes}
 use Rattle.serve_laws.specs.Hearing.{after_all, answers_all, heard}
-use Rattle.serve_laws.specs.Hearing.{Answer as Heard}
 use Rattle.serve_answers.specs.declared.answers.Answer.{Answer}
 use Rattle.serve_answers.specs.Told.{answer_value}
 use Rattle.serve_answers.proofs.AnswerLaws.{after_on, answers_on}

@@ -1,7 +1,6 @@
 -- The records of an entity in a shard's list.
-use Rattle.std.proofs.Common.{◌≡◌, ◌<◌, ◌⊎◌, ℕ, ◌+◌, List, [], ◌∷◌, ◌++◌, length, map, take, drop, refl, sym, ◌∙◌, ap, subst, arith, append_assoc}
-use Rattle.std.specs.Prelude.{Bool, true, false, ◌&&◌, IfSome, cond, filter, fold, Option, Some, None, if◌then◌else◌, slice_index_or, IsTrue}
-use Rattle.std.specs.List.{flat_map}
+use Rattle.std.proofs.Common.{◌≡◌, ◌<◌, ℕ, ◌+◌, List, [], ◌∷◌, ◌++◌, length, map, take, drop, refl, sym, ◌∙◌, ap, append_assoc}
+use Rattle.std.specs.Prelude.{Bool, true, false, IfSome, cond, filter, fold, Option, Some, None, if◌then◌else◌, slice_index_or}
 use Rattle.std.proofs.lemmas.List.{append-nil, drop_more, take-append-drop}
 use Rattle.std.proofs.lemmas.List.Elements.{filter-append}
 use Rattle.std.proofs.lemmas.List.Concat.{flat_map-cons}
@@ -9,7 +8,6 @@ use Rattle.std.proofs.lemmas.Grind.{flat_map-append}
 use Rattle.yard_model.specs.declared.entry.ShardEntry.{ShardEntry}
 use Rattle.yard_model.specs.declared.entry.ShardEntry.TheVariants as shard
 use Rattle.yard_model.specs.declared.event.Reply.{Reply}
-use Rattle.yard_model.specs.declared.fact.Fact.{Fact}
 use Rattle.yard_model.specs.declared.packet.Record.{Record}
 use Rattle.yard_model.specs.Entry.{shard_fact}
 use Rattle.yard_model.specs.Script.{is_name}

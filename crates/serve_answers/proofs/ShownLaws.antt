@@ -1,5 +1,5 @@
 -- What is shown of lawful lists.
-use Rattle.std.proofs.Common.{◌≡◌, ◌≢◌, ◌<◌, ◌≤◌, ℕ, zero, suc, ◌+◌, ◌%◌, List, [], ◌∷◌, ◌++◌, length, map, refl, sym, ◌∙◌, ap, subst, arith}
+use Rattle.std.proofs.Common.{◌≡◌, ◌<◌, ◌≤◌, ℕ, zero, suc, ◌+◌, ◌%◌, List, [], ◌∷◌, ◌++◌, length, map, refl, sym, ◌∙◌, ap, subst, arith}
 use Rattle.std.specs.Prelude.{Bool, true, false, Option, Result, Ok, Err, OnOk, ◌==◌, ◌&&◌, ◌||◌, cond, filter, nat_le, if◌then◌else◌, codes, decimal}
 use Rattle.std.specs.List.{list_all, list_any}
 use Rattle.plain_laws.proofs.Booleans.{and_both, at_most, number_itself, other_number, same_name, same_number, true_is_not_false}
@@ -17,7 +17,7 @@ use Rattle.yard_model.specs.Genuine.{is_brought, is_producer, is_slot_of}
 use Rattle.yard_model.specs.Lawful.{is_folded_after, is_merged_after, is_of_shard, is_shard_entry, lawful, own}
 use Rattle.yard_model.specs.Opening.{begins}
 use Rattle.yard_model.specs.Script.{Script, IsScript, is_config, is_name, setting}
-use Rattle.yard_model.specs.Setting.{names_of, shard_of}
+use Rattle.yard_model.specs.Setting.{shard_of}
 use Rattle.yard_model.specs.Shard.{absolute, java_hash, shard}
 use Rattle.yard_model.specs.SlotLists.{SlotLists, shard_list}
 use Rattle.yard_model.specs.SlotReads.{journal, journal_step}

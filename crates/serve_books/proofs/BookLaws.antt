@@ -1,32 +1,34 @@
 -- What a group of lines makes of what is kept.
-use Rattle.std.proofs.Common.{◌≡◌, ◌⊎◌, ◌<◌, ◌≤◌, ◌^◌, ℕ, zero, suc, List, [], ◌∷◌, ◌++◌, length, map, take, inl, inr, refl, sym, ◌∙◌, ap, subst, arith}
-use Rattle.std.specs.Prelude.{Bool, true, false, Option, Some, None, IsTrue, if◌then◌else◌}
+use Rattle.std.proofs.Common.{◌≡◌, ◌≤◌, ◌^◌, ℕ, List, [], ◌∷◌, ◌++◌, length, inl, inr, refl, sym, ◌∙◌, ap, subst, arith}
+use Rattle.std.specs.Prelude.{Bool, true, false, Option, Some, IsTrue, if◌then◌else◌, OnOk, Result, Ok, Err}
+use Rattle.std.specs.List.{flat_map}
 use Rattle.std.proofs.lemmas.List.{append-nil}
 use Rattle.plain_laws.proofs.Booleans.{true_is_not_false}
 use Rattle.yard_model.specs.declared.fact.Fact.{Fact}
 use Rattle.yard_model.specs.Lawful.{lawful}
-use Rattle.yard_model.specs.Script.{Script, IsScript, setting}
+use Rattle.yard_model.specs.Script.{Script, IsScript}
 use Rattle.yard_model.specs.SlotLists.{SlotLists}
 use Rattle.yard_model.specs.Text.{Bytes}
 use Rattle.yard_model.specs.World.{settled_from}
 use Rattle.shard_store.specs.Stores.{Shelves, lists_at}
-use Rattle.disk_log.specs.Spelled.{AreBatches, IsBatch, lines}
+use Rattle.disk_log.specs.Spelled.{AreBatches, lines}
 use Rattle.disk_log.proofs.SpellLaws.{are_more}
 use Rattle.log_resume.specs.Restored.{IsForeign, are_taken, entries, restored}
 use Rattle.log_orders.specs.Gathered.{Gathers}
 use Rattle.log_orders.specs.Orders.{batch_of, listed}
-use Rattle.log_orders.proofs.GatherLaws.{batch_is, long_of, none_listed, some_listed}
+use Rattle.log_orders.proofs.GatherLaws.{batch_is, none_listed, some_listed}
 use Rattle.grow_laws.specs.Growths.{GrownIsTaken}
-use Rattle.grow_laws.specs.Grown.{GoesOn}
-use Rattle.apply_laws.specs.Applied.{applied, is_done, lists_in, log_after}
+use Rattle.apply_laws.specs.Applied.{is_done, lists_in, log_after}
 use Rattle.apply_laws.specs.Applying.{AppliedIsBatch, AppliedIsTaken, AppliedLists, AppliedSettles, DoneAddsNothing, FrontIsTaken}
 use Rattle.resume_run.proofs.FreedLaws.{restored_journals, restored_report}
 use Rattle.apply_run.specs.Applying.{lists_behind, told_behind}
-use Rattle.serve_laws.specs.Hearing.{after_all}
-use Rattle.serve_laws.specs.Hearings.{AllGoOn, GoOn, IsHeard}
-use Rattle.serve_laws.specs.Served.{Desk, grouped, log_of}
-use Rattle.serve_answers.specs.Told.{ReadsAs, desk_at}
-use Rattle.serve_books.specs.Books.{Adds, IsKept}
+use Rattle.serve_laws.specs.Hearing.{Answer, after_all, answers_all}
+use Rattle.serve_laws.specs.Hearings.{AllGoOn, CutsDontMatter, GoOn, IsHeard}
+use Rattle.serve_laws.specs.Served.{Desk, answer_text, grouped, log_of, text_in}
+use Rattle.serve_laws.specs.Servings.{DoneIsRight, IsDesk}
+use Rattle.serve_answers.specs.Told.{AreRecorded, ReadsAs, desk_at}
+use Rattle.serve_answers.proofs.AnswerLaws.{recorded, recorded_as}
+use Rattle.serve_books.specs.Books.{Adds, AreOf, IsKept}
 
 -- What a run leads to.
 
@@ -105,3 +107,37 @@ still_taken on_law grown c d log ls is taken =
 
 pub none_foreign : FrontIsTaken → (c : Script) (log : List (List Fact)) (k : ℕ) → IsTrue (are_taken c (entries log)) → IsForeign c log k → ⊥
 none_foreign law c log k taken f = true_is_not_false (sym (law c log k taken) ∙ f.with_it)
+
+-- Answers.
+
+pub on_ok : {A E P Q : Type 0} (r : Result A E) → (P → Q) → OnOk r P → OnOk r Q
+on_ok (Ok x) f p = f p
+on_ok (Err e) f p = p
+
+-- what is kept is a desk
+pub desk_is : (c charter : Script) (log : List (List Fact)) (stores : Shelves) (now : Desk) → IsKept c charter log stores → desk_at c log ≡ now → IsDesk now
+desk_is c charter log stores now kept is = subst IsDesk is (kept.heard, kept.taken)
+
+pub lawful_of : (c charter : Script) (log : List (List Fact)) (stores : Shelves) → IsKept c charter log stores → lawful charter (lists_at charter.config stores.places) ≡ true
+lawful_of c charter log stores kept = subst (λ (d : Script). lawful d (lists_at d.config stores.places) ≡ true) (sym kept.charter_is) kept.lawful_is
+
+-- what is answered `done` has its record in the stores
+pub recorded_in : DoneIsRight → CutsDontMatter → (c charter : Script) (log : List (List Fact)) (stores : Shelves) (now : Desk) (told : List Answer) → IsKept c charter log stores → desk_at c log ≡ now
+    → AreOf now told → AreRecorded charter (lists_at charter.config stores.places) told
+recorded_in law cuts c charter log stores now told kept is of =
+    let same : desk_at c log ≡ grouped of.before of.group = is ∙ of.now_is in
+    let so : (grouped of.before of.group).so_far ≡ Some c = ap (λ (d : Desk). d.so_far) (sym same) in
+    let logs : (grouped of.before of.group).log ≡ log = ap (λ (d : Desk). d.log) (sym same) in
+    let there : AreRecorded c (lists_in c (grouped of.before of.group).log) (answers_all of.before.so_far of.group) = recorded law cuts of.before of.is_desk of.group c so [] of.group refl in
+    let here : AreRecorded c (lists_in c log) told =
+        subst (AreRecorded c (lists_in c log)) (sym of.told_are) (subst (λ l. AreRecorded c (lists_in c l) (answers_all of.before.so_far of.group)) logs there) in
+    subst (λ (d : Script). AreRecorded d (lists_at d.config stores.places) told) (sym kept.charter_is) (recorded_as c (lists_at c.config stores.places) (lists_in c log) told kept.same here)
+
+-- and the text is of what the log says
+pub texts_are : (c charter : Script) (log : List (List Fact)) (stores : Shelves) (now : Desk) (told : List Answer) (old new : Bytes) → IsKept c charter log stores → desk_at c log ≡ now
+    → ((l : List (List Fact)) → ReadsAs charter (lists_at charter.config stores.places) (lists_in charter l) → new ≡ old ++ flat_map (text_in charter l) told)
+    → new ≡ old ++ flat_map (answer_text now) told
+texts_are c charter log stores now told old new kept is text =
+    let same : ReadsAs charter (lists_at charter.config stores.places) (lists_in charter log) =
+        subst (λ (d : Script). ReadsAs d (lists_at d.config stores.places) (lists_in d log)) (sym kept.charter_is) kept.same in
+    text log same ∙ (ap (λ (d : Script). old ++ flat_map (text_in d log) told) kept.charter_is ∙ ap (λ (d : Desk). old ++ flat_map (answer_text d) told) is)

@@ -8,7 +8,10 @@ use Rattle.shard_store.specs.Stores.{Shelves, lists_at}
 use Rattle.disk_log.specs.Spelled.{AreBatches, IsBatch, lines}
 use Rattle.log_resume.specs.Restored.{are_taken, entries}
 use Rattle.apply_laws.specs.Applied.{is_done, lists_in}
+use Rattle.serve_laws.specs.Hearing.{Answer, answers_all}
 use Rattle.serve_laws.specs.Hearings.{IsHeard}
+use Rattle.serve_laws.specs.Served.{Desk, grouped}
+use Rattle.serve_laws.specs.Servings.{IsDesk}
 use Rattle.serve_answers.specs.Told.{ReadsAs}
 
 -- the charter is what was accepted, the batches may stand behind one another and have all of it done, and the stores have their lists
@@ -25,3 +28,11 @@ pub record IsKept (c charter : Script) (log : List (List Fact)) (stores : Shelve
 -- the log has one batch more, of this text; or none, where there is no text
 abbrev pub Adds : List (List Fact) → List (List Fact) → Bytes → Type 0
 Adds old new text = ((text ≡ []) × (new ≡ old)) ⊎ ((facts : List Fact) × (new ≡ old ++ facts ∷ []) × (lines facts ≡ text) × IsBatch facts)
+
+-- these are the answers to a group that this desk stands behind
+pub record AreOf (now : Desk) (told : List Answer) : Type 0 where
+  pub before : Desk
+  pub group : List Bytes
+  pub is_desk : IsDesk before
+  pub now_is : now ≡ grouped before group
+  pub told_are : told ≡ answers_all before.so_far group

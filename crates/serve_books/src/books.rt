@@ -1,20 +1,18 @@
 //! The settings, what was accepted, and what stands on the disk of it; and what a group of lines makes of them.
-ghost use Rattle.std.specs.Prelude.{◌≡◌, ℕ, [], ◌∷◌, ◌++◌, Err, IfOk, IsTrue, OnOk, map};
+ghost use Rattle.std.specs.Prelude.{◌≡◌, ℕ, [], ◌∷◌, ◌++◌, Err, IfOk, IsTrue, OnOk, Some, map, true};
 ghost use Rattle.std.specs.List.{flat_map};
 ghost use Rattle.std.specs.Str.Lines.{lines};
-ghost use Rattle.yard_model.specs.Script.{is_config};
+ghost use Rattle.yard_model.specs.Script.{Script, is_config};
 ghost use Rattle.disk_log.specs.Spelled.{AreBatches, IsBatch};
 ghost use Rattle.log_resume.specs.Restored.{IsForeign, are_taken, entries};
 ghost use Rattle.log_orders.specs.Gathered.{Gathers};
-ghost use Rattle.log_orders.specs.Orders.{listed};
+ghost use Rattle.log_orders.specs.Orders.{batch_of, listed};
 ghost use Rattle.serve_laws.specs.Hearing.{answers_all};
 ghost use Rattle.serve_laws.specs.Served.{answer_text, answers, grouped};
-ghost use Rattle.serve_answers.specs.Told.{begun, desk_at};
-ghost use Rattle.serve_books.specs.Books.{Adds};
-ghost use Rattle.serve_answers.specs.Told.{answer_value};
+ghost use Rattle.serve_laws.specs.Servings.{IsDesk};
+ghost use Rattle.serve_answers.specs.Told.{answer_value, begun, desk_at};
+ghost use Rattle.serve_books.specs.Books.{Adds, AreOf};
 
-use serve_answers::{Answer, push_answers};
-use serve_answers::hear_all;
 use apply_laws::applying::{applied_is_batch, applied_is_taken, applied_lists, applied_settles, done_adds_nothing};
 use apply_laws::logging::front_is_taken;
 use apply_run::carry_out;
@@ -22,8 +20,10 @@ use disk_log::{Batch, Batches};
 use grow_laws::growing::grown_is_taken;
 use log_orders::{belongs, gather};
 use log_resume::ResumeFault;
+use serve_answers::{Answer, hear_all, push_answers};
 use serve_desk::Desk;
-use serve_laws::hearing::{all_are_scripts, all_go_on};
+use serve_laws::hearing::{all_are_scripts, all_go_on, cuts_dont_matter};
+use serve_laws::serving::done_is_right;
 use shard_store::Stores;
 use std::alloc::{AllocError, Global};
 use std::marker::Model;
@@ -81,15 +81,11 @@ pub fn carry(
     applied_is_taken();
     applied_lists();
     applied_settles();
+    desk.config();
     let charter = desk.charter(alloc)?;
     let mut told = Told::new(Facts::new(alloc));
     let stores = carry_out(alloc, &charter, &batches, &mut told)?;
-    let batch = gathered(alloc, told.as_slice())?;
-    let batches = if batch.is_empty() {
-        batches
-    } else {
-        with_listed(alloc, batches, told.as_slice())?
-    };
+    let (batches, batch) = with_told(alloc, batches, told.as_slice())?;
     Ok((
         Books {
             desk,
@@ -103,7 +99,7 @@ pub fn carry(
 
 /// The books of settings that begin: nothing is accepted yet.
 pub fn new_books(alloc: Global, config: Config) -> Result<(Books, Batch), AllocError>
-    requires { IsTrue (is_config config) }
+    requires config { IsTrue (is_config config) }
     ensures books { IfOk result (λ r. r.0 ≡ begun config) }
     ensures adds { IfOk result (λ r. Adds [] r.0.log r.1) }
 {
@@ -115,7 +111,24 @@ pub fn new_books(alloc: Global, config: Config) -> Result<(Books, Batch), AllocE
     }
 }
 
-/// The batch of these facts.
+/// The batches with that of these facts behind them, if they have one; and its text.
+fn with_told(
+    alloc: Global,
+    batches: Batches,
+    facts: &[Fact],
+) -> Result<(Batches, Batch), AllocError>
+    ensures more { IfOk result (λ r. r.0 ≡ batches ++ batch_of facts.now) }
+    ensures adds { IfOk result (λ r. Adds batches r.0 r.1) }
+{
+    let batch = gathered(alloc, facts)?;
+    if batch.is_empty() {
+        return Ok((batches, batch));
+    }
+    let batches = with_listed(alloc, batches, facts)?;
+    Ok((batches, batch))
+}
+
+/// The text of the batch of these facts.
 fn gathered(alloc: Global, facts: &[Fact]) -> Result<Batch, AllocError>
     ensures { IfOk result (λ b. Gathers facts.now b) }
 {
@@ -129,21 +142,29 @@ fn with_listed(alloc: Global, batches: Batches, facts: &[Fact]) -> Result<Batche
     requires { IsBatch (listed facts.now) }
     ensures { IfOk result (λ more. more ≡ batches ++ listed facts.now ∷ []) }
 {
-    let listed = listed_of(alloc, facts)?;
-    batches.with(listed.as_slice())
+    let kept = listed_of(alloc, facts)?;
+    batches.with(kept.as_slice())
 }
 
 /// Those of these facts that belong to a slot's list.
 fn listed_of(alloc: Global, facts: &[Fact]) -> Result<Facts, AllocError>
     ensures { IfOk result (λ l. l ≡ listed facts.now) }
 {
-    let mut listed = Facts::new(alloc);
+    let mut kept = Facts::new(alloc);
     for fact in facts {
-        if belongs(fact) {
-            listed.push_copy(fact)?;
-        }
+        keep(&mut kept, fact)?;
     }
-    Ok(listed)
+    Ok(kept)
+}
+
+/// A fact more, if it belongs to a slot's list.
+fn keep(kept: &mut Facts, fact: &Fact) -> Result<(), AllocError>
+    ensures { OnOk result (kept.new ≡ kept.old ++ listed (fact.now ∷ [])) }
+{
+    if belongs(fact) {
+        kept.push_copy(fact)?;
+    }
+    Ok(())
 }
 
 /// What a group of lines comes to, where settings are in force. The only error is want of memory.
@@ -171,6 +192,7 @@ fn hear_group(
     ensures books { IfOk result (λ r. r.0 ≡ grouped books (lines group.now)) }
     ensures adds { IfOk result (λ r. Adds books.log r.0.log r.1) }
     ensures heard { IfOk result (λ r. map answer_value r.2.items ≡ answers_all books.so_far (lines group.now)) }
+    ensures desk { IsDesk books }
 {
     all_are_scripts();
     all_go_on();
@@ -185,16 +207,18 @@ fn hear_group(
     } = books;
     let mut desk = desk;
     let mut heard = Vec::new(alloc);
-    let changed = hear_all(&mut desk, group, &mut heard)?;
-    if !changed {
+    if !hear_all(&mut desk, group, &mut heard)? {
+        let batch = Batch::new(alloc)?;
         let books = Books {
             desk,
             charter,
             batches,
             stores,
         };
-        return Ok((books, Batch::new(alloc)?, heard));
+        return Ok((books, batch, heard));
     }
+    drop(stores);
+    drop(charter);
     match carry(alloc, desk, batches) {
         Ok((books, batch)) => Ok((books, batch, heard)),
         Err(ResumeFault::OutOfMemory) => Err(AllocError),
@@ -203,10 +227,22 @@ fn hear_group(
 }
 
 impl Books {
-    /// Appends the answers' text.
+    /// Settings are in force.
+    pub fn has_settings(&self) -> bool
+        ensures yes { result ≡ true }
+        ensures some { (c : Script) × (self.now.so_far ≡ Some c) }
+    {
+        let _ = &self.desk;
+        true
+    }
+
+    /// Appends the texts of the answers to a group that these books stand behind.
     fn push_answers(&self, text: &mut Vec<u8>, heard: &[Answer]) -> Result<(), AllocError>
+        requires heard { AreOf self.now (map answer_value heard.now) }
         ensures { OnOk result (text.new.items ≡ text.old.items ++ flat_map (answer_text self.now) (map answer_value heard.now)) }
     {
+        done_is_right();
+        cuts_dont_matter();
         push_answers(text, &self.charter, &self.stores, heard)
     }
 }

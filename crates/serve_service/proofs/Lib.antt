@@ -1,3 +1,6 @@
 mod TextLaws
 mod FrameLaws
 mod QueueLaws
+mod BeginLaws
+mod OpenLaws
+mod SaidLaws

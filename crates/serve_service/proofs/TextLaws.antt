@@ -1,13 +1,12 @@
 -- The texts of a log, one more at a time, and what a crash leaves of them.
-use Rattle.std.proofs.Common.{◌≡◌, ◌⊎◌, ◌≤◌, ℕ, List, [], ◌∷◌, ◌++◌, length, take, inl, inr, refl, sym, ◌∙◌, ap, subst, arith, length-append}
+use Rattle.std.proofs.Common.{◌≡◌, ◌≤◌, ℕ, List, [], ◌∷◌, ◌++◌, length, inl, inr, refl, sym, subst, arith, length-append}
 use Rattle.std.specs.Prelude.{Bool, IsTrue}
 use Rattle.std.proofs.lemmas.List.{append-nil, take_all, take_at, take-append-le}
 use Rattle.yard_model.specs.Text.{Bytes}
 use Rattle.disk_log.specs.Frames.{Holds}
-use Rattle.disk_log.specs.Images.{Images, IsTimed, LeavesOnly}
+use Rattle.disk_log.specs.Images.{Images}
 use Rattle.disk_log.specs.Rest.{HoldsPrefix, IsBeforeOrAfter, Rests}
 use Rattle.disk_log.proofs.CommitLaws.{rests_hold}
-use Rattle.disk_log.proofs.Moments.{leaves_then, leaves_weaker}
 use Rattle.serve_service.specs.Services.{with_text}
 
 pub text_none : (texts : List Bytes) (t : Bytes) → t ≡ [] → with_text texts t ≡ texts
@@ -44,6 +43,13 @@ lifted texts more n c p = record {
   at_most = omega (arith, p.at_most, length-append texts more);
   holds = subst (λ l. Holds l c) (sym (take-append-le p.count texts more p.at_most)) p.holds;
 }
+
+pub of_more : (texts longer more : List Bytes) (n : ℕ) (c : Bytes) → longer ≡ texts ++ more → HoldsPrefix texts n c → HoldsPrefix longer n c
+of_more texts longer more n c is p = subst (λ l. HoldsPrefix l n c) (sym is) (lifted texts more n c p)
+
+-- some of none or more
+pub none_held : (texts more : List Bytes) (c : Bytes) → texts ≡ [] → Holds texts c → HoldsPrefix more 0 c
+none_held texts more c none holds = record { count = 0; at_least = omega arith; at_most = omega arith; holds = subst (λ l. Holds l c) none holds }
 
 pub lowered : (texts : List Bytes) (m n : ℕ) (c : Bytes) → n ≤ m → HoldsPrefix texts m c → HoldsPrefix texts n c
 lowered texts m n c le p = record { count = p.count; at_least = omega (arith, le, p.at_least); at_most = p.at_most; holds = p.holds }

@@ -1,5 +1,5 @@
 -- A log that a run goes on with, and those that it doesn't.
-use Rattle.std.specs.Prelude.{◌≡◌, ◌⊎◌, ◌<◌, ◌≤◌, ℕ, ◌+◌, Bool, List, [], ◌∷◌, ◌++◌, length, map, take, Option, Some, None, IsTrue}
+use Rattle.std.specs.Prelude.{◌≡◌, ◌⊎◌, ◌≤◌, ℕ, ◌+◌, Bool, List, [], ◌∷◌, ◌++◌, length, map, Some, IsTrue}
 use Rattle.std.specs.List.{flat_map}
 use Rattle.yard_model.specs.declared.charter.Config.{Config}
 use Rattle.yard_model.specs.declared.fact.Fact.{Fact}
@@ -18,7 +18,6 @@ use Rattle.serve_laws.specs.Restarts.{HoldsDesk}
 use Rattle.serve_laws.specs.Served.{Desk, config_words, desk_of, empty_desk, frames, grouped}
 use Rattle.serve_laws.specs.Queues.{sends_of}
 use Rattle.serve_laws.specs.Servings.{IsDesk, IsDone}
-use Rattle.serve_answers.specs.Told.{desk_at}
 
 -- a script with what these entries queue
 abbrev pub with_queued : Script → List Fact → Script
@@ -31,6 +30,10 @@ script_of config facts = record { config = config; orders = flat_map sends_of fa
 -- the settings' line, as it stands at a log's head
 abbrev pub head_line : Config → Bytes
 head_line config = line (config_words config)
+
+-- the texts of a log that begins with this head and has these batches
+abbrev pub texts_of : Bytes → List (List Fact) → List Bytes
+texts_of head batches = head ∷ map lines batches
 
 -- The desk that a log says: its settings, what its batches queue, and these, which may stand behind one another. None where it has no frame.
 pub record IsFound (d : Desk) : Type 0 where
@@ -59,7 +62,7 @@ abbrev pub IsForeignBehind : Bytes → List (List Fact) → ℕ → Type 0
 IsForeignBehind head batches frame =
     ((frame ≡ 1) × ((config : Config) → head ≡ head_line config → IsTrue (is_config config) → ⊥))
     ⊎ ((config : Config) × (head ≡ head_line config) × IsTrue (is_config config) × (k : ℕ) × (frame ≡ k + 1)
-        × ((IsHeard (script_of config (entries batches)) → ⊥) ⊎ IsForeign (script_of config (entries batches)) batches k))
+    × ((IsHeard (script_of config (entries batches)) → ⊥) ⊎ IsForeign (script_of config (entries batches)) batches k))
 
 -- a log with a frame that no run of `serve` leaves: of its head alone, where that is long, or of head and batches
 abbrev pub IsForeignFrame : Bool → Bytes → ℕ → Type 0
@@ -76,7 +79,11 @@ pub record IsSaid (head : Bytes) (batches : List (List Fact)) (d : Desk) : Type 
   pub taken : IsTrue (are_taken (script_of config (entries batches)) (entries batches))
   pub desk : d ≡ grouped (desk_of config batches) []
 
+-- what a crash leaves was there before, or some of the frames with what was left to do carried out, and no fewer than before
+abbrev pub LeftOff : Bytes → List (List Fact) → Images → Images → Type 0
+LeftOff head batches old new = LeavesOnly old new old.now ⊎ ((d : Desk) × IsSaid head batches d × LeavesOnly old new (HoldsPrefix (frames d) (length batches + 1)))
+
 -- all that these batches queue is a script that was heard, or with some batch it isn't
 abbrev pub QueuedIn : Config → List (List Fact) → Queued → Type 0
 QueuedIn config batches (queued.All desk) = desk ≡ script_of config (entries batches)
-QueuedIn config batches (queued.Refused k) = IsHeard (script_of config (entries batches)) → ⊥
+QueuedIn config batches (queued.Refused k) = (k ≤ length batches) × (IsHeard (script_of config (entries batches)) → ⊥)

@@ -6,9 +6,9 @@ ghost use Rattle.serve_laws.specs.Hearings.{IsHeard};
 ghost use Rattle.serve_books.specs.Books.{Adds};
 ghost use Rattle.serve_service.specs.Openings.{IsForeignBehind, IsSaid, QueuedIn, with_queued};
 
-use serve_books::{Books, carry};
 use crate::fault::OpenFault;
 use disk_log::{Batch, Batches};
+use serve_books::{Books, carry};
 use serve_desk::Desk;
 use serve_lines::read_head;
 use std::alloc::{AllocError, Global};
@@ -22,7 +22,8 @@ enum Queued {
     Refused(u32),
 }
 
-/// The books of a log that begins with this line and has these batches; and what is to be committed.
+/// The books of a log that begins with this line and has these batches; and what is to be committed. As many batches as
+/// there are numbers of frames count as want of memory.
 pub(crate) fn books_of(
     alloc: Global,
     head: &[u8],
@@ -38,8 +39,14 @@ pub(crate) fn books_of(
     let Some(config) = read_head(alloc, head)? else {
         return Err(OpenFault::Foreign { frame: 1 });
     };
+    if batches.len() == u32::MAX {
+        return Err(OpenFault::OutOfMemory);
+    }
     match queued_in(alloc, config, &batches)? {
-        Queued::All(desk) => Ok(carry(alloc, desk, batches)?),
+        Queued::All(desk) => {
+            let _ = desk.config();
+            Ok(carry(alloc, desk, batches)?)
+        }
         Queued::Refused(batch) => Err(OpenFault::Foreign { frame: batch + 1 }),
     }
 }
@@ -50,9 +57,9 @@ fn queued_in(alloc: Global, config: Config, batches: &Batches) -> Result<Queued,
     ensures { IfOk result (λ q. QueuedIn config batches.now q) }
 {
     let mut desk = Desk::new(alloc, config)?;
-    for batch in 1..=batches.len() {
-        if !enter_all(&mut desk, batches.get(batch))? {
-            return Ok(Queued::Refused(batch));
+    for k in 0..batches.len() {
+        if !enter_all(&mut desk, batches.get(k + 1))? {
+            return Ok(Queued::Refused(k + 1));
         }
     }
     Ok(Queued::All(desk))

@@ -1,23 +1,26 @@
 //! What is kept between two groups, and a group from its bytes to the text of its answers.
-ghost use Rattle.std.specs.Prelude.{◌≡◌, ◌<◌, ◌≤◌, ℕ, [], ◌∷◌, Err, IfOk, IsTrue, OnErr, length, not};
+ghost use Rattle.std.specs.Prelude.{◌≡◌, ◌<◌, ◌≤◌, ℕ, ◌+◌, [], ◌∷◌, Err, IfOk, IsTrue, OnErr, length, not};
 ghost use Rattle.std.specs.Str.Lines.{lines};
 ghost use Rattle.yard_model.specs.Script.{is_config};
 ghost use Rattle.yard_model.specs.Text.{Bytes};
 ghost use Rattle.disk_log.specs.Images.{LeavesOnly};
 ghost use Rattle.disk_log.specs.Rest.{HoldsPrefix, Rests};
 ghost use Rattle.disk_log.specs.Headed.{IsHeadDamaged};
+ghost use Rattle.disk_log.specs.Spelled.{AreBatches};
 ghost use Rattle.serve_laws.specs.Served.{answers, empty_desk, frames, grouped};
 ghost use Rattle.serve_answers.specs.Told.{begun};
-ghost use Rattle.serve_service.specs.Openings.{Begins, IsForeignFrame, LeftBy, head_line};
+ghost use Rattle.serve_service.specs.Openings.{Begins, IsForeignBehind, IsForeignFrame, IsSaid, LeftBy, LeftOff, head_line, texts_of};
 ghost use Rattle.serve_service.specs.Services.{has_settings};
 
-use serve_books::{Books, Carried, carry_group, new_books};
 use crate::commit::commit;
-use serve_answers::{First, first_line};
-use crate::opening::books_of;
 use crate::fault::OpenFault;
-use disk_log::{Batch, Disk, Headed, Log, open_headed};
+use crate::opening::books_of;
+use disk_log::{Batch, Batches, Disk, Headed, Log, open_headed};
 use log_orders::CommitFault;
+use serve_answers::{First, first_line};
+use serve_books::{Books, Carried, carry_group, new_books};
+use serve_laws::hearing::all_go_on;
+use serve_laws::serving::{grouped_is_desk, log_stays};
 use serve_lines::head_text;
 use std::alloc::{AllocError, Global};
 use std::marker::Model;
@@ -50,17 +53,12 @@ impl Service {
         ensures cause { result ≡ Err OpenFault.Failed → D.faults disk.old < D.faults disk.new }
         ensures never_falls { D.faults disk.old ≤ D.faults disk.new }
     {
+        grouped_is_desk();
+        log_stays();
         let Headed { log, head, batches } = open_headed(alloc, disk)?;
         match head {
             None => Ok(Service { books: None, log }),
-            Some(line) => {
-                let (books, batch) = books_of(alloc, line.bytes(), batches)?;
-                let log = commit(log, disk, &batch)?;
-                Ok(Service {
-                    books: Some(books),
-                    log,
-                })
-            }
+            Some(line) => go_on(alloc, line.bytes(), batches, log, disk),
         }
     }
 
@@ -68,7 +66,10 @@ impl Service {
     pub fn has_settings(&self) -> bool
         ensures { result ≡ has_settings self.now.desk }
     {
-        self.books.is_some()
+        match &self.books {
+            Some(books) => books.has_settings(),
+            None => false,
+        }
     }
 
     /// Serves a group of whole lines, one line alone until settings are in force; the text of its answers, which stands
@@ -87,7 +88,7 @@ impl Service {
         // A crash at any moment of the call leaves the frames before, or some of those that the group leads to.
         ensures any_moment { IsTrue D.tells → LeavesOnly (D.images disk.old) (D.images disk.new)
             (HoldsPrefix (frames (grouped self.desk (lines group.now))) (length (frames self.desk))) }
-            ensures cause { result ≡ Err CommitFault.Failed → D.faults disk.old < D.faults disk.new }
+        ensures cause { result ≡ Err CommitFault.Failed → D.faults disk.old < D.faults disk.new }
         ensures never_falls { D.faults disk.old ≤ D.faults disk.new }
     {
         let Service { books, log } = self;
@@ -96,6 +97,33 @@ impl Service {
             None => serve_first(alloc, log, group, disk),
         }
     }
+}
+
+/// Goes on with a log that begins with this line and has these batches.
+fn go_on<D: Disk>(
+    alloc: Global,
+    head: &[u8],
+    batches: Batches,
+    log: Log,
+    disk: &mut D,
+) -> Result<Service, OpenFault>
+    requires are { AreBatches batches }
+    requires rests { Rests D.tells log (D.content disk.old) (D.images disk.old) (texts_of head.now batches) }
+    ensures said { IfOk result (λ s. IsSaid head.now batches s.desk) }
+    ensures rests { IfOk result (λ s. Rests D.tells s.end (D.content disk.new) (D.images disk.new) (frames s.desk)) }
+    ensures leaves { IfOk result (λ s. IsTrue D.tells → LeavesOnly (D.images disk.old) (D.images disk.new) (HoldsPrefix (frames s.desk) (length batches + 1))) }
+    ensures left { OnErr result (IsTrue D.tells → LeftOff head.now batches (D.images disk.old) (D.images disk.new)) }
+    ensures foreign { (frame : ℕ) → result ≡ Err (OpenFault.Foreign frame) → IsForeignBehind head.now batches frame }
+    ensures whole { (at : ℕ) → result ≡ Err (OpenFault.Damaged at) → ⊥ }
+    ensures cause { result ≡ Err OpenFault.Failed → D.faults disk.old < D.faults disk.new }
+    ensures never_falls { D.faults disk.old ≤ D.faults disk.new }
+{
+    let (books, batch) = books_of(alloc, head, batches)?;
+    let log = commit(log, disk, &batch)?;
+    Ok(Service {
+        books: Some(books),
+        log,
+    })
 }
 
 /// Serves a group, where settings are in force.
@@ -115,6 +143,9 @@ fn serve_on<D: Disk>(
     ensures cause { result ≡ Err CommitFault.Failed → D.faults disk.old < D.faults disk.new }
     ensures never_falls { D.faults disk.old ≤ D.faults disk.new }
 {
+    all_go_on();
+    log_stays();
+    let _ = books.has_settings();
     let Carried { books, batch, text } = carry_group(alloc, books, group)?;
     let log = commit(log, disk, &batch)?;
     Ok((

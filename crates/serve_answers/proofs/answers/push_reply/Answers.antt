@@ -1,4 +1,4 @@
-use Rattle.std.proofs.Common.{◌≡◌, [], ◌∷◌, ◌++◌, ap, sym, ◌∙◌}
+use Rattle.std.proofs.Common.{◌≡◌, ◌∷◌, ◌++◌, ap, sym, ◌∙◌}
 use Rattle.std.specs.Prelude.{codes, decimal, filter}
 use Rattle.std.proofs.lemmas.Result.{on_ok_weaker}
 use Rattle.yard_model.specs.Script.{setting}

@@ -1,5 +1,5 @@
 use Rattle.std.proofs.Common.{◌∙◌, ◌-◌, arith, sym}
-use Rattle.serve_answers.proofs.RecordLaws.{found_at, none_at}
+use Rattle.serve_answers.proofs.RecordLaws.{found_at}
 use Rattle.serve_answers.proofs.records.last_reply.Goals as goal
 
 pub returns-in-Some : goal.returns-in-Some

@@ -1,4 +1,4 @@
-use Rattle.std.proofs.Common.{◌≡◌, ◌+◌, ◌≤◌, ◌*◌, drop, length}
+use Rattle.std.proofs.Common.{◌≡◌, ◌+◌, ◌≤◌, drop, length}
 use Rattle.std.specs.Prelude.{IsTrue, fold}
 use Rattle.yard_model.specs.Behaviour.{after_record, folded}
 use Rattle.trace_text.specs.Foldable.{are_foldable}

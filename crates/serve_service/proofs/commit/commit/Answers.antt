@@ -1,5 +1,4 @@
-use Rattle.std.proofs.Common.{◌≡◌, ◌++◌, ◌∷◌, [], List, ℕ, true, false, length, sym, subst}
-use Rattle.yard_model.specs.Text.{Bytes}
+use Rattle.std.proofs.Common.{◌≡◌, [], true, false, length, sym, subst}
 use Rattle.disk_log.specs.Images.{LeavesOnly}
 use Rattle.disk_log.specs.Rest.{HoldsPrefix, Rests}
 use Rattle.disk_log.proofs.CommitLaws.{rests_hold}
@@ -39,5 +38,5 @@ returns-clause-any_moment g c texts rests told =
 pub returns-clause-ok : goal.returns-clause-ok
 returns-clause-ok g c texts rests =
     let some : c.args.batch.now ≡ [] → ⊥ = λ none. let t : c.is_empty.result ≡ true = c.is_empty.ensures.empty.1 none in let f : c.is_empty.result ≡ false = c.if-is_empty.false in cc in
-    subst (Rests g.D.Disk.tells c.in_ok-commit.next (g.D.Disk.content c.commit.new.disk) (g.D.Disk.images c.commit.new.disk)) (sym (text_some texts c.args.batch.now some))
+    subst (Rests g.D.Disk.tells c.in_ok-commit.field-0 (g.D.Disk.content c.commit.new.disk) (g.D.Disk.images c.commit.new.disk)) (sym (text_some texts c.args.batch.now some))
     (c.in_ok-commit.ensures.ok texts rests)

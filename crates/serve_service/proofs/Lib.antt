@@ -4,3 +4,4 @@ mod QueueLaws
 mod BeginLaws
 mod OpenLaws
 mod SaidLaws
+mod FaultLaws

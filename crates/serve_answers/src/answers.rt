@@ -131,7 +131,8 @@ fn push_reply(
     requires recorded { IsRecorded charter.now (lists_at charter.now.config stores.now.places) producer entity.now number }
     requires script { stores.now.script ≡ charter.now }
     ensures { OnOk result (text.new.items ≡ text.old.items ++ line (codes "done" ∷ decimal producer ∷ entity.now ∷ decimal number
-        ∷ reply_words (reply_at producer number (journal entity.now (shard_list (lists_at charter.now.config stores.now.places) (shard_of (setting charter.now) entity.now)))))) }
+        ∷ reply_words (reply_at producer number
+        (journal entity.now (shard_list (lists_at charter.now.config stores.now.places) (shard_of (setting charter.now) entity.now)))))) }
 {
     let shard = shard_of(entity, charter.config().shards);
     let reply = reply_of(hints, stores.shard(shard), producer, entity, number);

@@ -452,12 +452,12 @@ pub(crate) struct Case<'a> {
     pub(crate) left: &'a [u8],
 }
 
-pub(crate) const CASES: [Case<'static>; 4] = [
+pub(crate) const CASES: [Case<'static>; 3] = [
     Case {
         log: b"",
         lines: FIRST,
         again: FIRST,
-        is_slow: false,
+        is_slow: true,
         groups: 2,
         calls: 12,
         answers: FIRST_ANSWERS,
@@ -486,18 +486,20 @@ pub(crate) const CASES: [Case<'static>; 4] = [
         answers_again: MORE_AGAIN_ANSWERS,
         left: MORE_AGAIN_LOG,
     },
-    Case {
-        log: b"",
-        lines: ACCOUNTS,
-        again: ACCOUNTS,
-        is_slow: true,
-        groups: 8,
-        calls: 32,
-        answers: ACCOUNTS_ANSWERS,
-        answers_again: ACCOUNTS_ANSWERS,
-        left: ACCOUNTS_LOG,
-    },
 ];
+
+/// A longer one.
+pub(crate) const LONGER: Case<'static> = Case {
+    log: b"",
+    lines: ACCOUNTS,
+    again: ACCOUNTS,
+    is_slow: true,
+    groups: 8,
+    calls: 32,
+    answers: ACCOUNTS_ANSWERS,
+    answers_again: ACCOUNTS_ANSWERS,
+    left: ACCOUNTS_LOG,
+};
 
 /// Behind a line of many bytes: nothing, its end, or its end with a CR; and two lines.
 const BEHIND: &[u8] = b"\nconfig nodes=1 shards=1 producers=1\nsend 1 c1 1 add 5\n";

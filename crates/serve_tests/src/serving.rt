@@ -3,7 +3,7 @@
 ghost use Rattle.std.specs.Prelude.{◌<◌};
 
 use crate::served::{
-    CASES, CUTS, Case, FIRST, FIRST_LOG, FOREIGN, HOSTILE, LONG, Long, NEXT_LOG, ROWS, Row,
+    CASES, CUTS, Case, FIRST, FIRST_LOG, FOREIGN, HOSTILE, LONG, LONGER, Long, NEXT_LOG, ROWS, Row,
 };
 use disk_log::MemDisk;
 use serve_run::{Status, serve};
@@ -499,6 +499,7 @@ fn each_write_fails(rt: HostRuntime) -> Result<(), Fail> {
 fn each_stop(rt: HostRuntime) -> Result<(), Fail> {
     let mut sink = Drain::new(rt.alloc());
     assert!(rt; all_fail_in_turn(rt.alloc(), Calls::Disk, &mut sink)?);
+    assert!(rt; fail_in_turn(rt.alloc(), &LONGER, Calls::Disk, &mut sink)?);
     Ok(())
 }
 

@@ -10,10 +10,10 @@ use yard_model::{Incarnation, NodeNo};
 
 /// How many are told, of at most four.
 fn told<J: Run>(views: &Views<J>) -> u8 {
-    let mut count = 0;
+    let mut count = 0_u8;
     for place in 0..4_usize {
         if views.packet(place).is_some() {
-            count += 1;
+            count = count.saturating_add(1);
         }
     }
     count

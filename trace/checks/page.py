@@ -152,6 +152,22 @@ WALK = """(async moves => {
 })(%s)"""
 
 
+# leads to each pane as its key does, and gives those whose titles aren't in view then
+LEAD = """(async () => {
+  const faults = [], wait = () => new Promise(done => requestAnimationFrame(() => requestAnimationFrame(() => requestAnimationFrame(done))));
+  for (const of of framed) {
+    document.activeElement.blur();
+    document.body.dispatchEvent(new KeyboardEvent('keydown', { key: String(framed.indexOf(of) + 1), bubbles: true }));
+    await wait();
+    const title = document.getElementById(`${of}-title`).getBoundingClientRect(), line = document.getElementById('now').getBoundingClientRect();
+    const top = getComputedStyle(document.getElementById('now')).position === 'sticky' ? line.bottom : 0;
+    const foot = document.querySelector('.controls').getBoundingClientRect().top;
+    if (title.top < top || title.bottom > foot) faults.push(`the title of ${of} is at ${title.top}, and not from ${top} to ${foot}`);
+  }
+  return faults;
+})()"""
+
+
 def by_item(words: List[List[str]]) -> Dict[str, Dict[str, Shown]]:
     found: Dict[str, Dict[str, Shown]] = {}
     for of, item, word, text, by in words:
@@ -204,6 +220,7 @@ def look_at(page: Browser, name: str, source: Source, path: str) -> List[str]:
         page.be(width, 844, False)
         if page.run(f'document.documentElement.scrollWidth > {width}'):
             found.append(f'{name}: wider than a window of {width} pixels')
+        found += [f'{name}, {width} pixels wide: {fault}' for fault in page.run(LEAD) or ()]      # type: ignore[attr-defined]
     page.be(1280, 900, False)
     found += [f'{name}: {error}' for error in page.errors]
     page.errors.clear()
@@ -212,6 +229,12 @@ def look_at(page: Browser, name: str, source: Source, path: str) -> List[str]:
 
 # ---- what keys do
 LINE, FOCUS, ORDER = 'lineOf(now.row)', 'document.activeElement.id', "document.getElementById('sentence').textContent"
+FOLLOW = """new Promise(done => {
+  const link = document.querySelector('%s'), until = Date.now() + 9000;
+  const look = () => `#${lineOf(now.row)}` === link.getAttribute('href') || Date.now() > until ? done(lineOf(now.row)) : setTimeout(look, 20);
+  link.click();
+  look();
+})"""
 LISTED = "[...document.querySelectorAll('#room .number')].map(it => +it.textContent)"
 # of each page: the line at which one begins, the keys, what is looked at, and what it is then. A word is typed letter by letter, `_` as a space
 KEYS: Dict[str, List[Tuple[int, str, str, object]]] = {
@@ -222,7 +245,7 @@ KEYS: Dict[str, List[Tuple[int, str, str, object]]] = {
         (14, '', "document.querySelector('#breaks').textContent", ''),
         (2, '', "[...document.querySelectorAll('#room .breaks .number')].map(it => +it.textContent)", [15]),
         (2, '', "[...document.querySelectorAll('#verdict a')].map(it => it.getAttribute('href'))", ['#15', '#9']),
-        (2, '', "(document.querySelector('#verdict a').click(), new Promise(done => setTimeout(() => done(lineOf(now.row)), 200)))", 15),
+        (2, '', FOLLOW % '#verdict a', 15),
         (15, '', "document.querySelector('#entity [data-word=live]').textContent.trim()", '1.1'),
         (15, '', "[...document.querySelectorAll('#diagram .lease.entity title')].map(it => it.textContent)", ['c1 is live at 1.1', 'c1 is live at 2.1']),
         (2, '', "[...document.querySelectorAll('#legend span')].map(it => it.textContent)", [
@@ -332,9 +355,10 @@ def main() -> int:
     paths: Dict[str, str] = {}
     with tempfile.TemporaryDirectory() as folder, Browser() as page:
         for name, script, trace in cases(player):
+            case = case_of(read_source(trace, script))
             begun = time.process_time()
             source = read_source(trace, script)
-            text, _ = page_of(source, f'A trace of {name}')
+            text, _ = page_of(source, f'A trace of {name}', None, lambda: case)
             seconds = time.process_time() - begun
             paths[name] = os.path.join(folder, f'{name}.html')
             with open(paths[name], 'w', encoding='utf-8') as file:

@@ -64,7 +64,12 @@ function play(on = !now.timer) {
 function lead(of) {
   const title = of ? $(`${of}-title`) : $('now');
   if (!title) return;
-  if (of) title.scrollIntoView({ block: 'start' }); else window.scrollTo(0, 0);
+  // (on a narrow page the line stands above the panes; and those that come into view then get their true height)
+  const isAbove = getComputedStyle($('now')).position === 'sticky';
+  document.documentElement.style.scrollPaddingTop = isAbove ? `${$('now').offsetHeight + 28}px` : '';
+  const show = () => title.scrollIntoView({ block: 'start' });
+  if (of) show(); else window.scrollTo(0, 0);
+  if (of) requestAnimationFrame(() => requestAnimationFrame(show));
   title.focus({ preventScroll: true });
 }
 
@@ -230,6 +235,8 @@ function pressed(event) {
 }
 
 function clicked(event) {
+  // (where a link has the address that stands there already, the browser says nothing)
+  if (event.target.closest('a[href^="#"]')?.getAttribute('href') === location.hash) return readHash();
   const at = event.target.closest('[data-row], [data-packet], [data-jump], [data-whole], [data-to], [data-node]');
   if (!at) return;
   if (at.dataset.node && !event.target.closest('summary')) return;

@@ -313,7 +313,7 @@ class Judge:
     def start(self, x, e, **_):
         broken = first_of(
             (lambda: e in self.script.names, NO_NAME),
-            (lambda: e not in self.live, "two live incarnations"),
+            (lambda: self.live.get(e, x) == x, "two live incarnations"),
             (lambda: self.shard(e).holder == x, "live without its shard's lease"),
         )
         if broken is None:

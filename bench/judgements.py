@@ -3,7 +3,8 @@
 
 The traces are those of crates/known_replays, whole, and mutated ones: with one line cut, doubled, swapped with another, brought
 from another trace, or with one number or name changed. Of each sentence there are two: a short one of loud lines alone, and a
-late one of all lines. Each is cut off a few lines behind the first line that breaks it. The answers are those of judge.py, which stands beside this file and was written apart from the program.
+late one of all lines. Each is cut off a few lines behind the first line that breaks it. In one an entity starts twice where it is,
+which is safe. The answers are those of judge.py, which stands beside this file and was written apart from the program.
 
     index       NAME|SCRIPT|STATUS|ANSWER: the input is SCRIPT.in, a line `trace`, and NAME.trace
     hostile     STATUS|ANSWER|INPUT: the whole input
@@ -169,6 +170,14 @@ def mutated(traces):
         yield Case(f"still_safe_{how}", it.it.name, it.text, *judge.answer_of(it.it.script, it.text))
 
 
+def started_again(traces):
+    """The shortest trace with a start, which stands there twice: the entity is live where it was."""
+    it = min((it for it in traces if any(line.startswith("start ") for line in it.loud)), key=lambda it: (len(it.loud), it.name))
+    at = next(at for at, line in enumerate(it.loud) if line.startswith("start "))
+    text = text_of(it.loud[: at + 1] + it.loud[at:])
+    return Case("started_again", it.name, text, *judge.answer_of(it.script, text))
+
+
 # ---- Hostile inputs
 
 FIRST = "config nodes=1 shards=1 producers=1\nsend 1 c1 add 5\n"
@@ -202,7 +211,7 @@ HOSTILE = [
     "queued 32 c1 1 add 65535\n", "active 1.1 c1 4294967295 0\n", "active 16.4294967295 c1 0 18446744073709551615\n", "active 1.1 c1 0 none\n", "active 1.1 c1 0 closed\n",
     "active 1.1 c1 0 open 0\n", "active 1.1 c1 0 open 18446744073709551615 memo 65535\n", "active 1.1 c1 0 open -\n", "active 1.1 c1 0 out 65535:65535,2:3,2:0\n",
     "active 1.1 c1 0 open " + ",".join(["1:1"] * 16) + "\n",
-    GRANT + "start 1.1 c1\nstart 1.1 c1\n", COORDINATOR + "registered 16.1\n", COORDINATOR + "registered 2.1\n",
+    GRANT + "start 1.1 c1\nstart 2.1 c1\n", COORDINATOR + "registered 16.1\n", COORDINATOR + "registered 2.1\n",
     COORDINATOR + "registered 1.1\nregistered 1.1\n",
     COORDINATOR + "registered 1.1\nallocated 1 1.1\n", COORDINATOR + "allocated 127 2.1\n", COORDINATOR + "allocated 0 1.1\n", COORDINATOR + "deallocated 1\n",
     COORDINATOR + "deallocated 0\n", "registered 2.1\n", "allocated 1 1.1\n", "deallocated 1\n",
@@ -210,6 +219,8 @@ HOSTILE = [
     # what is shown of a line: 200 bytes, without its LF, as they came
     "b" * 199 + "\n", "b" * 200 + "\n", "b" * 201 + "\n", "b" * 4_096 + "\n", "b" * 4_097, "b" * 5_000 + "\n", "sent " + "b" * 4_091, "sent " + "b" * 4_092,
     "\xff" * 150 + " " * 100 + "|\n", "\r\n", "bb\x00\n" + GRANT, "reshard 2 1\n",
+    # a life that begins again where it is, and ends once
+    GRANT + "start 1.1 c1\nstart 1.1 c1\nstop 1.1 c1\nfreed shard:0 1 released\n",
     # a life that ends where none began; the other version, again and again
     "gone 16.4294967295\nstop 1.1 nobody\nwritefailed 2.1 c1\nupgrade 2\nupgrade 2\n",
 ]
@@ -249,7 +260,7 @@ def files():
     traces = known()
     source, shown = example(EXAMPLE)
     whole = [Case(it.name, it.name, it.text, *judge.answer_of(it.script, it.text)) for it in traces]
-    cases = [*whole, shown, *mutated(traces)]
+    cases = [*whole, shown, *mutated(traces), started_again(traces)]
     made = {f"data/{EXAMPLE}.in": source, **{f"data/{it.name}.in": it.source for it in traces}}
     made.update({f"data/{it.name}.trace": it.trace for it in cases})
     made["data/index"] = text_of(it.line() for it in cases)

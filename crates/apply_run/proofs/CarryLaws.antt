@@ -8,9 +8,10 @@ use Rattle.yard_model.specs.Lawful.{lawful}
 use Rattle.yard_model.specs.Script.{Script, is_upgrade, is_version}
 use Rattle.yard_model.specs.Settled.{settled}
 use Rattle.yard_model.specs.SlotLists.{SlotLists}
-use Rattle.yard_model.specs.World.{Made, all_sends, is_any_up, settled_from}
+use Rattle.yard_model.specs.World.{Made, all_sends, given_world, is_any_up, settled_from, wire_limit}
 use Rattle.shard_store.specs.declared.store.Store.{Store}
 use Rattle.shard_store.specs.Stores.{lists_at}
+use Rattle.settle_laws.specs.Settles.{most_deliveries}
 use Rattle.world_sim.specs.Given.{Given, IsGiven}
 use Rattle.world_sim.specs.Played.{Played, WasSettled, made_at}
 use Rattle.log_resume.specs.Left.{is_confirmed_all}
@@ -28,8 +29,8 @@ first_version c = by (list_any (λ (l : Line). is_upgrade l.order) c.orders)
     by true = refl
     by false = refl
 
-pub may_settle : (c : Script) (version : ℕ) (lists : SlotLists) → version ≡ 1 → length c.orders ≤ 20000 → MayGoOn c lists → IsGiven c version lists
-may_settle c version lists first few on = subst (λ v. IsGiven c v lists) (sym first) (resume.may_settle c 1 lists (first_version c) few on)
+pub may_settle : (c : Script) (version : ℕ) (lists : SlotLists) → version ≡ 1 → most_deliveries (given_world c 1 lists) ≤ wire_limit → MayGoOn c lists → IsGiven c version lists
+may_settle c version lists first fits on = subst (λ v. IsGiven c v lists) (sym first) (resume.may_settle c 1 lists (first_version c) fits on)
 
 -- what the world of given stores settles to
 module _ (c : Script) (version : ℕ) (given : SlotLists) (w v : Played) (before after : List Fact) (d : Script) (places : List (Option Store)) (first : version ≡ 1)

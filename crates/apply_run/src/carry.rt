@@ -1,10 +1,11 @@
 //! What a script sends is carried out behind a log's batches.
-ghost use Rattle.std.specs.Prelude.{◌≡◌, ◌≤◌, ℕ, true, [], ◌++◌, Err, IfOk, OnOk, length, if◌then◌else◌};
+ghost use Rattle.std.specs.Prelude.{◌≡◌, ◌≤◌, ℕ, true, [], ◌++◌, Err, IfOk, OnOk, fold, length, if◌then◌else◌};
+ghost use Rattle.yard_model.specs.Era.{opening_of};
 ghost use Rattle.yard_model.specs.Lawful.{lawful};
-ghost use Rattle.yard_model.specs.Script.{is_version};
-ghost use Rattle.yard_model.specs.World.{settled_from};
+ghost use Rattle.yard_model.specs.World.{given_world, number_step, settled_from, wire_limit};
+ghost use Rattle.settle_laws.specs.Settles.{most_deliveries};
 ghost use Rattle.shard_store.specs.Stores.{lists_at};
-ghost use Rattle.log_resume.specs.Restored.{IsForeign, MayGoOn, are_taken, entries};
+ghost use Rattle.log_resume.specs.Restored.{IsForeign, MayGoOn, are_taken, entries, restored};
 ghost use Rattle.apply_run.specs.Applying.{lists_behind, told_behind};
 
 use apply_laws::applying::{confirmed_is_done, restored_is_done};
@@ -12,10 +13,11 @@ use behaviour_by_kind::ByKind;
 use behaviour_core::Behaviour;
 use disk_log::Batches;
 use log_resume::{Restored, ResumeFault, restore};
+use settle_laws::worlds::few_orders_fit;
 use shard_store::Stores;
 use std::alloc::{AllocError, Global};
 use trace_notes::{Notes, Told};
-use world_sim::World;
+use world_sim::{World, greatest_number};
 use yard_model::{Charter, Fact, Facts};
 
 /// Carries out what the script, which has at most 20,000 orders, sends and the batches don't have recorded and confirmed:
@@ -31,6 +33,26 @@ pub fn carry_out<N: Notes>(
     out: &mut Told<N>,
 ) -> Result<Stores, ResumeFault>
     requires few { length charter.now.orders ≤ 20000 }
+    ensures script { IfOk result (λ stores. stores.script ≡ charter.now) }
+    ensures lists { IfOk result (λ stores. lists_at charter.now.config stores.places ≡ lists_behind charter.now batches.now) }
+    ensures lawful { IfOk result (λ stores. lawful charter.now (lists_at charter.now.config stores.places) ≡ true) }
+    ensures taken { OnOk result (are_taken charter.now (entries batches.now) ≡ true) }
+    ensures told { OnOk result (out.new ≡ out.old ++ told_behind charter.now batches.now) }
+    ensures foreign { (k : ℕ) → result ≡ Err (ResumeFault.Foreign k) → IsForeign charter.now batches.now k }
+{
+    charter.config();
+    few_orders_fit();
+    carry_within(alloc, charter, batches, out)
+}
+
+/// The same of any script, where the wire has room for the packets of the settling.
+pub fn carry_within<N: Notes>(
+    alloc: Global,
+    charter: &Charter,
+    batches: &Batches,
+    out: &mut Told<N>,
+) -> Result<Stores, ResumeFault>
+    requires { most_deliveries (given_world charter.now 1 (restored charter.now batches.now)) ≤ wire_limit }
     ensures script { IfOk result (λ stores. stores.script ≡ charter.now) }
     ensures lists { IfOk result (λ stores. lists_at charter.now.config stores.places ≡ lists_behind charter.now batches.now) }
     ensures lawful { IfOk result (λ stores. lawful charter.now (lists_at charter.now.config stores.places) ≡ true) }
@@ -54,7 +76,7 @@ fn finish<N: Notes>(
     freed: &[Fact],
     out: &mut Told<N>,
 ) -> Result<Stores, AllocError>
-    requires few { length charter.now.orders ≤ 20000 }
+    requires fits { most_deliveries (given_world charter.now 1 (lists_at charter.now.config restored.stores.places)) ≤ wire_limit }
     requires script { restored.stores.script ≡ charter.now }
     requires go_on { MayGoOn charter.now (lists_at charter.now.config restored.stores.places) }
     ensures script { IfOk result (λ stores. stores.script ≡ charter.now) }
@@ -69,8 +91,7 @@ fn finish<N: Notes>(
         return Ok(restored.stores);
     }
     tell_all(freed, out)?;
-    let behaviour = ByKind::new(charter.config().kind);
-    settle(alloc, charter, behaviour, restored.stores, out)
+    settle_anew(alloc, charter, restored.stores, out)
 }
 
 /// Tells these facts. The only error is want of memory.
@@ -83,18 +104,14 @@ fn tell_all<N: Notes>(facts: &[Fact], out: &mut Told<N>) -> Result<(), AllocErro
     Ok(())
 }
 
-/// The stores that these settle to, of entities that behave so; tells all that happens.
-#[tactic(auto, using(crate::proofs::CarryLaws::may_settle))]
-fn settle<B: Behaviour + Copy + Drop, N: Notes>(
+/// The stores that these settle to; tells all that happens.
+fn settle_anew<N: Notes>(
     alloc: Global,
     charter: &Charter,
-    behaviour: B,
     stores: Stores,
     out: &mut Told<N>,
 ) -> Result<Stores, AllocError>
-    requires kind { B.kind_of behaviour ≡ charter.now.config.kind }
-    requires version { B.version_of behaviour ≡ 1 }
-    requires few { length charter.now.orders ≤ 20000 }
+    requires fits { most_deliveries (given_world charter.now 1 (lists_at charter.now.config stores.places)) ≤ wire_limit }
     requires script { stores.script ≡ charter.now }
     requires go_on { MayGoOn charter.now (lists_at charter.now.config stores.places) }
     ensures script { IfOk result (λ s. s.script ≡ charter.now) }
@@ -103,12 +120,67 @@ fn settle<B: Behaviour + Copy + Drop, N: Notes>(
     ensures lawful { IfOk result (λ s. lawful charter.now (lists_at charter.now.config s.places) ≡ true) }
     ensures told { OnOk result (out.new ≡ out.old ++ (settled_from charter.now 1 (lists_at charter.now.config stores.places)).facts) }
 {
-    let mut world = World::from_stores(alloc, charter, behaviour, stores)?;
+    let own = charter.copy()?;
+    let number = greatest_number(&stores, charter.config().shards, charter.config().producers);
+    let (last, settled) = carry_on(alloc, own, stores, number, out)?;
+    drop(last);
+    Ok(settled)
+}
+
+/// The stores that these settle to, whose script goes on where it stands, on node 1 past the greatest number of its
+/// incarnations in them (`world_sim: greatest_number`); tells all that happens, and gives the charter back. No list is
+/// read, and the charter isn't copied. The only error is want of memory: then a beginning of what happens was told, and
+/// charter and stores are gone.
+pub fn carry_on<N: Notes>(
+    alloc: Global,
+    charter: Charter,
+    stores: Stores,
+    number: u32,
+    out: &mut Told<N>,
+) -> Result<(Charter, Stores), AllocError>
+    requires fits { most_deliveries (given_world charter 1 (lists_at charter.config stores.places)) ≤ wire_limit }
+    requires script { stores.script ≡ charter }
+    requires go_on { MayGoOn charter (lists_at charter.config stores.places) }
+    requires number { (v : ℕ) → number ≡ fold number_step 0 (opening_of v (lists_at charter.config stores.places)) }
+    ensures charter { IfOk result (λ r. r.0 ≡ charter) }
+    ensures script { IfOk result (λ r. r.1.script ≡ charter) }
+    ensures lists { IfOk result (λ r. lists_at charter.config r.1.places ≡
+        (settled_from charter 1 (lists_at charter.config stores.places)).world.lists) }
+    ensures lawful { IfOk result (λ r. lawful charter (lists_at charter.config r.1.places) ≡ true) }
+    ensures told { OnOk result (out.new ≡ out.old ++ (settled_from charter 1 (lists_at charter.config stores.places)).facts) }
+{
+    let behaviour = ByKind::new(charter.config().kind);
+    settle(alloc, charter, behaviour, stores, number, out)
+}
+
+/// The same, of entities that behave so.
+#[tactic(auto, using(crate::proofs::CarryLaws::may_settle))]
+fn settle<B: Behaviour + Copy + Drop, N: Notes>(
+    alloc: Global,
+    charter: Charter,
+    behaviour: B,
+    stores: Stores,
+    number: u32,
+    out: &mut Told<N>,
+) -> Result<(Charter, Stores), AllocError>
+    requires kind { B.kind_of behaviour ≡ charter.config.kind }
+    requires version { B.version_of behaviour ≡ 1 }
+    requires fits { most_deliveries (given_world charter 1 (lists_at charter.config stores.places)) ≤ wire_limit }
+    requires script { stores.script ≡ charter }
+    requires go_on { MayGoOn charter (lists_at charter.config stores.places) }
+    requires number { (v : ℕ) → number ≡ fold number_step 0 (opening_of v (lists_at charter.config stores.places)) }
+    ensures charter { IfOk result (λ r. r.0 ≡ charter) }
+    ensures script { IfOk result (λ r. r.1.script ≡ charter) }
+    ensures lists { IfOk result (λ r. lists_at charter.config r.1.places ≡
+        (settled_from charter 1 (lists_at charter.config stores.places)).world.lists) }
+    ensures lawful { IfOk result (λ r. lawful charter (lists_at charter.config r.1.places) ≡ true) }
+    ensures told { OnOk result (out.new ≡ out.old ++ (settled_from charter 1 (lists_at charter.config stores.places)).facts) }
+{
+    let mut world = World::from_given(alloc, charter, behaviour, stores, number)?;
     match world.settle(out) {
         Ok(()) => {
             let (last, settled) = world.into_stores()?;
-            drop(last);
-            Ok(settled)
+            Ok((last, settled))
         }
         Err(error) => {
             drop(world);

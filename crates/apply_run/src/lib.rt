@@ -8,6 +8,6 @@ mod entered;
 mod left;
 
 pub use apply::apply_text;
-pub use carry::carry_out;
+pub use carry::{carry_on, carry_out, carry_within};
 pub use entered::Entered;
 pub use left::left_of_log_is_taken;

@@ -152,7 +152,7 @@ drawn_few : (n : ℕ) (g : Lcg) → length (drawn n g) ≤ 2 * n
 drawn_few zero g = omega arith
 drawn_few (suc n) g = omega (arith, length-append (one_drawn g).0 (drawn n (one_drawn g).1), kind_few (draw 16 g).0 (draw 16 g).1, drawn_few n (one_drawn g).1)
 
-pub bulk_few : (n : ℕ) → n ≤ 1000 → length (bulk_orders n) ≤ 200000
+pub bulk_few : (n : ℕ) → n ≤ 1000 → length (bulk_orders n) ≤ 3000000
 bulk_few n h =
     let ten : length opening ≡ 10 = refl in
     omega (arith, ten, length-append opening (drawn (6 * n) (seeded n) ++ order.Settle ∷ []), length-append (drawn (6 * n) (seeded n)) (order.Settle ∷ []), drawn_few (6 * n) (seeded n))
@@ -199,7 +199,7 @@ bulk_parts start first after whole n s f a w =
 
 -- one line more after the drawings
 pub bulk_room : (start first after : List Line) (n : ℕ) → n ≤ 1000 → start ≡ [] → first ≡ with_lines start opening → after ≡ with_lines first (drawn (6 * n) (seeded n))
-    → length after + 1 ≤ 200000
+    → length after + 1 ≤ 3000000
 bulk_room start first after n h s f a =
     let none : length start ≡ 0 = ap length s in
     let ten : length first ≡ length start + 10 = ap length f ∙ lines_with start opening in

@@ -6,6 +6,7 @@ ghost use Rattle.yard_model.specs.declared.incarnation.Slot.TheVariants as slot;
 ghost use Rattle.yard_model.specs.Words.{is_among};
 ghost use Rattle.yard_model.specs.Entry.{coord_fact};
 ghost use Rattle.yard_model.specs.Genuine.{is_node, is_shard};
+ghost use Rattle.yard_model.specs.Grown.{GoesOn};
 ghost use Rattle.yard_model.specs.Lawful.{own, is_held};
 ghost use Rattle.yard_model.specs.Script.{with_shards};
 ghost use Rattle.yard_model.specs.SlotReads as reads;
@@ -15,6 +16,7 @@ ghost use Rattle.coordinator_state.specs.Homes.{regions_of};
 
 use crate::entries::Entries;
 use crate::homes::Homes;
+use grow_laws::growing::own_goes_on;
 use std::alloc::{AllocError, Global};
 use std::marker::Model;
 use std::snapshot::Snapshot as Ghost;
@@ -195,6 +197,28 @@ impl CoordStore {
             epoch: self.epoch,
             leased: self.leased,
         })
+    }
+
+    /// The same store under `charter`, whose script goes on from the store's.
+    pub fn grow(self, charter: &Charter) -> CoordStore
+        requires goes_on { GoesOn self.script charter.now }
+        ensures { result ≡ record self { script = charter.now } }
+    {
+        own_goes_on();
+        let CoordStore {
+            script: _,
+            entries,
+            homes,
+            epoch,
+            leased,
+        } = self;
+        CoordStore {
+            script: Ghost::of(charter),
+            entries,
+            homes,
+            epoch,
+            leased,
+        }
     }
 
     /// The home of a shard, a registered region; None exactly where it has none.

@@ -5,3 +5,5 @@ pub mod ListLaws
 pub mod KeptLaws
 pub mod FirstLaws
 pub mod NumberLaws
+pub mod MovedLaws
+pub mod GoesOnLaws

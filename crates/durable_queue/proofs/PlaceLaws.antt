@@ -1,5 +1,5 @@
 -- What is kept of each name, at its place.
-use Rattle.std.proofs.Common.{◌≡◌, ◌≢◌, ◌<◌, ℕ, ◌+◌, sym, ap, ◌∙◌, refl, arith, List, [], ◌∷◌, length, true≢false, map, Vec, Global, MatchOption}
+use Rattle.std.proofs.Common.{◌≡◌, ◌≢◌, ◌<◌, ℕ, zero, suc, ◌+◌, sym, ap, ◌∙◌, refl, arith, List, [], ◌∷◌, length, true≢false, map, Vec, Global, MatchOption}
 use Rattle.std.specs.Prelude.{Bool, true, false, not, cond, ◌||◌, Option, Some, None, IfSome, IfNone, slice_set, slice_index_or, if◌then◌else◌}
 use Rattle.std.specs.List.{list_any}
 use Rattle.std.specs.List.Sorted.{IsStrictlySortedBy}
@@ -85,3 +85,13 @@ place_at c names i e o within it = placed names e i o.sorted (within_at c names 
 -- what is kept at a place is kept of the name that stands there
 pub kept_at : {X : Type 0} (c : Script) (names : List (List ℕ)) (xs : List X) (d : X) (i : ℕ) → AreOrdered c names → i < length (names_in c.orders) → slice_index_or xs i d ≡ kept_of names xs d (name_at c i)
 kept_at c names xs d i o within = ap (λ k. slice_index_or xs k d) (place_at c names i (name_at c i) o within refl)
+
+-- a name that stands at a place is among them
+pub any_here : (names : List (List ℕ)) (i : ℕ) → i < length names → list_any (is_name (slice_index_or names i [])) names ≡ true
+any_here [] i h = absurd (omega (arith, h))
+any_here (n ∷ ns) zero h = ap (λ b. b || list_any (is_name n) ns) (name_itself n)
+any_here (n ∷ ns) (suc i) h = by (is_name (slice_index_or ns i []) n) (any_here ns i (omega (arith, h)))
+  where
+    by : (b : Bool) → list_any (is_name (slice_index_or ns i [])) ns ≡ true → (b || list_any (is_name (slice_index_or ns i [])) ns) ≡ true
+    by true t = refl
+    by false t = t

@@ -39,6 +39,10 @@ planned names plans e = kept_of names plans [] e
 pub record ArePlans (names : List (List ℕ)) (plans : List (List Command)) (all : List Sending) : Type 0 where
   pub each : (e : List ℕ) → planned names plans e ≡ commands_to e all
 
+-- what is kept of each name, d of one that has no place, is kept of it among other names
+pub record AreMoved {X : Type 0} (d : X) (old names : List (List ℕ)) (xs ys : List X) : Type 0 where
+  pub each : (e : List ℕ) → kept_of names ys d e ≡ kept_of old xs d e
+
 -- each name that is sent to is among the names
 pub record AreNamed (names : List (List ℕ)) (all : List Sending) : Type 0 where
   pub each : (e : List ℕ) → 0 < length (commands_to e all) → list_any (is_name e) names ≡ true

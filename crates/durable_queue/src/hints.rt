@@ -18,15 +18,20 @@ pub(crate) fn hints_of(
     if given.len() == sends.len() {
         hints.extend_from_slice(given)?;
     } else {
-        find_each(&mut hints, names, sends)?;
+        find_rest(&mut hints, names, sends, 0)?;
     }
     Ok(hints)
 }
 
-/// The places of the names of these sends. The only error is want of memory.
-fn find_each(hints: &mut Vec<u16>, names: &Names, sends: &[Sending]) -> Result<(), AllocError> {
-    for sending in sends {
-        hints.push(hint_of(names, &sending.entity))?;
+/// The places of the names of the sends behind so many of these. The only error is want of memory.
+pub(crate) fn find_rest(
+    hints: &mut Vec<u16>,
+    names: &Names,
+    sends: &[Sending],
+    done: usize,
+) -> Result<(), AllocError> {
+    for at in done..sends.len() {
+        hints.push(hint_of(names, &sends[at].entity))?;
     }
     Ok(())
 }

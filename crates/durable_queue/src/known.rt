@@ -1,14 +1,17 @@
 //! What is known of a producer's sends: the names of the script, and what goes to each.
-ghost use Rattle.std.specs.Prelude.{◌≡◌, length, map, IfOk};
+ghost use Rattle.std.specs.Prelude.{◌≡◌, ◌≤◌, ℕ, List, true, length, map, take, IfOk, OnOk};
+ghost use Rattle.std.specs.List.{list_any};
 ghost use Rattle.std.specs.List.Sorted.{IsStrictlySortedBy};
 ghost use Rattle.std.specs.Ordering.{nat_cmp};
 ghost use Rattle.std.specs.Cmp.Lexicographic.{slice_cmp};
-ghost use Rattle.yard_model.specs.Script.{names_in, sends};
-ghost use Rattle.durable_queue.specs.Kept.{ArePlans};
+ghost use Rattle.yard_model.specs.Script.{is_name, names_in, sends};
+ghost use Rattle.durable_queue.specs.Kept.{AreMoved, ArePlans};
 
-use crate::hints::hints_of;
+use crate::counts::Counts;
+use crate::hints::{find_rest, hints_of};
+use crate::moved::move_all;
 use crate::names::Names;
-use crate::plans::plans_of;
+use crate::plans::{add_rest, plans_of};
 use std::alloc::{AllocError, Global};
 use yard_model::{Charter, Command, ProducerNo};
 
@@ -43,4 +46,50 @@ pub(crate) fn known_of(
         hints,
         plans,
     })
+}
+
+/// What is known of the sends of a producer of this charter, of which so many were known, and the counts of each
+/// name, which are those that were. The only error is want of memory.
+pub(crate) fn know_more(
+    alloc: Global,
+    charter: &Charter,
+    producer: ProducerNo,
+    planned: usize,
+    known: &mut Known,
+    counts: &mut Counts,
+) -> Result<(), AllocError>
+    requires all { (e : List ℕ) → list_any (is_name e) known.old.names ≡ true → list_any (is_name e) (names_in charter.now.orders) ≡ true }
+    requires sized { length known.old.plans.items ≡ length known.old.names }
+    requires queued { length counts.old.queued.items ≡ length known.old.names }
+    requires confirmed { length counts.old.confirmed.items ≡ length known.old.names }
+    requires within { planned ≤ length (sends charter.now producer) }
+    requires plans { ArePlans known.old.names (map (λ v. v.items) known.old.plans.items) (take planned (sends charter.now producer)) }
+    ensures names { OnOk result (known.new.names ≡ names_in charter.now.orders) }
+    ensures sorted { OnOk result (IsStrictlySortedBy (slice_cmp nat_cmp) known.new.names) }
+    ensures sized { OnOk result (length known.new.plans.items ≡ length known.new.names) }
+    ensures plans { OnOk result (ArePlans known.new.names (map (λ v. v.items) known.new.plans.items) (sends charter.now producer)) }
+    ensures queued { OnOk result ((length counts.new.queued.items ≡ length known.new.names) × AreMoved 0 known.old.names known.new.names counts.old.queued.items counts.new.queued.items) }
+    ensures confirmed { OnOk result ((length counts.new.confirmed.items ≡ length known.new.names) × AreMoved 0 known.old.names known.new.names counts.old.confirmed.items counts.new.confirmed.items) }
+{
+    let names = Names::new(alloc, charter)?;
+    let moved = move_all(alloc, &known.names, &mut known.plans, counts, &names)?;
+    known.names = names;
+    *counts = moved;
+    let sends = charter.sends(producer);
+    find_rest(&mut known.hints, &known.names, sends, planned)?;
+    add_rest(
+        &mut known.plans,
+        &known.names,
+        sends,
+        known.hints.as_slice(),
+        planned,
+    )?;
+    Ok(())
+}
+
+/// How many sends a producer has.
+pub(crate) fn how_many(charter: &Charter, producer: ProducerNo) -> usize
+    ensures { result ≡ length (sends charter.now producer) }
+{
+    charter.sends(producer).len()
 }

@@ -5,6 +5,7 @@
 mod counts;
 mod hints;
 mod known;
+mod moved;
 mod names;
 mod plans;
 mod store;

@@ -48,6 +48,15 @@ impl Names {
         self.list.len()
     }
 
+    /// The name at a place.
+    pub(crate) fn nth(&self, place: usize) -> &EntityName
+        requires { place < length self.now }
+        ensures among { list_any (is_name result.now) self.now ≡ true }
+        ensures place { place_of self.now result.now ≡ place }
+    {
+        name_in(self.list.as_slice(), place)
+    }
+
     /// The place of a name; None exactly where it isn't among them.
     pub(crate) fn find(&self, entity: &EntityName) -> Option<usize>
         ensures place { IfSome result (λ k. (k < length self.now) × (k ≡ place_of self.now entity.now)) }
@@ -75,4 +84,12 @@ impl Names {
     {
         self.list.place(entity)
     }
+}
+
+/// The name at a place.
+fn name_in(names: &[EntityName], place: usize) -> &EntityName
+    requires { place < length names.now }
+    ensures { result.now ≡ slice_index_or names.now place [] }
+{
+    &names[place]
 }

@@ -1,5 +1,5 @@
 //! The commands to each name, in the order of the sends, at the name's place.
-ghost use Rattle.std.specs.Prelude.{◌≡◌, ◌<◌, ◌++◌, ◌∷◌, [], true, length, map, replicate, slice_get, slice_set, slice_index_or, IfOk, OnOk};
+ghost use Rattle.std.specs.Prelude.{◌≡◌, ◌<◌, ◌≤◌, ◌++◌, ◌∷◌, [], true, length, map, replicate, take, slice_get, slice_set, slice_index_or, IfOk, OnOk};
 ghost use Rattle.std.specs.List.{list_any};
 ghost use Rattle.yard_model.specs.Script.{is_name};
 ghost use Rattle.durable_queue.specs.Kept.{planned, place_of, ArePlans, AreNamed};
@@ -22,12 +22,39 @@ pub(crate) fn plans_of(
     ensures plans { IfOk result (λ plans. ArePlans names.now (map (λ v. v.items) plans.items) sends.now) }
 {
     let mut plans = blank_plans(alloc, names.len(), hints)?;
-    let mut place: usize = 0;
-    for sending in sends {
-        add(&mut plans, names, sending, hint_at(hints, place))?;
-        place = place.wrapping_add(1);
-    }
+    add_rest(&mut plans, names, sends, hints, 0)?;
     Ok(plans)
+}
+
+/// The commands of the sends behind so many of these, of which each may go to the name at its hint. The only
+/// error is want of memory.
+pub(crate) fn add_rest(
+    plans: &mut Vec<Vec<Command>>,
+    names: &Names,
+    sends: &[Sending],
+    hints: &[u16],
+    done: usize,
+) -> Result<(), AllocError>
+    requires named { AreNamed names.now sends.now }
+    requires sized { length plans.old.items ≡ length names.now }
+    requires within { done ≤ length sends.now }
+    requires done { ArePlans names.now (map (λ v. v.items) plans.old.items) (take done sends.now) }
+    ensures sized { length plans.new.items ≡ length plans.old.items }
+    ensures plans { OnOk result (ArePlans names.now (map (λ v. v.items) plans.new.items) sends.now) }
+{
+    for at in done..sends.len() {
+        let sending = send_at(sends, at);
+        add(plans, names, sending, hint_at(hints, at))?;
+    }
+    Ok(())
+}
+
+/// The send at a place.
+fn send_at(sends: &[Sending], place: usize) -> &Sending
+    requires { place < length sends.now }
+    ensures { result.now ≡ slice_index_or sends.now place result.now }
+{
+    &sends[place]
 }
 
 /// So many empty plans, each with room for as many commands as have its hint. The only error is want of
@@ -40,7 +67,7 @@ fn blank_plans(alloc: Global, count: usize, hints: &[u16]) -> Result<Vec<Vec<Com
 }
 
 /// An empty plan for each of these rooms. The only error is want of memory.
-fn no_plans(alloc: Global, rooms: &[u32]) -> Result<Vec<Vec<Command>>, AllocError>
+pub(crate) fn no_plans(alloc: Global, rooms: &[u32]) -> Result<Vec<Vec<Command>>, AllocError>
     ensures { IfOk result (λ plans. map (λ v. v.items) plans.items ≡ replicate (length rooms.now) []) }
 {
     let mut plans = Vec::with_capacity(alloc, rooms.len())?;

@@ -4,6 +4,7 @@ ghost use Rattle.yard_model.specs.declared.fact.Fact.TheVariants as fact;
 ghost use Rattle.yard_model.specs.declared.incarnation.Slot.TheVariants as slot;
 ghost use Rattle.yard_model.specs.Entry.{queue_fact};
 ghost use Rattle.yard_model.specs.Genuine.{is_node, is_producer};
+ghost use Rattle.yard_model.specs.Grown.{GoesOn};
 ghost use Rattle.yard_model.specs.Lawful.{is_held, own};
 ghost use Rattle.yard_model.specs.Script.{names_in, sends, plan, with_shards};
 ghost use Rattle.yard_model.specs.SlotReads as reads;
@@ -11,9 +12,10 @@ ghost use Rattle.durable_queue.specs.Queue.{name_at};
 
 use crate::counts::{Counts, count_at, count_of, no_counts, put_at, same_counts};
 use crate::hints::hint_at;
-use crate::known::{Known, known_of};
+use crate::known::{Known, how_many, know_more, known_of};
 use crate::names::Names;
 use crate::plans::{command_at, command_to};
+use grow_laws::growing::own_goes_on;
 use std::alloc::{AllocError, Global};
 use std::marker::{Model, PhantomData};
 use std::snapshot::Snapshot as Ghost;
@@ -37,6 +39,8 @@ pub struct QueueStore {
     names: Names,
     hints: Vec<u16>,
     plans: Vec<Vec<Command>>,
+    // so many sends they are
+    planned: usize,
     queued: Vec<u32>,
     confirmed: Vec<u32>,
     total: u32,
@@ -47,8 +51,9 @@ pub struct QueueStore {
 }
 
 impl Model for QueueStore {
-    ghost use Rattle.std.specs.Prelude.{map, vec_capacity};
+    ghost use Rattle.std.specs.Prelude.{◌≡◌, length, map, vec_capacity};
     ghost use Rattle.yard_model.specs.Entry.{queue_fact};
+    ghost use Rattle.yard_model.specs.Script.{sends};
     ghost use Rattle.durable_queue.specs.Queue.{Queue};
     ghost use Rattle.durable_queue.specs.Kept.{IsKept};
 
@@ -56,7 +61,7 @@ impl Model for QueueStore {
 
     ghost view = { λ q. record { script = q.script.value; producer = q.producer; entries = map (queue_fact q.producer) q.entries.items; spare = q.free } };
 
-    ghost invariant = { λ q. IsKept q.script.value q.producer q.entries.items q.names (map (λ v. v.items) q.plans.items) q.queued.items q.confirmed.items q.total q.epoch q.leased q.free (vec_capacity q.entries) };
+    ghost invariant = { λ q. IsKept q.script.value q.producer q.entries.items q.names (map (λ v. v.items) q.plans.items) q.queued.items q.confirmed.items q.total q.epoch q.leased q.free (vec_capacity q.entries) × (q.planned ≡ length (sends q.script.value q.producer)) };
 }
 
 impl QueueStore {
@@ -92,8 +97,8 @@ impl QueueStore {
     {
         let known = known_of(alloc, charter, producer, hints)?;
         let counts = no_counts(alloc, known.names.len())?;
-        let room = room_for(charter.sends(producer).len());
-        let entries = Vec::with_capacity(alloc, room)?;
+        let planned = how_many(charter, producer);
+        let entries = Vec::with_capacity(alloc, room_for(planned))?;
         let Known {
             names,
             hints,
@@ -107,6 +112,7 @@ impl QueueStore {
             names,
             hints,
             plans,
+            planned,
             queued,
             confirmed,
             total: 0,
@@ -243,7 +249,7 @@ impl QueueStore {
     {
         let wanted = n as usize;
         if wanted > self.free {
-            self.grow(wanted)
+            self.take_room(wanted)
         } else {
             Ok(())
         }
@@ -251,7 +257,7 @@ impl QueueStore {
 
     /// The same of a spare that is less.
     #[inline(never)]
-    fn grow(&mut self, wanted: usize) -> Result<(), AllocError>
+    fn take_room(&mut self, wanted: usize) -> Result<(), AllocError>
         requires less { self.old.spare ≤ wanted }
         requires fits { wanted < 4294967296 }
         ensures ok { OnOk result (self.new ≡ record self.old { spare = wanted }) }
@@ -273,8 +279,8 @@ impl QueueStore {
     {
         let known = known_of(alloc, charter, self.producer, self.hints.as_slice())?;
         let counts = same_counts(alloc, self.queued.as_slice(), self.confirmed.as_slice())?;
-        let sends = charter.sends(self.producer).len();
-        let entries = entries_of(alloc, sends, self.entries.as_slice())?;
+        let planned = how_many(charter, self.producer);
+        let entries = entries_of(alloc, planned, self.entries.as_slice())?;
         let Known {
             names,
             hints,
@@ -288,12 +294,69 @@ impl QueueStore {
             names,
             hints,
             plans,
+            planned,
             queued,
             confirmed,
             total: self.total,
             epoch: self.epoch,
             leased: self.leased,
             free: 0,
+            holds: PhantomData,
+        })
+    }
+
+    /// The same queue under `charter`, whose script goes on from the store's. Entries and what is kept of the
+    /// sends are moved; only the sends that are new are walked. The only error is want of memory; the store is
+    /// gone then.
+    pub fn grow(self, alloc: Global, charter: &Charter) -> Result<QueueStore, AllocError>
+        requires goes_on { GoesOn self.script charter.now }
+        ensures { IfOk result (λ q. q ≡ record self { script = charter.now }) }
+    {
+        own_goes_on();
+        let QueueStore {
+            script: _,
+            producer,
+            entries,
+            names,
+            hints,
+            plans,
+            planned,
+            queued,
+            confirmed,
+            total,
+            epoch,
+            leased,
+            free,
+            holds: _,
+        } = self;
+        let mut known = Known {
+            names,
+            hints,
+            plans,
+        };
+        let mut counts = Counts { queued, confirmed };
+        know_more(alloc, charter, producer, planned, &mut known, &mut counts)?;
+        let all = how_many(charter, producer);
+        let Known {
+            names,
+            hints,
+            plans,
+        } = known;
+        let Counts { queued, confirmed } = counts;
+        Ok(QueueStore {
+            script: Ghost::of(charter),
+            producer,
+            entries,
+            names,
+            hints,
+            plans,
+            planned: all,
+            queued,
+            confirmed,
+            total,
+            epoch,
+            leased,
+            free,
             holds: PhantomData,
         })
     }

@@ -119,7 +119,7 @@ impl Slots {
         ensures ok { IfOk result (λ done. Enters self.old fact.now done self.new) }
         ensures err { OnErr result (self.new ≡ self.old) }
     {
-        if !is_slot_of(&self.charter, slot) {
+        if !self.charter.has_slot(slot) {
             return Ok(false);
         }
         let known = Known {
@@ -203,7 +203,7 @@ impl Slots {
     pub fn has(&self, slot: &Slot) -> bool
         ensures { result ≡ is_slot_of self.now.script slot.now }
     {
-        is_slot_of(&self.charter, slot)
+        self.charter.has_slot(slot)
     }
 
     /// Who holds a slot of the script.
@@ -422,17 +422,6 @@ fn one_or_two(version: u8) -> u8
     ensures { result ≡ one_or_two version }
 {
     if version < 2 { 1 } else { 2 }
-}
-
-/// Whether the script has this slot.
-fn is_slot_of(charter: &Charter, slot: &Slot) -> bool
-    ensures { result ≡ is_slot_of charter.now slot.now }
-{
-    match *slot {
-        Slot::Shard(s) => s.get() < charter.config().shards,
-        Slot::Coordinator => true,
-        Slot::Queue(p) => p.get() >= 1 && p.get() <= charter.config().producers,
-    }
 }
 
 /// The slot of an entity's shard.

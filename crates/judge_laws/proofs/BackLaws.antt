@@ -14,7 +14,7 @@ use Rattle.yard_model.specs.Era.{Era, era_step, version_in}
 use Rattle.yard_model.specs.Follow.{each_follows}
 use Rattle.yard_model.specs.Genuine.{is_brought, is_producer, is_shard, is_slot_of}
 use Rattle.yard_model.specs.Guards.{own_guard, guard}
-use Rattle.yard_model.specs.Lawful.{own, is_decided, is_recorded, has_place, may_follow}
+use Rattle.yard_model.specs.Lawful.{lawful, own, is_decided, is_recorded, has_place, may_follow}
 use Rattle.yard_model.specs.Opening.{begins}
 use Rattle.yard_model.specs.Safe.{live_at, at_most_holder, is_safe_now, safe_from, shard_list_of, shows}
 use Rattle.yard_model.specs.Script.{Script, is_name, setting}
@@ -22,9 +22,9 @@ use Rattle.yard_model.specs.Setting.{shard_of}
 use Rattle.yard_model.specs.SlotLists.{SlotLists, shard_list, queue_list}
 use Rattle.yard_model.specs.SlotReads.{holder, epoch, journal, position}
 use Rattle.yard_model.specs.Trace.{slot_of, list_at, with_entry, lists_of}
-use Rattle.yard_model.specs.Words.{is_at, is_empty}
+use Rattle.yard_model.specs.Words.{is_at, is_empty, without}
 use Rattle.yard_model.proofs.FollowLaws.{own_grows}
-use Rattle.plain_laws.proofs.Booleans.{true_is_not_false, and_both, both, below, is_below, within, same_name, same_number, all_get}
+use Rattle.plain_laws.proofs.Booleans.{true_is_not_false, and_both, both, below, is_below, within, same_name, same_number, all_get, all_map}
 use Rattle.plain_laws.proofs.Names.{name_itself}
 use Rattle.yard_laws.specs.Guarded.{Owns, GoesSafely}
 use Rattle.yard_laws.proofs.Live.{held_at, holder_more}
@@ -48,8 +48,41 @@ goes c trace f g =
 guard_goes : (c : Script) (trace : List Fact) (f : Fact) → is_safe_now c trace ≡ true → guard c trace f ≡ true → (shows c trace f && is_safe_now c (trace ++ f ∷ [])) ≡ true
 guard_goes c trace f h g = goes c trace f (guarded_is_safe c trace (f ∷ []) h (both (guard c trace f) true g refl))
 
+-- it alone is live, and it holds the lease
+alone : (h : Option Incarnation) (others : List Incarnation) (x : Incarnation) → is_at x h ≡ true → is_empty others ≡ true → at_most_holder h (others ++ x ∷ []) ≡ true
+alone h [] x at none = at
+alone h (y ∷ ys) x at none = absurd (true_is_not_false (sym none))
+
+-- where the holder starts an entity that isn't live at another, it alone is live; the lists stay
+start_goes : (c : Script) (trace : List Fact) (x : Incarnation) (e : List ℕ) → is_safe_now c trace ≡ true → crossed c trace (fact.Start x e) ≡ true
+    → (shows c trace (fact.Start x e) && is_safe_now c (trace ++ fact.Start x e ∷ [])) ≡ true
+start_goes c trace x e h g =
+    let f : Fact = fact.Start x e in
+    let lists : SlotLists = lists_of (setting c) trace in
+    let at : Bool = is_at x (holder (shard_list lists (shard_of (setting c) e))) in
+    let none : Bool = is_empty (without x (live_at e trace)) in
+    let m = and_both (is_brought c e && at) none g in
+    let p = and_both (is_brought c e) at m.0 in
+    let old = and_both (list_all (held_at c trace) (setting c).names) (lawful c lists) h in
+    let live : list_all (held_at c (trace ++ f ∷ [])) (setting c).names ≡ true =
+    all_map (held_at c trace) (held_at c (trace ++ f ∷ [])) (λ n k. ap₂ (λ (l : SlotLists) xs. at_most_holder (holder (shard_list l (shard_of (setting c) n))) xs) (lists_more c trace f) (live_more n trace f) ∙ by n k p.1 m.1 (is_name e n) refl) (setting c).names old.0 in
+    both (is_brought c e) (is_safe_now c (trace ++ f ∷ [])) p.0
+    (both (list_all (held_at c (trace ++ f ∷ [])) (setting c).names) (lawful c (lists_of (setting c) (trace ++ f ∷ []))) live (ap (lawful c) (lists_more c trace f) ∙ old.1))
+  where
+    held : List ℕ → Option Incarnation
+    held n = holder (shard_list_of c n trace)
+
+    by : (n : List ℕ) → held_at c trace n ≡ true → is_at x (held e) ≡ true → is_empty (without x (live_at e trace)) ≡ true
+        → (b : Bool) → is_name e n ≡ b → at_most_holder (held n) (if b then without x (live_at n trace) ++ x ∷ [] else live_at n trace) ≡ true
+    by n k at none true same =
+        alone (held n) (without x (live_at n trace)) x
+        (subst (λ z. is_at x (held z) ≡ true) (same_name e n same) at)
+        (subst (λ z. is_empty (without x (live_at z trace)) ≡ true) (same_name e n same) none)
+    by n k at none false same = k
+
 forth : (c : Script) (trace : List Fact) (f : Fact) → is_safe_now c trace ≡ true → judged c trace f ≡ true → (shows c trace f && is_safe_now c (trace ++ f ∷ [])) ≡ true
 forth c trace (fact.Upgrade v) h g = upgraded_safe c trace v h
+forth c trace (fact.Start x e) h g = start_goes c trace x e h g
 forth c trace f h g = guard_goes c trace f h g
 
 -- Safe, then the test.
@@ -91,7 +124,7 @@ found p q (x ∷ xs) a h = by (is_name q x) refl h (and_both (p x) (list_all p x
     by true e k parts rest = ap p (same_name q x e) ∙ parts.0
     by false e k parts rest = rest parts.1 k
 
--- one more is live: none was, and it holds the lease
+-- one more is live: none but it was, and it holds the lease
 one_more_live : (h : Option Incarnation) (live : List Incarnation) (x : Incarnation) → at_most_holder h (live ++ x ∷ []) ≡ true → (is_at x h && is_empty live) ≡ true
 one_more_live h [] x e = both (is_at x h) true e refl
 one_more_live h (y ∷ []) x e = absurd (true_is_not_false (sym e))
@@ -108,11 +141,12 @@ start_back c trace x e h new =
     let lists : SlotLists = lists_of (setting c) trace in
     let held : Option Incarnation = holder (shard_list lists (shard_of (setting c) e)) in
     let here : held_at c (trace ++ f ∷ []) e ≡ true = found (held_at c (trace ++ f ∷ [])) e (setting c).names new.live h in
-    let live : live_at e (trace ++ f ∷ []) ≡ live_at e trace ++ x ∷ [] = live_more e trace f ∙ ap (λ b. if b then live_at e trace ++ x ∷ [] else live_at e trace) (name_itself e) in
-    let one : at_most_holder held (live_at e trace ++ x ∷ []) ≡ true =
+    let others : List Incarnation = without x (live_at e trace) in
+    let live : live_at e (trace ++ f ∷ []) ≡ others ++ x ∷ [] = live_more e trace f ∙ ap (λ b. if b then others ++ x ∷ [] else live_at e trace) (name_itself e) in
+    let one : at_most_holder held (others ++ x ∷ []) ≡ true =
     sym (ap₂ (λ (l : SlotLists) xs. at_most_holder (holder (shard_list l (shard_of (setting c) e))) xs) (lists_more c trace f) live) ∙ here in
-    let two = and_both (is_at x held) (is_empty (live_at e trace)) (one_more_live held (live_at e trace) x one) in
-    both (is_brought c e && is_at x held) (is_empty (live_at e trace)) (both (is_brought c e) (is_at x held) h two.0) two.1
+    let two = and_both (is_at x held) (is_empty others) (one_more_live held others x one) in
+    both (is_brought c e && is_at x held) (is_empty others) (both (is_brought c e) (is_at x held) h two.0) two.1
 
 all_picked : {X : Type 0} (p pick r : X → Bool) → ((x : X) → p x ≡ true → pick x ≡ true → r x ≡ true) → (xs : List X) → list_all p xs ≡ true → list_all r (filter pick xs) ≡ true
 all_picked p pick r f [] h = refl

@@ -18,7 +18,7 @@ use Rattle.yard_model.specs.Script.{Script, setting, versions}
 use Rattle.yard_model.specs.Setting.{shard_of}
 use Rattle.yard_model.specs.SlotReads.{confirmed, epoch, holder, journal, position, queued}
 use Rattle.yard_model.specs.Trace.{lists_of}
-use Rattle.yard_model.specs.Words.{is_at, is_empty}
+use Rattle.yard_model.specs.Words.{is_at, is_empty, without}
 use Rattle.plain_laws.proofs.Booleans.{true_is_not_false, and_both, both, number_itself}
 use Rattle.judge_laws.specs.declared.breach.Breach.{Breach}
 use Rattle.judge_laws.specs.declared.breach.Breach.TheVariants as breach
@@ -183,7 +183,7 @@ wrote_back c trace e r h =
 -- All facts.
 
 pub breach_is_judged : BreachIsJudged
-breach_is_judged c trace (fact.Start x e) k = started (is_brought c e) (is_empty (live_at e trace)) (is_at x (holder (shard_list_of c e trace))) breach.NoName breach.TwoLive breach.NoLease
+breach_is_judged c trace (fact.Start x e) k = started (is_brought c e) (is_empty (without x (live_at e trace))) (is_at x (holder (shard_list_of c e trace))) breach.NoName breach.TwoLive breach.NoLease
 breach_is_judged c trace (fact.Active x e m st) k = one _ breach.OtherState
 breach_is_judged c trace (fact.Granted s n x) k =
     let list : List Fact = slot_list c trace s in

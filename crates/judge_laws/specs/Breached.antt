@@ -16,7 +16,7 @@ use Rattle.yard_model.specs.Script.{Script, setting, versions}
 use Rattle.yard_model.specs.Setting.{names_of, shard_of}
 use Rattle.yard_model.specs.SlotReads.{confirmed, epoch, holder, journal, position, queued}
 use Rattle.yard_model.specs.Trace.{list_at, lists_of}
-use Rattle.yard_model.specs.Words.{is_at, is_empty}
+use Rattle.yard_model.specs.Words.{is_at, is_empty, without}
 use Rattle.judge_laws.specs.declared.breach.Breach.{Breach}
 use Rattle.judge_laws.specs.declared.breach.Breach.TheVariants as breach
 use Rattle.judge_laws.specs.Judged.{judged}
@@ -33,7 +33,7 @@ slot_list c trace s = list_at (lists_of (setting c) trace) s
 abbrev pub start_breach : Script → List Fact → Incarnation → List ℕ → Option Breach
 start_breach c trace x e =
     unless (is_brought c e) breach.NoName
-    (unless (is_empty (live_at e trace)) breach.TwoLive
+    (unless (is_empty (without x (live_at e trace))) breach.TwoLive
     (unless (is_at x (holder (shard_list_of c e trace))) breach.NoLease None))
 
 abbrev pub active_breach : Script → List Fact → List ℕ → ℕ → State → Option Breach

@@ -4,18 +4,22 @@ use Rattle.std.specs.List.{list_all}
 use Rattle.yard_model.specs.declared.fact.Fact.{Fact}
 use Rattle.yard_model.specs.declared.fact.Fact.TheVariants as fact
 use Rattle.yard_model.specs.Follow.{each_follows}
+use Rattle.yard_model.specs.Genuine.{is_brought}
 use Rattle.yard_model.specs.Guards.{own_guard, cross_guard}
-use Rattle.yard_model.specs.Safe.{is_safe_now, safe, shows}
+use Rattle.yard_model.specs.Safe.{is_safe_now, live_at, safe, shard_list_of, shows}
 use Rattle.yard_model.specs.Script.{Script, setting}
+use Rattle.yard_model.specs.SlotReads.{holder}
 use Rattle.yard_model.specs.Trace.{slot_of}
+use Rattle.yard_model.specs.Words.{is_at, is_empty, without}
 
 abbrev pub is_reshard : Fact → Bool
 is_reshard (fact.Reshard n k) = true
 is_reshard f = false
 
--- what other lists and live entities have to say
+-- what other lists and live entities have to say: the holder of its shard starts an entity that isn't live at another; the rest as it is guarded
 abbrev pub crossed : Script → List Fact → Fact → Bool
 crossed c trace (fact.Upgrade v) = true
+crossed c trace (fact.Start x e) = is_brought c e && is_at x (holder (shard_list_of c e trace)) && is_empty (without x (live_at e trace))
 crossed c trace f = cross_guard c trace f
 
 -- the test of a fact after these

@@ -13,7 +13,7 @@ pub enum Breach {
     NoShard,
     /// The script has no such node.
     NoNode,
-    /// An entity is started that is live.
+    /// An entity is started that is live at another incarnation.
     TwoLive,
     /// An entity is started where the lease of its shard isn't held.
     NoLease,

@@ -13,3 +13,4 @@ pub mod United
 pub mod Dealt
 pub mod Meant
 pub mod SendLaws
+pub mod WholeLaws

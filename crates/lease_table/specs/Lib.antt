@@ -8,3 +8,4 @@ pub mod Fronts
 pub mod Means
 pub mod Rights
 pub mod Left
+pub mod Whole

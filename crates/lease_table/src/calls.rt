@@ -127,44 +127,33 @@ impl LeaseTable {
         ensures pass { result.0 ≡ pass }
         ensures note { (result.1.table ≡ pass.table) × (result.1.view ≡ noted pass.view) }
     {
-        let LeasePass {
-            mut seat,
-            order,
-            charter,
-        } = pass;
-        let other = self.table.shared.split_seat::<Notes>(&mut seat);
-        (
-            LeasePass {
-                seat,
-                order,
-                charter,
-            },
-            Note { seat: other },
-        )
+        let mut pass = pass;
+        let note = self.take_note(&mut pass);
+        (pass, note)
+    }
+
+    /// A note that has seen what the pass has, to be shown to another; it holds nothing and has no number.
+    pub fn take_note(&self, pass: &mut LeasePass) -> Note
+        requires table { pass.old.table ≡ id_of self.now }
+        ensures pass { pass.new ≡ pass.old }
+        ensures note { (result.table ≡ pass.old.table) × (result.view ≡ noted pass.old.view) }
+    {
+        let other = self.table.shared.split_seat::<Notes>(&mut pass.seat);
+        Note { seat: other }
     }
 
     /// The pass has seen of the slot what either had.
-    pub(crate) fn meet_at(&self, pass: LeasePass, note: Note, slot: usize) -> LeasePass
-        requires table { (pass.table ≡ id_of self.now) × (note.table ≡ id_of self.now) }
-        requires charter { pass.view.charter ≡ charter_of self.now }
+    pub(crate) fn see_at(&self, pass: &mut LeasePass, note: Note, slot: usize)
+        requires table { (pass.old.table ≡ id_of self.now) × (note.table ≡ id_of self.now) }
+        requires charter { pass.old.view.charter ≡ charter_of self.now }
         requires slot { slot < slot_count (charter_of self.now) }
-        ensures table { result.table ≡ pass.table }
-        ensures met { Met pass.view note.view slot result.view }
+        ensures table { pass.new.table ≡ pass.old.table }
+        ensures met { Met pass.old.view note.view slot pass.new.view }
     {
-        let LeasePass {
-            mut seat,
-            order,
-            charter,
-        } = pass;
         let Note { seat: other } = note;
-        self.table.shared.join_seat::<Unites>(&mut seat, other);
+        self.table.shared.join_seat::<Unites>(&mut pass.seat, other);
         // (of the owner word, which few write: any step of the table shows it)
-        self.table.shared.load::<Ties>(&mut seat, slot);
-        LeasePass {
-            seat,
-            order,
-            charter,
-        }
+        self.table.shared.load::<Ties>(&mut pass.seat, slot);
     }
 
     /// One pass with the numbers of both, where the other holds nothing; it remembers what either has

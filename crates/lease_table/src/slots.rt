@@ -100,7 +100,20 @@ impl LeaseTable {
         ensures table { result.table ≡ pass.table }
         ensures met { Met pass.view note.view (place_of (charter_of self.now).config slot) result.view }
     {
+        let mut pass = pass;
+        self.see(&mut pass, note, slot);
+        pass
+    }
+
+    /// The same where the pass stands.
+    pub fn see(&self, pass: &mut LeasePass, note: Note, slot: Slot)
+        requires table { (pass.old.table ≡ id_of self.now) × (note.table ≡ id_of self.now) }
+        requires charter { pass.old.view.charter ≡ charter_of self.now }
+        requires slot { IsTrue (is_slot_of (charter_of self.now) slot) }
+        ensures table { pass.new.table ≡ pass.old.table }
+        ensures met { Met pass.old.view note.view (place_of (charter_of self.now).config slot) pass.new.view }
+    {
         let place = self.place(slot);
-        self.meet_at(pass, note, place)
+        self.see_at(pass, note, place)
     }
 }

@@ -15,6 +15,7 @@ use Rattle.yard_model.specs.SlotLists.{SlotLists, queue_list}
 use Rattle.yard_model.specs.SlotReads.{holder}
 use Rattle.yard_model.specs.Text.{Bytes, report}
 use Rattle.yard_model.specs.Trace.{list_at}
+use Rattle.yard_model.specs.World.{given_world, wire_limit}
 use Rattle.yard_laws.specs.Guarded.{Owns}
 use Rattle.yard_laws.proofs.SafetyLaws.{owns_of}
 use Rattle.shard_lease.specs.Meaning.{Begins}
@@ -26,6 +27,7 @@ use Rattle.live_laws.proofs.Closed.{list_there}
 use Rattle.node_runner.specs.Ran.{IsRun}
 use Rattle.readable_lists.specs.Readable.{AreReadable}
 use Rattle.settle_laws.specs.Lonely.{IsLonger}
+use Rattle.settle_laws.specs.Settles.{most_deliveries}
 use Rattle.trace_text.specs.Foldable.{is_foldable_in_all}
 use Rattle.trace_text.specs.Slots.{slots_text}
 use Rattle.world_sim.specs.Given.{IsGiven, is_numbered}
@@ -44,10 +46,10 @@ fit_is_numbered c s (fact.Granted t n x) h = (and_both (admits c x.node s) (is_w
 fit_is_numbered c s (fact.Registered r) h = h
 fit_is_numbered c s f h = refl
 
-pub may_settle : (c : Script) (version turns : ℕ) (s : Shelves) → is_version c version ≡ true → length c.orders ≤ 20000 → IsRun c turns s → IsGiven c version (lists_at c.config s.places)
-may_settle c version turns s admitted few run = record {
+pub may_settle : (c : Script) (version turns : ℕ) (s : Shelves) → is_version c version ≡ true → most_deliveries (given_world c version (lists_at c.config s.places)) ≤ wire_limit → IsRun c turns s → IsGiven c version (lists_at c.config s.places)
+may_settle c version turns s admitted fits run = record {
   admitted = admitted;
-  few = few;
+  fits = fits;
   lawful_is = run.lawful;
   unheld = λ t h. ap holder (list_there c s.places t h) ∙ none_holds (holder (entries_at s.places (place_of c.config t))) (run.free (place_of c.config t) (place_within c t h));
   numbered = λ t h.

@@ -14,6 +14,7 @@ use live_laws::worked_goes_on;
 use node_runner::run_live;
 use readable_lists::look_at_lists;
 use run_parts::WriteError;
+use settle_laws::worlds::few_orders_fit;
 use shard_store::Stores;
 use std::alloc::{AllocError, Global};
 use std::sync::Wait;
@@ -106,5 +107,6 @@ fn stores_of_run<
     let stores = run_live(rt, alloc, charter, behaviour, turns, seed, gate)?;
     charter.config();
     worked_goes_on();
+    few_orders_fit();
     settle_stores(alloc, charter, behaviour, stores)
 }

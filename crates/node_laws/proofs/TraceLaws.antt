@@ -60,8 +60,9 @@ by_hand c trace who vouches h f i v g = refl
 
 -- What is live.
 
-started : (who : Incarnation) (e g : List ℕ) (live : List (List ℕ)) (old : List Incarnation) → has_name e live ≡ is_among who old → (b : Bool) → is_name g e ≡ b → has_name e (live ++ g ∷ []) ≡ is_among who (if b then old ++ who ∷ [] else old)
-started who e g live old i true k = subst (λ y. has_name e (live ++ y ∷ []) ≡ is_among who (old ++ who ∷ [])) (sym (same_name g e k)) (name_added e live ∙ sym (last_among who old))
+started : (who : Incarnation) (e g : List ℕ) (live : List (List ℕ)) (old : List Incarnation) → has_name e live ≡ is_among who old → (b : Bool) → is_name g e ≡ b → has_name e (live ++ g ∷ []) ≡ is_among who (if b then without who old ++ who ∷ [] else old)
+started who e g live old i true k =
+    subst (λ y. has_name e (live ++ y ∷ []) ≡ is_among who (without who old ++ who ∷ [])) (sym (same_name g e k)) (name_added e live ∙ sym (last_among who (without who old)))
 started who e g live old i false k = name_beside g e live k ∙ i
 
 stopped : (who : Incarnation) (e g : List ℕ) (live : List (List ℕ)) (old : List Incarnation) → has_name e live ≡ is_among who old → (b : Bool) → is_name g e ≡ b → has_name e (without_name g live) ≡ is_among who (if b then without who old else old)
@@ -69,7 +70,7 @@ stopped who e g live old i true k = subst (λ y. has_name e (without_name y live
 stopped who e g live old i false k = name_stays g e live k ∙ i
 
 live_on : (who : Incarnation) (e : List ℕ) (live : List (List ℕ)) (old : List Incarnation) (f : Fact) → is_own_fact who f ≡ true → has_name e live ≡ is_among who old → has_name e (live_after live f) ≡ is_among who (live_step e old f)
-live_on who e live old (fact.Start x g) own i = subst (λ y. has_name e (live ++ g ∷ []) ≡ is_among who (if is_name g e then old ++ y ∷ [] else old)) (sym (same_is x who own)) (started who e g live old i (is_name g e) refl)
+live_on who e live old (fact.Start x g) own i = subst (λ y. has_name e (live ++ g ∷ []) ≡ is_among who (if is_name g e then without y old ++ y ∷ [] else old)) (sym (same_is x who own)) (started who e g live old i (is_name g e) refl)
 live_on who e live old (fact.Stop x g) own i = subst (λ y. has_name e (without_name g live) ≡ is_among who (if is_name g e then without y old else old)) (sym (same_is x who own)) (stopped who e g live old i (is_name g e) refl)
 live_on who e live old (fact.WriteFailed x g) own i = subst (λ y. has_name e (without_name g live) ≡ is_among who (if is_name g e then without y old else old)) (sym (same_is x who own)) (stopped who e g live old i (is_name g e) refl)
 live_on who e live old (fact.Gone x) own i = absurd (true_is_not_false (sym own))

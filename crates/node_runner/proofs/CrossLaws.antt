@@ -8,10 +8,14 @@ use Rattle.std.proofs.MapsCrossing as maps
 use Rattle.atomic_table.proofs.send_lease.SendLease.TheSendSync as lease
 use Rattle.atomic_table.proofs.shared.Shared.TheSendSync as shared
 use Rattle.yard_model.specs.contracts.charter.Charter as charter
+use Rattle.yard_model.specs.contracts.charter.Kept as kept
 use Rattle.yard_model.specs.contracts.charter.Line as line
 use Rattle.yard_model.specs.contracts.charter.Order as order
 use Rattle.yard_model.specs.contracts.charter.Sending as sending
+use Rattle.yard_model.specs.contracts.counts.Counts as counts
+use Rattle.yard_model.specs.contracts.counts.Row as row
 use Rattle.yard_model.specs.contracts.event.Command as command
+use Rattle.yard_model.specs.contracts.name.EntityName as name
 use Rattle.coordinator_state.specs.contracts.store.CoordStore as coordinator
 use Rattle.durable_queue.specs.contracts.store.QueueStore as queue
 use Rattle.entity_journal.specs.contracts.past.Past as past
@@ -60,12 +64,52 @@ line_sync = struct_sync (struct.shape line.the_type) (search (heap.crosses, maps
 sending_sync : IsSync sending.the_field.row
 sending_sync = struct_sync (struct.shape sending.the_type) (search (heap.crosses, maps.crosses, sendable) depth 100 fits 100000, (search (heap.crosses, maps.crosses, sendable) depth 100 fits 100000, (command_sync, tt)))
 
+name_sync : IsSync name.the_row
+name_sync = search (heap.crosses, maps.crosses, sendable) depth 100 fits 100000
+
+row_sync : IsSync row.the_row
+row_sync = search (heap.crosses, maps.crosses, sendable) depth 100 fits 100000
+
+counts_sync : IsSync counts.the_row
+counts_sync =
+    let n : IsSync name.the_row = name_sync in
+    let r : IsSync row.the_row = row_sync in
+    search (heap.crosses, maps.crosses, sendable) depth 100 fits 100000
+
+kept_sync : IsSync kept.the_row
+kept_sync =
+    let o : IsSync order.the_field.row = order_sync in
+    let k : IsSync command.the_field.row = command_sync in
+    let l : IsSync line.the_field.row = line_sync in
+    let s : IsSync sending.the_field.row = sending_sync in
+    let c : IsSync counts.the_row = counts_sync in
+    search (heap.crosses, maps.crosses, sendable) depth 100 fits 100000
+
+name_send : IsSend name.the_row
+name_send = search (heap.crosses, maps.crosses, sendable) depth 100 fits 100000
+
+row_send : IsSend row.the_row
+row_send = search (heap.crosses, maps.crosses, sendable) depth 100 fits 100000
+
+counts_send : IsSend counts.the_row
+counts_send =
+    let n : IsSend name.the_row = name_send in
+    let r : IsSend row.the_row = row_send in
+    search (heap.crosses, maps.crosses, sendable) depth 100 fits 100000
+
+kept_send : IsSend kept.the_row
+kept_send =
+    let c : IsSend counts.the_row = counts_send in
+    search (heap.crosses, maps.crosses, sendable) depth 100 fits 100000
+
 pub charter_sync : IsSync charter.the_row
 charter_sync =
     let o : IsSync order.the_field.row = order_sync in
     let k : IsSync command.the_field.row = command_sync in
     let l : IsSync line.the_field.row = line_sync in
     let s : IsSync sending.the_field.row = sending_sync in
+    let e : IsSync kept.the_row = kept_sync in
+    let f : IsSend kept.the_row = kept_send in
     search (heap.crosses, maps.crosses, sendable) depth 100 fits 100000
 
 by_age_send : IsSend by_age.the_row

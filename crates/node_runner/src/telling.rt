@@ -126,7 +126,7 @@ fn publish_slot<B: Behaviour + Drop>(
     ensures stay { StayShown (charter_of table.now) pass.old pass.new node.now.state }
     ensures shown { IsShownAt (charter_of table.now) pass.new node.now.state slot.now }
 {
-    if !is_in_script(slot, charter) {
+    if !charter.has_slot(slot) {
         return;
     }
     let Some(store) = node.held_store(*slot) else {
@@ -156,18 +156,6 @@ fn publish_store<B: Behaviour + Drop>(
     node.stands();
     pass.stands();
     table.publish(pass, *slot, store);
-}
-
-/// Whether it is a slot of the script.
-fn is_in_script(slot: &Slot, charter: &Charter) -> bool
-    ensures { result ≡ is_slot_of charter.now slot.now }
-{
-    let config = charter.config();
-    match *slot {
-        Slot::Shard(s) => s.get() < config.shards,
-        Slot::Coordinator => true,
-        Slot::Queue(p) => 1 <= p.get() && p.get() <= config.producers,
-    }
 }
 
 /// The slot of which the fact is an entry, if it is one.

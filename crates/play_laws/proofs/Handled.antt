@@ -70,8 +70,8 @@ pub record Laws : Type 0 where
 one_live : (who x : Incarnation) (e : List ℕ) (live : List Incarnation) (f : Fact) → is_own_fact who f ≡ true → is_among x (live_step e live f) ≡ true → (is_among x live ≡ true) ⊎ (x ≡ who)
 one_live who x e live (fact.Start y g) own h = by (is_name g e) h
   where
-    by : (b : Bool) → is_among x (if b then live ++ y ∷ [] else live) ≡ true → (is_among x live ≡ true) ⊎ (x ≡ who)
-    by true k = by_last ((is_among x live ≡ true) ⊎ (x ≡ who)) x y live k (λ m. inl m) (λ same. inr (same ∙ same_is y who own))
+    by : (b : Bool) → is_among x (if b then without y live ++ y ∷ [] else live) ≡ true → (is_among x live ≡ true) ⊎ (x ≡ who)
+    by true k = by_last ((is_among x live ≡ true) ⊎ (x ≡ who)) x y (without y live) k (λ m. inl (among_kept (λ z. not (is_same y z)) x live m)) (λ same. inr (same ∙ same_is y who own))
     by false k = inl k
 one_live who x e live (fact.Stop y g) own h = by (is_name g e) h
   where

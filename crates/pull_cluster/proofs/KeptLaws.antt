@@ -486,7 +486,7 @@ leads_as p q a b x y e l =
 pub sent_fits : (c : Script) (t : List Fact) (q : Queue) (sent : ℕ) (e : List ℕ) (d : Command) → IsPulled c → IsQueued c t q sent → slice_get (sends c 1) (length (jobs t) + length (waiting t)) ≡ Some (first_of e d) → sent + 1 < 18446744073709551616
 sent_fits c t q sent e d is k next = fits sent (length (sends c 1)) (length c.orders) (got_below (sends c 1) sent (first_of e d) (ap (slice_get (sends c 1)) (sym (sent_long c t q sent k)) ∙ next)) (sends_few 1 c.orders) is.script.fits
   where
-    fits : (a n m : ℕ) → a < n → n ≤ m → m ≤ 200000 → a + 1 < 18446744073709551616
+    fits : (a n m : ℕ) → a < n → n ≤ m → m ≤ 3000000 → a + 1 < 18446744073709551616
     fits a n m f g h = omega (arith, f, g, h)
 
 -- where none waits the next send has the place of the next job
@@ -519,7 +519,7 @@ job_here c t q sent n k lt = less n (length (jobs t)) (length (sends c 1)) lt (j
 pub load_fits : (c : Script) (t : List Fact) (states : List JobState) (x : Incarnation) → IsPulled c → AreStates c t states → load_of x states < 4294967295
 load_fits c t states x is k = fits (load_of x states) (length states) (length (sends c 1)) (length c.orders) (count_by-le-length (is_given_to x) states) (states_long c t states k) (sends_few 1 c.orders) is.script.fits
   where
-    fits : (a n s m : ℕ) → a ≤ n → n ≡ s → s ≤ m → m ≤ 200000 → a < 4294967295
+    fits : (a n s m : ℕ) → a ≤ n → n ≡ s → s ≤ m → m ≤ 3000000 → a < 4294967295
     fits a n s m f e g h = omega (arith, f, e, g, h)
 
 -- a job that is queued and not confirmed may be confirmed
@@ -660,8 +660,8 @@ pub entity_is : (c : Script) (t : List Fact) (q : Queue) (sent : ℕ) (i : ℕ) 
 entity_is c t q sent i l j k lt all e =
     ap (option_map (λ (x : Sending). x.entity)) (job_is c t q sent k i lt ∙ (got_is (sends c 1) i j (job_here c t q sent i k lt) ∙ ap Some (sym (e ∙ ap (λ (m : List Sending). get_or m i j) all))))
 
-pub job_few : (c : Script) (t : List Fact) (q : Queue) (sent n : ℕ) → IsPulled c → IsQueued c t q sent → n < length (jobs t) → n < 200001
+pub job_few : (c : Script) (t : List Fact) (q : Queue) (sent n : ℕ) → IsPulled c → IsQueued c t q sent → n < length (jobs t) → n < 3000001
 job_few c t q sent n is k lt = few n (length (sends c 1)) (length c.orders) (job_here c t q sent n k lt) (sends_few 1 c.orders) is.script.fits
   where
-    few : (a s m : ℕ) → a < s → s ≤ m → m ≤ 200000 → a < 200001
+    few : (a s m : ℕ) → a < s → s ≤ m → m ≤ 3000000 → a < 3000001
     few a s m f g h = omega (arith, f, g, h)

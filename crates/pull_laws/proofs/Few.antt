@@ -229,11 +229,11 @@ got_below (k ∷ ls) (suc n) l e = above n (length ls) (got_below ls n l e)
     above : (n m : ℕ) → n < m → suc n < suc m
     above n m h = omega (arith, h)
 
-few_enough : (a n m : ℕ) → a ≤ n → n < m → m ≤ 200000 → a < 4294967295
+few_enough : (a n m : ℕ) → a ≤ n → n < m → m ≤ 3000000 → a < 4294967295
 few_enough a n m f g h = omega (arith, f, g, h)
 
-pub number_fits : (c : Script) (limit n m : ℕ) (l : Line) → length c.orders ≤ 200000 → slice_get c.orders n ≡ Some l → last_number m (pulled c limit n).told < 4294967295
+pub number_fits : (c : Script) (limit n m : ℕ) (l : Line) → length c.orders ≤ 3000000 → slice_get c.orders n ≡ Some l → last_number m (pulled c limit n).told < 4294967295
 number_fits c limit n m l few here = few_enough (last_number m (pulled c limit n).told) n (length c.orders) ((pulled_few c limit n).numbers m) (got_below c.orders n l here) few
 
-pub epoch_fits : (c : Script) (limit n : ℕ) (l : Line) → length c.orders ≤ 200000 → slice_get c.orders n ≡ Some l → epoch (queue (pulled c limit n).told) < 4294967295
+pub epoch_fits : (c : Script) (limit n : ℕ) (l : Line) → length c.orders ≤ 3000000 → slice_get c.orders n ≡ Some l → epoch (queue (pulled c limit n).told) < 4294967295
 epoch_fits c limit n l few here = few_enough (epoch (queue (pulled c limit n).told)) n (length c.orders) (pulled_few c limit n).epochs (got_below c.orders n l here) few

@@ -1,5 +1,6 @@
 //! A set of places among the names of a script.
-ghost use Rattle.std.specs.Prelude.{◌≡◌, ℕ, ◌<◌, Bool, true, false, length, replicate, slice_set, slice_index_or, IfOk};
+ghost use Rattle.std.specs.Prelude.{◌≡◌, ℕ, ◌<◌, ◌≤◌, Bool, true, false, length, replicate, slice_set, slice_index_or, IfOk, OnOk};
+ghost use Rattle.std.specs.List.{insert};
 
 use std::alloc::{AllocError, Global};
 use std::marker::Model;
@@ -27,6 +28,15 @@ impl Remembered {
     {
         let marks = vec![in alloc; false; names as usize]?;
         Ok(Remembered { marks })
+    }
+
+    /// A place more, before those from `place` on, which isn't in. The only error is want of memory.
+    pub fn insert(&mut self, place: u16) -> Result<(), AllocError>
+        requires { place ≤ length self.old }
+        ensures { OnOk result (self.new ≡ insert self.old place false) }
+    {
+        self.marks.insert(place as usize, false)?;
+        Ok(())
     }
 
     /// Puts a place in; nothing changes where it is in already.

@@ -14,12 +14,14 @@ use Rattle.yard_model.specs.SlotLists.{SlotLists}
 use Rattle.yard_model.specs.SlotReads.{holder}
 use Rattle.yard_model.specs.Text.{Bytes, lists_text, report}
 use Rattle.yard_model.specs.Trace.{list_at}
+use Rattle.yard_model.specs.World.{given_world, wire_limit}
 use Rattle.yard_laws.specs.Guarded.{Owns}
 use Rattle.yard_laws.proofs.SafetyLaws.{owns_of}
 use Rattle.shard_store.specs.Stores.{Shelves, lists_at}
 use Rattle.trace_text.specs.Foldable.{is_foldable_in_all}
 use Rattle.trace_text.specs.Slots.{slots_text}
 use Rattle.foldable_laws.proofs.Foldable.{Rules, lists_fold}
+use Rattle.settle_laws.specs.Settles.{most_deliveries}
 use Rattle.world_sim.specs.Given as given
 use Rattle.world_sim.specs.Given.{IsGiven}
 use Rattle.world_sim.specs.Played.{AreSettled}
@@ -48,10 +50,10 @@ numbered_is (fact.Granted s n x) h = h
 numbered_is (fact.Registered x) h = h
 numbered_is f h = refl
 
-pub may_settle : (c : Script) (version : ℕ) (lists : SlotLists) → is_version c version ≡ true → length c.orders ≤ 20000 → MayGoOn c lists → IsGiven c version lists
-may_settle c version lists admitted few on = record {
+pub may_settle : (c : Script) (version : ℕ) (lists : SlotLists) → is_version c version ≡ true → most_deliveries (given_world c version lists) ≤ wire_limit → MayGoOn c lists → IsGiven c version lists
+may_settle c version lists admitted fits on = record {
   admitted = admitted;
-  few = few;
+  fits = fits;
   lawful_is = on.lawful_is;
   unheld = λ s h. none_holds (holder (list_at lists s)) (on.unheld s h);
   numbered = λ s h. all_map is_numbered given.is_numbered numbered_is (list_at lists s) (on.numbered s h);

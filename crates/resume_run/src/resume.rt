@@ -3,10 +3,12 @@ ghost use Rattle.std.specs.Prelude.{◌≡◌, ◌<◌, ◌≤◌, ℕ, true, Li
 ghost use Rattle.yard_model.specs.declared.fact.Fact.{Fact};
 ghost use Rattle.yard_model.specs.Script.{is_version, setting};
 ghost use Rattle.yard_model.specs.Text.{lists_text};
+ghost use Rattle.yard_model.specs.World.{given_world, wire_limit};
 ghost use Rattle.shard_store.specs.Stores.{lists_at};
 ghost use Rattle.trace_text.specs.Foldable.{is_foldable_in_all};
 ghost use Rattle.disk_log.specs.Spelled.{IsDamaged, Spells};
 ghost use Rattle.disk_log.specs.Window.{IsUntouched};
+ghost use Rattle.settle_laws.specs.Settles.{most_deliveries};
 ghost use Rattle.world_sim.specs.Played.{AreSettled};
 ghost use Rattle.log_resume.specs.Restored.{IsForeign, MayGoOn, are_taken, entries};
 ghost use Rattle.resume_run.specs.ResumeText.{GoneOn, IsForeignLog, ResumeText, Resumes};
@@ -19,6 +21,7 @@ use disk_log::{Batches, Disk, one_reading, read_log};
 use fact_lines::{entries_are_readable, texts_tell};
 use log_resume::{ResumeFault, stores_of};
 use readable_lists::look_at_lists;
+use settle_laws::worlds::few_orders_fit;
 use shard_store::Stores;
 use std::alloc::{AllocError, Global};
 use trace_text::{push_lists, push_report};
@@ -85,6 +88,7 @@ fn text_of_stores(alloc: Global, charter: &Charter, stores: Stores) -> Result<Ve
     requires go_on { MayGoOn charter.now (lists_at charter.now.config stores.places) }
     ensures { IfOk result (λ text. GoneOn charter.now (lists_at charter.now.config stores.places) text.items) }
 {
+    few_orders_fit();
     let behaviour = ByKind::new(charter.config().kind);
     text_by(alloc, charter, behaviour, stores)
 }
@@ -98,7 +102,7 @@ fn text_by<B: Behaviour + Copy + Drop>(
 ) -> Result<Vec<u8>, AllocError>
     requires kind { B.kind_of behaviour ≡ charter.now.config.kind }
     requires version { is_version charter.now (B.version_of behaviour) ≡ true }
-    requires few { length charter.now.orders ≤ 20000 }
+    requires fits { most_deliveries (given_world charter.now (B.version_of behaviour) (lists_at charter.now.config stores.places)) ≤ wire_limit }
     requires script { stores.script ≡ charter.now }
     requires go_on { MayGoOn charter.now (lists_at charter.now.config stores.places) }
     ensures { IfOk result (λ text. GoneOn charter.now (lists_at charter.now.config stores.places) text.items) }
@@ -126,7 +130,7 @@ fn settled<B: Behaviour + Copy + Drop>(
 ) -> Result<Stores, AllocError>
     requires kind { B.kind_of behaviour ≡ charter.now.config.kind }
     requires version { is_version charter.now (B.version_of behaviour) ≡ true }
-    requires few { length charter.now.orders ≤ 20000 }
+    requires fits { most_deliveries (given_world charter.now (B.version_of behaviour) (lists_at charter.now.config stores.places)) ≤ wire_limit }
     requires script { stores.script ≡ charter.now }
     requires go_on { MayGoOn charter.now (lists_at charter.now.config stores.places) }
     ensures script { IfOk result (λ s. s.script ≡ charter.now) }

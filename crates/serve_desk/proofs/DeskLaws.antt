@@ -242,7 +242,7 @@ heard_more c n p e k h is over room =
         orders = list_all-append (λ (x : Line). is_order c.config x.order) c.orders (l ∷ []) ∙ both (list_all (λ (x : Line). is_order c.config x.order) c.orders) _ h.script.orders (both (is_order c.config l.order) true is refl);
         names = not_below 1000 (length (names_in d.orders)) m.0;
         pairs = not_below 4000 (length (pairs_in d.orders)) m.1;
-        fits = subst (λ n. n ≤ 200000) (sym long) (omega (arith, room));
+        fits = subst (λ n. n ≤ 3000000) (sym long) (omega (arith, room));
       };
       sends = list_all-append (λ (x : Line). is_send x.order) c.orders (l ∷ []) ∙ both (list_all (λ (x : Line). is_send x.order) c.orders) _ h.sends refl;
       few = subst (λ n. n ≤ 20000) (sym long) (omega (arith, room));

@@ -26,7 +26,7 @@ use Rattle.script_text.specs.Fit.{is_send}
 use Rattle.log_resume.specs.Left.{is_confirmed_all, sends_confirmed}
 use Rattle.log_resume.specs.Restored.{are_taken, entries}
 use Rattle.log_resume.proofs.DoneLaws.{not_queued}
-use Rattle.grow_laws.specs.Grown.{GoesOn}
+use Rattle.yard_model.specs.Grown.{GoesOn}
 use Rattle.grow_laws.specs.Growths.{GrownIsTaken}
 use Rattle.grow_laws.specs.Once.{EachOnce, recorded_of}
 use Rattle.apply_laws.specs.Applied.{is_done, lists_in}
@@ -169,7 +169,7 @@ found_is_heard c log h f = record {
     orders = orders_of_kind c.config (flat_map sends_of (entries log)) (λ p. []) f.too (λ p. subst (λ xs. list_all (is_kind_of c.config.kind) xs ≡ true) (sym (f.same p)) (sent_of_kind c.config p c.orders [] h.script.orders refl));
     names = subst (λ (l : List (List ℕ)). length l ≤ 1000) (sym f.alike.names) h.script.names;
     pairs = subst (λ n. n ≤ 4000) (sym f.alike.pairs) h.script.pairs;
-    fits = subst (λ n. n ≤ 200000) (sym f.alike.orders) h.script.fits;
+    fits = subst (λ n. n ≤ 3000000) (sym f.alike.orders) h.script.fits;
   };
   sends = all_map (is_send_within c.config.producers) (λ (l : Line). is_send l.order) (send_of_within c.config.producers) (flat_map sends_of (entries log)) f.too;
   few = subst (λ n. n ≤ 20000) (sym f.alike.orders) h.few;

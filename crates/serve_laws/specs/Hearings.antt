@@ -7,7 +7,7 @@ use Rattle.yard_model.specs.Behaviour.{is_in}
 use Rattle.yard_model.specs.Script.{Script, IsScript, plan}
 use Rattle.script_text.specs.Fit.{is_send}
 use Rattle.script_text.specs.Words.{words}
-use Rattle.grow_laws.specs.Grown.{GoesOn}
+use Rattle.yard_model.specs.Grown.{GoesOn}
 use Rattle.serve_laws.specs.Hearing.{Answer, InForce, Done, Request, ToDo, after_all, answers_all, ask, heard, most_accepted, still, with_request}
 
 -- Scripts.

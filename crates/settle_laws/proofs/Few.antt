@@ -1,4 +1,4 @@
--- A script of few orders sends few commands, so the wire has room for its settling.
+-- Where few commands are outstanding the wire has room for their settling; a script of few orders sends few.
 use Rattle.std.proofs.Common.{◌≡◌, ◌<◌, ◌≤◌, ℕ, zero, suc, ◌+◌, ◌-◌, ◌*◌, List, [], ◌∷◌, ◌++◌, length, sym, ap, subst, ◌∙◌, refl, true, false, arith, length-append}
 use Rattle.std.specs.Prelude.{Bool, ◌==◌, ◌&&◌, nat_le, fold, sum_by, if◌then◌else◌}
 use Rattle.std.proofs.lemmas.List.Sums.{sum_by-cons}
@@ -8,11 +8,11 @@ use Rattle.yard_model.specs.declared.charter.Order.{Order}
 use Rattle.yard_model.specs.declared.charter.Order.TheVariants as order
 use Rattle.yard_model.specs.declared.charter.Sending.{Sending}
 use Rattle.yard_model.specs.Behaviour.{is_in}
-use Rattle.yard_model.specs.Script.{setting, count_to, sends, with_order, with_send_of}
+use Rattle.yard_model.specs.Script.{Script, IsScript, setting, count_to, sends, with_order, with_send_of}
 use Rattle.yard_model.specs.Words.{numbers}
 use Rattle.yard_model.specs.World.{given_world, ordered_of, wire_limit}
 use Rattle.plain_laws.proofs.Booleans.{and_both, at_most, same_number}
-use Rattle.settle_laws.specs.Settles.{FewOrdersFit}
+use Rattle.settle_laws.specs.Settles.{FewOrdersFit, OutstandingFits, outstanding_in_all}
 use Rattle.settle_laws.proofs.Lonely.{differ}
 use Rattle.settle_laws.proofs.Records.{le_itself, le_then}
 use Rattle.settle_laws.proofs.Tops.{most_is, given_ordered}
@@ -140,20 +140,27 @@ sum_within f g (suc n) a h = subst (λ m. m ≤ sum_by g (a ∷ numbers (a + 1) 
     unshift : (a n p : ℕ) → p < a + 1 + n → p < a + suc n
     unshift a n p h = omega (arith, h)
 
-pub few_orders_fit : FewOrdersFit
-few_orders_fit c version lists script few = subst (λ n. n ≤ wire_limit) (sym (most_is c (given_world c version lists) refl)) (fits (outs_of c (given_world c version lists)) c.config.shards (length (setting c).names) (le_then (outs_of c (given_world c version lists)) (length c.orders) 20000 outs few) shards script.names)
+-- a script has few shards, and few names
+few_shards : (c : Script) → IsScript c → c.config.shards ≤ 128
+few_shards c script = at_most c.config.shards 128 (and_both (nat_le 1 c.config.shards) (nat_le c.config.shards 128) (second (is_in 1 16 k.nodes) (is_in 1 128 k.shards) (is_in 1 32 k.producers) (is_in 1 1000 k.buffer) (is_in 1 64 k.window) (is_in 1 10000 k.snapshot) (is_in 1 10 k.keep) script.config)).1
   where
-    fits : (o s n : ℕ) → o ≤ 20000 → s ≤ 128 → n ≤ 1000 → 24 * o + 18 * s + n + 3 ≤ 1000000
-    fits o s n h k j = omega (arith, h, k, j)
-
     k : Config
     k = c.config
 
-    shards : c.config.shards ≤ 128
-    shards = at_most c.config.shards 128 (and_both (nat_le 1 c.config.shards) (nat_le c.config.shards 128) (second (is_in 1 16 k.nodes) (is_in 1 128 k.shards) (is_in 1 32 k.producers) (is_in 1 1000 k.buffer) (is_in 1 64 k.window) (is_in 1 10000 k.snapshot) (is_in 1 10 k.keep) script.config)).1
-      where
-        second : (a b d e f g h : Bool) → (a && b && d && e && f && g && h) ≡ true → b ≡ true
-        second a b d e f g h t = (and_both a b (and_both (a && b) d (and_both (a && b && d) e (and_both (a && b && d && e) f (and_both (a && b && d && e && f) g (and_both (a && b && d && e && f && g) h t).0).0).0).0).0).1
+    second : (a b d e f g h : Bool) → (a && b && d && e && f && g && h) ≡ true → b ≡ true
+    second a b d e f g h t = (and_both a b (and_both (a && b) d (and_both (a && b && d) e (and_both (a && b && d && e) f (and_both (a && b && d && e && f) g (and_both (a && b && d && e && f && g) h t).0).0).0).0).0).1
+
+pub outstanding_fits : OutstandingFits
+outstanding_fits c version lists script few = fits (outstanding_in_all (given_world c version lists)) c.config.shards (length (setting c).names) few (few_shards c script) script.names
+  where
+    fits : (o s n : ℕ) → o ≤ 40000 → s ≤ 128 → n ≤ 1000 → 24 * o + 18 * s + n + 3 ≤ 1000000
+    fits o s n h k j = omega (arith, h, k, j)
+
+pub few_orders_fit : FewOrdersFit
+few_orders_fit c version lists script few = subst (λ n. n ≤ wire_limit) (sym (most_is c (given_world c version lists) refl)) (fits (outs_of c (given_world c version lists)) c.config.shards (length (setting c).names) (le_then (outs_of c (given_world c version lists)) (length c.orders) 20000 outs few) (few_shards c script) script.names)
+  where
+    fits : (o s n : ℕ) → o ≤ 20000 → s ≤ 128 → n ≤ 1000 → 24 * o + 18 * s + n + 3 ≤ 1000000
+    fits o s n h k j = omega (arith, h, k, j)
 
     outs : outs_of c (given_world c version lists) ≤ length c.orders
     outs = le_then (outs_of c (given_world c version lists)) (sum_by (λ p. all_by p c.orders) (numbers 1 c.config.producers)) (length c.orders)

@@ -79,7 +79,11 @@ StoresSettle = (c : Script) (version : ℕ) (lists : SlotLists) → IsScript c �
 abbrev pub GivenMaySettle : Type 0
 GivenMaySettle = (c : Script) (version : ℕ) (lists : SlotLists) → IsScript c → is_version c version ≡ true → lawful c lists ≡ true → IsUnheld c lists → let w : World = given_world c version lists in MaySettle c (length w.wire) (settle_bound w) w
 
--- the wire has that room where the script has at most 20,000 orders
+-- the wire has that room where at most 40,000 commands were sent and aren't confirmed
+abbrev pub OutstandingFits : Type 0
+OutstandingFits = (c : Script) (version : ℕ) (lists : SlotLists) → IsScript c → outstanding_in_all (given_world c version lists) ≤ 40000 → most_deliveries (given_world c version lists) ≤ wire_limit
+
+-- so it is where the script has at most 20,000 orders
 abbrev pub FewOrdersFit : Type 0
 FewOrdersFit = (c : Script) (version : ℕ) (lists : SlotLists) → IsScript c → length c.orders ≤ 20000 → most_deliveries (given_world c version lists) ≤ wire_limit
 

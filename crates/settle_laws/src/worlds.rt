@@ -1,5 +1,5 @@
 //! The settling of a world: after any orders, and of given lists.
-ghost use Rattle.settle_laws.specs.Settles.{BudgetSuffices, FewOrdersFit, GivenMaySettle, OrdersSettle, SettleLineSettles, SettlesLeaveNone, StoresSettle};
+ghost use Rattle.settle_laws.specs.Settles.{BudgetSuffices, FewOrdersFit, GivenMaySettle, OrdersSettle, OutstandingFits, SettleLineSettles, SettlesLeaveNone, StoresSettle};
 
 use crate::alone::{delivery_falls, tick_costs};
 use actor_laws::region::shards_are_there;
@@ -58,6 +58,11 @@ pub fn given_may_settle()
     recorded_stays();
     turn_is_guarded();
 }
+
+/// It has that room where at most 40,000 commands were sent and aren't confirmed.
+pub fn outstanding_fits()
+    ensures { OutstandingFits }
+{}
 
 /// It has that room where the script has at most 20,000 orders.
 pub fn few_orders_fit()

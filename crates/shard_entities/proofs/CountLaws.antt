@@ -22,16 +22,16 @@ use Rattle.yard_model.specs.Script.{Script, IsScript, Setting, setting, is_name,
 use Rattle.yard_model.specs.Setting.{shard_of, names_of, place}
 use Rattle.yard_model.specs.ShardSet.{has}
 use Rattle.yard_model.specs.Words.{is_empty}
-use Rattle.plain_laws.proofs.Booleans.{same_name, get_replicate}
+use Rattle.plain_laws.proofs.Booleans.{same_name, get_replicate, same_number, other_number}
 use Rattle.plain_laws.proofs.Names.{name_itself}
 use Rattle.shard_store.specs.Shelved.{name_at}
-use Rattle.shard_entities.specs.Celled.{Celled, celled, celled_after}
+use Rattle.entity_cells.specs.Celled.{Celled, celled, celled_after}
 use Rattle.shard_entities.specs.Placed.{IsPlace}
 use Rattle.shard_entities.specs.declared.place.Place.{Place}
 use Rattle.shard_entities.specs.declared.hosting.Hosting.{Hosting}
 use Rattle.shard_entities.specs.Lodged.{Lodged, lodged, IsLodged, IsKept, IsCell, IsHosting, AreCounted, cell_of, new_celled, host_of, hosted_of}
 use Rattle.shard_entities.proofs.DropLaws.{new_stands}
-use Rattle.shard_entities.proofs.LodgedLaws.{is_same, is_other, placed, cell_at}
+use Rattle.shard_entities.proofs.LodgedLaws.{placed, cell_at}
 use Rattle.name_index.proofs.NameLaws.{another_name}
 use Rattle.shard_entities.proofs.PlacesLaws.{new_cells}
 use Rattle.shard_entities.proofs.PlannedLaws.{picked_few}
@@ -111,7 +111,7 @@ there_now {c} {p} cells now is within =
 other_count : {c : Script} {p : Place} (cells : List Cell) (now : Cell) → IsPlace c p → (s : ℕ) → s ≢ p.shard → how_many (setting c) (slice_set cells p.at now) s ≡ how_many (setting c) cells s
 other_count {c} {p} cells now is s apart =
     ap length (picked_alike (λ e. shard_of (setting c) e == s) (is_there (setting c) cells) (is_there (setting c) (slice_set cells p.at now)) (setting c).names
-    (λ e here. there_other cells now is e (λ same. apart (sym (is_same (shard_of (setting c) e) s here) ∙ (ap (shard_of (setting c)) same ∙ sym is.shard_is)))))
+    (λ e here. there_other cells now is e (λ same. apart (sym (same_number (shard_of (setting c) e) s here) ∙ (ap (shard_of (setting c)) same ∙ sym is.shard_is)))))
 
 own_count : {c : Script} {p : Place} (cells : List Cell) (now : Cell) → IsPlace c p → IsStrictlySortedBy (slice_cmp nat_cmp) (setting c).names → p.at < length cells
     → how_many (setting c) (slice_set cells p.at now) p.shard + bit (is_there (setting c) cells p.entity) ≡ how_many (setting c) cells p.shard + bit (not (is_phase phase.Absent now.phase))
@@ -145,8 +145,8 @@ counted_put {c} {p} {cells} {existing} now n k is sorted within step = record {
         omega (arith, step, old, new)
 
     at_shard : (s : ℕ) → s < (setting c).config.shards → (b : Bool) → (s == p.shard) ≡ b → slice_index_or (slice_set existing p.shard n) s 0 ≡ how_many (setting c) (slice_set cells p.at now) s
-    at_shard s below true e = rw (is_same s p.shard e) (get_or-set_same existing p.shard n 0 inside ∙ at_own)
-    at_shard s below false e = get_or-set_other existing p.shard s n 0 (is_other s p.shard e) ∙ (k.each s below ∙ sym (other_count cells now is s (is_other s p.shard e)))
+    at_shard s below true e = rw (same_number s p.shard e) (get_or-set_same existing p.shard n 0 inside ∙ at_own)
+    at_shard s below false e = get_or-set_other existing p.shard s n 0 (other_number s p.shard e) ∙ (k.each s below ∙ sym (other_count cells now is s (other_number s p.shard e)))
 
 counted_same : {c : Script} {p : Place} {cells : List Cell} {existing : List ℕ} (now : Cell) → AreCounted (setting c) cells existing → IsPlace c p → IsStrictlySortedBy (slice_cmp nat_cmp) (setting c).names → p.at < length cells
     → not (is_phase phase.Absent now.phase) ≡ is_there (setting c) cells p.entity → AreCounted (setting c) (slice_set cells p.at now) existing
@@ -163,9 +163,9 @@ counted_same {c} {p} {cells} {existing} now k is sorted within same = record {
 
     at_shard : (s : ℕ) → s < (setting c).config.shards → (b : Bool) → (s == p.shard) ≡ b → slice_index_or existing s 0 ≡ how_many (setting c) (slice_set cells p.at now) s
     at_shard s below true e =
-        let it : s ≡ p.shard = is_same s p.shard e in
+        let it : s ≡ p.shard = same_number s p.shard e in
         k.each s below ∙ (ap (how_many (setting c) cells) it ∙ (at_own ∙ sym (ap (how_many (setting c) (slice_set cells p.at now)) it)))
-    at_shard s below false e = k.each s below ∙ sym (other_count cells now is s (is_other s p.shard e))
+    at_shard s below false e = k.each s below ∙ sym (other_count cells now is s (other_number s p.shard e))
 
 -- What is kept, where the cell at a place is another.
 

@@ -29,7 +29,7 @@ use Rattle.yard_model.specs.Words.{at}
 use Rattle.plain_laws.proofs.Booleans.{left_of, right_of, same_number, both, and_both, number_itself}
 use Rattle.plain_laws.proofs.Names.{name_itself}
 use Rattle.behaviour_core.specs.Laws.{decided_events_apply}
-use Rattle.shard_entities.specs.Celled.{Celled}
+use Rattle.entity_cells.specs.Celled.{Celled}
 use Rattle.shard_entities.specs.Delivered.{Stands, IsDelivery, IsNext}
 use Rattle.shard_entities.specs.Lodged.{Lodged, IsLodged, IsHosting, lodged, moved, hosted_of, room_of, cell_of, is_for}
 use Rattle.shard_entities.specs.Placed.{IsPlace}
@@ -53,7 +53,7 @@ for_planned c e m h =
 pub command_is : {v : Lodged} {p : Place} {m : Message} → SameCommand → Stands v → IsDelivery v p m → is_of_kind v.script.config.kind m.command ≡ true
 command_is {v} {p} {m} same s d = planned_of_kind v.script m.producer m.entity m.number m.command same s.script_is (for_planned v.script p.entity m d.for_it).0
 
-pub number_few : {v : Lodged} {p : Place} {m : Message} → Stands v → IsDelivery v p m → m.number ≤ 200000
+pub number_few : {v : Lodged} {p : Place} {m : Message} → Stands v → IsDelivery v p m → m.number ≤ 3000000
 number_few {v} {p} {m} s d = planned_few v.script m.producer m.entity m.number m.command s.script_is (for_planned v.script p.entity m d.for_it).0
 
 -- the list of a hosted shard is held

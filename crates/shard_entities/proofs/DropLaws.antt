@@ -18,7 +18,7 @@ use Rattle.yard_model.specs.Script.{Script, setting, is_name}
 use Rattle.yard_model.specs.Setting.{place}
 use Rattle.yard_model.specs.Words.{at}
 use Rattle.plain_laws.proofs.Booleans.{and_both, same_name}
-use Rattle.shard_entities.specs.Celled.{Celled, celled, celled_after}
+use Rattle.entity_cells.specs.Celled.{Celled, celled, celled_after}
 use Rattle.shard_entities.specs.Placed.{IsPlace}
 use Rattle.shard_entities.specs.declared.place.Place.{Place}
 use Rattle.shard_entities.specs.declared.hosting.Hosting.{Hosting}

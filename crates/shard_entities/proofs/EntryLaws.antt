@@ -23,19 +23,19 @@ use Rattle.yard_model.specs.Setting.{shard_of}
 use Rattle.yard_model.specs.ShardSet.{has}
 use Rattle.yard_model.specs.SlotReads.{holder, holder_step, journal, journal_step}
 use Rattle.yard_model.specs.Words.{at}
-use Rattle.plain_laws.proofs.Booleans.{both, number_itself}
+use Rattle.plain_laws.proofs.Booleans.{both, number_itself, same_number, other_number}
 use Rattle.plain_laws.proofs.Names.{name_itself}
 use Rattle.behaviour_core.specs.Laws.{valid_after_all}
 use Rattle.shard_store.specs.Shelf.{Shelf}
 use Rattle.shard_store.specs.Shelved.{name_at}
-use Rattle.shard_entities.specs.Celled.{Celled}
+use Rattle.entity_cells.specs.Celled.{Celled}
 use Rattle.shard_entities.specs.Placed.{IsPlace}
 use Rattle.shard_entities.specs.Written.{WithStore, entered}
 use Rattle.shard_entities.specs.declared.place.Place.{Place}
 use Rattle.shard_entities.specs.declared.hosting.Hosting.{Hosting}
 use Rattle.shard_entities.specs.Lodged.{Lodged, lodged, moved, less, rooms_step, IsLodged, IsCell, IsHosting, host_of, cell_of, new_celled, hosted_of, room_of}
 use Rattle.name_index.proofs.NameLaws.{another_name}
-use Rattle.shard_entities.proofs.LodgedLaws.{is_same, is_other, placed, within, cell_at, cell_is}
+use Rattle.shard_entities.proofs.LodgedLaws.{placed, within, cell_at, cell_is}
 
 abbrev pub entered_hosted : Fact → Hosted → Hosted
 entered_hosted f h = record { entries = h.entries ++ f ∷ []; stopping = h.stopping }
@@ -129,27 +129,27 @@ entry_stands {c} {version} {who} {config} {places} {cells} {new_cells} {items} {
 
     each_at : (j : ℕ) → j < length (setting c).names → (b : Bool) → (j == p.at) ≡ b → IsCell c (name_at (setting c).names j) (host_of c (slice_set items i new) (name_at (setting c).names j)) (slice_index_or new_cells j (new_celled c))
     each_at j within_names true e =
-        rw (is_same j p.at e) (rw put.here (rw here.here.it (subst (λ s. IsCell c p.entity (at (slice_set items i new) s) now) (same ∙ here.shard_is) (subst (λ x. IsCell c p.entity x now) (sym (set_here ∙ step)) stands))))
+        rw (same_number j p.at e) (rw put.here (rw here.here.it (subst (λ s. IsCell c p.entity (at (slice_set items i new) s) now) (same ∙ here.shard_is) (subst (λ x. IsCell c p.entity x now) (sym (set_here ∙ step)) stands))))
     each_at j within_names false e =
-        rw (put.others j (is_other j p.at e))
+        rw (put.others j (other_number j p.at e))
         (other_at (shard_of (setting c) (name_at (setting c).names j) == i) refl)
       where
         other_at : (b : Bool) → (shard_of (setting c) (name_at (setting c).names j) == i) ≡ b → IsCell c (name_at (setting c).names j) (host_of c (slice_set items i new) (name_at (setting c).names j)) (slice_index_or cells j (new_celled c))
         other_at true at_it =
-            let shard_is : shard_of (setting c) (name_at (setting c).names j) ≡ i = is_same (shard_of (setting c) (name_at (setting c).names j)) i at_it in
-            let different : is_name p.entity (name_at (setting c).names j) ≡ false = another_name (setting c).names p.entity p.at j t.sorted here.here.within within_names here.here.it (is_other j p.at e) in
+            let shard_is : shard_of (setting c) (name_at (setting c).names j) ≡ i = same_number (shard_of (setting c) (name_at (setting c).names j)) i at_it in
+            let different : is_name p.entity (name_at (setting c).names j) ≡ false = another_name (setting c).names p.entity p.at j t.sorted here.here.within within_names here.here.it (other_number j p.at e) in
             let old : IsCell c (name_at (setting c).names j) o (slice_index_or cells j (new_celled c)) = subst (λ x. IsCell c (name_at (setting c).names j) x (slice_index_or cells j (new_celled c))) (ap (at items) shard_is ∙ host) (t.each j within_names) in
             subst (λ x. IsCell c (name_at (setting c).names j) x (slice_index_or cells j (new_celled c))) (sym (ap (at (slice_set items i new)) shard_is ∙ (set_here ∙ step))) (goes_on (name_at (setting c).names j) (slice_index_or cells j (new_celled c)) o different old)
         other_at false at_it =
-            subst (λ x. IsCell c (name_at (setting c).names j) x (slice_index_or cells j (new_celled c))) (sym (set_other (shard_of (setting c) (name_at (setting c).names j)) (is_other (shard_of (setting c) (name_at (setting c).names j)) i at_it))) (t.each j within_names)
+            subst (λ x. IsCell c (name_at (setting c).names j) x (slice_index_or cells j (new_celled c))) (sym (set_other (shard_of (setting c) (name_at (setting c).names j)) (other_number (shard_of (setting c) (name_at (setting c).names j)) i at_it))) (t.each j within_names)
 
     host_goes_on : (s : ℕ) (a : Option Hosting) → IfSome a (IsHosting c who s) → IfSome (option_map (entered f) a) (IsHosting c who s)
     host_goes_on s None k = k
     host_goes_on s (Some h) k = record { script_is = k.script_is; shard_is = k.shard_is; leased = fold-append holder_step None h.store.entries (f ∷ []) ∙ (entry.holder_is (holder h.store.entries) ∙ k.leased) }
 
     hosts_at : (s : ℕ) (b : Bool) → (s == i) ≡ b → IfSome (at (slice_set items i new) s) (IsHosting c who s)
-    hosts_at s true e = rw (is_same s i e) (subst (λ x. IfSome x (IsHosting c who i)) (sym (set_here ∙ step)) (host_goes_on i o (subst (λ x. IfSome x (IsHosting c who i)) host (t.hosts i))))
-    hosts_at s false e = subst (λ x. IfSome x (IsHosting c who s)) (sym (set_other s (is_other s i e))) (t.hosts s)
+    hosts_at s true e = rw (same_number s i e) (subst (λ x. IfSome x (IsHosting c who i)) (sym (set_here ∙ step)) (host_goes_on i o (subst (λ x. IfSome x (IsHosting c who i)) host (t.hosts i))))
+    hosts_at s false e = subst (λ x. IfSome x (IsHosting c who s)) (sym (set_other s (other_number s i e))) (t.hosts s)
 
     running_same : (a : Option Hosting) → is_running_in (option_map hosted_of (option_map (entered f) a)) ≡ is_running_in (option_map hosted_of a)
     running_same None = refl
@@ -157,9 +157,9 @@ entry_stands {c} {version} {who} {config} {places} {cells} {new_cells} {items} {
 
     runs_at : (s : ℕ) → s < c.config.shards → (b : Bool) → (s == i) ≡ b → has running s ≡ is_running_in (option_map hosted_of (at (slice_set items i new) s))
     runs_at s lt true e =
-        let there : s ≡ i = is_same s i e in
+        let there : s ≡ i = same_number s i e in
         t.runs s lt ∙ (ap (λ x. is_running_in (option_map hosted_of x)) (ap (at items) there ∙ host) ∙ (sym (running_same o) ∙ ap (λ x. is_running_in (option_map hosted_of x)) (sym (ap (at (slice_set items i new)) there ∙ (set_here ∙ step)))))
-    runs_at s lt false e = t.runs s lt ∙ ap (λ x. is_running_in (option_map hosted_of x)) (sym (set_other s (is_other s i e)))
+    runs_at s lt false e = t.runs s lt ∙ ap (λ x. is_running_in (option_map hosted_of x)) (sym (set_other s (other_number s i e)))
 
 -- the list of the shard of an entity
 pub entries_at : {c : Script} {version : ℕ} {who : Incarnation} {config : Config} {places : Script} {cells : List Celled} {items : List (Option Hosting)} {running : ℕ} {v : Lodged} {p : Place} {i : ℕ} {o : Option Hosting}

@@ -16,14 +16,14 @@ use Rattle.yard_model.specs.ShardSet.{has}
 use Rattle.yard_model.specs.SlotReads.{holder}
 use Rattle.yard_model.specs.Words.{at}
 use Rattle.shard_store.specs.Shelved.{name_at}
-use Rattle.shard_entities.specs.Celled.{Celled}
+use Rattle.entity_cells.specs.Celled.{Celled}
 use Rattle.shard_entities.specs.Settled.{IsSettled, IsQuiet}
 use Rattle.shard_entities.specs.Roomy.{AreReserved, IsReserved, AreMore, with_room}
 use Rattle.shard_entities.specs.Written.{ended}
 use Rattle.shard_entities.specs.declared.hosting.Ending.{Ending}
 use Rattle.shard_entities.specs.declared.hosting.Hosting.{Hosting}
 use Rattle.shard_entities.specs.Lodged.{Lodged, lodged, moved, hosting, IsLodged, IsCell, IsHosting, host_of, cell_of, new_celled, hosted_of, room_of, stopping_of}
-use Rattle.shard_entities.proofs.LodgedLaws.{is_same, is_other}
+use Rattle.plain_laws.proofs.Booleans.{same_number, other_number}
 use Rattle.shard_entities.proofs.TakenLaws.{shards_most, shard_read}
 
 -- another hosting stands there
@@ -51,25 +51,25 @@ shard_put {c} {version} {who} {config} {places} {cells} {items} {running} {new_r
     here = get_or-set_same items s new None inside
 
     there_still : (t : ℕ) → (t == s) ≡ false → at (slice_set items s new) t ≡ at items t
-    there_still t e = get_or-set_other items s t new None (is_other t s e)
+    there_still t e = get_or-set_other items s t new None (other_number t s e)
 
     cell_at_shard : (j : ℕ) → j < length (setting c).names → (b : Bool) → (shard_of (setting c) (name_at (setting c).names j) == s) ≡ b → IsCell c (name_at (setting c).names j) (host_of c items (name_at (setting c).names j)) (slice_index_or cells j (new_celled c))
         → IsCell c (name_at (setting c).names j) (host_of c (slice_set items s new) (name_at (setting c).names j)) (slice_index_or cells j (new_celled c))
     cell_at_shard j within true e old =
-        let it : shard_of (setting c) (name_at (setting c).names j) ≡ s = is_same (shard_of (setting c) (name_at (setting c).names j)) s e in
+        let it : shard_of (setting c) (name_at (setting c).names j) ≡ s = same_number (shard_of (setting c) (name_at (setting c).names j)) s e in
         subst (λ x. IsCell c (name_at (setting c).names j) x (slice_index_or cells j (new_celled c))) (sym (ap (at (slice_set items s new)) it ∙ here))
         (goes j within it (subst (λ t. IsCell c (name_at (setting c).names j) (at items t) (slice_index_or cells j (new_celled c))) it old))
     cell_at_shard j within false e old = subst (λ x. IsCell c (name_at (setting c).names j) x (slice_index_or cells j (new_celled c))) (sym (there_still (shard_of (setting c) (name_at (setting c).names j)) e)) old
 
     host_at_shard : (t : ℕ) (b : Bool) → (t == s) ≡ b → IfSome (at (slice_set items s new) t) (IsHosting c who t)
-    host_at_shard t true e = rw (is_same t s e) (subst (λ x. IfSome x (IsHosting c who s)) (sym here) its)
+    host_at_shard t true e = rw (same_number t s e) (subst (λ x. IfSome x (IsHosting c who s)) (sym here) its)
     host_at_shard t false e = subst (λ x. IfSome x (IsHosting c who t)) (sym (there_still t e)) (k.hosts t)
 
     runs_at : (t : ℕ) → t < c.config.shards → (b : Bool) → (t == s) ≡ b → has new_running t ≡ is_running_in (option_map hosted_of (at (slice_set items s new) t))
-    runs_at t below true e = rw (is_same t s e) (runs ∙ ap (λ x. is_running_in (option_map hosted_of x)) (sym here))
+    runs_at t below true e = rw (same_number t s e) (runs ∙ ap (λ x. is_running_in (option_map hosted_of x)) (sym here))
     runs_at t below false e =
         let most : c.config.shards ≤ 128 = shards_most c k.script_is in
-        others t (omega (arith, below, most)) (is_other t s e) ∙ (k.runs t below ∙ ap (λ x. is_running_in (option_map hosted_of x)) (sym (there_still t e)))
+        others t (omega (arith, below, most)) (other_number t s e) ∙ (k.runs t below ∙ ap (λ x. is_running_in (option_map hosted_of x)) (sym (there_still t e)))
 
 pub shard_below : {c : Script} {version : ℕ} {who : Incarnation} (cells : List Celled) (items : List (Option Hosting)) {v : Lodged} {s : ℕ} → lodged c version who items cells ≡ v → s < v.script.config.shards → s < c.config.shards
 shard_below {c} {version} {who} cells items {v} {s} seen lt = subst (λ (x : Script). s < x.config.shards) (ap (λ (v : Lodged). v.script) (sym seen)) lt
@@ -264,8 +264,8 @@ has_it items k set new old here it others = record {
     above_not k t most same = omega (arith, most, same)
 
     at_place : (t : ℕ) → t < k + 1 → (b : Bool) → (t == k) ≡ b → has new t ≡ not (is_none (at items t))
-    at_place t lt true e = rw (is_same t k e) (it ∙ sym (ap not here))
-    at_place t lt false e = others t (is_other t k e) ∙ old.below t (smaller (is_other t k e) lt)
+    at_place t lt true e = rw (same_number t k e) (it ∙ sym (ap not here))
+    at_place t lt false e = others t (other_number t k e) ∙ old.below t (smaller (other_number t k e) lt)
       where
         smaller : t ≢ k → t < k + 1 → t < k
         smaller other lt = at_test (nat_lt t k) refl
@@ -281,8 +281,8 @@ has_not items k set old here = record {
 }
   where
     at_place : (t : ℕ) → t < k + 1 → (b : Bool) → (t == k) ≡ b → has set t ≡ not (is_none (at items t))
-    at_place t lt true e = rw (is_same t k e) (old.above k (omega arith) ∙ sym (ap not here))
-    at_place t lt false e = old.below t (smaller (is_other t k e) lt)
+    at_place t lt true e = rw (same_number t k e) (old.above k (omega arith) ∙ sym (ap not here))
+    at_place t lt false e = old.below t (smaller (other_number t k e) lt)
       where
         smaller : t ≢ k → t < k + 1 → t < k
         smaller other lt = at_test (nat_lt t k) refl
@@ -312,8 +312,8 @@ reserved_next first items i o new k inside read step = record {
   where
     at_shard : (s : ℕ) (b : Bool) → (s == i) ≡ b → IsReserved (at first s) (at (slice_set items i new) s)
     at_shard s true e =
-        rw (is_same s i e) (subst (IsReserved (at first i)) (sym (get_or-set_same items i new None inside)) (then_reserved (at first i) o new (subst (IsReserved (at first i)) (get_or_default items i None o inside ∙ sym read) (k.each i)) step))
-    at_shard s false e = subst (IsReserved (at first s)) (sym (get_or-set_other items i s new None (is_other s i e))) (k.each s)
+        rw (same_number s i e) (subst (IsReserved (at first i)) (sym (get_or-set_same items i new None inside)) (then_reserved (at first i) o new (subst (IsReserved (at first i)) (get_or_default items i None o inside ∙ sym read) (k.each i)) step))
+    at_shard s false e = subst (IsReserved (at first s)) (sym (get_or-set_other items i s new None (other_number s i e))) (k.each s)
 
 pub then_are_reserved : {first between last : List (Option Hosting)} → AreReserved first between → AreReserved between last → AreReserved first last
 then_are_reserved {first} {between} {last} a b = record {

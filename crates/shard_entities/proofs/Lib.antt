@@ -21,6 +21,3 @@ mod FreedLaws
 mod RoomLaws
 mod ReadyLaws
 mod RestlessLaws
-mod StashLaws
-mod MadeLaws
-mod CellLaws

@@ -21,19 +21,14 @@ use Rattle.yard_model.specs.Script.{Script, IsScript, Setting, setting}
 use Rattle.yard_model.specs.Setting.{place}
 use Rattle.yard_model.specs.Words.{at}
 use Rattle.consumer_ctl.specs.Held.{Held}
-use Rattle.plain_laws.proofs.Booleans.{and_both, both}
+use Rattle.plain_laws.proofs.Booleans.{and_both, both, same_number, other_number}
+use Rattle.entity_cells.proofs.Keeping.{Keeps}
 use Rattle.shard_store.specs.Shelved.{name_at}
-use Rattle.shard_entities.specs.Celled.{Celled, celled, celled_after, celled_at}
+use Rattle.entity_cells.specs.Celled.{Celled, celled, celled_after, celled_at}
 use Rattle.shard_entities.specs.Placed.{IsPlace}
 use Rattle.shard_entities.specs.declared.place.Place.{Place}
 use Rattle.shard_entities.specs.declared.hosting.Hosting.{Hosting}
 use Rattle.shard_entities.specs.Lodged.{Lodged, lodged, moved, rooms_step, IsLodged, IsCell, IsFolded, is_for, host_of, cell_of, new_celled, hosted_of, room_of}
-
-pub is_same : (a b : ℕ) → (a == b) ≡ true → a ≡ b
-is_same a b e = grind (arith, nat_tests)
-
-pub is_other : (a b : ℕ) → (a == b) ≡ false → a ≢ b
-is_other a b e same = grind (arith, nat_tests)
 
 -- The cell at a place.
 
@@ -124,8 +119,8 @@ cell_put {c} {version} {who} {config} {places} {cells} {items} {running} {v} {p}
     new_at = subst (λ e. IsCell c e (host_of c items e) now) (sym here.here.it) (subst (λ s. IsCell c p.entity (at items s) now) here.shard_is new)
 
     at_place : (j : ℕ) → j < length (setting c).names → (b : Bool) → (j == p.at) ≡ b → StandsAt c items j (slice_index_or (slice_set cells p.at now) j (new_celled c))
-    at_place j inside true e = rw (is_same j p.at e) (rw (get_or-set_same cells p.at now (new_celled c) (within t seen is)) new_at)
-    at_place j inside false e = rw (get_or-set_other cells p.at j now (new_celled c) (is_other j p.at e)) (t.each j inside)
+    at_place j inside true e = rw (same_number j p.at e) (rw (get_or-set_same cells p.at now (new_celled c) (within t seen is)) new_at)
+    at_place j inside false e = rw (get_or-set_other cells p.at j now (new_celled c) (other_number j p.at e)) (t.each j inside)
 
 -- a move that is of one entity, and of no shard
 pub record IsOf (e : List ℕ) (m : Move) : Type 0 where
@@ -147,12 +142,6 @@ cell_moved {c} {version} {who} {config} {places} {cells} {items} {running} {v} {
     ∙ (ap (λ o. record { script = c; state = record { who = who; set = setting c; version = version; hosted = map (option_map hosted_of) items; cells = cells_by (setting c) (map cell_of cells) m o }; rooms = map room_of items }) (sym of.of_is)
     ∙ (ap (λ h. record { script = c; state = record { who = who; set = setting c; version = version; hosted = h; cells = cells_step (setting c) (map cell_of cells) m }; rooms = map room_of items }) (sym (of.hosted_is (setting c) (map (option_map hosted_of) items)))
     ∙ ap (λ r. record { script = c; state = entities_after (lodged c version who items cells).state m; rooms = r }) (sym (of.rooms_is (setting c) (map room_of items))))))
-
--- a move that leaves the stash and starts no work
-pub record Keeps (m : Move) : Type 0 where
-  pub reach_is : (old : List ℕ) → length (reach_step old m) ≡ length old
-  pub stash_is : (p : Phase) (old : List Message) → stash_step p old m ≡ old
-  pub phase_is : (p : Phase) → phase_step p m ≡ phase.Active → p ≡ phase.Active
 
 pub cell_kept : {c : Script} {e : List ℕ} {o : Option Hosting} {was now : Celled} {m : Move} → Keeps m → now ≡ celled_after was m → IsCell c e o was → IsCell c e o now
 cell_kept {c} {e} {o} {was} {now} {m} k step old = subst (IsCell c e o) (sym step) record {

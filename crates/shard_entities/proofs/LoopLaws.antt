@@ -30,11 +30,10 @@ use Rattle.shard_store.specs.Shelved.{name_at}
 use Rattle.shard_entities.specs.Delivered.{Stands}
 use Rattle.yard_model.specs.ShardSet.{has}
 use Rattle.yard_model.specs.declared.charter.Config.{Config}
-use Rattle.plain_laws.proofs.Booleans.{and_both, same_name}
-use Rattle.shard_entities.specs.Celled.{Celled}
+use Rattle.plain_laws.proofs.Booleans.{and_both, same_name, same_number, other_number}
+use Rattle.entity_cells.specs.Celled.{Celled}
 use Rattle.shard_entities.specs.declared.hosting.Hosting.{Hosting}
 use Rattle.shard_entities.proofs.DeliverLaws.{stands_of}
-use Rattle.shard_entities.proofs.LodgedLaws.{is_same, is_other}
 use Rattle.shard_entities.proofs.TakenLaws.{running_are}
 use Rattle.shard_entities.specs.Lodged.{Lodged, lodged, IsLodged, hosting, moved, lodged_after, given, given_step, HasRoom, RoomIfHosted, IsStore, is_for}
 use Rattle.shard_entities.specs.Placed.{IsPlace}
@@ -548,8 +547,8 @@ hosted_handed v s stamp to t none = at_shard (t == s) refl
     by_length false lt e = outside v.state.hosted s (le_of s (length v.state.hosted) lt)
 
     at_shard : (b : Bool) → (t == s) ≡ b → hosted v.state t ≡ None
-    at_shard true e = ap (at v.state.hosted) (is_same t s e) ∙ by_length (nat_lt s (length v.state.hosted)) refl (ap (at (slice_set v.state.hosted s (option_map (handed stamp to) (at v.state.hosted s)))) (sym (is_same t s e)) ∙ none)
-    at_shard false e = sym (get_or-set_other v.state.hosted s t (option_map (handed stamp to) (at v.state.hosted s)) None (is_other t s e)) ∙ none
+    at_shard true e = ap (at v.state.hosted) (same_number t s e) ∙ by_length (nat_lt s (length v.state.hosted)) refl (ap (at (slice_set v.state.hosted s (option_map (handed stamp to) (at v.state.hosted s)))) (sym (same_number t s e)) ∙ none)
+    at_shard false e = sym (get_or-set_other v.state.hosted s t (option_map (handed stamp to) (at v.state.hosted s)) None (other_number t s e)) ∙ none
 
 pub handed_settled : (v : Lodged) {w : Lodged} (s : ℕ) (stamp : Stamp) (to : Incarnation) → IsSettled v → w ≡ moved v (handed_off s stamp to ∷ []) → IsSettled w
 handed_settled v {w} s stamp to settled step = subst IsSettled (sym step) (λ i within. record { at_home = λ none. (settled i within).at_home (hosted_handed v s stamp to (shard_of v.state.set (name_at v.state.set.names i)) none); gone = (settled i within).gone; clear = (settled i within).clear })

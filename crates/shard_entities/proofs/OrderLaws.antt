@@ -16,7 +16,7 @@ use Rattle.name_index.proofs.NameLaws.{placed}
 use Rattle.shard_entities.specs.declared.places.Kept.{Kept}
 use Rattle.shard_entities.specs.Placed.{IsPlace, AreFirst, AreCounts, AreStarts, AreOrdered, ArePlaces, AreKept, place_of, place_in, no_spot, start_of}
 use Rattle.shard_entities.specs.declared.places.Spot.{Spot}
-use Rattle.shard_entities.proofs.LodgedLaws.{is_same, is_other}
+use Rattle.plain_laws.proofs.Booleans.{same_number, other_number}
 use Rattle.shard_entities.proofs.PlacesLaws.{list_any_at}
 use Rattle.shard_entities.proofs.PlannedLaws.{picked_few}
 
@@ -209,14 +209,14 @@ ordered_more c k spots order new {x} {start} first are within read is step = sub
 
     both : (s i : ℕ) → s < c.config.shards → i < length (filter (λ e. shard_of set e == s) (take (k + 1) set.names)) → (a : Bool) → (s == x.shard) ≡ a → (b : Bool) → (i == x.inner) ≡ b → IsAt (place_in set now s i) s i
     both s i lt below false e b f =
-        let other : s ≢ x.shard = is_other s x.shard e in
+        let other : s ≢ x.shard = other_number s x.shard e in
         let before : i < length (filter (λ e. shard_of set e == s) (take k set.names)) = as_before s i other below in
         kept s i lt before (apart_shards set s x.shard i x.inner other (inside s i before) here.there.within)
     both s i lt below true e true f =
-        subst (λ n. IsAt (place_in set now n i) n i) (sym (is_same s x.shard e)) (subst (λ n. IsAt (place_in set now x.shard n) x.shard n) (sym (is_same i x.inner f)) newest)
+        subst (λ n. IsAt (place_in set now n i) n i) (sym (same_number s x.shard e)) (subst (λ n. IsAt (place_in set now x.shard n) x.shard n) (sym (same_number i x.inner f)) newest)
     both s i lt below true e false f =
-        let it : s ≡ x.shard = is_same s x.shard e in
-        let other : i ≢ x.inner = is_other i x.inner f in
+        let it : s ≡ x.shard = same_number s x.shard e in
+        let other : i ≢ x.inner = other_number i x.inner f in
         let below_own : i < length (filter (λ e. shard_of set e == x.shard) (take (k + 1) set.names)) = subst (λ n. i < length (filter (λ e. shard_of set e == n) (take (k + 1) set.names))) it below in
         subst (λ n. IsAt (place_in set now n i) n i) (sym it) (kept x.shard i here.shard_in (of_own i other below_own) (apart_places set x.shard i x.inner other))
 
@@ -309,7 +309,7 @@ nth_of {c} {v} {names} {spots} {starts} {order} s i n start {e} k seen lt below 
           record {
             here = record { within = it.0; it = sym its };
             there = record { within = below; it = sym name_is };
-            shard_is = sym (ap (shard_of (setting c)) name_is ∙ is_same (shard_of (setting c) (name_at (names_of (setting c) s) i)) s (picked_passes (λ e. shard_of (setting c) e == s) (setting c).names i below));
+            shard_is = sym (ap (shard_of (setting c)) name_is ∙ same_number (shard_of (setting c) (name_at (names_of (setting c) s) i)) s (picked_passes (λ e. shard_of (setting c) e == s) (setting c).names i below));
             at_is = placed (setting c).names e n (subst (IsStrictlySortedBy (slice_cmp nat_cmp)) k.names_are k.sorted) it.0 (sym its);
             brought = subst (λ l. list_any (is_name l) (setting c).names ≡ true) (sym its) (list_any_at (setting c).names n it.0);
             shard_in = lt;

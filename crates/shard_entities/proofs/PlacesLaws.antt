@@ -15,19 +15,18 @@ use Rattle.yard_model.specs.Entities.{new_entities}
 use Rattle.yard_model.specs.Script.{Script, IsScript, setting, is_name}
 use Rattle.yard_model.specs.Setting.{shard_of, names_of}
 use Rattle.shard_store.specs.Shelved.{name_at, IsNamed}
-use Rattle.shard_entities.specs.Celled.{Celled, celled}
+use Rattle.entity_cells.specs.Celled.{Celled, celled}
 use Rattle.shard_entities.specs.Lodged.{lodged, cell_of, hosted_of, room_of}
 use Rattle.shard_entities.specs.declared.hosting.Hosting.{Hosting}
 use Rattle.shard_entities.specs.Placed.{IsPlace, AreFirst, AreCounts, place_of, no_spot}
 use Rattle.shard_entities.specs.declared.places.Spot.{Spot}
 use Rattle.yard_model.specs.Behaviour.{is_in}
 use Rattle.yard_model.specs.Shard.{shard, absolute, java_hash}
-use Rattle.plain_laws.proofs.Booleans.{and_both}
+use Rattle.plain_laws.proofs.Booleans.{and_both, same_number, other_number}
 use Rattle.plain_laws.proofs.Names.{name_itself}
 use Rattle.std.proofs.Math.Nat.{mod-lt}
 use Rattle.shard_entities.proofs.NameLaws.{picked_place}
 use Rattle.name_index.proofs.NameLaws.{placed}
-use Rattle.shard_entities.proofs.LodgedLaws.{is_same, is_other}
 
 pub list_any_at : (names : List (List ℕ)) (k : ℕ) → k < length names → list_any (is_name (name_at names k)) names ≡ true
 list_any_at [] k within = absurd (omega arith)
@@ -106,9 +105,9 @@ counts_more c k counts s n counted within shard fits now = record {
 
     at_shard : (t : ℕ) → t < 128 → (b : Bool) → (t == s) ≡ b → slice_index_or (slice_set counts s (n + 1)) t 0 ≡ length (filter (λ e. shard_of (setting c) e == t) (take (k + 1) (setting c).names))
     at_shard t below true e =
-        rw (is_same t s e) (get_or-set_same counts s (n + 1) 0 (omega (arith, counted.size, fits)) ∙ (ap (λ x. x + 1) (now ∙ counted.each s fits) ∙ sym (more s ∙ ap (λ b. length (filter (λ e. shard_of (setting c) e == s) (take k (setting c).names)) + cond b 1 0) ((Decides-eqb (shard_of (setting c) (name_at (setting c).names k)) s).1 (sym shard)))))
+        rw (same_number t s e) (get_or-set_same counts s (n + 1) 0 (omega (arith, counted.size, fits)) ∙ (ap (λ x. x + 1) (now ∙ counted.each s fits) ∙ sym (more s ∙ ap (λ b. length (filter (λ e. shard_of (setting c) e == s) (take k (setting c).names)) + cond b 1 0) ((Decides-eqb (shard_of (setting c) (name_at (setting c).names k)) s).1 (sym shard)))))
     at_shard t below false e =
-        get_or-set_other counts s t (n + 1) 0 (is_other t s e) ∙ (counted.each t below ∙ sym (more t ∙ ap (λ b. length (filter (λ e. shard_of (setting c) e == t) (take k (setting c).names)) + cond b 1 0) (subst (λ x. (x == t) ≡ false) shard (other_shard t s (is_other t s e))) ∙ add_none (length (filter (λ e. shard_of (setting c) e == t) (take k (setting c).names)))))
+        get_or-set_other counts s t (n + 1) 0 (other_number t s e) ∙ (counted.each t below ∙ sym (more t ∙ ap (λ b. length (filter (λ e. shard_of (setting c) e == t) (take k (setting c).names)) + cond b 1 0) (subst (λ x. (x == t) ≡ false) shard (other_shard t s (other_number t s e))) ∙ add_none (length (filter (λ e. shard_of (setting c) e == t) (take k (setting c).names)))))
 
 pub count_fits : (c : Script) (k : ℕ) (counts : List ℕ) (s n : ℕ) → AreCounts c k counts → s < 128 → n ≡ slice_index_or counts s 0 → n ≤ k
 count_fits c k counts s n counted fits now =

@@ -86,15 +86,15 @@ sends_few p so_far (l ∷ ls) =
     let rest : length (fold (with_send_of p) (with_order p so_far l.order) ls) ≤ length (with_order p so_far l.order) + length ls = sends_few p (with_order p so_far l.order) ls in
     omega (arith, step, rest)
 
-pub planned_few : (c : Script) (p : ℕ) (e : List ℕ) (n : ℕ) (k : Command) → IsScript c → is_planned c p e n k ≡ true → n ≤ 200000
+pub planned_few : (c : Script) (p : ℕ) (e : List ℕ) (n : ℕ) (k : Command) → IsScript c → is_planned c p e n k ≡ true → n ≤ 3000000
 planned_few c p e n k ok planned = at (slice_get (plan c p e) (n - 1)) refl (and_both (nat_lt 0 n) _ planned).1
   where
-    at : (o : Option Command) → slice_get (plan c p e) (n - 1) ≡ o → option_map_or (is_command k) o false ≡ true → n ≤ 200000
+    at : (o : Option Command) → slice_get (plan c p e) (n - 1) ≡ o → option_map_or (is_command k) o false ≡ true → n ≤ 3000000
     at None is found = absurd (true_is_not_false (sym found))
     at (Some x) is found =
         let inside : n - 1 < length (plan c p e) = slice_get_within (plan c p e) (n - 1) x is in
         let long : length (plan c p e) ≡ length (filter (λ (x : Sending). is_name x.entity e) (sends c p)) = length-map (filter (λ (x : Sending). is_name x.entity e) (sends c p)) (λ (x : Sending). x.command) in
         let picked : length (filter (λ (x : Sending). is_name x.entity e) (sends c p)) ≤ length (sends c p) = picked_few (λ (x : Sending). is_name x.entity e) (sends c p) in
         let sent : length (sends c p) ≤ 0 + length c.orders = sends_few p [] c.orders in
-        let few : length c.orders ≤ 200000 = ok.fits in
+        let few : length c.orders ≤ 3000000 = ok.fits in
         omega (arith, inside, long, picked, sent, few)

@@ -10,15 +10,14 @@ use Rattle.yard_model.specs.declared.incarnation.Incarnation.{Incarnation}
 use Rattle.yard_model.specs.Script.{Script}
 use Rattle.yard_model.specs.ShardSet.{has}
 use Rattle.yard_model.specs.Words.{at}
-use Rattle.plain_laws.proofs.Booleans.{get_replicate}
+use Rattle.plain_laws.proofs.Booleans.{get_replicate, same_number, other_number}
 use Rattle.shard_entities.specs.declared.hosting.Ending.{Ending}
 use Rattle.shard_entities.specs.declared.hosting.Hosting.{Hosting}
-use Rattle.shard_entities.specs.Celled.{Celled}
+use Rattle.entity_cells.specs.Celled.{Celled}
 use Rattle.shard_entities.specs.Lodged.{Lodged, lodged, IsLodged, room_of}
 use Rattle.shard_entities.specs.Ready.{IsReady, AreReady}
 use Rattle.shard_entities.specs.Roomy.{AreReserved, IsReserved, room_wanted, with_room}
 use Rattle.shard_entities.specs.Written.{ended}
-use Rattle.shard_entities.proofs.LodgedLaws.{is_same, is_other}
 use Rattle.shard_entities.proofs.HostLaws.{shard_below}
 
 -- what isn't hosted is ready
@@ -40,12 +39,12 @@ touches {c} {touched} {new} {items} {s} {i} o k lt same it others = record {
 }
   where
     within_at : (t : ℕ) → has new t ≡ true → (b : Bool) → (t == s) ≡ b → t < c.config.shards
-    within_at t there true e = subst (λ n. n < c.config.shards) (sym (is_same t s e)) lt
-    within_at t there false e = k.within t (sym (others t (is_other t s e)) ∙ there)
+    within_at t there true e = subst (λ n. n < c.config.shards) (sym (same_number t s e)) lt
+    within_at t there false e = k.within t (sym (others t (other_number t s e)) ∙ there)
 
     ready_at : (t : ℕ) → has new t ≡ false → (b : Bool) → (t == s) ≡ b → IsReady c t (at (slice_set items i o) t)
-    ready_at t out true e = absurd (true≢false (sym it ∙ (ap (has new) (sym (is_same t s e)) ∙ out)))
-    ready_at t out false e = subst (IsReady c t) (sym (get_or-set_other items i t o None (λ at_it. is_other t s e (at_it ∙ same)))) (k.each t (sym (others t (is_other t s e)) ∙ out))
+    ready_at t out true e = absurd (true≢false (sym it ∙ (ap (has new) (sym (same_number t s e)) ∙ out)))
+    ready_at t out false e = subst (IsReady c t) (sym (get_or-set_other items i t o None (λ at_it. other_number t s e (at_it ∙ same)))) (k.each t (sym (others t (other_number t s e)) ∙ out))
 
 -- another hosting stands there, and the shard is touched where that one isn't ready
 pub touched_where : {c : Script} {touched new n : ℕ} {items : List (Option Hosting)} {s i : ℕ} (o : Option Hosting) → AreReady c touched items → s < c.config.shards → i ≡ s → i < length items → n ≡ room_of o
@@ -56,18 +55,18 @@ touched_where {c} {touched} {new} {n} {items} {s} {i} o k lt same inside room re
 }
   where
     within_at : (t : ℕ) → has new t ≡ true → (b : Bool) → (t == s) ≡ b → t < c.config.shards
-    within_at t there true e = subst (λ n. n < c.config.shards) (sym (is_same t s e)) lt
-    within_at t there false e = k.within t (sym (others t (is_other t s e)) ∙ there)
+    within_at t there true e = subst (λ n. n < c.config.shards) (sym (same_number t s e)) lt
+    within_at t there false e = k.within t (sym (others t (other_number t s e)) ∙ there)
 
     it_ready : has new s ≡ false → IsReady c s o
     it_ready out = λ there. subst (λ m. room_wanted c s ≤ m) room (ready out)
 
     ready_at : (t : ℕ) → has new t ≡ false → (b : Bool) → (t == s) ≡ b → IsReady c t (at (slice_set items i o) t)
     ready_at t out true e =
-        let here : t ≡ s = is_same t s e in
+        let here : t ≡ s = same_number t s e in
         subst (λ m. IsReady c m (at (slice_set items i o) m)) (sym here)
         (subst (IsReady c s) (sym (ap (at (slice_set items i o)) (sym same) ∙ get_or-set_same items i o None inside)) (it_ready (ap (has new) (sym here) ∙ out)))
-    ready_at t out false e = subst (IsReady c t) (sym (get_or-set_other items i t o None (λ at_it. is_other t s e (at_it ∙ same)))) (k.each t (sym (others t (is_other t s e)) ∙ out))
+    ready_at t out false e = subst (IsReady c t) (sym (get_or-set_other items i t o None (λ at_it. other_number t s e (at_it ∙ same)))) (k.each t (sym (others t (other_number t s e)) ∙ out))
 
 -- another hosting stands there, as ready as the one before
 put_ready : {c : Script} {touched : ℕ} {items : List (Option Hosting)} {i : ℕ} (o new : Option Hosting) → AreReady c touched items → i < length items → o ≡ slice_index_or items i o → ((s : ℕ) → IsReady c s o → IsReady c s new) → AreReady c touched (slice_set items i new)
@@ -78,9 +77,9 @@ put_ready {c} {touched} {items} {i} o new k inside read goes = record {
   where
     ready_at : (t : ℕ) → has touched t ≡ false → (b : Bool) → (t == i) ≡ b → IsReady c t (at (slice_set items i new) t)
     ready_at t out true e =
-        subst (IsReady c t) (sym (ap (at (slice_set items i new)) (is_same t i e) ∙ get_or-set_same items i new None inside))
-        (goes t (subst (IsReady c t) (ap (at items) (is_same t i e) ∙ (get_or_default items i None o inside ∙ sym read)) (k.each t out)))
-    ready_at t out false e = subst (IsReady c t) (sym (get_or-set_other items i t new None (is_other t i e))) (k.each t out)
+        subst (IsReady c t) (sym (ap (at (slice_set items i new)) (same_number t i e) ∙ get_or-set_same items i new None inside))
+        (goes t (subst (IsReady c t) (ap (at items) (same_number t i e) ∙ (get_or_default items i None o inside ∙ sym read)) (k.each t out)))
+    ready_at t out false e = subst (IsReady c t) (sym (get_or-set_other items i t new None (other_number t i e))) (k.each t out)
 
 -- it stops
 pub ended_ready : (x : Ending) {c : Script} {touched : ℕ} {items : List (Option Hosting)} {i : ℕ} {o new : Option Hosting} → AreReady c touched items → i < length items → o ≡ slice_index_or items i o → new ≡ option_map (ended x) o → AreReady c touched (slice_set items i new)
@@ -127,15 +126,15 @@ ready_without {c} {touched} {new_touched} {s} {items} {new} k r it most out othe
   where
     within_at : (t : ℕ) → has new_touched t ≡ true → (a : Bool) → nat_lt t 128 ≡ a → (b : Bool) → (t == s) ≡ b → t < c.config.shards
     within_at t there false high b e = absurd (true≢false (sym there ∙ ap (λ b. b == 1) (bit_at_above new_touched 128 t fits (le_of t 128 high))))
-    within_at t there true low true e = absurd (true≢false (sym there ∙ (ap (has new_touched) (is_same t s e) ∙ out)))
-    within_at t there true low false e = k.within t (sym (others t (lt_of t 128 low) (is_other t s e)) ∙ there)
+    within_at t there true low true e = absurd (true≢false (sym there ∙ (ap (has new_touched) (same_number t s e) ∙ out)))
+    within_at t there true low false e = k.within t (sym (others t (lt_of t 128 low) (other_number t s e)) ∙ there)
 
     ready_at : (t : ℕ) → has new_touched t ≡ false → (b : Bool) → (t == s) ≡ b → IsReady c t (at new t)
-    ready_at t apart true e = subst (λ n. IsReady c n (at new n)) (sym (is_same t s e)) it
+    ready_at t apart true e = subst (λ n. IsReady c n (at new n)) (sym (same_number t s e)) it
     ready_at t apart false e = at_test (nat_lt t 128) refl (has touched t) refl
       where
         at_test : (a : Bool) → nat_lt t 128 ≡ a → (b : Bool) → has touched t ≡ b → IsReady c t (at new t)
-        at_test true low b is = roomy_more c t (at items t) (at new t) (r.each t) (k.each t (sym (others t (lt_of t 128 low) (is_other t s e)) ∙ apart))
+        at_test true low b is = roomy_more c t (at items t) (at new t) (r.each t) (k.each t (sym (others t (lt_of t 128 low) (other_number t s e)) ∙ apart))
         at_test false high true is = absurd (let below : t < c.config.shards = k.within t is in let up : 128 ≤ t = le_of t 128 high in omega (arith, below, up, most))
         at_test false high false is = roomy_more c t (at items t) (at new t) (r.each t) (k.each t is)
 
@@ -146,9 +145,9 @@ lowest_out touched new k s done it low out others fits t below = at_test (nat_lt
   where
     at_test : (a : Bool) → nat_lt t 128 ≡ a → (b : Bool) → (t == s) ≡ b → (d : Bool) → nat_lt t s ≡ d → has new t ≡ false
     at_test false high b is d e = ap (λ b. b == 1) (bit_at_above new 128 t fits (le_of t 128 high))
-    at_test true inside true is d e = ap (has new) (is_same t s is) ∙ out
-    at_test true inside false is true e = others t (lt_of t 128 inside) (is_other t s is) ∙ low t (lt_of t s e)
-    at_test true inside false is false e = absurd (true≢false (sym it ∙ done s (before (is_other t s is) (le_of t s e))))
+    at_test true inside true is d e = ap (has new) (same_number t s is) ∙ out
+    at_test true inside false is true e = others t (lt_of t 128 inside) (other_number t s is) ∙ low t (lt_of t s e)
+    at_test true inside false is false e = absurd (true≢false (sym it ∙ done s (before (other_number t s is) (le_of t s e))))
       where
         before : t ≢ s → s ≤ t → s < k
         before other most = by (nat_lt s k) refl

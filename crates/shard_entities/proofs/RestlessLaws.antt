@@ -22,11 +22,11 @@ use Rattle.yard_model.specs.Spared.{Spared}
 use Rattle.yard_model.specs.Script.{Script, setting, is_name}
 use Rattle.yard_model.specs.Setting.{shard_of, names_of, place}
 use Rattle.yard_model.specs.Words.{numbers}
-use Rattle.plain_laws.proofs.Booleans.{get_replicate}
+use Rattle.plain_laws.proofs.Booleans.{get_replicate, same_number, other_number}
 use Rattle.plain_laws.proofs.Names.{name_itself}
 use Rattle.place_set.specs.Places.{Places, is_in}
 use Rattle.shard_store.specs.Shelved.{name_at}
-use Rattle.shard_entities.specs.Celled.{Celled, celled, celled_after}
+use Rattle.entity_cells.specs.Celled.{Celled, celled, celled_after}
 use Rattle.shard_entities.specs.Placed.{IsPlace, start_of}
 use Rattle.shard_entities.specs.declared.place.Place.{Place}
 use Rattle.shard_entities.specs.declared.hosting.Hosting.{Hosting}
@@ -34,7 +34,7 @@ use Rattle.shard_entities.specs.Lodged.{Lodged, lodged, given, IsLodged, cell_of
 use Rattle.shard_entities.specs.Restless.{is_restless, AreRestless, AreFresh, IsNoted}
 use Rattle.shard_entities.proofs.CountLaws.{other_place, cells_within}
 use Rattle.shard_entities.proofs.HostLaws.{shard_below}
-use Rattle.shard_entities.proofs.LodgedLaws.{is_same, is_other, placed, cell_at}
+use Rattle.shard_entities.proofs.LodgedLaws.{placed, cell_at}
 use Rattle.name_index.proofs.NameLaws.{another_name}
 use Rattle.shard_entities.proofs.OrderLaws.{apart_shards, apart_places, ends_before, picked_passes, shard_few}
 use Rattle.shard_entities.proofs.PlacesLaws.{new_cells}
@@ -81,21 +81,21 @@ restless_put {c} {p} {cells} {old} {new} now k is sorted within n = record {
         (another_name (names_of (setting c) p.shard) p.entity p.inner j (IsStrictlySortedBy-filter (slice_cmp nat_cmp) (λ e. shard_of (setting c) e == p.shard) (setting c).names sorted) is.there.within below is.there.it other)
 
     elsewhere : (s i : ℕ) → i < length (names_of (setting c) s) → s ≢ p.shard → name_at (names_of (setting c) s) i ≡ p.entity → ⊥
-    elsewhere s i inside apart same = apart (sym (is_same (shard_of (setting c) (name_at (names_of (setting c) s) i)) s (picked_passes (λ e. shard_of (setting c) e == s) (setting c).names i inside)) ∙ (ap (shard_of (setting c)) same ∙ sym is.shard_is))
+    elsewhere s i inside apart same = apart (sym (same_number (shard_of (setting c) (name_at (names_of (setting c) s) i)) s (picked_passes (λ e. shard_of (setting c) e == s) (setting c).names i inside)) ∙ (ap (shard_of (setting c)) same ∙ sym is.shard_is))
 
     each_at : (s i : ℕ) → s < c.config.shards → i < length (names_of (setting c) s) → (a : Bool) → (s == p.shard) ≡ a → (b : Bool) → (i == p.inner) ≡ b
         → is_in new (start_of (setting c) s + i) ≡ is_restless (cell_in (setting c) (slice_set cells p.at now) (name_at (names_of (setting c) s) i)).phase
     each_at s i lt inside false e b f =
-        n.others (start_of (setting c) s + i) (apart_shards (setting c) s p.shard i p.inner (is_other s p.shard e) inside is.there.within) ∙ (k.each s i lt inside ∙ sym (other_cell (name_at (names_of (setting c) s) i) (elsewhere s i inside (is_other s p.shard e))))
+        n.others (start_of (setting c) s + i) (apart_shards (setting c) s p.shard i p.inner (other_number s p.shard e) inside is.there.within) ∙ (k.each s i lt inside ∙ sym (other_cell (name_at (names_of (setting c) s) i) (elsewhere s i inside (other_number s p.shard e))))
     each_at s i lt inside true e true f =
-        ap (λ m. is_in new (start_of (setting c) m + i)) (is_same s p.shard e) ∙ (ap (λ j. is_in new (start_of (setting c) p.shard + j)) (is_same i p.inner f) ∙ (n.it ∙ (sym own_cell
-        ∙ (ap (λ j. is_restless (cell_in (setting c) (slice_set cells p.at now) (name_at (names_of (setting c) p.shard) j)).phase) (sym (is_same i p.inner f))
-        ∙ ap (λ m. is_restless (cell_in (setting c) (slice_set cells p.at now) (name_at (names_of (setting c) m) i)).phase) (sym (is_same s p.shard e))))))
+        ap (λ m. is_in new (start_of (setting c) m + i)) (same_number s p.shard e) ∙ (ap (λ j. is_in new (start_of (setting c) p.shard + j)) (same_number i p.inner f) ∙ (n.it ∙ (sym own_cell
+        ∙ (ap (λ j. is_restless (cell_in (setting c) (slice_set cells p.at now) (name_at (names_of (setting c) p.shard) j)).phase) (sym (same_number i p.inner f))
+        ∙ ap (λ m. is_restless (cell_in (setting c) (slice_set cells p.at now) (name_at (names_of (setting c) m) i)).phase) (sym (same_number s p.shard e))))))
     each_at s i lt inside true e false f =
-        let here : i < length (names_of (setting c) p.shard) = subst (λ m. i < length (names_of (setting c) m)) (is_same s p.shard e) inside in
-        ap (λ m. is_in new (start_of (setting c) m + i)) (is_same s p.shard e) ∙ (n.others (start_of (setting c) p.shard + i) (apart_places (setting c) p.shard i p.inner (is_other i p.inner f)) ∙ (k.each p.shard i is.shard_in here
-        ∙ (sym (other_cell (name_at (names_of (setting c) p.shard) i) (another i here (is_other i p.inner f)))
-        ∙ ap (λ m. is_restless (cell_in (setting c) (slice_set cells p.at now) (name_at (names_of (setting c) m) i)).phase) (sym (is_same s p.shard e)))))
+        let here : i < length (names_of (setting c) p.shard) = subst (λ m. i < length (names_of (setting c) m)) (same_number s p.shard e) inside in
+        ap (λ m. is_in new (start_of (setting c) m + i)) (same_number s p.shard e) ∙ (n.others (start_of (setting c) p.shard + i) (apart_places (setting c) p.shard i p.inner (other_number i p.inner f)) ∙ (k.each p.shard i is.shard_in here
+        ∙ (sym (other_cell (name_at (names_of (setting c) p.shard) i) (another i here (other_number i p.inner f)))
+        ∙ ap (λ m. is_restless (cell_in (setting c) (slice_set cells p.at now) (name_at (names_of (setting c) m) i)).phase) (sym (same_number s p.shard e)))))
 
 -- it goes on to another phase
 pub goes_on : (now : Celled) {b : Bool} {c : Script} {version : ℕ} {who : Incarnation} {config : Config} {places : Script} {cells : List Celled} {items : List (Option Hosting)} {running : ℕ} {v : Lodged} {p : Place} {old new : Places}

@@ -17,13 +17,12 @@ use Rattle.yard_model.specs.Move.{told}
 use Rattle.yard_model.specs.Script.{Script, Setting, setting}
 use Rattle.yard_model.specs.Setting.{shard_of, names_of, place}
 use Rattle.yard_model.specs.Words.{at}
-use Rattle.plain_laws.proofs.Booleans.{get_replicate}
+use Rattle.plain_laws.proofs.Booleans.{get_replicate, same_number, other_number}
 use Rattle.shard_store.specs.Shelf.{Shelf}
 use Rattle.shard_store.specs.Shelved.{name_at, IsNamed}
 use Rattle.shard_entities.specs.Delivered.{Stands}
 use Rattle.shard_entities.specs.Lodged.{Lodged, moved, hosting, cleared, without, cells_cleared}
 use Rattle.shard_entities.specs.Settled.{IsSettled, IsQuiet}
-use Rattle.shard_entities.proofs.LodgedLaws.{is_same, is_other}
 use Rattle.shard_entities.proofs.NameLaws.{picked_place}
 use Rattle.name_index.proofs.NameLaws.{placed}
 
@@ -37,7 +36,7 @@ hosting_settled v s x settled i within = at_shard (shard_of v.state.set (name_at
 
     at_shard : (b : Bool) → (shard_of v.state.set (name_at v.state.set.names i) == s) ≡ b → IsQuiet (hosted v.state (shard_of v.state.set (name_at v.state.set.names i))) (slice_index_or v.state.cells i (new_cell v.state.set))
         → IsQuiet (at (slice_set v.state.hosted s (Some (record { entries = x.entries; stopping = None }))) (shard_of v.state.set (name_at v.state.set.names i))) (slice_index_or v.state.cells i (new_cell v.state.set))
-    at_shard true e old = rw (is_same (shard_of v.state.set (name_at v.state.set.names i)) s e) record { at_home = λ none. home none; gone = old.gone; clear = old.clear }
+    at_shard true e old = rw (same_number (shard_of v.state.set (name_at v.state.set.names i)) s e) record { at_home = λ none. home none; gone = old.gone; clear = old.clear }
       where
         home : at (slice_set v.state.hosted s (Some (record { entries = x.entries; stopping = None }))) s ≡ None → (slice_index_or v.state.cells i (new_cell v.state.set)).phase ≡ phase.Absent
         home none = by_length (nat_lt s (length v.state.hosted)) refl
@@ -53,13 +52,13 @@ hosting_settled v s x settled i within = at_shard (shard_of v.state.set (name_at
 
             by_length : (b : Bool) → nat_lt s (length v.state.hosted) ≡ b → (slice_index_or v.state.cells i (new_cell v.state.set)).phase ≡ phase.Absent
             by_length true lt = absurd (some_not_none (sym (get_or-set_same v.state.hosted s (Some (record { entries = x.entries; stopping = None })) None (lt_of s (length v.state.hosted) lt)) ∙ none))
-            by_length false lt = old.at_home (ap (at v.state.hosted) (is_same (shard_of v.state.set (name_at v.state.set.names i)) s e) ∙ outside v.state.hosted s (le_of s (length v.state.hosted) lt))
+            by_length false lt = old.at_home (ap (at v.state.hosted) (same_number (shard_of v.state.set (name_at v.state.set.names i)) s e) ∙ outside v.state.hosted s (le_of s (length v.state.hosted) lt))
               where
                 outside : (xs : List (Option Hosted)) (n : ℕ) → length xs ≤ n → at xs n ≡ None
                 outside [] n h = refl
                 outside (y ∷ ys) zero h = absurd (omega (arith, h))
                 outside (y ∷ ys) (suc n) h = outside ys n (omega (arith, h))
-    at_shard false e old = subst (λ o. IsQuiet o (slice_index_or v.state.cells i (new_cell v.state.set))) (sym (get_or-set_other v.state.hosted s (shard_of v.state.set (name_at v.state.set.names i)) (Some (record { entries = x.entries; stopping = None })) None (is_other (shard_of v.state.set (name_at v.state.set.names i)) s e))) old
+    at_shard false e old = subst (λ o. IsQuiet o (slice_index_or v.state.cells i (new_cell v.state.set))) (sym (get_or-set_other v.state.hosted s (shard_of v.state.set (name_at v.state.set.names i)) (Some (record { entries = x.entries; stopping = None })) None (other_number (shard_of v.state.set (name_at v.state.set.names i)) s e))) old
 
 -- It is let go.
 
@@ -115,7 +114,7 @@ freed_settled {v} {w} s n why st settled left step = subst IsSettled (sym step) 
 
         gone : (slice_index_or v.state.cells i (new_cell v.state.set)).phase ≡ phase.Absent
         gone = subst (λ k. (slice_index_or v.state.cells k (new_cell v.state.set)).phase ≡ phase.Absent) (place_at i st within) (absent_is (cell v.state (name_at v.state.set.names i)).phase absent)
-    at_shard i within false e old = subst (λ o. IsQuiet o (slice_index_or v.state.cells i (new_cell v.state.set))) (sym (get_or-set_other v.state.hosted s (shard_of v.state.set (name_at v.state.set.names i)) None None (is_other (shard_of v.state.set (name_at v.state.set.names i)) s e))) old
+    at_shard i within false e old = subst (λ o. IsQuiet o (slice_index_or v.state.cells i (new_cell v.state.set))) (sym (get_or-set_other v.state.hosted s (shard_of v.state.set (name_at v.state.set.names i)) None None (other_number (shard_of v.state.set (name_at v.state.set.names i)) s e))) old
 
 -- No entity of it is left.
 
@@ -131,13 +130,13 @@ cleared_keeps P set new [] cells i old = old
 cleared_keeps P set new (e ∷ es) cells i old = cleared_keeps P set new es (slice_set cells (place set e) (new_cell set)) i (by_place (i == place set e) refl)
   where
     by_place : (b : Bool) → (i == place set e) ≡ b → P (slice_index_or (slice_set cells (place set e) (new_cell set)) i (new_cell set))
-    by_place true it = subst P (sym (ap (λ k. slice_index_or (slice_set cells (place set e) (new_cell set)) k (new_cell set)) (is_same i (place set e) it) ∙ set_default cells (place set e))) new
+    by_place true it = subst P (sym (ap (λ k. slice_index_or (slice_set cells (place set e) (new_cell set)) k (new_cell set)) (same_number i (place set e) it) ∙ set_default cells (place set e))) new
       where
         set_default : (xs : List Cell) (n : ℕ) → slice_index_or (slice_set xs n (new_cell set)) n (new_cell set) ≡ new_cell set
         set_default [] n = refl
         set_default (x ∷ xs) zero = refl
         set_default (x ∷ xs) (suc n) = set_default xs n
-    by_place false it = subst P (sym (get_or-set_other cells (place set e) i (new_cell set) (new_cell set) (is_other i (place set e) it))) old
+    by_place false it = subst P (sym (get_or-set_other cells (place set e) i (new_cell set) (new_cell set) (other_number i (place set e) it))) old
 
 cleared_at : (P : Cell → Type 0) (set : Setting) → P (new_cell set) → (es : List (List ℕ)) (cells : List Cell) (k i : ℕ) → k < length es → place set (name_at es k) ≡ i → P (slice_index_or (fold (cells_cleared set) cells es) i (new_cell set))
 cleared_at P set new [] cells k i within it = absurd (omega (arith, within))
@@ -163,7 +162,7 @@ without_settled {v} {w} s st settled step = subst IsSettled (sym step) (λ i wit
         cleared_at (IsQuiet (at (slice_set v.state.hosted s None) (shard_of v.state.set (name_at v.state.set.names i)))) v.state.set (new_quiet v.state.set _) (names_of v.state.set s) v.state.cells _ i named.within (ap (place v.state.set) named.it ∙ place_at i st within)
     at_shard i within false e =
         cleared_keeps (IsQuiet (at (slice_set v.state.hosted s None) (shard_of v.state.set (name_at v.state.set.names i)))) v.state.set (new_quiet v.state.set _) (names_of v.state.set s) v.state.cells i
-        (subst (λ o. IsQuiet o (slice_index_or v.state.cells i (new_cell v.state.set))) (sym (get_or-set_other v.state.hosted s (shard_of v.state.set (name_at v.state.set.names i)) None None (is_other (shard_of v.state.set (name_at v.state.set.names i)) s e))) (settled i within))
+        (subst (λ o. IsQuiet o (slice_index_or v.state.cells i (new_cell v.state.set))) (sym (get_or-set_other v.state.hosted s (shard_of v.state.set (name_at v.state.set.names i)) None None (other_number (shard_of v.state.set (name_at v.state.set.names i)) s e))) (settled i within))
 
 -- one name more is cleared
 pub cleared_next : (now next first : Lodged) (xs : List (List ℕ)) (k : ℕ) (e : List ℕ) → k < length xs → e ≡ name_at xs k → next ≡ cleared now (e ∷ []) → cleared now (drop k xs) ≡ cleared first xs → cleared next (drop (k + 1) xs) ≡ cleared first xs

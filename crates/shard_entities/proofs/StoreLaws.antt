@@ -11,7 +11,7 @@ use Rattle.yard_model.specs.Script.{Script, Setting, setting}
 use Rattle.yard_model.specs.Setting.{shard_of, names_of}
 use Rattle.shard_store.specs.Shelf.{Shelf, may}
 use Rattle.shard_store.specs.Shelved.{IsThere, IsNamed}
-use Rattle.shard_entities.specs.Celled.{Celled}
+use Rattle.entity_cells.specs.Celled.{Celled}
 use Rattle.shard_entities.specs.Placed.{IsPlace}
 use Rattle.shard_entities.specs.Written.{WithStore}
 use Rattle.shard_entities.specs.declared.place.Place.{Place}

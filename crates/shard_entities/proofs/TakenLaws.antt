@@ -16,12 +16,11 @@ use Rattle.yard_model.specs.Script.{Script, IsScript, setting}
 use Rattle.yard_model.specs.Setting.{shard_of}
 use Rattle.yard_model.specs.ShardSet.{has}
 use Rattle.yard_model.specs.Words.{at}
-use Rattle.plain_laws.proofs.Booleans.{and_both}
+use Rattle.plain_laws.proofs.Booleans.{and_both, same_number, other_number}
 use Rattle.shard_store.specs.Shelved.{name_at}
-use Rattle.shard_entities.specs.Celled.{Celled}
+use Rattle.entity_cells.specs.Celled.{Celled}
 use Rattle.shard_entities.specs.declared.hosting.Hosting.{Hosting}
 use Rattle.shard_entities.specs.Lodged.{Lodged, lodged, moved, IsLodged, IsCell, IsHosting, IsStore, host_of, cell_of, new_celled, hosted_of, room_of}
-use Rattle.shard_entities.proofs.LodgedLaws.{is_same, is_other}
 
 pub shards_most : (c : Script) → IsScript c → c.config.shards ≤ 128
 shards_most c k =
@@ -82,10 +81,10 @@ taken_stands {c} {version} {who} {config} {places} {cells} {items} {running} {ne
     inside = subst (λ n. n < length items) (sym same) (subst (λ n. s < n) (sym k.shards_there) (subst (λ (x : Script). s < x.config.shards) (ap (λ (v : Lodged). v.script) (sym seen)) lt))
 
     here : (t : ℕ) → (t == i) ≡ true → at (slice_set items i o) t ≡ None
-    here t e = ap (at (slice_set items i o)) (is_same t i e) ∙ (get_or-set_same items i o None inside ∙ none)
+    here t e = ap (at (slice_set items i o)) (same_number t i e) ∙ (get_or-set_same items i o None inside ∙ none)
 
     there_still : (t : ℕ) → (t == i) ≡ false → at (slice_set items i o) t ≡ at items t
-    there_still t e = get_or-set_other items i t o None (is_other t i e)
+    there_still t e = get_or-set_other items i t o None (other_number t i e)
 
     cell_at_shard : (j : ℕ) (b : Bool) → (shard_of (setting c) (name_at (setting c).names j) == i) ≡ b → IsCell c (name_at (setting c).names j) (host_of c items (name_at (setting c).names j)) (slice_index_or cells j (new_celled c))
         → IsCell c (name_at (setting c).names j) (host_of c (slice_set items i o) (name_at (setting c).names j)) (slice_index_or cells j (new_celled c))
@@ -97,10 +96,10 @@ taken_stands {c} {version} {who} {config} {places} {cells} {items} {running} {ne
     host_at_shard t false e = subst (λ x. IfSome x (IsHosting c who t)) (sym (there_still t e)) (k.hosts t)
 
     runs_at : (t : ℕ) → t < c.config.shards → (b : Bool) → (t == i) ≡ b → has new t ≡ is_running_in (option_map hosted_of (at (slice_set items i o) t))
-    runs_at t below true e = ap (has new) (is_same t i e ∙ same) ∙ (out ∙ ap (λ x. is_running_in (option_map hosted_of x)) (sym (here t e)))
+    runs_at t below true e = ap (has new) (same_number t i e ∙ same) ∙ (out ∙ ap (λ x. is_running_in (option_map hosted_of x)) (sym (here t e)))
     runs_at t below false e =
         let most : c.config.shards ≤ 128 = shards_most c k.script_is in
-        let other : t ≢ s = λ it. is_other t i e (it ∙ sym same) in
+        let other : t ≢ s = λ it. other_number t i e (it ∙ sym same) in
         others t (omega (arith, below, most)) other ∙ (k.runs t below ∙ ap (λ x. is_running_in (option_map hosted_of x)) (sym (there_still t e)))
 
 -- the value without it, as after an entry that frees it

@@ -26,7 +26,8 @@ use Rattle.shard_entities.specs.Placed.{IsPlace}
 use Rattle.shard_entities.specs.Roomy.{Takes}
 use Rattle.shard_entities.specs.Settled.{IsQuiet, IsSettled, IsSettledBut}
 use Rattle.shard_entities.specs.declared.place.Place.{Place}
-use Rattle.shard_entities.proofs.LodgedLaws.{is_same, is_other, IsOf}
+use Rattle.shard_entities.proofs.LodgedLaws.{IsOf}
+use Rattle.plain_laws.proofs.Booleans.{same_number, other_number}
 use Rattle.shard_entities.proofs.EntryLaws.{IsEntry, entered_hosted, entry_wrote, entry_snapshot}
 use Rattle.shard_entities.proofs.MoveLaws.{of_start, of_failed, of_request, of_stashed, of_dropped, of_stop_posted, of_arm, of_passivates}
 
@@ -144,9 +145,9 @@ walk_entry {p} {v} {f} k on = walk_to (entry_is p v k) record {
 
     hosted_at : (t : ℕ) (b : Bool) → (t == s) ≡ b → at (slice_set v.state.hosted s (option_map (entered_hosted f) (at v.state.hosted s))) t ≡ None → at v.state.hosted t ≡ None
     hosted_at t true e none =
-        let it : t ≡ s = is_same t s e in
+        let it : t ≡ s = same_number t s e in
         ap (at v.state.hosted) it ∙ none_before (at v.state.hosted s) (sym (get_or-set_same v.state.hosted s (option_map (entered_hosted f) (at v.state.hosted s)) None (subst (λ n. n < length v.state.hosted) (sym on.shard_is) on.shard_in)) ∙ (ap (at (slice_set v.state.hosted s (option_map (entered_hosted f) (at v.state.hosted s)))) (sym it) ∙ none))
-    hosted_at t false e none = sym (get_or-set_other v.state.hosted s t (option_map (entered_hosted f) (at v.state.hosted s)) None (is_other t s e)) ∙ none
+    hosted_at t false e none = sym (get_or-set_other v.state.hosted s t (option_map (entered_hosted f) (at v.state.hosted s)) None (other_number t s e)) ∙ none
 
 pub cell_entry : (p : Place) (v : Lodged) {f : Fact} → IsEntry p.entity f → cell (lodged_after v (told f)).state p.entity ≡ cell v.state p.entity
 cell_entry p v {f} k = ap (λ (x : Lodged). cell x.state p.entity) (entry_is p v k)
@@ -173,8 +174,8 @@ settled_after {v} {w} {p} {n} settled walk quiet i within = at_place (i == p.at)
   where
     at_place : (b : Bool) → (i == p.at) ≡ b → IsQuiet (hosted w.state (shard_of w.state.set (name_at w.state.set.names i))) (slice_index_or w.state.cells i (new_cell w.state.set))
     at_place true e =
-        rw (is_same i p.at e) (subst (λ t. IsQuiet (hosted w.state t) (slice_index_or w.state.cells p.at (new_cell w.state.set))) (sym (ap (shard_of w.state.set) walk.on.name_is ∙ walk.on.shard_is)) (subst (λ n. IsQuiet (hosted w.state p.shard) (slice_index_or w.state.cells n (new_cell w.state.set))) walk.on.at_is quiet))
-    at_place false e = but_after settled walk i within (is_other i p.at e)
+        rw (same_number i p.at e) (subst (λ t. IsQuiet (hosted w.state t) (slice_index_or w.state.cells p.at (new_cell w.state.set))) (sym (ap (shard_of w.state.set) walk.on.name_is ∙ walk.on.shard_is)) (subst (λ n. IsQuiet (hosted w.state p.shard) (slice_index_or w.state.cells n (new_cell w.state.set))) walk.on.at_is quiet))
+    at_place false e = but_after settled walk i within (other_number i p.at e)
 
 pub room_left : {v w : Lodged} {p : Place} {n a b : ℕ} → Walk p v w n → HasRoom v p.shard a → b + n ≤ a → HasRoom w p.shard b
 room_left {v} {w} {p} {n} {a} {b} walk room most = record {
@@ -430,10 +431,10 @@ stops_phases {v} {w} {p} on step = subst (SamePhases v) (sym step) (λ j. at_pla
   where
     at_place : (j : ℕ) (b : Bool) → (j == p.at) ≡ b → is_phase phase.Absent (slice_index_or (lodged_after v (stop_of v p.entity)).state.cells j (new_cell v.state.set)).phase ≡ is_phase phase.Absent (slice_index_or v.state.cells j (new_cell v.state.set)).phase
     at_place j true e =
-        let it : place v.state.set p.entity ≡ j = on.at_is ∙ sym (is_same j p.at e) in
+        let it : place v.state.set p.entity ≡ j = on.at_is ∙ sym (same_number j p.at e) in
         subst (λ n. is_phase phase.Absent (slice_index_or (lodged_after v (stop_of v p.entity)).state.cells n (new_cell v.state.set)).phase ≡ is_phase phase.Absent (slice_index_or v.state.cells n (new_cell v.state.set)).phase) it
         (ap (λ (x : Cell). is_phase phase.Absent x.phase) (stops_reach on).cell_is ∙ absent_stays (cell v.state p.entity) v.state.who v.state.who p.entity)
-    at_place j false e = ap (λ (x : Cell). is_phase phase.Absent x.phase) ((stops_reach on).walk.others j (is_other j p.at e))
+    at_place j false e = ap (λ (x : Cell). is_phase phase.Absent x.phase) ((stops_reach on).walk.others j (other_number j p.at e))
 
 pub then_phases : {v w : Lodged} (x : Lodged) → IsSame v w → SamePhases v w → SamePhases w x → SamePhases v x
 then_phases {v} {w} x same a b j = subst (λ (s : Setting). is_phase phase.Absent (slice_index_or x.state.cells j (new_cell s)).phase ≡ is_phase phase.Absent (slice_index_or w.state.cells j (new_cell s)).phase) same.set_is (b j) ∙ a j

@@ -1,4 +1,3 @@
-pub mod Celled
 pub mod Placed
 pub mod Lodged
 pub mod Written

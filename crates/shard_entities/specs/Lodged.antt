@@ -26,7 +26,7 @@ use Rattle.yard_model.specs.Spared.{Spared}
 use Rattle.yard_model.specs.Words.{at}
 use Rattle.shard_store.specs.Shelf.{Shelf}
 use Rattle.shard_store.specs.Shelved.{name_at}
-use Rattle.shard_entities.specs.Celled.{Celled, celled}
+use Rattle.entity_cells.specs.Celled.{Celled, celled}
 use Rattle.shard_entities.specs.declared.hosting.Hosting.{Hosting}
 use Rattle.shard_entities.specs.declared.hosting.Ending.{Ending}
 

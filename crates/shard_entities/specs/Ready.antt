@@ -7,7 +7,7 @@ use Rattle.yard_model.specs.ShardSet.{has}
 use Rattle.yard_model.specs.Words.{at}
 use Rattle.place_set.specs.Places.{Places}
 use Rattle.shard_entities.specs.declared.hosting.Hosting.{Hosting}
-use Rattle.shard_entities.specs.Celled.{Celled}
+use Rattle.entity_cells.specs.Celled.{Celled}
 use Rattle.shard_entities.specs.Lodged.{IsKept, room_of, cell_of}
 use Rattle.shard_entities.specs.Restless.{AreRestless}
 use Rattle.shard_entities.specs.Roomy.{room_wanted}

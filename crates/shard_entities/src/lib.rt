@@ -3,8 +3,6 @@
 //! each with its store, and of each name of a script, where its entity stands.
 #![tactic(auto)]
 
-mod cell;
-mod cells;
 mod counts;
 mod delivery;
 mod entities;

@@ -21,12 +21,12 @@ ghost use Rattle.shard_entities.specs.Ready.{IsReady, AreReady};
 ghost use Rattle.shard_entities.specs.Settled.{IsSettled};
 ghost use Rattle.shard_entities.specs.Placed.{IsPlace};
 
-use crate::cells::Cells;
 use crate::counts::count_out;
 use crate::hosting::{Ending, Hosting, reserve_in};
 use crate::place::Place;
 use crate::places::{Places, shard_at};
 use crate::restless::{none_restless, note};
+use entity_cells::Cells;
 use place_set::PlaceSet;
 use shard_store::ShardStore;
 use std::alloc::{AllocError, Global};

@@ -24,7 +24,7 @@ use Rattle.yard_model.specs.Words.{at}
 use Rattle.yard_model.proofs.FollowLaws.{parts_whole}
 use Rattle.shard_store.specs.declared.store.Store.{Store}
 use Rattle.shard_store.specs.declared.store.StoreRef.{StoreRef}
-use Rattle.shard_store.specs.Stores.{script_of, slot_of, entries_of, spare_of, entries_in, entries_at, slot_of_ref, entries_of_ref, place_of, slot_at, IsHome, IsThere, AreHomes}
+use Rattle.shard_store.specs.Stores.{script_of, slot_of, entries_of, spare_of, entries_in, entries_at, slot_of_ref, script_of_ref, entries_of_ref, place_of, slot_at, IsHome, IsThere, AreHomes}
 use Rattle.shard_store.proofs.PlaceLaws.{IsSlotAt, place_within, slot_back, slot_place, place_apart}
 use Rattle.shard_lease.specs.Book.{Book, IsPlace, IsBook, AreLent, known_at, is_of_node, tells_of, holds_of, meaning_of}
 use Rattle.shard_lease.specs.declared.leases.Acquire.{Acquire}
@@ -465,21 +465,22 @@ all_free_again b0 b1 b2 who s x y why n none first second apart slot_is back t t
 pub record Lent (b : Book) (s : Slot) (r : Option StoreRef) : Type 0 where
   pub held : is_some r ≡ is_none (at b.holders (place_of b.script.config s))
   pub slot_is : IfSome r (λ x. slot_of_ref x ≡ s)
+  pub script_is : IfSome r (λ x. script_of_ref x ≡ b.script)
   pub entries_are : IfSome r (λ x. entries_of_ref x ≡ entries_at b.places (place_of b.script.config s))
 
 lent_by : (c : Script) (s : Slot) (o : Option Store) (h : Option Incarnation) (r : Option StoreRef) → IsPlace c s o h → AreLent o r
-    → (is_some r ≡ is_none h) × IfSome r (λ x. slot_of_ref x ≡ s) × IfSome r (λ x. entries_of_ref x ≡ entries_in o)
-lent_by c s (Some x) None (Some y) home lent = (refl, lent.slot_is ∙ home.0.slot_is, lent.entries_are)
+    → (is_some r ≡ is_none h) × IfSome r (λ x. slot_of_ref x ≡ s) × IfSome r (λ x. script_of_ref x ≡ c) × IfSome r (λ x. entries_of_ref x ≡ entries_in o)
+lent_by c s (Some x) None (Some y) home lent = (refl, lent.slot_is ∙ home.0.slot_is, lent.script_is ∙ home.0.script_is, lent.entries_are)
 lent_by c s (Some x) None None home lent = absurd lent
 lent_by c s (Some x) (Some h) r home lent = absurd home
-lent_by c s None (Some h) None home lent = (refl, tt, tt)
+lent_by c s None (Some h) None home lent = (refl, tt, tt, tt)
 lent_by c s None (Some h) (Some y) home lent = absurd lent
 lent_by c s None None r home lent = absurd home
 
 lent_here : (b : Book) (s : Slot) (r : Option StoreRef) → IsBook b → is_slot_of b.script s ≡ true → AreLent (at b.places (place_of b.script.config s)) r → Lent b s r
 lent_here b s r is slot_is lent =
     let it = lent_by b.script s (at b.places (place_of b.script.config s)) (at b.holders (place_of b.script.config s)) r (place_is b s is slot_is) lent in
-    record { held = it.0; slot_is = it.1; entries_are = it.2 }
+    record { held = it.0; slot_is = it.1; script_is = it.2; entries_are = it.3 }
 
 pub lent_of : (b v : Book) (s : Slot) (k : ℕ) (places : List (Option Store)) (r : Option StoreRef) → b ≡ v → IsBook b → is_slot_of v.script s ≡ true → k ≡ place_of b.script.config s → places ≡ b.places
     → AreLent (at places k) r → Lent v s r

@@ -10,7 +10,7 @@ use Rattle.yard_model.specs.Script.{Script, IsScript}
 use Rattle.yard_model.specs.Words.{at}
 use Rattle.shard_store.specs.declared.store.Store.{Store}
 use Rattle.shard_store.specs.declared.store.StoreRef.{StoreRef}
-use Rattle.shard_store.specs.Stores.{entries_in, entries_of, slot_of, entries_of_ref, slot_of_ref, place_of, slot_at, IsHome}
+use Rattle.shard_store.specs.Stores.{entries_in, entries_of, script_of, slot_of, entries_of_ref, script_of_ref, slot_of_ref, place_of, slot_at, IsHome}
 use Rattle.shard_lease.specs.Meaning.{Known, Meaning}
 
 -- by place: the store of each slot that nobody holds, and the holder of each other
@@ -63,6 +63,7 @@ meaning_of b = record {
 
 -- a store, as it is lent
 pub record IsLent (x : Store) (lent : StoreRef) : Type 0 where
+  pub script_is : script_of_ref lent ≡ script_of x
   pub slot_is : slot_of_ref lent ≡ slot_of x
   pub entries_are : entries_of_ref lent ≡ entries_of x
 

@@ -8,7 +8,7 @@ ghost use Rattle.yard_model.specs.Era.{reshaped};
 ghost use Rattle.yard_model.specs.Script.{Script, setting, with_shards};
 ghost use Rattle.yard_model.specs.SlotReads.{epoch};
 ghost use Rattle.yard_model.specs.World.{greatest_epoch};
-ghost use Rattle.shard_store.specs.Stores.{place_of, entries_at, lists_at, script_of, slot_of, entries_of, spare_of, slot_of_ref, entries_of_ref};
+ghost use Rattle.shard_store.specs.Stores.{place_of, entries_at, lists_at, script_of, slot_of, entries_of, spare_of, slot_of_ref, script_of_ref, entries_of_ref};
 ghost use Rattle.shard_lease.specs.Book.{AreLent};
 
 use crate::leases::{Acquire, Leases};
@@ -108,6 +108,7 @@ impl LeaseBook {
         requires slot { IsTrue (is_slot_of self.now.script slot) }
         ensures held { is_some result ≡ is_none (at self.now.holders (place_of self.now.script.config slot)) }
         ensures slot { IfSome result (λ s. slot_of_ref s ≡ slot) }
+        ensures script { IfSome result (λ s. script_of_ref s ≡ self.now.script) }
         ensures entries { IfSome result (λ s. entries_of_ref s ≡ entries_at self.now.places (place_of self.now.script.config slot)) }
     {
         lent(self.places.as_slice(), place_in(self.shards, slot))

@@ -23,18 +23,18 @@ all_at P (x ∷ xs) zero h within = h.0
 all_at P (x ∷ xs) (suc i) h within = all_at P xs i h.1 (omega arith)
 
 -- one of them is below each that comes later
-below : (xs : List (List ℕ)) (i j : ℕ) → IsStrictlySortedBy name_cmp xs → i < j → j < length xs → name_cmp (name_at xs i) (name_at xs j) ≡ Less
+pub earlier : (xs : List (List ℕ)) (i j : ℕ) → IsStrictlySortedBy name_cmp xs → i < j → j < length xs → name_cmp (name_at xs i) (name_at xs j) ≡ Less
 unfolding IsStrictlySortedBy
-below [] i j h e within = absurd (omega arith)
-below (x ∷ xs) i zero h e within = absurd (omega arith)
-below (x ∷ xs) zero (suc j) h e within = all_at (λ y. name_cmp x y ≡ Less) xs j h.0 (omega arith)
-below (x ∷ xs) (suc i) (suc j) h e within = below xs i j h.1 (omega arith) (omega arith)
+earlier [] i j h e within = absurd (omega arith)
+earlier (x ∷ xs) i zero h e within = absurd (omega arith)
+earlier (x ∷ xs) zero (suc j) h e within = all_at (λ y. name_cmp x y ≡ Less) xs j h.0 (omega arith)
+earlier (x ∷ xs) (suc i) (suc j) h e within = earlier xs i j h.1 (omega arith) (omega arith)
 
 pub name_itself : (e : List ℕ) → is_name e e ≡ true
 name_itself e = (slice_eq-Decides Decides-eqb e e (is_name e e) refl).1 refl
 
-not_below : (e f : List ℕ) → name_cmp e f ≡ Less → e ≡ f → ⊥
-not_below e f h same = less_is_not_equal (sym h ∙ (ap (λ x. name_cmp x f) same ∙ tied_itself nat_list_cmp_total f))
+pub not_less : (e f : List ℕ) → name_cmp e f ≡ Less → e ≡ f → ⊥
+not_less e f h same = less_is_not_equal (sym h ∙ (ap (λ x. name_cmp x f) same ∙ tied_itself nat_list_cmp_total f))
   where
     less_is_not_equal : Less ≡ Equal → ⊥
     less_is_not_equal e = cc
@@ -45,12 +45,12 @@ lt_of k i e = grind (arith, nat_tests)
 gt_of : (k i : ℕ) → nat_lt k i ≡ false → k ≢ i → i < k
 gt_of k i e h = grind (arith, nat_tests)
 
-apart : (xs : List (List ℕ)) (i j : ℕ) → IsStrictlySortedBy name_cmp xs → i < length xs → j < length xs → i ≢ j → name_at xs i ≡ name_at xs j → ⊥
+pub apart : (xs : List (List ℕ)) (i j : ℕ) → IsStrictlySortedBy name_cmp xs → i < length xs → j < length xs → i ≢ j → name_at xs i ≡ name_at xs j → ⊥
 apart xs i j h a b other same = at (nat_lt i j) refl
   where
     at : (t : Bool) → nat_lt i j ≡ t → ⊥
-    at true e = not_below (name_at xs i) (name_at xs j) (below xs i j h (lt_of i j e) b) same
-    at false e = not_below (name_at xs j) (name_at xs i) (below xs j i h (gt_of i j e other) a) (sym same)
+    at true e = not_less (name_at xs i) (name_at xs j) (earlier xs i j h (lt_of i j e) b) same
+    at false e = not_less (name_at xs j) (name_at xs i) (earlier xs j i h (gt_of i j e other) a) (sym same)
 
 -- the name at another place is another
 pub another_name : (xs : List (List ℕ)) (x : List ℕ) (k i : ℕ) → IsStrictlySortedBy name_cmp xs → k < length xs → i < length xs → name_at xs k ≡ x → i ≢ k → is_name x (name_at xs i) ≡ false

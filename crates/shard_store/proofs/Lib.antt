@@ -10,5 +10,7 @@ mod WrittenLaws
 mod StoresLaws
 mod ReshapeLaws
 mod AfterLaws
+mod GrowLaws
+mod GrowStoresLaws
 pub mod SendLaws
 pub mod PlaceLaws

@@ -47,12 +47,12 @@ le_of : (k i : ℕ) → nat_lt k i ≡ false → i ≤ k
 le_of k i e = grind (arith, nat_tests)
 
 -- a place of a name that is among these
-record Place (names : List (List ℕ)) (e : List ℕ) : Type 0 where
-  place : ℕ
-  within : place < length names
-  it : slice_index_or names place e ≡ e
+pub record Place (names : List (List ℕ)) (e : List ℕ) : Type 0 where
+  pub place : ℕ
+  pub within : place < length names
+  pub it : slice_index_or names place e ≡ e
 
-place_of : (names : List (List ℕ)) (e : List ℕ) → list_any (is_name e) names ≡ true → Place names e
+pub place_of : (names : List (List ℕ)) (e : List ℕ) → list_any (is_name e) names ≡ true → Place names e
 place_of [] e h = absurd (true≢false (sym h))
 place_of (n ∷ ns) e h = at (is_name e n) refl (λ m. place_of ns e m)
   where

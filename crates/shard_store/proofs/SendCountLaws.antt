@@ -42,7 +42,7 @@ counts_few c names counts l ls script k = record {
   each = λ i within so.
       let e : List ℕ = name_at names i in
       let few : sent_to e c.orders ≤ length c.orders = sent_few e c.orders in
-      let most : length c.orders ≤ 200000 = script.fits in
+      let most : length c.orders ≤ 3000000 = script.fits in
       let now : slice_index_or counts i 0 + sent_to e (l ∷ ls) ≡ sent_to e c.orders = k.each i within in
       let one : sent_to e (l ∷ ls) ≡ 1 + sent_to e ls = ap (λ b. if b then 1 + sent_to e ls else sent_to e ls) so in
       omega (arith, few, most, now, one);

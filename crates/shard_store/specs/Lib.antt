@@ -1,3 +1,5 @@
+pub mod Grown
+pub mod GrownStores
 pub mod Leased
 pub mod Planned
 pub mod Reshaped

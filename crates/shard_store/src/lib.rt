@@ -2,6 +2,8 @@
 //! the mark of each of its entities (Akka 2.6, Cluster Sharding: remembering entities; Persistence).
 #![tactic(auto)]
 
+mod grow;
+mod grow_stores;
 mod hints;
 mod list;
 mod name_table;

@@ -6,12 +6,14 @@ ghost use Rattle.yard_model.specs.Behaviour.{folded};
 ghost use Rattle.yard_model.specs.Entry.{shard_fact};
 ghost use Rattle.std.specs.List.{list_all};
 ghost use Rattle.yard_model.specs.Genuine.{is_node, is_brought};
+ghost use Rattle.yard_model.specs.Grown.{GoesOn};
 ghost use Rattle.yard_model.specs.Lawful.{own, is_held, is_of_shard};
 ghost use Rattle.yard_model.specs.SlotReads.{epoch, journal, last_snapshot, is_remembered};
 ghost use Rattle.shard_store.specs.Reshaped.{AreEach, IsJournalIn};
 ghost use Rattle.shard_store.specs.Shelf.{Shelf, slot_of, may, with_entry};
 ghost use Rattle.shard_store.specs.Shelved.{IsSnapshot, IsThere, IsShelf, no_journal};
 
+use crate::grow::{Held, grown};
 use crate::list::SlotList;
 use crate::name_table::NameTable;
 use crate::names::Names;
@@ -116,6 +118,49 @@ impl ShardStore {
             remembered,
             holds: PhantomData,
         }
+    }
+
+    /// The store for a charter whose script goes on as its own: the list stays, and of each name what is at
+    /// hand, with room for all that is sent to it now. The only error is want of memory; the store is gone then.
+    pub(crate) fn grow(
+        self,
+        alloc: Global,
+        charter: &Charter,
+        table: &NameTable,
+    ) -> Result<ShardStore, AllocError>
+        requires goes_on { GoesOn self.script charter.now }
+        requires table { table.now ≡ charter.now }
+        ensures { IfOk result (λ x. x ≡ record self { script = charter.now }) }
+    {
+        let ShardStore {
+            script: _,
+            shard,
+            list,
+            names: old,
+            journals,
+            snapshots,
+            remembered,
+            holds: _,
+        } = self;
+        let names = Names::of_shard(alloc, charter, table, shard)?;
+        let held = Held {
+            journals,
+            snapshots,
+            remembered,
+        };
+        let held = grown(
+            old.as_slice(),
+            names.as_slice(),
+            held,
+            charter.config().keep,
+            table,
+        )?;
+        let Held {
+            journals,
+            snapshots,
+            remembered,
+        } = held;
+        Ok(ShardStore::begun(charter, list, names, journals, snapshots, remembered, shard))
     }
 
     /// Makes the spare at least `n`, and at once twice that where it is less. The only error is want

@@ -4,12 +4,12 @@
 #![tactic(auto)]
 
 use disk_log::StdDisk;
-use program_run::run;
 use program_words::{Status, reads_script};
 use std::env::{self, Env};
 use std::io::{self, IsTerminal};
 use std::process::ExitCode;
 use yard_io::{FreeGate, StdSink, StdSource};
+use yard_top::run;
 
 /// All arguments of the program, of which the first is its name.
 fn arguments(rt: &(impl Env + AllocGlobal)) -> io::Result<Vec<String>> {

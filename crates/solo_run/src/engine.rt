@@ -94,7 +94,7 @@ impl Engine {
         requires kind { B.kind_of behaviour.now ≡ self.old.config.kind }
         requires version { B.version_of behaviour.now ≡ 1 }
         requires order { IsTrue (is_order self.old.config order.now) }
-        requires posts { length self.old.posted < 1000000 }
+        requires posts { length self.old.posted < most_orders }
         requires room { (e : List ℕ) → length (journal e (slice_index_or (facts_of self.old.lists.items) (shard self.old.config.shards e) [])) < 4294967295 }
         ensures knows { OnOk result (KnowsAll self.new.config self.new.posted (facts_of self.new.lists.items) self.new.entities) }
         ensures state { OnOk result (state_of self.old.config self.new.posted (facts_of self.new.lists.items)
@@ -141,7 +141,7 @@ impl Engine {
     ) -> Result<(), AllocError>
         requires knows { KnowsAll self.old.config self.old.posted (facts_of self.old.lists.items) self.old.entities }
         requires command { IsTrue (is_of_kind self.old.config.kind command.now) }
-        requires room { length self.old.posted < 1000000 }
+        requires room { length self.old.posted < most_orders }
         ensures knows { OnOk result (KnowsAll self.new.config self.new.posted (facts_of self.new.lists.items) self.new.entities) }
         ensures posted { OnOk result (self.new.posted ≡ self.old.posted ++ next_message self.old.posted producer entity.now command.now ∷ []) }
         ensures lists { OnOk result (self.new.lists ≡ self.old.lists) }

@@ -131,8 +131,8 @@ gone_more c trace cells x k = record {
 
 pub cells_after : (c : Script) (trace : List Fact) (cells : List Cell) (f : Fact) → AreCells c trace cells → crossed c trace f ≡ true → AreCells c (trace ++ f ∷ []) (noted c cells f)
 cells_after c trace cells (fact.Start x y) k h =
-    let m = and_both (is_brought c y && is_at x (holder (shard_list_of c y trace))) (is_empty (live_at y trace)) h in
-    one_more c trace (fact.Start x y) cells y (started x) (λ l. l ++ x ∷ []) k (λ e l. refl) (λ z. refl) (λ b. ap (λ l. l ++ x ∷ []) (empty_is (live_at y trace) m.1))
+    let m = and_both (is_brought c y && is_at x (holder (shard_list_of c y trace))) (is_empty (without x (live_at y trace))) h in
+    one_more c trace (fact.Start x y) cells y (started x) (λ l. without x l ++ x ∷ []) k (λ e l. refl) (λ z. refl) (λ b. ap (λ l. l ++ x ∷ []) (empty_is (without x (live_at y trace)) m.1))
 cells_after c trace cells (fact.Stop x y) k h = stop_more c trace (fact.Stop x y) cells x y k (λ e l. refl)
 cells_after c trace cells (fact.WriteFailed x y) k h = stop_more c trace (fact.WriteFailed x y) cells x y k (λ e l. refl)
 cells_after c trace cells (fact.Gone x) k h = gone_more c trace cells x k
@@ -217,6 +217,16 @@ cell_read c trace cells e k x a p is =
     let within : k < length cells = subst (λ n. k < n) (sym a.sized) p.within in
     let it : x ≡ cell_of c cells e = is ∙ (get_or_default cells k x no_cell within ∙ ap (λ n. slice_index_or cells n no_cell) p.place) in
     a.live e p.named ∙ ap (λ (z : Cell). as_list z.live) (sym it)
+
+-- whether it is live at another
+pub elsewhere_is : (c : Script) (trace : List Fact) (cells : List Cell) (who : Incarnation) (e : List ℕ) (k : ℕ) (x : Cell) → AreCells c trace cells → IsPlaced (names_in c.orders) k e → x ≡ slice_index_or cells k x
+    → is_empty (without who (live_at e trace)) ≡ not (is_some (without_it who x.live))
+elsewhere_is c trace cells who e k x a p is =
+    ap (λ l. is_empty (without who l)) (cell_read c trace cells e k x a p is) ∙ (ap is_empty (stopped_list who x.live) ∙ by (without_it who x.live))
+  where
+    by : (o : Option Incarnation) → is_empty (as_list o) ≡ not (is_some o)
+    by None = refl
+    by (Some y) = refl
 
 pub none_live : (c : Script) (trace : List Fact) (cells : List Cell) (e : List ℕ) (k : ℕ) (x : Cell) → AreCells c trace cells → IsPlaced (names_in c.orders) k e → x ≡ slice_index_or cells k x → is_some x.live ≡ false → is_empty (live_at e trace) ≡ true
 none_live c trace cells e k x a p is none = ap is_empty (cell_read c trace cells e k x a p is) ∙ by x.live none

@@ -11,6 +11,7 @@ ghost use Rattle.judge_laws.specs.declared.breach.Breach.TheVariants as breach;
 ghost use Rattle.judge_laws.specs.Breached.{breach_of, of_node, of_shard, slot_list};
 ghost use Rattle.judge_laws.specs.Judged.{judged};
 
+use crate::cells::is_elsewhere;
 use crate::judge::Judge;
 use judge_laws::Breach;
 use yard_model::{Cause, EntityName, Fact, Incarnation, ProducerNo, Record, ShardNo, Slot};
@@ -54,7 +55,7 @@ impl Judge {
         let Some(place) = self.slots.place(entity) else {
             return Breach::NoName;
         };
-        if self.cells[place].live.is_some() {
+        if is_elsewhere(who, &self.cells[place]) {
             return Breach::TwoLive;
         }
         Breach::NoLease

@@ -1,5 +1,5 @@
 //! Where each entity is live.
-ghost use Rattle.std.specs.Prelude.{◌≡◌, ◌<◌, ◌≤◌, None, length, map, slice_index_or, slice_set, IfOk};
+ghost use Rattle.std.specs.Prelude.{◌≡◌, ◌<◌, ◌≤◌, None, is_some, length, map, slice_index_or, slice_set, IfOk};
 ghost use Rattle.std.specs.List.{list_all};
 ghost use Rattle.yard_model.specs.Script.{names_in};
 ghost use Rattle.trace_judge.specs.Judging.{is_idle_cell, new_cell, no_cell, started, stopped, without_it};
@@ -39,6 +39,13 @@ fn without_it(who: &Incarnation, live: &Option<Incarnation>) -> Option<Incarnati
         Some(other) => { if *who == *other { None } else { *live } }
         None => None,
     }
+}
+
+/// Whether it is live at another incarnation.
+pub(crate) fn is_elsewhere(who: &Incarnation, cell: &Cell) -> bool
+    ensures { result ≡ is_some (without_it who.now cell.now.live) }
+{
+    without_it(who, &cell.live).is_some()
 }
 
 /// The entity at this place is live at this incarnation.

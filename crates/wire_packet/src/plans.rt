@@ -11,14 +11,15 @@ use yard_model::{Charter, Command, ProducerNo, Sending};
 /// How many names have places.
 const MOST: usize = 65_536;
 
-/// The commands of a charter's sends: those from one producer to one name stand one behind the other, in
-/// the order of their numbers. Where all sends have one command, as all pings of a daemon, it stands as often
-/// as a number asks, once for all producers and names. Nothing rests on that: a command that is looked up is
+/// The commands of a charter's sends, but for those that are skipped: those from one producer to one name
+/// stand one behind the other, in the order of their numbers. Where all have one command, as all pings of a
+/// daemon, it stands once, whatever number is asked. Nothing rests on that: a command that is looked up is
 /// compared.
 #[derive(Drop)]
 pub(crate) struct Plans {
     commands: Vec<Command>,
     starts: Vec<u32>,
+    skipped: u32,
     width: u8,
 }
 
@@ -27,51 +28,71 @@ impl Model for Plans {
 
     ghost Value = { Plans };
 
-    ghost view = { λ p. record { commands = p.commands.items; starts = p.starts.items; width = p.width } };
+    ghost view = { λ p. record { commands = p.commands.items; starts = p.starts.items; skipped = p.skipped; width = p.width } };
 }
 
 impl Plans {
-    /// Those of this charter, whose names these are. The only error is want of memory.
+    /// Those of this charter, whose names these are. Of each producer so many sends as stand at its place are
+    /// skipped. The only error is want of memory.
     pub(crate) fn new(
         alloc: Global,
         charter: &Charter,
         names: &NameIndex,
+        done: &[u32],
     ) -> Result<Plans, AllocError> {
-        if let Some(sending) = first_sending(charter) {
-            let most = most_of_all(charter, &sending.command);
-            if most > 0 {
-                return Plans::of_one(alloc, charter, &sending.command, most);
-            }
+        let Some(command) = first_command(charter, done) else {
+            return Ok(Plans::of_none(alloc));
+        };
+        if is_in_all(charter, done, &command) {
+            Plans::of_one(alloc, command)
+        } else {
+            Plans::of_all(alloc, charter, names, done)
         }
-        Plans::of_all(alloc, charter, names)
     }
 
-    /// So many times one command, for all producers and names. The only error is want of memory.
-    fn of_one(
-        alloc: Global,
-        charter: &Charter,
-        command: &Command,
-        most: u32,
-    ) -> Result<Plans, AllocError> {
-        Ok(Plans {
-            commands: vec![in alloc; *command; most as usize]?,
+    /// No commands.
+    fn of_none(alloc: Global) -> Plans {
+        Plans {
+            commands: Vec::new(alloc),
             starts: Vec::new(alloc),
-            width: charter.config().producers,
+            skipped: 0,
+            width: 1,
+        }
+    }
+
+    /// One command, for all producers, names and numbers. The only error is want of memory.
+    fn of_one(alloc: Global, command: Command) -> Result<Plans, AllocError> {
+        Ok(Plans {
+            commands: vec![in alloc; command; 1]?,
+            starts: Vec::new(alloc),
+            skipped: u32::MAX,
+            width: 1,
         })
     }
 
     /// Each send's own command, at its place. The only error is want of memory.
-    fn of_all(alloc: Global, charter: &Charter, names: &NameIndex) -> Result<Plans, AllocError> {
+    fn of_all(
+        alloc: Global,
+        charter: &Charter,
+        names: &NameIndex,
+        done: &[u32],
+    ) -> Result<Plans, AllocError> {
         let width = charter.config().producers;
         let mut starts = vec![in alloc; 0u32; names.len().min(MOST) * width as usize]?;
-        let pairs = pairs_of(alloc, charter, names)?;
-        count_all(&mut starts, pairs.as_slice());
-        let count = begin_each(&mut starts);
+        let pairs = pairs_of(alloc, charter, names, done, &mut starts)?;
+        let skipped = skipped_by(pairs.firsts.as_slice());
+        let count = begin_each(&mut starts, pairs.firsts.as_slice(), skipped);
         let mut commands = vec![in alloc; Command::Read; count as usize]?;
-        put_all(&mut commands, charter, starts.as_slice(), pairs.as_slice());
+        let plan = Starts {
+            starts: starts.as_slice(),
+            pairs: pairs.of_each.as_slice(),
+            skipped,
+        };
+        put_all(&mut commands, charter, done, &plan);
         Ok(Plans {
             commands,
             starts,
+            skipped,
             width,
         })
     }
@@ -87,7 +108,7 @@ impl Plans {
         let start = number_in(self.starts.as_slice(), pair);
         copied(
             self.commands.as_slice(),
-            start as usize + (number as usize - 1),
+            stands_in(start, number, self.skipped),
         )
     }
 }
@@ -119,52 +140,99 @@ fn copied(commands: &[Command], place: usize) -> Option<Command>
     }
 }
 
-/// The first send of the first producer that has one.
-fn first_sending(charter: &Charter) -> Option<Sending> {
+/// Where the command of this number, from 1, stands, where those of its pair start there.
+#[inline(always)]
+fn stands_in(start: u32, number: u32, skipped: u32) -> usize
+    ensures { result ≡ start + (number - 1) - skipped }
+{
+    (start as usize + (number as usize).saturating_sub(1)).saturating_sub(skipped as usize)
+}
+
+/// The sends of a producer behind those that are skipped.
+fn behind<'a>(charter: &'a Charter, done: &[u32], producer: ProducerNo) -> &'a [Sending] {
+    let sends = charter.sends(producer);
+    let from = number_in(done, (producer.get() as usize).saturating_sub(1)) as usize;
+    &sends[from.min(sends.len())..]
+}
+
+/// How many orders aren't sends that are skipped.
+pub(crate) fn orders_behind(charter: &Charter, done: &[u32]) -> usize {
+    let mut count = charter.orders().len();
     for p in 0..charter.config().producers {
         if let Some(producer) = ProducerNo::new(p + 1) {
-            if let Some(sending) = charter.sends(producer).first() {
-                return Some(*sending);
+            let behind = behind(charter, done, producer).len();
+            let skipped = charter.sends(producer).len().saturating_sub(behind);
+            count = count.saturating_sub(skipped);
+        }
+    }
+    count
+}
+
+/// That of the first send of the first producer that has one.
+fn first_command(charter: &Charter, done: &[u32]) -> Option<Command> {
+    for p in 0..charter.config().producers {
+        if let Some(producer) = ProducerNo::new(p + 1) {
+            if let Some(sending) = behind(charter, done, producer).first() {
+                return Some(sending.command);
             }
         }
     }
     None
 }
 
-/// The greatest number of a send, where all have this command; else 0.
-fn most_of_all(charter: &Charter, command: &Command) -> u32 {
-    let mut most = 0u32;
+/// Whether all sends have this command.
+fn is_in_all(charter: &Charter, done: &[u32], command: &Command) -> bool {
     for p in 0..charter.config().producers {
         if let Some(producer) = ProducerNo::new(p + 1) {
-            match most_of(charter.sends(producer), command) {
-                Some(number) => most = most.max(number),
-                None => return 0,
+            if !is_in_each(behind(charter, done, producer), command) {
+                return false;
             }
         }
     }
-    most
+    true
 }
 
-/// The greatest number of these sends, where all have this command; 0 where there is none.
-fn most_of(sends: &[Sending], command: &Command) -> Option<u32> {
-    let mut most = 0u32;
+/// Whether these sends have this command.
+fn is_in_each(sends: &[Sending], command: &Command) -> bool {
     for sending in sends {
         if sending.command != *command {
-            return None;
+            return false;
         }
-        most = most.max(sending.number);
     }
-    Some(most)
+    true
 }
 
-/// Where producer and name of each send stand, one producer after the other. The only error is want of
-/// memory.
-fn pairs_of(alloc: Global, charter: &Charter, names: &NameIndex) -> Result<Vec<u32>, AllocError> {
+/// The first send from a producer to a name: where the two stand, and its number.
+#[derive(Drop)]
+struct First {
+    pair: u32,
+    number: u32,
+}
+
+/// Where producer and name of each send stand, one producer after the other, and the first of each two.
+#[derive(Drop)]
+struct Pairs {
+    of_each: Vec<u32>,
+    firsts: Vec<First>,
+}
+
+/// Those of all sends. How many each two have is counted at their place. The only error is want of memory.
+fn pairs_of(
+    alloc: Global,
+    charter: &Charter,
+    names: &NameIndex,
+    done: &[u32],
+    counts: &mut Vec<u32>,
+) -> Result<Pairs, AllocError> {
     let width = charter.config().producers;
-    let mut pairs = Vec::with_capacity(alloc, charter.orders().len())?;
+    let mut pairs = Pairs {
+        of_each: Vec::with_capacity(alloc, orders_behind(charter, done))?,
+        firsts: Vec::new(alloc),
+    };
     for p in 0..width {
         if let Some(producer) = ProducerNo::new(p + 1) {
-            add_pairs(&mut pairs, names, width, producer, charter.sends(producer))?;
+            let sends = behind(charter, done, producer);
+            add_pairs(&mut pairs, counts, names, width, producer, sends)?;
         }
     }
     Ok(pairs)
@@ -172,7 +240,8 @@ fn pairs_of(alloc: Global, charter: &Charter, names: &NameIndex) -> Result<Vec<u
 
 /// Those of the sends of one producer.
 fn add_pairs(
-    pairs: &mut Vec<u32>,
+    pairs: &mut Pairs,
+    counts: &mut Vec<u32>,
     names: &NameIndex,
     width: u8,
     producer: ProducerNo,
@@ -180,55 +249,79 @@ fn add_pairs(
 ) -> Result<(), AllocError> {
     for sending in sends {
         let place = place_in(names, &sending.entity).unwrap_or(0);
-        pairs.push(pair_of(place, width, producer) as u32)?;
+        let pair = pair_of(place, width, producer) as u32;
+        pairs.of_each.push(pair)?;
+        if is_first_of(counts, pair) {
+            pairs.firsts.push(First {
+                pair,
+                number: sending.number,
+            })?;
+        }
     }
     Ok(())
 }
 
-/// Each is counted at its place.
-fn count_all(counts: &mut Vec<u32>, pairs: &[u32]) {
-    for pair in pairs {
-        if let Some(count) = counts.get_mut(*pair as usize) {
+/// Whether none was counted at this place; one more is.
+fn is_first_of(counts: &mut Vec<u32>, pair: u32) -> bool {
+    match counts.get_mut(pair as usize) {
+        Some(count) => {
             *count = count.saturating_add(1);
+            *count == 1
         }
+        None => false,
     }
 }
 
-/// In the place of each count the sum of those before it; the sum of all.
-fn begin_each(counts: &mut Vec<u32>) -> u32 {
+/// The greatest number that lies before one of these.
+fn skipped_by(firsts: &[First]) -> u32 {
+    let mut skipped = 0u32;
+    for first in firsts {
+        skipped = skipped.max(first.number.saturating_sub(1));
+    }
+    skipped
+}
+
+/// In the place of each count the sum of those before it, as if so many numbers of each two were skipped; the
+/// sum of all.
+fn begin_each(counts: &mut Vec<u32>, firsts: &[First], skipped: u32) -> u32 {
     let mut sum = 0u32;
-    for count in counts.iter_mut() {
-        let next = sum.saturating_add(*count);
-        *count = sum;
-        sum = next;
+    for first in firsts {
+        if let Some(count) = counts.get_mut(first.pair as usize) {
+            let next = sum.saturating_add(*count);
+            let ahead = skipped.saturating_sub(first.number.saturating_sub(1));
+            *count = sum.saturating_add(ahead);
+            sum = next;
+        }
     }
     sum
 }
 
+/// Where commands go.
+#[derive(Drop)]
+struct Starts<'a> {
+    starts: &'a [u32],
+    pairs: &'a [u32],
+    skipped: u32,
+}
+
 /// The command of each send at its place.
-fn put_all(commands: &mut Vec<Command>, charter: &Charter, starts: &[u32], pairs: &[u32]) {
-    let mut done = 0usize;
+fn put_all(commands: &mut Vec<Command>, charter: &Charter, done: &[u32], plan: &Starts) {
+    let mut from = 0usize;
     for p in 0..charter.config().producers {
         if let Some(producer) = ProducerNo::new(p + 1) {
-            let sends = charter.sends(producer);
-            put_some(commands, sends, starts, pairs, done);
-            done = done.saturating_add(sends.len());
+            let sends = behind(charter, done, producer);
+            put_some(commands, sends, plan, from);
+            from = from.saturating_add(sends.len());
         }
     }
 }
 
 /// The command of each of these sends, whose pairs stand from `from` on.
-fn put_some(
-    commands: &mut Vec<Command>,
-    sends: &[Sending],
-    starts: &[u32],
-    pairs: &[u32],
-    from: usize,
-) {
+fn put_some(commands: &mut Vec<Command>, sends: &[Sending], plan: &Starts, from: usize) {
     for k in 0..sends.len() {
-        let pair = number_in(pairs, from.saturating_add(k));
-        let start = number_in(starts, pair as usize);
-        let place = start as usize + (sends[k].number as usize).saturating_sub(1);
+        let pair = number_in(plan.pairs, from.saturating_add(k));
+        let start = number_in(plan.starts, pair as usize);
+        let place = stands_in(start, sends[k].number, plan.skipped);
         if let Some(command) = commands.get_mut(place) {
             *command = sends[k].command;
         }

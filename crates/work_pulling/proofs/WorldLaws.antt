@@ -90,5 +90,5 @@ there_below (k ∷ ls) (suc n) l e = more n (length ls) (there_below ls n l e)
 pub one_counts : (c : Script) (n : ℕ) (l : Line) → IsPulled c → slice_get c.orders n ≡ Some l → n + 1 < 4294967296
 one_counts c n l p here = few n (length c.orders) (there_below c.orders n l here) p.script.fits
   where
-    few : (n m : ℕ) → n < m → m ≤ 200000 → n + 1 < 4294967296
+    few : (n m : ℕ) → n < m → m ≤ 3000000 → n + 1 < 4294967296
     few n m h k = omega (arith, h, k)

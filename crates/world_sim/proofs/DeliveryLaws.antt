@@ -323,12 +323,12 @@ noted_ups o y z e h = subst (λ (v : Yard). (k : ℕ) → slice_index_or v.ups k
     by (order.Send p e c) = h
     by o = h
 
-pub noted_ordered : (o : Order) (y z : Yard) → z ≡ noted o y → ((k : ℕ) → slice_index_or y.ordered k 0 < 200000) → (k : ℕ) → slice_index_or z.ordered k 0 ≤ 200000
-noted_ordered o y z e h = subst (λ (v : Yard). (k : ℕ) → slice_index_or v.ordered k 0 ≤ 200000) (sym e) (by o)
+pub noted_ordered : (o : Order) (y z : Yard) → z ≡ noted o y → ((k : ℕ) → slice_index_or y.ordered k 0 < 3000000) → (k : ℕ) → slice_index_or z.ordered k 0 ≤ 3000000
+noted_ordered o y z e h = subst (λ (v : Yard). (k : ℕ) → slice_index_or v.ordered k 0 ≤ 3000000) (sym e) (by o)
   where
-    by : (o : Order) → (k : ℕ) → slice_index_or (noted o y).ordered k 0 ≤ 200000
-    by (order.Send p e c) k = let a : slice_index_or y.ordered k 0 < 200000 = h k in let b : slice_index_or (noted (order.Send p e c) y).ordered k 0 ≤ slice_index_or y.ordered k 0 + 1 = one_more y.ordered (p - 1) k in omega (arith, a, b)
-    by o k = let a : slice_index_or y.ordered k 0 < 200000 = h k in let same : slice_index_or (noted o y).ordered k 0 ≡ slice_index_or y.ordered k 0 = refl in omega (arith, a, same)
+    by : (o : Order) → (k : ℕ) → slice_index_or (noted o y).ordered k 0 ≤ 3000000
+    by (order.Send p e c) k = let a : slice_index_or y.ordered k 0 < 3000000 = h k in let b : slice_index_or (noted (order.Send p e c) y).ordered k 0 ≤ slice_index_or y.ordered k 0 + 1 = one_more y.ordered (p - 1) k in omega (arith, a, b)
+    by o k = let a : slice_index_or y.ordered k 0 < 3000000 = h k in let same : slice_index_or (noted o y).ordered k 0 ≡ slice_index_or y.ordered k 0 = refl in omega (arith, a, same)
 
 -- the producer of an order has its place
 pub count_there : (y : Yard) (w : World) (p : ℕ) (e : List ℕ) (c : Command) → IsSound y w → is_order y.script.config (order.Send p e c) ≡ true → p ≤ length y.ordered

@@ -22,7 +22,7 @@ use Rattle.shard_store.specs.declared.store.Store.{Store}
 use Rattle.shard_store.specs.Stores.{Shelves, entries_at, lists_at, place_of}
 use Rattle.node_core.specs.Leased.{Tells}
 use Rattle.node_core.specs.Standing.{Standing}
-use Rattle.settle_laws.specs.Settles.{IsUnheld, StoresEnd, StoresSettle, FewOrdersFit, GivenMaySettle}
+use Rattle.settle_laws.specs.Settles.{IsUnheld, StoresEnd, StoresSettle, GivenMaySettle}
 use Rattle.world_sim.specs.declared.fault.StepFault.{StepFault}
 use Rattle.world_sim.specs.declared.fault.StepFault.TheVariants as fault
 use Rattle.world_sim.specs.Given.{Given, IsGiven, is_numbered}
@@ -226,14 +226,14 @@ set_within (suc n) (suc k) m few = subst (λ j. j ≤ 4000000000) (sym (get_repl
 pub ups_within : (c : Script) (g : Given) (y : Yard) → IsGiven c g.version g.lists → IsOf c g y 0 → (k : ℕ) → slice_index_or y.ups k 0 ≤ 4000000000
 ups_within c g y given of k = subst (λ us. slice_index_or us k 0 ≤ 4000000000) (sym of.seen_is.ups_are) (set_within c.config.nodes k (fold number_step 0 (opening_of g.version g.lists)) (number_fits c g.version g.lists given))
 
-sent_within : (c : Script) (ps : List ℕ) (k : ℕ) → length c.orders ≤ 20000 → slice_index_or (map length (map (sends c) ps)) k 0 ≤ 200000
+sent_within : (c : Script) (ps : List ℕ) (k : ℕ) → length c.orders ≤ 3000000 → slice_index_or (map length (map (sends c) ps)) k 0 ≤ 3000000
 sent_within c [] zero few = omega arith
 sent_within c [] (suc k) few = omega arith
 sent_within c (p ∷ ps) zero few = let sent : length (sends c p) ≤ length c.orders = sent_few c p in omega (arith, sent, few)
 sent_within c (p ∷ ps) (suc k) few = sent_within c ps k few
 
-pub ordered_within : (c : Script) (g : Given) (y : Yard) → IsGiven c g.version g.lists → IsOf c g y 0 → (k : ℕ) → slice_index_or y.ordered k 0 ≤ 200000
-ordered_within c g y given of k = subst (λ os. slice_index_or os k 0 ≤ 200000) (sym of.seen_is.ordered_are) (sent_within c (numbers 1 c.config.producers) k given.few)
+pub ordered_within : (c : Script) (g : Given) (y : Yard) → IsScript c → IsOf c g y 0 → (k : ℕ) → slice_index_or y.ordered k 0 ≤ 3000000
+ordered_within c g y script of k = subst (λ os. slice_index_or os k 0 ≤ 3000000) (sym of.seen_is.ordered_are) (sent_within c (numbers 1 c.config.producers) k script.fits)
 
 -- a world of given stores that isn't spent
 pub given_of : (c : Script) (g : Given) (y : Yard) (n : ℕ) (f : Option StepFault) → IsFromStores c g y n f → n ≡ 0 → f ≡ None → IsOf c g y 0
@@ -266,13 +266,13 @@ world_cut c (Some g) y z n f w some = record { script_is = w.script_is; given_is
 
 -- What it answers.
 
-pub settle_told : StoresSettle → FewOrdersFit → GivenMaySettle → (c : Script) (o : Option Given) (y z : Yard) (n : ℕ) (f : Option StepFault) (before after : List Fact) → IsWorld c o y n f → n ≡ 0 → f ≡ None → IsWhole (IsSoundTo Settles) 18 settle y z before after
+pub settle_told : StoresSettle → GivenMaySettle → (c : Script) (o : Option Given) (y z : Yard) (n : ℕ) (f : Option StepFault) (before after : List Fact) → IsWorld c o y n f → n ≡ 0 → f ≡ None → IsWhole (IsSoundTo Settles) 18 settle y z before after
     → IfSome o (λ g. WasSettled (seen c o n f) g before (seen c o 1 f) after)
-settle_told ends fits law c None y z n f before after w first going s = tt
-settle_told ends fits law c (Some g) y z n f before after w first going s =
+settle_told ends law c None y z n f before after w first going s = tt
+settle_told ends law c (Some g) y z n f before after w first going s =
     let may : IsSoundTo Settles y (given_world c g.version g.lists) = settles_given law c g y w.script_is w.given_is (given_of c g y n f w first going) in
     record {
-      ends = ends c g.version g.lists w.script_is w.given_is.admitted w.given_is.lawful_is w.given_is.unheld (fits c g.version g.lists w.script_is w.given_is.few);
+      ends = ends c g.version g.lists w.script_is w.given_is.admitted w.given_is.lawful_is w.given_is.unheld w.given_is.fits;
       facts_are = (s.goes (given_world c g.version g.lists) may).facts_are;
       new_is = λ i. record { script = c; given = Some g; count = 1; fault = going i };
     }
@@ -298,9 +298,9 @@ pub ready_ups : (c : Script) (o : Option Given) (y : Yard) (n : ℕ) (f : Option
 ready_ups c None y n f w some first going = absurd (true_is_not_false (sym some))
 ready_ups c (Some g) y n f w some first going = ups_within c g y w.given_is (given_of c g y n f w first going)
 
-pub ready_ordered : (c : Script) (o : Option Given) (y : Yard) (n : ℕ) (f : Option StepFault) → IsWorld c o y n f → IsSome o → n ≡ 0 → f ≡ None → (k : ℕ) → slice_index_or y.ordered k 0 ≤ 200000
+pub ready_ordered : (c : Script) (o : Option Given) (y : Yard) (n : ℕ) (f : Option StepFault) → IsWorld c o y n f → IsSome o → n ≡ 0 → f ≡ None → (k : ℕ) → slice_index_or y.ordered k 0 ≤ 3000000
 ready_ordered c None y n f w some first going = absurd (true_is_not_false (sym some))
-ready_ordered c (Some g) y n f w some first going = ordered_within c g y w.given_is (given_of c g y n f w first going)
+ready_ordered c (Some g) y n f w some first going = ordered_within c g y w.script_is (given_of c g y n f w first going)
 
 -- the lists that the settle of given ones left
 pub settled_lists : (c : Script) (version : ℕ) (given lists : SlotLists) → StoresEnd c version given → lists ≡ (settled_from c version given).world.lists → AreSettled c given lists

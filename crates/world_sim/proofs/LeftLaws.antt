@@ -1,13 +1,16 @@
 -- What is left to do, as the queues tell it: each at the node that holds it, or in the book.
 use Rattle.std.proofs.Common.{◌≡◌, ℕ, zero, suc, ◌+◌, ◌-◌, ◌*◌, ◌<◌, ◌≤◌, true, false, List, [], ◌∷◌, length, refl, ap, sym, ◌∙◌, arith}
-use Rattle.std.specs.Prelude.{◌||◌, nat_le, map, sum, take, Option, Some, None, IsSomeAnd, slice_index_or}
+use Rattle.std.specs.Prelude.{Bool, ◌&&◌, ◌||◌, nat_le, map, sum, take, drop, Option, Some, None, IfSome, IsSomeAnd, slice_index_or}
 use Rattle.std.specs.List.{list_any}
+use Rattle.std.proofs.lemmas.List.{drop_all}
 use Rattle.std.proofs.lemmas.List.Sums.{sum-map, sum_by-cons}
+use Rattle.yard_model.specs.declared.charter.Config.{Config}
 use Rattle.yard_model.specs.declared.fact.Fact.{Fact}
 use Rattle.yard_model.specs.declared.incarnation.Incarnation.{Incarnation}
 use Rattle.yard_model.specs.declared.incarnation.Slot.TheVariants as slot
+use Rattle.yard_model.specs.Behaviour.{is_in}
 use Rattle.yard_model.specs.Genuine.{is_producer}
-use Rattle.yard_model.specs.Script.{Setting, setting}
+use Rattle.yard_model.specs.Script.{Script, Setting, IsScript, setting}
 use Rattle.yard_model.specs.Setting.{producers}
 use Rattle.yard_model.specs.SlotLists.{queue_list}
 use Rattle.yard_model.specs.SlotReads.{holder, confirmed}
@@ -32,6 +35,21 @@ use Rattle.world_sim.proofs.RestsLaws.{IsInHand, hand_is, held_by, told_of}
 use Rattle.world_sim.proofs.SeekLaws.{IsFoundIn}
 use Rattle.world_sim.proofs.UpLaws.{node_kept}
 
+-- A script has few shards and producers.
+
+second_of : (a b d e f g h : Bool) → (a && b && d && e && f && g && h) ≡ true → (b ≡ true) × (d ≡ true)
+second_of a b d e f g h k =
+    let k4 : (a && b && d && e) ≡ true = (and_both (a && b && d && e) f (and_both (a && b && d && e && f) g (and_both (a && b && d && e && f && g) h k).0).0).0 in
+    let k3 : (a && b && d) ≡ true = (and_both (a && b && d) e k4).0 in
+    ((and_both a b (and_both (a && b) d k3).0).1, (and_both (a && b) d k3).1)
+
+pub few_slots : (c : Script) → IsScript c → (c.config.shards ≤ 128) × (c.config.producers ≤ 32)
+few_slots c k =
+    let x : Config = c.config in
+    let m : (is_in 1 128 x.shards ≡ true) × (is_in 1 32 x.producers ≡ true) =
+    second_of (is_in 1 16 x.nodes) (is_in 1 128 x.shards) (is_in 1 32 x.producers) (is_in 1 1000 x.buffer) (is_in 1 64 x.window) (is_in 1 10000 x.snapshot) (is_in 1 10 x.keep) k.config in
+    (at_most x.shards 128 (and_both (nat_le 1 x.shards) (nat_le x.shards 128) m.0).1, at_most x.producers 32 (and_both (nat_le 1 x.producers) (nat_le x.producers 32) m.1).1)
+
 -- A queue that a node holds.
 
 pub queue_held : (y : Yard) (w : World) (p n : ℕ) (list : List Fact) → IsSound y w → is_producer y.script p ≡ true → IsSomeAnd (at y.nodes (n - 1)) (λ (v : Standing). held_list (slot.Queue p) v.state ≡ Some list) → list ≡ queue_list w.lists p
@@ -40,6 +58,13 @@ queue_held y w p n list s producer h = by (at y.nodes (n - 1)) refl h
     by : (o : Option Standing) → at y.nodes (n - 1) ≡ o → IsSomeAnd o (λ (v : Standing). held_list (slot.Queue p) v.state ≡ Some list) → list ≡ queue_list w.lists p
     by None e h = absurd h
     by (Some v) e h = let t : IsInHand w v.state (slot.Queue p) list = hand_is y.script w (n - 1) v.state (slot.Queue p) list s.stands_is (kept_is n v y w s.seen_is e) producer h in sym t.list_is
+
+pub queue_script : (y : Yard) (w : World) (n : ℕ) (c : Script) → IsSound y w → IsSomeAnd (at y.nodes (n - 1)) (λ (v : Standing). c ≡ v.script) → c ≡ y.script
+queue_script y w n c s h = by (at y.nodes (n - 1)) (s.seen_is.scripts_are (n - 1)) h
+  where
+    by : (o : Option Standing) → IfSome o (λ (v : Standing). v.script ≡ y.script) → IsSomeAnd o (λ (v : Standing). c ≡ v.script) → c ≡ y.script
+    by None e h = absurd h
+    by (Some v) e h = h ∙ e
 
 -- A queue that no node has in hand is free.
 
@@ -68,22 +93,39 @@ book_queue y w p k producer f = let t : IsTold (queue_list w.lists p) (known_at 
 sum_more : {A : Type 0} (f : A → ℕ) (x : A) (xs : List A) → sum (map f (x ∷ xs)) ≡ f x + sum (map f xs)
 sum_more f x xs = sum-map f (x ∷ xs) ∙ (sum_by-cons f x xs ∙ ap (λ k. f x + k) (sym (sum-map f xs)))
 
-some_more : {A : Type 0} (f : A → ℕ) (xs : List A) (i : ℕ) (x : A) → i < length xs → x ≡ slice_index_or xs i x → sum (map f (take (suc i) xs)) ≡ sum (map f (take i xs)) + f x
-some_more f [] i x h e = absurd (omega (arith, h))
-some_more f (y ∷ ys) zero x h e = let same : f x ≡ f y = ap f e in omega (arith, same)
-some_more f (y ∷ ys) (suc i) x h e =
-    let rest : sum (map f (take (suc i) ys)) ≡ sum (map f (take i ys)) + f x = some_more f ys i x (omega (arith, h)) e in
+some_more : {A : Type 0} (f : A → ℕ) (xs : List A) (i : ℕ) (d : A) → i < length xs → sum (map f (take (suc i) xs)) ≡ sum (map f (take i xs)) + f (slice_index_or xs i d)
+some_more f [] i d h = absurd (omega (arith, h))
+some_more f (y ∷ ys) zero d h = let first : sum (map f (y ∷ [])) ≡ f y + sum (map f []) = sum_more f y [] in omega (arith, first)
+some_more f (y ∷ ys) (suc i) d h =
+    let rest : sum (map f (take (suc i) ys)) ≡ sum (map f (take i ys)) + f (slice_index_or ys i d) = some_more f ys i d (omega (arith, h)) in
     let a : sum (map f (take (suc (suc i)) (y ∷ ys))) ≡ f y + sum (map f (take (suc i) ys)) = sum_more f y (take (suc i) ys) in
     let b : sum (map f (take (suc i) (y ∷ ys))) ≡ f y + sum (map f (take i ys)) = sum_more f y (take i ys) in
     omega (arith, rest, a, b)
 
 -- one number less is left
-pub less_by : {A : Type 0} (f : A → ℕ) (xs : List A) (i left all : ℕ) (x : A) → i < length xs → x ≡ slice_index_or xs i x → left ≡ all - sum (map f (take i xs)) → left - f x ≡ all - sum (map f (take (i + 1) xs))
-less_by f xs i left all x h e k =
+pub less_by : {A : Type 0} (f : A → ℕ) (xs : List A) (i left all : ℕ) (d : A) → i < length xs → left ≡ all - sum (map f (take i xs)) → left - f (slice_index_or xs i d) ≡ all - sum (map f (take (i + 1) xs))
+less_by f xs i left all d h k =
     let one : i + 1 ≡ suc i = omega arith in
-    let more : sum (map f (take (suc i) xs)) ≡ sum (map f (take i xs)) + f x = some_more f xs i x h e in
+    let more : sum (map f (take (suc i) xs)) ≡ sum (map f (take i xs)) + f (slice_index_or xs i d) = some_more f xs i d h in
     let same : sum (map f (take (i + 1) xs)) ≡ sum (map f (take (suc i) xs)) = ap (λ j. sum (map f (take j xs))) one in
     omega (arith, k, more, same)
+
+-- of what stands at a place and behind it
+any_at : {A : Type 0} (f : A → Bool) (xs : List A) (i : ℕ) (d : A) → i < length xs → list_any f (drop i xs) ≡ (f (slice_index_or xs i d) || list_any f (drop (suc i) xs))
+any_at f [] i d h = absurd (omega (arith, h))
+any_at f (y ∷ ys) zero d h = refl
+any_at f (y ∷ ys) (suc i) d h = any_at f ys i d (omega (arith, h))
+
+pub any_next : {A : Type 0} (f : A → Bool) (xs : List A) (i : ℕ) (d : A) → i < length xs → f (slice_index_or xs i d) ≡ false → list_any f (drop i xs) ≡ list_any f xs → list_any f (drop (i + 1) xs) ≡ list_any f xs
+any_next f xs i d h none so_far =
+    let one : i + 1 ≡ suc i = omega arith in
+    ap (λ j. list_any f (drop j xs)) one ∙ (ap (λ b. b || list_any f (drop (suc i) xs)) (sym none) ∙ (sym (any_at f xs i d h) ∙ so_far))
+
+pub any_here : {A : Type 0} (f : A → Bool) (xs : List A) (i : ℕ) (d : A) → i < length xs → f (slice_index_or xs i d) ≡ true → list_any f (drop i xs) ≡ list_any f xs → true ≡ list_any f xs
+any_here f xs i d h here so_far = ap (λ b. b || list_any f (drop (suc i) xs)) (sym here) ∙ (sym (any_at f xs i d h) ∙ so_far)
+
+pub any_none : {A : Type 0} (f : A → Bool) (xs : List A) (i : ℕ) → length xs ≤ i → list_any f (drop i xs) ≡ list_any f xs → false ≡ list_any f xs
+any_none f xs i h so_far = ap (list_any f) (sym (drop_all i xs h)) ∙ so_far
 
 -- What a producer has left.
 
@@ -142,7 +184,7 @@ left_none y i w e s n = ap (λ k. list_any (is_left w) (numbers (i + 1) k)) (sym
 -- so many are outstanding of those before
 pub record Counted (y : Yard) (i total : ℕ) : Type 0 where
   pub rest : (w : World) → IsSound y w → total + sum (map (outstanding w) (numbers (i + 1) (y.script.config.producers - i))) ≡ sum (map (outstanding w) (producers w.set))
-  pub few : total ≤ 200000 * i
+  pub few : total ≤ 3000000 * i
   pub within : i ≤ y.script.config.producers
 
 pub counted_first : (y : Yard) → Counted y 0 0
@@ -155,7 +197,7 @@ counted_first y = record {
   within = omega arith;
 }
 
-pub counted_on : (y : Yard) (i p total more : ℕ) → p ≡ i + 1 → i < y.script.config.producers → more ≤ 200000 → ((w : World) → IsSound y w → more ≡ outstanding w p) → Counted y i total → Counted y (i + 1) (total + more)
+pub counted_on : (y : Yard) (i p total more : ℕ) → p ≡ i + 1 → i < y.script.config.producers → more ≤ 3000000 → ((w : World) → IsSound y w → more ≡ outstanding w p) → Counted y i total → Counted y (i + 1) (total + more)
 counted_on y i p total more e less most is c = record {
   rest = λ w s.
       let count : ℕ = y.script.config.producers in
@@ -165,7 +207,7 @@ counted_on y i p total more e less most is c = record {
       let here : outstanding w (i + 1) ≡ outstanding w p = ap (outstanding w) (sym e) in
       let before : total + sum (map (outstanding w) (numbers (i + 1) (count - i))) ≡ sum (map (outstanding w) (producers w.set)) = c.rest w s in
       omega (arith, k, at_i, here, before);
-  few = let f : total ≤ 200000 * i = c.few in omega (arith, f, most);
+  few = let f : total ≤ 3000000 * i = c.few in omega (arith, f, most);
   within = omega (arith, less);
 }
 

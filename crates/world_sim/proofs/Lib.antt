@@ -16,7 +16,6 @@ pub mod OwnLaws
 pub mod PlaceLaws
 pub mod PlayedLaws
 pub mod ProduceLaws
-pub mod QueueLaws
 pub mod ReshardLaws
 pub mod RestsLaws
 pub mod RunLaws

@@ -288,11 +288,11 @@ pub same_kept : (c : Script) (g : Option Given) (y : Yard) (n : ℕ) (f : Option
 same_kept c None y n f w h some = absurd (true_is_not_false (sym some))
 same_kept c (Some g) y n f w h some = (of_end c g y n f w h).script_is
 
-pub version_kept : (c : Script) (g : Option Given) (y : Yard) (n : ℕ) (f : Option StepFault) → IsWorld c g y n f → f ≢ Some fault.OutOfMemory → y.version ≤ 4000000
+pub version_kept : (c : Script) (g : Option Given) (y : Yard) (n : ℕ) (f : Option StepFault) → IsWorld c g y n f → f ≢ Some fault.OutOfMemory → y.version ≤ 60000000
 version_kept c None y n f w h =
     let counted : y.version ≤ 20 * n = (at_end c y n f w h).2.version_is in
     let few : n ≤ length c.orders = w.few in
-    let fits : length c.orders ≤ 200000 = w.script_is.fits in
+    let fits : length c.orders ≤ 3000000 = w.script_is.fits in
     omega (arith, counted, few, fits)
 version_kept c (Some g) y n f w h =
     let counted : y.version ≤ 20 * n = (of_end c g y n f w h).version_is in

@@ -71,28 +71,28 @@ named_line c y n f l w e next = all_got (λ (l : Line). is_named y.script l.orde
 pub version_fits : (c : Script) (y : Yard) (n : ℕ) (f : Option StepFault) (l : Line) → IsPlaying c y n f → f ≡ None → slice_get c.orders n ≡ Some l → y.version < 3000000000
 version_fits c y n f l w e next =
     let less : n < length c.orders = got_inside c.orders n l next in
-    let most : length c.orders ≤ 200000 = w.script_is.fits in
+    let most : length c.orders ≤ 3000000 = w.script_is.fits in
     let few : y.version ≤ 20 * n = (going_at c y n f w e).1.version_is in
     omega (arith, less, most, few)
 
 pub ups_fit : (c : Script) (y : Yard) (n : ℕ) (f : Option StepFault) (l : Line) → IsPlaying c y n f → f ≡ None → slice_get c.orders n ≡ Some l → (k : ℕ) → slice_index_or y.ups k 0 < 3000000000
 ups_fit c y n f l w e next k =
     let less : n < length c.orders = got_inside c.orders n l next in
-    let most : length c.orders ≤ 200000 = w.script_is.fits in
+    let most : length c.orders ≤ 3000000 = w.script_is.fits in
     let few : slice_index_or y.ups k 0 ≤ 20 * n = (going_at c y n f w e).1.ups_are k in
     omega (arith, less, most, few)
 
-pub ordered_fit : (c : Script) (y : Yard) (n : ℕ) (f : Option StepFault) (l : Line) → IsPlaying c y n f → f ≡ None → slice_get c.orders n ≡ Some l → (k : ℕ) → slice_index_or y.ordered k 0 < 200000
+pub ordered_fit : (c : Script) (y : Yard) (n : ℕ) (f : Option StepFault) (l : Line) → IsPlaying c y n f → f ≡ None → slice_get c.orders n ≡ Some l → (k : ℕ) → slice_index_or y.ordered k 0 < 3000000
 ordered_fit c y n f l w e next k =
     let less : n < length c.orders = got_inside c.orders n l next in
-    let most : length c.orders ≤ 200000 = w.script_is.fits in
+    let most : length c.orders ≤ 3000000 = w.script_is.fits in
     let few : slice_index_or y.ordered k 0 ≤ n = (going_at c y n f w e).1.ordered_are k in
     omega (arith, less, most, few)
 
-pub count_fits : (c : Script) (y : Yard) (n : ℕ) (f : Option StepFault) (l : Line) → IsPlaying c y n f → slice_get c.orders n ≡ Some l → n < 200000
+pub count_fits : (c : Script) (y : Yard) (n : ℕ) (f : Option StepFault) (l : Line) → IsPlaying c y n f → slice_get c.orders n ≡ Some l → n < 3000000
 count_fits c y n f l w next =
     let less : n < length c.orders = got_inside c.orders n l next in
-    let most : length c.orders ≤ 200000 = w.script_is.fits in
+    let most : length c.orders ≤ 3000000 = w.script_is.fits in
     omega (arith, less, most)
 
 -- What one order more leads to.

@@ -1,10 +1,8 @@
 -- A producer's queue at a node, and the sends that wait for it.
-use Rattle.std.specs.Prelude.{ℕ, ◌-◌, Bool, false, ◌==◌, ◌||◌, nat_lt, List, not, is_some, Option, Some, None}
+use Rattle.std.specs.Prelude.{ℕ, ◌-◌, Bool, false, ◌||◌, nat_lt, List, not, is_some, Option, Some, None}
 use Rattle.std.specs.List.{list_any}
 use Rattle.std.specs.Option.{option_map}
 use Rattle.yard_model.specs.declared.fact.Fact.{Fact}
-use Rattle.yard_model.specs.declared.incarnation.Slot.{Slot}
-use Rattle.yard_model.specs.declared.incarnation.Slot.TheVariants as slot
 use Rattle.yard_model.specs.Node.{Node}
 use Rattle.yard_model.specs.SlotReads.{confirmed, queued, queued_in_all}
 use Rattle.yard_model.specs.Words.{at}
@@ -22,11 +20,6 @@ waiting_of ordered (Some total) = ordered - total
 abbrev pub waiting_at : ℕ → ℕ → Option Standing → ℕ
 waiting_at p ordered None = 0
 waiting_at p ordered (Some v) = waiting_of ordered (total_at p v.state)
-
--- the slot is this queue
-abbrev pub is_queue_of : ℕ → Slot → Bool
-is_queue_of p (slot.Queue q) = q == p
-is_queue_of p s = false
 
 -- it is up, and doesn't hold the queue
 abbrev pub is_without : ℕ → Option Standing → Bool

@@ -13,13 +13,14 @@ use crate::scene::Scene;
 use crate::sent::all_sent;
 use crate::yard::Yard;
 use behaviour_core::Behaviour;
+use durable_queue::QueueStore;
 use members_by_age::ByAge;
 use node_core::Node;
 use shard_lease::LeaseBook;
-use shard_store::Stores;
+use shard_store::{StoreRef, Stores};
 use std::alloc::{AllocError, Global};
 use std::marker::PhantomData;
-use yard_model::{Charter, NodeNo};
+use yard_model::{Charter, EntityName, NodeNo, ProducerNo, Slot};
 
 /// How often each node came up, and how many of each producer's sends were ordered.
 #[derive(Drop)]
@@ -87,6 +88,7 @@ pub(crate) fn yard_of<B: Behaviour + Copy + Drop>(
     book: LeaseBook,
     numbers: Numbers,
 ) -> Result<Yard<B>, AllocError>
+    requires { book.script ≡ charter }
     ensures begins { IfOk result (λ y. Begins charter book numbers.ups.items numbers.ordered.items y) }
     ensures kind { IfOk result (λ y. y.force.kind ≡ B.kind_of behaviour) }
     ensures version { IfOk result (λ y. y.force.version ≡ B.version_of behaviour) }
@@ -100,7 +102,7 @@ pub(crate) fn yard_of<B: Behaviour + Copy + Drop>(
             return Err(error);
         }
     };
-    match first_tables(alloc, &scene) {
+    match first_tables(alloc, &scene, &book) {
         Ok((nodes, members, mail)) => {
             scene.config();
             let Numbers { ups, ordered } = numbers;
@@ -132,7 +134,9 @@ pub(crate) fn yard_of<B: Behaviour + Copy + Drop>(
 fn first_tables<B: Behaviour + Drop>(
     alloc: Global,
     scene: &Scene,
+    book: &LeaseBook,
 ) -> Result<(Vec<Option<Node<B>>>, ByAge, Mail), AllocError>
+    requires { book.now.script ≡ scene.now }
     ensures nodes { IfOk result (λ r. r.0.items ≡ replicate scene.now.config.nodes None) }
     ensures members { IfOk result (λ r. r.1 ≡ []) }
     ensures packets { IfOk result (λ r. r.2.packets ≡ []) }
@@ -142,6 +146,61 @@ fn first_tables<B: Behaviour + Drop>(
 {
     let members = ByAge::new(alloc)?;
     let nodes = no_nodes(alloc, scene.config().nodes)?;
-    let mail = Mail::new(alloc, scene.charter())?;
+    let mail = first_mail(alloc, scene.charter(), book)?;
     Ok((nodes, members, mail))
+}
+
+/// Nothing was posted. What is confirmed in the book's queues isn't expected any more. The only error is want of
+/// memory.
+fn first_mail(alloc: Global, charter: &Charter, book: &LeaseBook) -> Result<Mail, AllocError>
+    requires { book.now.script ≡ charter.now }
+    ensures packets { IfOk result (λ m. m.packets ≡ []) }
+    ensures fresh { IfOk result (λ m. m.fresh ≡ []) }
+    ensures items { IfOk result (λ m. m.items ≡ []) }
+    ensures full { IfOk result (λ m. m.full ≡ false) }
+{
+    let done = all_confirmed(alloc, charter, book)?;
+    let mail = Mail::new(alloc, charter, done.as_slice())?;
+    Ok(mail)
+}
+
+/// How many commands of each producer are confirmed. The only error is want of memory.
+fn all_confirmed(alloc: Global, charter: &Charter, book: &LeaseBook) -> Result<Vec<u32>, AllocError>
+    requires { book.now.script ≡ charter.now }
+{
+    let producers = charter.config().producers;
+    let mut counts = Vec::new(alloc);
+    for i in 0..producers {
+        let Some(p) = ProducerNo::new(i + 1) else {
+            unreachable!()
+        };
+        counts.push(confirmed_of(charter, book, p))?;
+    }
+    Ok(counts)
+}
+
+/// How many commands of a producer are confirmed; 0 where somebody holds its queue.
+fn confirmed_of(charter: &Charter, book: &LeaseBook, p: ProducerNo) -> u32
+    requires { book.now.script ≡ charter.now }
+{
+    let slot = Slot::Queue(p);
+    if !charter.has_slot(&slot) {
+        return 0;
+    }
+    match book.store(slot) {
+        Some(StoreRef::Queue(store)) => confirmed_in(store, charter.names()),
+        _ => 0,
+    }
+}
+
+/// How many commands to these names are confirmed.
+fn confirmed_in(store: &QueueStore, names: &[EntityName]) -> u32 {
+    if store.total() == 0 {
+        return 0;
+    }
+    let mut count = 0u32;
+    for name in names {
+        count = count.saturating_add(store.confirmed(name));
+    }
+    count
 }

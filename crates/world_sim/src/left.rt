@@ -1,12 +1,14 @@
 //! What is left to do of what was ordered.
-ghost use Rattle.std.specs.Prelude.{◌≡◌, ℕ, ◌*◌, ◌-◌, ◌<◌, ◌≤◌, true, nat_lt, map, slice_index_or, sum};
+ghost use Rattle.std.specs.Prelude.{◌≡◌, ℕ, ◌*◌, ◌-◌, ◌<◌, ◌≤◌, true, length, nat_lt, map, slice_index_or, sum};
 ghost use Rattle.std.specs.List.{list_any};
 ghost use Rattle.yard_model.specs.Genuine.{is_producer};
 ghost use Rattle.yard_model.specs.Limits.{most_orders, number_limit};
+ghost use Rattle.yard_model.specs.Script.{names_in};
 ghost use Rattle.yard_model.specs.Setting.{producers};
 ghost use Rattle.yard_model.specs.SlotLists.{queue_list};
 ghost use Rattle.yard_model.specs.SlotReads as reads;
 ghost use Rattle.yard_model.specs.World.{World, is_left, is_unsettled, outstanding, settle_bound};
+ghost use Rattle.durable_queue.specs.Queue.{name_at};
 ghost use Rattle.world_sim.specs.Queues.{is_left_in};
 ghost use Rattle.world_sim.specs.Yard.{IsSound};
 
@@ -16,32 +18,46 @@ use crate::seek::{Sought, seek};
 use crate::yard::Yard;
 use behaviour_core::Behaviour;
 use durable_queue::QueueStore;
-use yard_model::{EntityName, ProducerNo};
+use yard_model::ProducerNo;
 
-/// How many of so many ordered sends aren't confirmed.
-fn outstanding_in(store: &QueueStore, ordered: u32, names: &[EntityName]) -> u32
-    ensures result { result ≡ ordered - sum (map (λ e. reads.confirmed e store.now.entries) names.now) }
+/// How many of so many ordered sends aren't confirmed; the script brings so many names.
+fn outstanding_in(store: &QueueStore, ordered: u32, names: usize) -> u32
+    requires { names ≡ length (names_in store.now.script.orders) }
+    ensures result { result ≡ ordered - sum (map (λ e. reads.confirmed e store.now.entries) (names_in store.now.script.orders)) }
     ensures few { result ≤ ordered }
 {
     let mut outstanding = ordered;
-    for name in names {
-        outstanding = outstanding.saturating_sub(store.confirmed(name));
+    for place in 0..names {
+        outstanding = outstanding.saturating_sub(store.confirmed_at(place));
     }
     outstanding
 }
 
-/// Whether some command that is queued to one of these names isn't confirmed.
-fn is_unconfirmed(store: &QueueStore, names: &[EntityName]) -> bool
-    ensures { result ≡ list_any (λ e. nat_lt (reads.confirmed e store.now.entries) (reads.queued e store.now.entries)) names.now }
+/// Whether some command that is queued to the name at this place isn't confirmed.
+fn is_unconfirmed_at(store: &QueueStore, place: usize) -> bool
+    requires { place < length (names_in store.now.script.orders) }
+    ensures { result ≡ nat_lt (reads.confirmed (name_at store.now.script place) store.now.entries) (reads.queued (name_at store.now.script place) store.now.entries) }
 {
-    names
-        .iter()
-        .any(|name| store.confirmed(name) < store.queued(name))
+    store.confirmed_at(place) < store.queued_at(place)
 }
 
-/// Whether some of so many ordered sends isn't queued, or isn't confirmed.
-fn is_left_in(store: &QueueStore, ordered: u32, names: &[EntityName]) -> bool
-    ensures { result ≡ is_left_in ordered names.now store.now.entries }
+/// Whether some command that is queued isn't confirmed; the script brings so many names.
+fn is_unconfirmed(store: &QueueStore, names: usize) -> bool
+    requires { names ≡ length (names_in store.now.script.orders) }
+    ensures { result ≡ list_any (λ e. nat_lt (reads.confirmed e store.now.entries) (reads.queued e store.now.entries)) (names_in store.now.script.orders) }
+{
+    for place in 0..names {
+        if is_unconfirmed_at(store, place) {
+            return true;
+        }
+    }
+    false
+}
+
+/// Whether some of so many ordered sends isn't queued, or isn't confirmed; the script brings so many names.
+fn is_left_in(store: &QueueStore, ordered: u32, names: usize) -> bool
+    requires { names ≡ length (names_in store.now.script.orders) }
+    ensures { result ≡ is_left_in ordered (names_in store.now.script.orders) store.now.entries }
 {
     store.total() < ordered || is_unconfirmed(store, names)
 }
@@ -51,7 +67,8 @@ impl<B: Behaviour + Copy + Drop> Yard<B> {
     fn queue(&self, p: ProducerNo) -> &QueueStore
         requires world { (w : World) × IsSound self.now w }
         requires producer { is_producer self.now.script p ≡ true }
-        ensures { (w : World) → IsSound self.now w → result.now.entries ≡ queue_list w.lists p }
+        ensures list { (w : World) → IsSound self.now w → result.now.entries ≡ queue_list w.lists p }
+        ensures script { result.now.script ≡ self.now.script }
     {
         match seek(&self.nodes, &Sought::Queue(p)) {
             Some(n) => queue_at(&self.nodes, n, p),
@@ -67,7 +84,7 @@ impl<B: Behaviour + Copy + Drop> Yard<B> {
     {
         let ordered = count_at(&self.ordered, p);
         let store = self.queue(p);
-        is_left_in(store, ordered, self.scene.names())
+        is_left_in(store, ordered, self.scene.names().len())
     }
 
     /// Whether something is left of some producer.
@@ -105,7 +122,7 @@ impl<B: Behaviour + Copy + Drop> Yard<B> {
     {
         let ordered = count_at(&self.ordered, p);
         let store = self.queue(p);
-        outstanding_in(store, ordered, self.scene.names())
+        outstanding_in(store, ordered, self.scene.names().len())
     }
 
     /// How many of all ordered sends aren't confirmed.

@@ -31,5 +31,6 @@ mod yard;
 
 pub use fault::StepFault;
 pub use mail::Mail;
+pub use numbers::greatest_number;
 pub use stores::settle_stores;
 pub use world::World;

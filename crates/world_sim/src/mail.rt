@@ -35,15 +35,16 @@ impl Model for Mail {
 }
 
 impl Mail {
-    /// No packets and no items, for a world of this charter. The only error is want of memory.
-    pub fn new(alloc: Global, charter: &Charter) -> Result<Mail, AllocError>
+    /// No packets and no items, for a world of this charter. `done` is the hint that a wire takes: of each
+    /// producer how many of its first sends won't come any more. The only error is want of memory.
+    pub fn new(alloc: Global, charter: &Charter, done: &[u32]) -> Result<Mail, AllocError>
         ensures packets { IfOk result (λ m. m.packets ≡ []) }
         ensures fresh { IfOk result (λ m. m.fresh ≡ []) }
         ensures items { IfOk result (λ m. m.items ≡ []) }
         ensures spare { IfOk result (λ m. m.spare ≡ 0) }
         ensures full { IfOk result (λ m. m.full ≡ false) }
     {
-        let posts = Posts::new(alloc, charter)?;
+        let posts = Posts::new(alloc, charter, done)?;
         Ok(Mail {
             posts,
             out: Out::new(alloc),

@@ -8,8 +8,8 @@ ghost use Rattle.yard_model.specs.World.{number_step};
 use yard_model::{CoordEntry, Incarnation, Lists, ProducerNo, QueueEntry, ShardEntry, ShardNo};
 
 /// The greatest number of an incarnation of node 1 that was granted a slot or registered; 0 where there
-/// was none.
-pub(crate) fn greatest_number<L: Lists>(lists: &L, shards: u8, producers: u8) -> u32
+/// was none. The lists are those of so many shards and producers.
+pub fn greatest_number<L: Lists>(lists: &L, shards: u8, producers: u8) -> u32
     requires shards { length (L.lists lists.now).shards ≡ shards }
     requires few_shards { shards ≤ 128 }
     requires producers { length (L.lists lists.now).queues ≡ producers }

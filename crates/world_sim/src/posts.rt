@@ -37,11 +37,12 @@ impl Model for Posts {
 }
 
 impl Posts {
-    /// No packets, for a world of this charter. The only error is want of memory.
-    pub(crate) fn new(alloc: Global, charter: &Charter) -> Result<Posts, AllocError>
+    /// No packets, for a world of this charter. `done` is the hint that a wire takes. The only error is want
+    /// of memory.
+    pub(crate) fn new(alloc: Global, charter: &Charter, done: &[u32]) -> Result<Posts, AllocError>
         ensures { IfOk result (λ p. p ≡ nothing_posted) }
     {
-        let wire = Wire::new(alloc, charter)?;
+        let wire = Wire::new(alloc, charter, done)?;
         Ok(Posts {
             wire,
             count: 0,

@@ -22,7 +22,7 @@ impl<B: Behaviour + Copy + Drop> Yard<B> {
     /// is up has stopped. The only error is want of memory.
     pub(crate) fn into_stores(self) -> Result<(Charter, Stores), AllocError>
         requires world { (w : World) × IsFirm self w }
-        requires version { self.version ≤ 4000000 }
+        requires version { self.version ≤ 60000000 }
         ensures charter { IfOk result (λ r. r.0 ≡ self.script) }
         ensures script { IfOk result (λ r. r.1.script ≡ self.script) }
         ensures lists { (w : World) → IsFirm self w → IfOk result (λ r. AreFreed self.script w.lists (lists_at self.script.config r.1.places)) }
@@ -70,7 +70,7 @@ impl<B: Behaviour + Copy + Drop> Yard<B> {
     /// Every node that is up goes down.
     fn stop(&mut self) -> Result<(), AllocError>
         requires world { (w : World) × IsFirm self.old w }
-        requires version { self.old.version ≤ 4000000 }
+        requires version { self.old.version ≤ 60000000 }
         ensures stopped { OnOk result ((w : World) → IsFirm self.old w → (v : World) × IsStopped (IsQuiet w) self.old.script.config.nodes w.lists self.new v) }
         ensures script { self.new.script ≡ self.old.script }
     {

@@ -41,8 +41,9 @@ impl<B: Behaviour + Copy + Drop> World<B> {
 
 /// The stores that the settling of given ones leads to: every send of the script is queued, recorded and
 /// confirmed, no slot is held, the lists are lawful, and each goes on from the given one. Of the given
-/// stores the lists are lawful, no slot is held, and no number of an incarnation in them is above
-/// 4,000,000,000; the script has at most 20,000 orders. The only error is want of memory.
+/// stores the lists are lawful, no slot is held, no number of an incarnation in them is above 4,000,000,000,
+/// and a wire has room for the packets of their settling: so it has where at most 40,000 commands are
+/// outstanding (`settle_laws: outstanding_fits`). The only error is want of memory.
 pub fn settle_stores<B: Behaviour + Copy + Drop>(
     alloc: Global,
     charter: &Charter,

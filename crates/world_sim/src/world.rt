@@ -1,8 +1,9 @@
 //! A world, order by order.
-ghost use Rattle.std.specs.Prelude.{◌≡◌, None, Some, IfOk, IfNone, IfSome, IsSome, IsTrue, OnOk, replicate, slice_get};
+ghost use Rattle.std.specs.Prelude.{◌≡◌, ℕ, None, Some, IfOk, IfNone, IfSome, IsSome, IsTrue, OnOk, fold, replicate, slice_get};
+ghost use Rattle.yard_model.specs.Era.{opening_of};
 ghost use Rattle.yard_model.specs.Safe.{safe};
 ghost use Rattle.yard_model.specs.Script.{IsScript};
-ghost use Rattle.yard_model.specs.World.{given_world, new_world, wire_limit};
+ghost use Rattle.yard_model.specs.World.{given_world, new_world, number_step, wire_limit};
 ghost use Rattle.shard_store.specs.Stores.{lists_at};
 ghost use Rattle.world_sim.specs.declared.fault.StepFault.TheVariants as fault;
 ghost use Rattle.world_sim.specs.Given.{IsGiven};
@@ -15,7 +16,7 @@ use crate::laws::{made_is_known, made_is_safe, standing_is_kept};
 use crate::numbers::greatest_number;
 use crate::yard::Yard;
 use behaviour_core::Behaviour;
-use settle_laws::worlds::{few_orders_fit, given_may_settle, settle_line_settles, stores_settle};
+use settle_laws::worlds::{given_may_settle, settle_line_settles, stores_settle};
 use shard_store::Stores;
 use std::alloc::{AllocError, Global};
 use std::marker::Model;
@@ -92,8 +93,9 @@ impl<B: Behaviour + Copy + Drop> World<B> {
     }
 
     /// The world of given stores of the script, in which every send of it is ordered, no node is up and
-    /// nothing is posted. Their lists are lawful, no slot is held, and no number of an incarnation in them
-    /// is above 4,000,000,000; node 1 goes on past its numbers there. The only error is want of memory.
+    /// nothing is posted. Their lists are lawful, no slot is held, no number of an incarnation in them is
+    /// above 4,000,000,000, and the wire has room for the packets of their settling; node 1 goes on past its
+    /// numbers there. The only error is want of memory.
     pub fn from_stores(
         alloc: Global,
         charter: &Charter,
@@ -105,14 +107,37 @@ impl<B: Behaviour + Copy + Drop> World<B> {
         requires given { IsGiven charter.now (B.version_of behaviour) (lists_at charter.now.config stores.places) }
         ensures { IfOk result (λ w. w ≡ record { script = charter.now; given = Some (record { version = B.version_of behaviour; lists = lists_at charter.now.config stores.places }); count = 0; fault = None }) }
     {
+        let own = charter.copy()?;
+        let shards = charter.config().shards;
+        let producers = charter.config().producers;
+        let number = greatest_number(&stores, shards, producers);
+        World::from_given(alloc, own, behaviour, stores, number)
+    }
+
+    /// The same, which keeps the charter, where the greatest number of an incarnation of node 1 in the lists
+    /// is known, 0 where there is none: so no list is read. `into_stores` gives the charter back.
+    pub fn from_given(
+        alloc: Global,
+        charter: Charter,
+        behaviour: B,
+        stores: Stores,
+        number: u32,
+    ) -> Result<World<B>, AllocError>
+        requires kind { B.kind_of behaviour ≡ charter.config.kind }
+        requires script { stores.script ≡ charter }
+        requires given { IsGiven charter (B.version_of behaviour) (lists_at charter.config stores.places) }
+        requires number { (v : ℕ) → number ≡ fold number_step 0 (opening_of v (lists_at charter.config stores.places)) }
+        ensures { IfOk result (λ w. w ≡ record { script = charter; given = Some (record { version = B.version_of behaviour; lists = lists_at charter.config stores.places }); count = 0; fault = None }) }
+    {
         standing_is_kept();
+        let script = Snapshot::of(&charter);
         let given = Origin {
             stores: Snapshot::of(&stores),
             version: behaviour.version(),
         };
-        let yard = given_yard(alloc, charter, behaviour, stores)?;
+        let yard = given_yard(alloc, charter, behaviour, stores, number)?;
         Ok(World {
-            script: Snapshot::of(charter),
+            script,
             given: Some(given),
             yard,
             count: 0,
@@ -133,7 +158,6 @@ impl<B: Behaviour + Copy + Drop> World<B> {
         standing_is_kept();
         given_may_settle();
         stores_settle();
-        few_orders_fit();
         match self.yard.settle(out) {
             Ok(()) => {
                 self.count = 1;
@@ -197,23 +221,21 @@ impl<B: Behaviour + Copy + Drop> World<B> {
 /// The parts of a world of given stores. The only error is want of memory.
 fn given_yard<B: Behaviour + Copy + Drop>(
     alloc: Global,
-    charter: &Charter,
+    charter: Charter,
     behaviour: B,
     stores: Stores,
+    number: u32,
 ) -> Result<Yard<B>, AllocError>
-    requires kind { B.kind_of behaviour ≡ charter.now.config.kind }
-    requires script { stores.script ≡ charter.now }
-    requires given { IsGiven charter.now (B.version_of behaviour) (lists_at charter.now.config stores.places) }
-    ensures seen { IfOk result (λ y. IsSeen y (given_world charter.now (B.version_of behaviour) (lists_at charter.now.config stores.places))) }
-    ensures script { IfOk result (λ y. y.script ≡ charter.now) }
+    requires kind { B.kind_of behaviour ≡ charter.config.kind }
+    requires script { stores.script ≡ charter }
+    requires given { IsGiven charter (B.version_of behaviour) (lists_at charter.config stores.places) }
+    requires number { (v : ℕ) → number ≡ fold number_step 0 (opening_of v (lists_at charter.config stores.places)) }
+    ensures seen { IfOk result (λ y. IsSeen y (given_world charter (B.version_of behaviour) (lists_at charter.config stores.places))) }
+    ensures script { IfOk result (λ y. y.script ≡ charter) }
     ensures version { IfOk result (λ y. y.version ≡ 0) }
     ensures known { IfOk result (λ y. IsScript y.script) }
 {
-    let charter = charter.copy()?;
-    let shards = charter.config().shards;
-    let producers = charter.config().producers;
-    let greatest = greatest_number(&stores, shards, producers);
-    let numbers = given_numbers(alloc, &charter, greatest)?;
+    let numbers = given_numbers(alloc, &charter, number)?;
     let book = book_of(alloc, stores)?;
     let yard = yard_of(alloc, charter, behaviour, book, numbers)?;
     Ok(yard)

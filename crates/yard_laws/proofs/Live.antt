@@ -41,7 +41,7 @@ empty_is [] e = refl
 empty_is (x ∷ xs) e = absurd (true_is_not_false (sym e))
 
 -- one more is live: the holder, where none was
-live_more : (h : Option Incarnation) (live : List Incarnation) (x : Incarnation) → is_at x h ≡ true → is_empty live ≡ true → at_most_holder h (live ++ x ∷ []) ≡ true
+live_more : (h : Option Incarnation) (live : List Incarnation) (x : Incarnation) → is_at x h ≡ true → is_empty live ≡ true → at_most_holder h (without x live ++ x ∷ []) ≡ true
 live_more h [] x at new = at
 live_more h (y ∷ ys) x at new = absurd (true_is_not_false (sym new))
 
@@ -143,9 +143,9 @@ live_held c trace (fact.Resharded s n j) k h g = entry_held c trace (fact.Reshar
 live_held c trace (fact.Start x y) k h g =
     let lists : SlotLists = lists_of (setting c) trace in
     let guards : (is_at x (holder (shard_list lists (shard_of (setting c) y))) ≡ true) × (is_empty (live_at y trace) ≡ true) = (let at_holder : Bool = is_at x (holder (shard_list lists (shard_of (setting c) y))) in let none : Bool = is_empty (live_at y trace) in let m : ((is_brought c y && at_holder) ≡ true) × (none ≡ true) = and_both (is_brought c y && at_holder) none (and_both true (is_brought c y && at_holder && none) g).1 in ((and_both (is_brought c y) at_holder m.0).1, m.1)) in
-    all_map (held_at c trace) (λ e. held_in c lists e (if is_name y e then live_at e trace ++ x ∷ [] else live_at e trace))
+    all_map (held_at c trace) (λ e. held_in c lists e (if is_name y e then without x (live_at e trace) ++ x ∷ [] else live_at e trace))
     (λ e old.
-    held_if (is_name y e) (holder (shard_list lists (shard_of (setting c) e))) (live_at e trace) (live_at e trace ++ x ∷ []) old (λ it.
+    held_if (is_name y e) (holder (shard_list lists (shard_of (setting c) e))) (live_at e trace) (without x (live_at e trace) ++ x ∷ []) old (λ it.
     live_more (holder (shard_list lists (shard_of (setting c) e))) (live_at e trace) x
     (subst (λ z. is_at x (holder (shard_list lists (shard_of (setting c) z))) ≡ true) (same_name y e it) guards.0)
     (subst (λ z. is_empty (live_at z trace) ≡ true) (same_name y e it) guards.1)))

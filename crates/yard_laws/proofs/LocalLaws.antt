@@ -98,7 +98,7 @@ among_if true x new old e = e
 among_if false x new old e = refl
 
 live_on : (e : List ℕ) (f : Fact) (x : Incarnation) (live : List Incarnation) → is_at x (starter f) ≡ false → is_among x (live_step e live f) ≡ is_among x live
-live_on e (fact.Start y n) x live other = among_if (is_name n e) x (live ++ y ∷ []) live (among_more x y live other)
+live_on e (fact.Start y n) x live other = among_if (is_name n e) x (without y live ++ y ∷ []) live (among_more x y (without y live) other ∙ among_fewer x y live other)
 live_on e (fact.Stop y n) x live other = among_if (is_name n e) x (without y live) live (among_fewer x y live other)
 live_on e (fact.WriteFailed y n) x live other = among_if (is_name n e) x (without y live) live (among_fewer x y live other)
 live_on e (fact.Gone y) x live other = among_fewer x y live other

@@ -67,7 +67,7 @@ and_false true = refl
 and_false false = refl
 
 module _ (c new : Counted) (sent : List (List Sending)) (done : List Line) (i p n : ℕ) (e : List ℕ) (k : Command) (keeps : KeepsSends c sent done) (more : CountsOneMore c new p e)
-    (counted : n ≡ count_of new p e) (is : p ≡ i + 1) (within : i < 32) (few : length done < 200000) where
+    (counted : n ≡ count_of new p e) (is : p ≡ i + 1) (within : i < 32) (few : length done < 3000000) where
   -- the number of the send
   numbered : n ≡ count_to e (sends_in (i + 1) done) + 1
   numbered =
@@ -102,7 +102,7 @@ module _ (c new : Counted) (sent : List (List Sending)) (done : List Line) (i p 
 
 -- a send
 pub keeps_send : (c new : Counted) (sent sent' : List (List Sending)) (done : List Line) (number p n : ℕ) (e : List ℕ) (k : Command) → KeepsSends c sent done → CountsOneMore c new p e
-    → names new ≡ insert_key (slice_cmp nat_cmp) (names c) e → n ≡ count_of new p e → (0 < p) × (p ≤ 32) → length done < 200000
+    → names new ≡ insert_key (slice_cmp nat_cmp) (names c) e → n ≡ count_of new p e → (0 < p) × (p ≤ 32) → length done < 3000000
     → sent' ≡ set sent (p - 1) (get_or sent (p - 1) [] ++ record { entity = e; number = n; command = k } ∷ [])
     → KeepsSends new sent' (done ++ record { number = number; order = order.Send p e k } ∷ [])
 keeps_send c new sent sent' done number p n e k keeps more named counted range few put =

@@ -10,6 +10,7 @@ pub mod Events
 pub mod Follow
 pub mod Front
 pub mod Genuine
+pub mod Grown
 pub mod Guards
 pub mod Items
 pub mod Lawful

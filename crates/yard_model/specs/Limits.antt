@@ -3,7 +3,7 @@ use Rattle.std.specs.Prelude.{ℕ}
 
 -- the most orders of a script
 abbrev pub most_orders : ℕ
-most_orders = 200000
+most_orders = 3000000
 
 -- a version of the members, and the number of an incarnation: below this before an order
 abbrev pub order_limit : ℕ

@@ -22,7 +22,7 @@ use Rattle.yard_model.specs.Lawful.{is_decided, lawful}
 -- Live.
 
 abbrev pub live_step : List ℕ → List Incarnation → Fact → List Incarnation
-live_step e old (fact.Start x y) = if is_name y e then old ++ x ∷ [] else old
+live_step e old (fact.Start x y) = if is_name y e then without x old ++ x ∷ [] else old
 live_step e old (fact.Stop x y) = if is_name y e then without x old else old
 live_step e old (fact.WriteFailed x y) = if is_name y e then without x old else old
 live_step e old (fact.Gone x) = without x old

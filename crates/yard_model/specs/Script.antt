@@ -112,7 +112,7 @@ pub record IsScript (c : Script) : Type 0 where
   pub orders : IsTrue (list_all (λ (l : Line). is_order c.config l.order) c.orders)
   pub names : length (names_in c.orders) ≤ 1000
   pub pairs : length (pairs_in c.orders) ≤ 4000
-  pub fits : length c.orders ≤ 200000
+  pub fits : length c.orders ≤ 3000000
 
 -- the same script with so many shards
 abbrev pub with_shards : ℕ → Script → Script

@@ -4,14 +4,16 @@ ghost use Rattle.std.specs.Arc.{arc_value};
 ghost use Rattle.std.specs.Ordering.{nat_cmp};
 ghost use Rattle.std.specs.Cmp.Lexicographic.{slice_cmp};
 ghost use Rattle.std.specs.List.Sorted.{IsStrictlySortedBy};
-ghost use Rattle.yard_model.specs.Script.{names_in, sends_in, sends, with_shards, IsScript};
-ghost use Rattle.yard_model.specs.Charter.{KeepsSends};
+ghost use Rattle.yard_model.specs.Genuine.{is_slot_of};
+ghost use Rattle.yard_model.specs.Grown.{with_lines};
+ghost use Rattle.yard_model.specs.Script.{names_in, sends, with_shards, IsScript};
+ghost use Rattle.yard_model.specs.Charter.{IsCharter, KeepsSends};
 ghost use Rattle.yard_model.specs.Counts.{names, CountsNone};
 ghost use Rattle.yard_model.specs.Words.{numbers};
 
 use crate::counts::Counts;
 use crate::event::{Command, Kind};
-use crate::incarnation::Keep;
+use crate::incarnation::{Keep, Slot};
 use crate::name::EntityName;
 use crate::name_list::NameList;
 use crate::number::{NodeNo, ProducerNo};
@@ -105,10 +107,18 @@ pub struct Sending {
 #[derive(Drop)]
 pub struct Charter {
     config: Config,
-    orders: Arc<Vec<Line>, Global>,
     names: NameList,
-    sends: Arc<Vec<Vec<Sending>>, Global>,
+    kept: Arc<Kept, Global>,
     holds: PhantomData<(Order, Command)>,
+}
+
+/// What all charters of these orders share: the sends of each producer that there can be, and how many
+/// each has to each name. No invariant of it holds while memory may fail, so it is said in clauses.
+#[derive(Drop)]
+struct Kept {
+    orders: Vec<Line>,
+    sends: Vec<Vec<Sending>>,
+    counts: Counts,
 }
 
 impl Model for Charter {
@@ -119,9 +129,9 @@ impl Model for Charter {
 
     ghost Value = { Script };
 
-    ghost view = { λ c. record { config = c.config; orders = (arc_value c.orders).items } };
+    ghost view = { λ c. record { config = c.config; orders = (arc_value c.kept).orders.items } };
 
-    ghost invariant = { λ c. IsCharter (record { config = c.config; orders = (arc_value c.orders).items }) c.names (map (λ v. v.items) (arc_value c.sends).items) };
+    ghost invariant = { λ c. IsCharter (record { config = c.config; orders = (arc_value c.kept).orders.items }) c.names (map (λ v. v.items) (arc_value c.kept).sends.items) (arc_value c.kept).counts };
 }
 
 impl Charter {
@@ -130,14 +140,25 @@ impl Charter {
         requires { IsScript (record { config = config; orders = orders.items }) }
         ensures { IfOk result (λ c. c ≡ record { config = config; orders = orders.items }) }
     {
-        let (names, sends) = brought_by(alloc, orders.as_slice())?;
-        Ok(Charter {
+        let kept = kept_of(alloc, orders)?;
+        with_names(alloc, config, kept)
+    }
+
+    /// The charter of these orders behind its own. Lists that nobody shares aren't copied. The only error is
+    /// want of memory; the charter is gone then.
+    pub fn and_sends(self, alloc: Global, lines: &[Line]) -> Result<Charter, AllocError>
+        requires { IsScript (with_lines self lines.now) }
+        ensures { IfOk result (λ c. c ≡ with_lines self lines.now) }
+    {
+        let Charter {
             config,
-            orders: shared_lines(alloc, orders)?,
             names,
-            sends,
-            holds: PhantomData,
-        })
+            kept,
+            holds: _,
+        } = self;
+        drop(names);
+        let kept = owned(alloc, kept)?;
+        grown(alloc, config, kept, lines)
     }
 
     /// An equal charter, which shares its lists with this one. The only error is that there are too many to
@@ -168,9 +189,8 @@ impl Charter {
     {
         Ok(Charter {
             config,
-            orders: Arc::try_clone(&self.orders)?,
             names: self.names.share()?,
-            sends: Arc::try_clone(&self.sends)?,
+            kept: Arc::try_clone(&self.kept)?,
             holds: PhantomData,
         })
     }
@@ -188,7 +208,19 @@ impl Charter {
         ensures value { result.now ≡ self.now.orders }
         ensures script { IsScript self.now }
     {
-        self.orders.as_slice()
+        self.kept.orders.as_slice()
+    }
+
+    /// Whether it has this slot.
+    pub fn has_slot(&self, slot: &Slot) -> bool
+        ensures { result ≡ is_slot_of self.now slot.now }
+    {
+        let config = self.config();
+        match *slot {
+            Slot::Shard(s) => s.get() < config.shards,
+            Slot::Coordinator => true,
+            Slot::Queue(p) => 1 <= p.get() && p.get() <= config.producers,
+        }
     }
 
     /// The names that the orders bring, each once, in the order of their bytes.
@@ -211,47 +243,107 @@ impl Charter {
         ensures { result.now ≡ sends self.now p }
     {
         let place = p.get() as usize - 1;
-        self.sends[place].as_slice()
+        self.kept.sends[place].as_slice()
     }
 }
 
-/// The names and the sends of each producer that these orders bring, to be shared. The only error is want of
-/// memory.
-fn brought_by(
-    alloc: Global,
-    orders: &[Line],
-) -> Result<(NameList, Arc<Vec<Vec<Sending>>, Global>), AllocError>
-    requires { length orders.now ≤ 200000 }
-    ensures names { IfOk result (λ r. r.0 ≡ names_in orders.now) }
-    ensures sorted { IfOk result (λ r. IsStrictlySortedBy (slice_cmp nat_cmp) r.0) }
-    ensures sends { IfOk result (λ r. map (λ v. v.items) (arc_value r.1).items ≡ map (λ p. sends_in p orders.now) (numbers 1 32)) }
+/// What is kept of these orders. The only error is want of memory.
+fn kept_of(alloc: Global, orders: Vec<Line>) -> Result<Kept, AllocError>
+    requires { length orders.items ≤ 3000000 }
+    ensures orders { IfOk result (λ k. k.orders.items ≡ orders.items) }
+    ensures keeps { IfOk result (λ k. KeepsSends k.counts (map (λ v. v.items) k.sends.items) orders.items) }
 {
     let mut counts = Counts::new(alloc);
-    let sends = shared_sends(alloc, sends_of_all(alloc, &mut counts, orders)?)?;
-    let names = counts.into_names(alloc)?;
-    Ok((NameList::new(alloc, names)?, sends))
+    let sends = sends_of_all(alloc, &mut counts, orders.as_slice())?;
+    Ok(Kept {
+        orders,
+        sends,
+        counts,
+    })
 }
 
-/// These lines, to be shared. The only error is want of memory.
-fn shared_lines(alloc: Global, lines: Vec<Line>) -> Result<Arc<Vec<Line>, Global>, AllocError>
-    ensures { IfOk result (λ a. arc_value a ≡ lines) }
+/// What a charter keeps, where no other keeps it, and else the same made anew. The only error is want of
+/// memory.
+fn owned(alloc: Global, kept: Arc<Kept, Global>) -> Result<Kept, AllocError>
+    requires few { length (arc_value kept).orders.items ≤ 3000000 }
+    requires keeps { KeepsSends (arc_value kept).counts (map (λ v. v.items) (arc_value kept).sends.items) (arc_value kept).orders.items }
+    ensures orders { IfOk result (λ k. k.orders.items ≡ (arc_value kept).orders.items) }
+    ensures keeps { IfOk result (λ k. KeepsSends k.counts (map (λ v. v.items) k.sends.items) (arc_value kept).orders.items) }
 {
-    match Arc::new(alloc, lines) {
-        Ok(shared) => Ok(shared),
-        Err(_) => Err(AllocError),
+    match Arc::try_unwrap(kept) {
+        Ok(kept) => Ok(kept),
+        Err(shared) => kept_of(alloc, Vec::from_slice(alloc, shared.orders.as_slice())?),
     }
 }
 
-/// These sends, to be shared. The only error is want of memory.
-fn shared_sends(
-    alloc: Global,
-    sends: Vec<Vec<Sending>>,
-) -> Result<Arc<Vec<Vec<Sending>>, Global>, AllocError>
-    ensures { IfOk result (λ a. arc_value a ≡ sends) }
+/// The charter of these orders and of more behind them. The only error is want of memory.
+fn grown(alloc: Global, config: Config, kept: Kept, lines: &[Line]) -> Result<Charter, AllocError>
+    requires script { IsScript (with_lines (record { config = config; orders = kept.orders.items }) lines.now) }
+    requires keeps { KeepsSends kept.counts (map (λ v. v.items) kept.sends.items) kept.orders.items }
+    ensures { IfOk result (λ c. c ≡ with_lines (record { config = config; orders = kept.orders.items }) lines.now) }
 {
-    match Arc::new(alloc, sends) {
-        Ok(shared) => Ok(shared),
-        Err(_) => Err(AllocError),
+    let mut kept = kept;
+    match add_lines(&mut kept, lines) {
+        Ok(()) => with_names(alloc, config, kept),
+        Err(error) => {
+            drop(kept);
+            Err(error)
+        }
+    }
+}
+
+/// Orders more. The only error is want of memory.
+fn add_lines(kept: &mut Kept, lines: &[Line]) -> Result<(), AllocError>
+    requires few { length kept.old.orders.items + length lines.now ≤ 3000000 }
+    requires keeps { KeepsSends kept.old.counts (map (λ v. v.items) kept.old.sends.items) kept.old.orders.items }
+    ensures orders { OnOk result (kept.new.orders.items ≡ kept.old.orders.items ++ lines.now) }
+    ensures keeps { OnOk result (KeepsSends kept.new.counts (map (λ v. v.items) kept.new.sends.items) kept.new.orders.items) }
+{
+    for line in lines {
+        add_order(&mut kept.sends, &mut kept.counts, &line.order)?;
+        kept.orders.push(*line)?;
+    }
+    Ok(())
+}
+
+/// The charter of what is kept. The only error is want of memory.
+fn with_names(alloc: Global, config: Config, kept: Kept) -> Result<Charter, AllocError>
+    requires script { IsScript (record { config = config; orders = kept.orders.items }) }
+    requires keeps { KeepsSends kept.counts (map (λ v. v.items) kept.sends.items) kept.orders.items }
+    ensures { IfOk result (λ c. c ≡ record { config = config; orders = kept.orders.items }) }
+{
+    match names_of(alloc, &kept.counts) {
+        Ok(names) => made(alloc, config, names, kept),
+        Err(error) => {
+            drop(kept);
+            Err(error)
+        }
+    }
+}
+
+/// The names that are counted. The only error is want of memory.
+fn names_of(alloc: Global, counts: &Counts) -> Result<NameList, AllocError>
+    ensures { IfOk result (λ n. n ≡ names counts.now) }
+{
+    NameList::new(alloc, counts.to_names(alloc)?)
+}
+
+/// The charter of these names and of what is kept. The only error is want of memory.
+fn made(alloc: Global, config: Config, names: NameList, kept: Kept) -> Result<Charter, AllocError>
+    requires { IsCharter (record { config = config; orders = kept.orders.items }) names (map (λ v. v.items) kept.sends.items) kept.counts }
+    ensures { IfOk result (λ c. c ≡ record { config = config; orders = kept.orders.items }) }
+{
+    match Arc::new(alloc, kept) {
+        Ok(kept) => Ok(Charter {
+            config,
+            names,
+            kept,
+            holds: PhantomData,
+        }),
+        Err(_) => {
+            drop(names);
+            Err(AllocError)
+        }
     }
 }
 
@@ -262,10 +354,9 @@ fn sends_of_all(
     counts: &mut Counts,
     orders: &[Line],
 ) -> Result<Vec<Vec<Sending>>, AllocError>
-    requires few { length orders.now ≤ 200000 }
+    requires few { length orders.now ≤ 3000000 }
     requires none { CountsNone counts.old }
-    ensures sends { IfOk result (λ all. map (λ v. v.items) all.items ≡ map (λ p. sends_in p orders.now) (numbers 1 32)) }
-    ensures names { OnOk result (names counts.new ≡ names_in orders.now) }
+    ensures { IfOk result (λ all. KeepsSends counts.new (map (λ v. v.items) all.items) orders.now) }
 {
     let mut all = no_sends(alloc, &sends_of_each(orders))?;
     for line in orders {
@@ -305,7 +396,7 @@ fn add_order(
 ) -> Result<(), AllocError>
     requires { length all.old.items ≡ 32 }
     ensures all { length all.new.items ≡ 32 }
-    ensures keeps { OnOk result ((done : List Line) (number : ℕ) → length done < 200000 → KeepsSends counts.old (map (λ v. v.items) all.old.items) done
+    ensures keeps { OnOk result ((done : List Line) (number : ℕ) → length done < 3000000 → KeepsSends counts.old (map (λ v. v.items) all.old.items) done
         → KeepsSends counts.new (map (λ v. v.items) all.new.items) (done ++ record { number = number; order = order.now } ∷ [])) }
 {
     match order {

@@ -166,6 +166,14 @@ impl Counts {
     }
 
     /// The names, in the order of their bytes. The only error is want of memory.
+    pub fn to_names(&self, alloc: Global) -> Result<Vec<EntityName>, AllocError>
+        ensures names { IfOk result (λ kept. kept.items ≡ names self.now) }
+        ensures sorted { IfOk result (λ kept. IsStrictlySortedBy (slice_cmp nat_cmp) kept.items) }
+    {
+        self.places.keys().copied().collect(alloc)
+    }
+
+    /// The names, in the order of their bytes. The only error is want of memory.
     pub fn into_names(self, alloc: Global) -> Result<Vec<EntityName>, AllocError>
         ensures names { IfOk result (λ kept. kept.items ≡ names self) }
         ensures sorted { IfOk result (λ kept. IsStrictlySortedBy (slice_cmp nat_cmp) kept.items) }

@@ -1,5 +1,6 @@
 mod CameLaws
 mod DiskLaws
+mod NoneLaws
 mod SafelyLaws
 mod TextLaws
 mod WrittenLaws

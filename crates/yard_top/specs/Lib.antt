@@ -1,4 +1,5 @@
 pub mod Disks
+pub mod Ended
 pub mod Ends
 pub mod Safely
 pub mod Texts

@@ -1,22 +1,13 @@
-use Rattle.std.proofs.Common.{◌∙◌, map, Vec, Global}
-use Rattle.std.proofs.lemmas.List.{length-map}
+use Rattle.std.proofs.Common.{◌∙◌, [], length, map, sym, ap, Vec, Global}
+use Rattle.std.proofs.lemmas.List.{length-map, length-replicate}
 use Rattle.yard_model.specs.declared.event.Command.{Command}
-use Rattle.durable_queue.proofs.FirstLaws.{some_commands}
-use Rattle.durable_queue.proofs.SendsLaws.{plan_next}
+use Rattle.durable_queue.proofs.SendsLaws.{no_plans}
 use Rattle.durable_queue.proofs.plans.plans_of.Goals as goal
 
-pub add-requires-clause-named : goal.add-requires-clause-named
-add-requires-clause-named c =
-    let x = c.sending-item.result in
-    c.requires.each x.entity (some_commands c.args.sends.now c.loop-sending.sending-index x c.loop-sending-test.true c.sending-item.is)
-
-pub loop-sending-preserved : goal.loop-sending-preserved
-loop-sending-preserved c =
+pub add_rest-requires-clause-sized : goal.add_rest-requires-clause-sized
+add_rest-requires-clause-sized c =
     let seen = λ (v : Vec Command Global). v.items in
-    let x = c.sending-item.result in
-    let old = c.loop-sending.plans.items in
-    let named = c.requires.each x.entity (some_commands c.args.sends.now c.loop-sending.sending-index x c.loop-sending-test.true c.sending-item.is) in record {
-      sized = c.add.ensures.sized ∙ c.loop-sending.invariant.sized;
-      plans = plan_next c.args.names.now (map seen old) (map seen c.add.new.plans.items) c.args.sends.now c.loop-sending.sending-index x c.loop-sending-test.true c.sending-item.is
-          (length-map old seen ∙ c.loop-sending.invariant.sized) named c.in_ok-add.ensures.plan c.loop-sending.invariant.plans;
-    }
+    sym (length-map c.in_ok-plans.plans.items seen) ∙ (ap length c.in_ok-plans.ensures ∙ (length-replicate c.len.result [] ∙ c.len.ensures))
+
+pub add_rest-requires-clause-done : goal.add_rest-requires-clause-done
+add_rest-requires-clause-done c = no_plans c.args.names.now c.len.result (map (λ (v : Vec Command Global). v.items) c.in_ok-plans.plans.items) c.in_ok-plans.ensures

@@ -5,7 +5,10 @@ use Rattle.live_run.proofs.ResultLaws.{if_ok_both}
 use Rattle.live_run.proofs.live.stores_of_run.Goals as goal
 
 pub settle_stores-requires-clause-given : goal.settle_stores-requires-clause-given
-settle_stores-requires-clause-given g c = may_settle c.args.charter.now (g.B.Behaviour.version_of c.args.behaviour) c.args.turns c.in_ok-stores.stores c.requires.version c.requires.few c.in_ok-stores.ensures
+settle_stores-requires-clause-given g c =
+    let version = g.B.Behaviour.version_of c.args.behaviour in
+    may_settle c.args.charter.now version c.args.turns c.in_ok-stores.stores c.requires.version
+    (c.few_orders_fit.ensures c.args.charter.now version (lists_at c.args.charter.now.config c.in_ok-stores.stores.places) c.config.ensures.script c.requires.few) c.in_ok-stores.ensures
 
 pub returns-clause-live : goal.returns-clause-live
 returns-clause-live g c =

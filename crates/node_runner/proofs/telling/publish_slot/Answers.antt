@@ -7,16 +7,16 @@ use Rattle.plain_laws.proofs.Booleans.{true_is_not_false}
 use Rattle.plain_laws.proofs.Lists.{none_is_not_some, some_is}
 use Rattle.node_runner.proofs.telling.publish_slot.Goals as goal
 
-pub returns-then-not-is_in_script-clause-shown : goal.returns-then-not-is_in_script-clause-shown
-returns-then-not-is_in_script-clause-shown g c = λ list here held.
-    let out : is_slot_of (charter_of c.args.table.now) c.args.slot.now ≡ false = ap (λ (y : Script). is_slot_of y c.args.slot.now) (sym c.requires.charter) ∙ (sym c.is_in_script.ensures ∙ c.if-not-is_in_script.true) in
+pub returns-then-not-has_slot-clause-shown : goal.returns-then-not-has_slot-clause-shown
+returns-then-not-has_slot-clause-shown g c = λ list here held.
+    let out : is_slot_of (charter_of c.args.table.now) c.args.slot.now ≡ false = ap (λ (y : Script). is_slot_of y c.args.slot.now) (sym c.requires.charter) ∙ (sym c.has_slot.ensures ∙ c.if-not-has_slot.true) in
     absurd (true_is_not_false (sym here ∙ out))
 
 pub held_store-requires : goal.held_store-requires
-held_store-requires g c = ap (λ (y : Script). is_slot_of y c.args.slot.now) (c.requires.rested.script ∙ sym c.requires.charter) ∙ (sym c.is_in_script.ensures ∙ c.if-not-is_in_script.false)
+held_store-requires g c = ap (λ (y : Script). is_slot_of y c.args.slot.now) (c.requires.rested.script ∙ sym c.requires.charter) ∙ (sym c.has_slot.ensures ∙ c.if-not-has_slot.false)
 
 pub publish_store-requires-clause-slot : goal.publish_store-requires-clause-slot
-publish_store-requires-clause-slot g c = ap (λ (y : Script). is_slot_of y c.args.slot.now) (sym c.requires.charter) ∙ (sym c.is_in_script.ensures ∙ c.if-not-is_in_script.false)
+publish_store-requires-clause-slot g c = ap (λ (y : Script). is_slot_of y c.args.slot.now) (sym c.requires.charter) ∙ (sym c.has_slot.ensures ∙ c.if-not-has_slot.false)
 
 pub returns-in_default-clause-shown : goal.returns-in_default-clause-shown
 returns-in_default-clause-shown g c = λ list here held. absurd (none_is_not_some list (sym c.in_default.ensures.store ∙ held))

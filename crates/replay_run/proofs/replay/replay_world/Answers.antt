@@ -1,13 +1,21 @@
 use Rattle.std.proofs.Common.{◌∙◌, ap, sym, subst}
 use Rattle.std.proofs.lemmas.Result.{err_from_is_err_and}
+use Rattle.yard_model.specs.Replay.{replay_text}
 use Rattle.yard_model.specs.Script.{Script}
 use Rattle.yard_model.specs.Text.{report}
 use Rattle.yard_model.specs.World.{played, trace_of, wire_limit}
 use Rattle.world_sim.specs.Played.{Played}
 use Rattle.replay_run.specs.Replays.{IsDone, trace_text}
 use Rattle.run_parts.specs.Stops.{course}
-use Rattle.run_parts.proofs.WritingLaws.{took_both, took_same, front_both, front_more, front_same}
+use Rattle.run_parts.specs.Writing.{Sunk}
+use Rattle.run_parts.proofs.WritingLaws.{none_taken, took_both, took_same, front_both, front_more, front_same}
 use Rattle.replay_run.proofs.replay.replay_world.Goals as goal
+
+pub returns-in_err-world-clause-wrote : goal.returns-in_err-world-clause-wrote
+returns-in_err-world-clause-wrote g c =
+    let s0 : Sunk = record { taken = g.K.Sink.taken c.args.sink.now; flushed = g.K.Sink.flushed c.args.sink.now; faults = g.K.Sink.faults c.args.sink.now } in
+    let p = err_from_is_err_and c.from_residual.result c.from_residual.ensures.1 in
+    rw (p.1, p.2) (none_taken (replay_text c.args.charter) s0)
 
 pub write_end-requires : goal.write_end-requires
 write_end-requires g c =

@@ -2,7 +2,7 @@ use Rattle.std.proofs.Common.{length, map, sym, subst, ap, ◌∙◌, [], Vec, G
 use Rattle.std.proofs.lemmas.List.{take_all, length-map}
 use Rattle.yard_model.specs.declared.charter.Sending.{Sending}
 use Rattle.yard_model.specs.Charter.{KeepsSends}
-use Rattle.yard_model.proofs.SendsLaws.{keeps_none, keeps_all}
+use Rattle.yard_model.proofs.SendsLaws.{keeps_none}
 use Rattle.yard_model.proofs.charter.sends_of_all.Goals as goal
 
 pub loop-line-init : goal.loop-line-init
@@ -11,6 +11,5 @@ loop-line-init c = record {
   long = sym (length-map c.in_ok-all.all.items (λ (v : Vec Sending Global). v.items)) ∙ ap length c.in_ok-all.ensures;
 }
 
-pub returns-clause-sends : goal.returns-clause-sends
-returns-clause-sends c = keeps_all c.loop-line.counts _ c.args.orders.now
-    (subst (λ done. KeepsSends c.loop-line.counts (map (λ (v : Vec Sending Global). v.items) c.loop-line.all.items) done) (take_all c.loop-line.line-index c.args.orders.now c.loop-line-test.false) c.loop-line.invariant.keeps)
+pub returns : goal.returns
+returns c = subst (λ done. KeepsSends c.loop-line.counts (map (λ (v : Vec Sending Global). v.items) c.loop-line.all.items) done) (take_all c.loop-line.line-index c.args.orders.now c.loop-line-test.false) c.loop-line.invariant.keeps

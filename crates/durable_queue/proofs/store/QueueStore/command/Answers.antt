@@ -12,7 +12,7 @@ use Rattle.durable_queue.proofs.store.QueueStore.command.Goals as goal
 pub returns-clause-value : goal.returns-clause-value
 returns-clause-value c some =
     let q = c.self.inside in
-    let k = c.self.invariant in
+    let k = c.self.invariant.0 in
     let e = c.args.entity.now in
     let xs : List Fact = map (queue_fact q.producer) q.entries.items in
     let there : reads.queued e xs ≡ reads.queued e c.args.self.now.entries = ap (λ v. reads.queued e v.entries) c.self.view_is in
@@ -25,7 +25,7 @@ returns-clause-planned c =
     let q = c.self.inside in
     let e = c.args.entity.now in
     some_is c.command_to.result (slice_get (plan c.args.self.now.script c.args.self.now.producer e) (c.args.number - 1))
-    (c.command_to.ensures ∙ (ap (λ l. slice_get (planned q.names (map (λ (v : Vec Command Global). v.items) l) e) (c.args.number - 1)) c.as_slice.ensures.value ∙ ap (λ l. slice_get l (c.args.number - 1)) (c.self.invariant.plans.each e) ∙ ap (λ v. slice_get (plan v.script v.producer e) (c.args.number - 1)) c.self.view_is))
+    (c.command_to.ensures ∙ (ap (λ l. slice_get (planned q.names (map (λ (v : Vec Command Global). v.items) l) e) (c.args.number - 1)) c.as_slice.ensures.value ∙ ap (λ l. slice_get l (c.args.number - 1)) (c.self.invariant.0.plans.each e) ∙ ap (λ v. slice_get (plan v.script v.producer e) (c.args.number - 1)) c.self.view_is))
 
 pub returns-clause-queued : goal.returns-clause-queued
 returns-clause-queued c =

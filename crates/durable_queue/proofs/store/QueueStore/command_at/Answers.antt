@@ -14,7 +14,7 @@ use Rattle.durable_queue.proofs.store.QueueStore.command_at.Goals as goal
 pub command_at-requires : goal.command_at-requires
 command_at-requires c =
     let q = c.self.inside in
-    let k = c.self.invariant in
+    let k = c.self.invariant.0 in
     let i = c.args.place in
     let within : i < length (names_in q.script.value.orders) = subst (λ (v : Queue). i < length (names_in v.script.orders)) (sym c.self.view_is) c.requires in
     let seen = λ (v : Vec Command Global). v.items in
@@ -24,7 +24,7 @@ command_at-requires c =
 pub returns-clause-value : goal.returns-clause-value
 returns-clause-value c some =
     let q = c.self.inside in
-    let k = c.self.invariant in
+    let k = c.self.invariant.0 in
     let i = c.args.place in
     let e : List ℕ = name_at q.script.value i in
     let xs : List Fact = map (queue_fact q.producer) q.entries.items in
@@ -40,7 +40,7 @@ returns-clause-value c some =
 pub returns-clause-planned : goal.returns-clause-planned
 returns-clause-planned c =
     let q = c.self.inside in
-    let k = c.self.invariant in
+    let k = c.self.invariant.0 in
     let i = c.args.place in
     let within : i < length (names_in q.script.value.orders) = subst (λ (v : Queue). i < length (names_in v.script.orders)) (sym c.self.view_is) c.requires in
     let seen = λ (v : Vec Command Global). v.items in

@@ -18,13 +18,13 @@ use Rattle.durable_queue.proofs.store.QueueStore.confirm_at.Goals as goal
 pub put_at-requires : goal.put_at-requires
 put_at-requires c =
     let q = c.self.inside in
-    let k = c.self.invariant in
+    let k = c.self.invariant.0 in
     within_at q.script.value q.names q.confirmed.items c.args.place k.ordered k.sized.confirmed (subst (λ (v : Queue). c.args.place < length (names_in v.script.orders)) (sym c.self.view_is) c.requires.within)
 
 pub invariant_of-self : goal.invariant_of-self
 invariant_of-self c =
     let q = c.self.inside in
-    let k = c.self.invariant in
+    let k = c.self.invariant.0 in
     let xs : List Fact = map (queue_fact q.producer) q.entries.items in
     let some : q.free ≡ c.args.self.now.spare = ap (λ v. v.spare) c.self.view_is in
     let e = c.args.entity.now in
@@ -36,10 +36,12 @@ invariant_of-self c =
     let it : name_at q.script.value c.args.place ≡ e = ap (λ (v : Queue). name_at v.script c.args.place) c.self.view_is ∙ c.requires.it in
     let place : c.args.place ≡ place_of q.names e = place_at q.script.value q.names c.args.place e k.ordered within it in
     let put : IsPut q.names q.confirmed.items c.put_at.new.counts.items e c.args.number = record { sized = k.sized.confirmed; named = named; is = c.put_at.ensures ∙ ap (λ i. slice_set q.confirmed.items i c.args.number) place } in
-    let last : reads.confirmed e xs ≡ reads.confirmed e c.args.self.now.entries = ap (λ v. reads.confirmed e v.entries) c.self.view_is in
-    kept_more q.script.value q.producer q.entries.items c.push.new.entries.items (entry.Confirmed e c.args.number) q.names (map (λ v. v.items) q.plans.items) q.queued.items q.confirmed.items q.queued.items c.put_at.new.counts.items
-    q.total q.epoch q.total q.epoch q.leased _ q.free _ _ k c.push.ensures.items (omega arith) c.push.ensures.capacity (omega arith) (omega arith) (record { plans = k.sized.plans; queued = k.sized.queued; confirmed = size_put q.names q.confirmed.items c.put_at.new.counts.items e c.args.number put })
-    (list_confirmed q.script.value q.producer c.args.number xs e held (omega arith) (omega arith) k.list)
-    (queued_confirmed q.names q.queued.items xs q.producer e c.args.number k.queued)
-    (confirmed_confirmed q.names q.confirmed.items c.put_at.new.counts.items xs q.producer e c.args.number put k.confirmed)
-    (sums_confirmed q.total q.epoch c.args.number q.leased xs q.producer e k.sums)
+    let last : reads.confirmed e xs ≡ reads.confirmed e c.args.self.now.entries = ap (λ v. reads.confirmed e v.entries) c.self.view_is in (
+      kept_more q.script.value q.producer q.entries.items c.push.new.entries.items (entry.Confirmed e c.args.number) q.names (map (λ v. v.items) q.plans.items) q.queued.items q.confirmed.items q.queued.items c.put_at.new.counts.items
+          q.total q.epoch q.total q.epoch q.leased _ q.free _ _ k c.push.ensures.items (omega arith) c.push.ensures.capacity (omega arith) (omega arith) (record { plans = k.sized.plans; queued = k.sized.queued; confirmed = size_put q.names q.confirmed.items c.put_at.new.counts.items e c.args.number put })
+          (list_confirmed q.script.value q.producer c.args.number xs e held (omega arith) (omega arith) k.list)
+          (queued_confirmed q.names q.queued.items xs q.producer e c.args.number k.queued)
+          (confirmed_confirmed q.names q.confirmed.items c.put_at.new.counts.items xs q.producer e c.args.number put k.confirmed)
+          (sums_confirmed q.total q.epoch c.args.number q.leased xs q.producer e k.sums),
+      c.self.invariant.1,
+    )

@@ -9,7 +9,7 @@ use Rattle.durable_queue.proofs.store.QueueStore.confirmed_at.Goals as goal
 pub count_at-requires : goal.count_at-requires
 count_at-requires c =
     let q = c.self.inside in
-    let k = c.self.invariant in
+    let k = c.self.invariant.0 in
     let i = c.args.place in
     let within : i < length (names_in q.script.value.orders) = subst (λ (v : Queue). i < length (names_in v.script.orders)) (sym c.self.view_is) c.requires in
     subst (λ (l : List ℕ). i < length l) (sym c.as_slice.ensures.value) (within_at q.script.value q.names q.confirmed.items i k.ordered k.sized.confirmed within)
@@ -17,7 +17,7 @@ count_at-requires c =
 pub returns : goal.returns
 returns c =
     let q = c.self.inside in
-    let k = c.self.invariant in
+    let k = c.self.invariant.0 in
     let i = c.args.place in
     let within : i < length (names_in q.script.value.orders) = subst (λ (v : Queue). i < length (names_in v.script.orders)) (sym c.self.view_is) c.requires in
     c.count_at.ensures

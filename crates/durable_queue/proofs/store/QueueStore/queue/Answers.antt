@@ -13,7 +13,7 @@ use Rattle.durable_queue.proofs.store.QueueStore.queue.Goals as goal
 pub place-place-requires : goal.place-place-requires
 place-place-requires c =
     let q = c.self.inside in
-    let k = c.self.invariant in
+    let k = c.self.invariant.0 in
     let x = c.index-sends-self.result in
     let all : List Sending = sends q.script.value q.producer in
     let xs : List Fact = map (queue_fact q.producer) q.entries.items in
@@ -27,17 +27,17 @@ place-place-requires c =
 pub queue_at-requires-clause-within : goal.queue_at-requires-clause-within
 queue_at-requires-clause-within c =
     let i = c.place-place.result in
-    subst (λ (v : Queue). i < length (names_in v.script.orders)) c.self.view_is (subst (λ (l : List (List ℕ)). i < length l) c.self.invariant.ordered.are c.place-place.ensures.within)
+    subst (λ (v : Queue). i < length (names_in v.script.orders)) c.self.view_is (subst (λ (l : List (List ℕ)). i < length l) c.self.invariant.0.ordered.are c.place-place.ensures.within)
 
 pub queue_at-requires-clause-it : goal.queue_at-requires-clause-it
 queue_at-requires-clause-it c =
     let i = c.place-place.result in
-    sym (ap (λ (v : Queue). name_at v.script i) c.self.view_is) ∙ (sym (ap (λ (l : List (List ℕ)). slice_index_or l i []) c.self.invariant.ordered.are) ∙ c.place-place.ensures.it)
+    sym (ap (λ (v : Queue). name_at v.script i) c.self.view_is) ∙ (sym (ap (λ (l : List (List ℕ)). slice_index_or l i []) c.self.invariant.0.ordered.are) ∙ c.place-place.ensures.it)
 
 pub queue_at-requires-clause-next : goal.queue_at-requires-clause-next
 queue_at-requires-clause-next c =
     let q = c.self.inside in
-    let k = c.self.invariant in
+    let k = c.self.invariant.0 in
     let x = c.index-sends-self.result in
     let all : List Sending = sends q.script.value q.producer in
     let xs : List Fact = map (queue_fact q.producer) q.entries.items in
@@ -51,7 +51,7 @@ queue_at-requires-clause-next c =
 pub returns-clause-next : goal.returns-clause-next
 returns-clause-next c =
     let q = c.self.inside in
-    let k = c.self.invariant in
+    let k = c.self.invariant.0 in
     let x = c.index-sends-self.result in
     let all : List Sending = sends q.script.value q.producer in
     let xs : List Fact = map (queue_fact q.producer) q.entries.items in

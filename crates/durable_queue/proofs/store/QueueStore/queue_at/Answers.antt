@@ -22,13 +22,13 @@ use Rattle.durable_queue.proofs.store.QueueStore.queue_at.Goals as goal
 pub put_at-requires : goal.put_at-requires
 put_at-requires c =
     let q = c.self.inside in
-    let k = c.self.invariant in
+    let k = c.self.invariant.0 in
     within_at q.script.value q.names q.queued.items c.args.place k.ordered k.sized.queued (subst (λ (v : Queue). c.args.place < length (names_in v.script.orders)) (sym c.self.view_is) c.requires.within)
 
 pub returns-clause-number : goal.returns-clause-number
 returns-clause-number c =
     let q = c.self.inside in
-    let k = c.self.invariant in
+    let k = c.self.invariant.0 in
     let x = c.args.sending.now in
     let all : List Sending = sends q.script.value q.producer in
     let xs : List Fact = map (queue_fact q.producer) q.entries.items in
@@ -38,7 +38,7 @@ returns-clause-number c =
 pub invariant_of-self : goal.invariant_of-self
 invariant_of-self c =
     let q = c.self.inside in
-    let k = c.self.invariant in
+    let k = c.self.invariant.0 in
     let x = c.args.sending.now in
     let all : List Sending = sends q.script.value q.producer in
     let xs : List Fact = map (queue_fact q.producer) q.entries.items in
@@ -53,11 +53,13 @@ invariant_of-self c =
     let same : is_sending x x ≡ true = (c.sending_law.ensures x x).1 refl in
     let counts : x.number ≡ counted q.names q.queued.items x.entity + 1 = number_next q.script.value q.producer xs x k.list.first next ∙ ap (λ n. n + 1) (sym (k.queued.each x.entity)) in
     let put : IsPut q.names q.queued.items c.put_at.new.counts.items x.entity x.number =
-    record { sized = k.sized.queued; named = k.named.each x.entity (some_commands all (reads.queued_in_all xs) x left at); is = c.put_at.ensures ∙ ap (λ i. slice_set q.queued.items i x.number) place } in
-    kept_more q.script.value q.producer q.entries.items c.push.new.entries.items (entry.Queued x.entity x.number x.command) q.names (map (λ v. v.items) q.plans.items) q.queued.items q.confirmed.items c.put_at.new.counts.items q.confirmed.items
-    q.total q.epoch (q.total + 1) q.epoch q.leased _ q.free _ _ k c.push.ensures.items (omega arith) c.push.ensures.capacity (omega arith) (omega arith)
-    (record { plans = k.sized.plans; queued = size_put q.names q.queued.items c.put_at.new.counts.items x.entity x.number put; confirmed = k.sized.confirmed })
-    (list_queued q.script.value q.producer xs x same held next k.list)
-    (queued_queued q.names q.queued.items c.put_at.new.counts.items xs q.producer x x.number counts put k.queued)
-    (confirmed_queued q.names q.confirmed.items xs q.producer x k.confirmed)
-    (sums_queued q.total q.epoch q.leased xs q.producer x k.sums)
+    record { sized = k.sized.queued; named = k.named.each x.entity (some_commands all (reads.queued_in_all xs) x left at); is = c.put_at.ensures ∙ ap (λ i. slice_set q.queued.items i x.number) place } in (
+      kept_more q.script.value q.producer q.entries.items c.push.new.entries.items (entry.Queued x.entity x.number x.command) q.names (map (λ v. v.items) q.plans.items) q.queued.items q.confirmed.items c.put_at.new.counts.items q.confirmed.items
+          q.total q.epoch (q.total + 1) q.epoch q.leased _ q.free _ _ k c.push.ensures.items (omega arith) c.push.ensures.capacity (omega arith) (omega arith)
+          (record { plans = k.sized.plans; queued = size_put q.names q.queued.items c.put_at.new.counts.items x.entity x.number put; confirmed = k.sized.confirmed })
+          (list_queued q.script.value q.producer xs x same held next k.list)
+          (queued_queued q.names q.queued.items c.put_at.new.counts.items xs q.producer x x.number counts put k.queued)
+          (confirmed_queued q.names q.confirmed.items xs q.producer x k.confirmed)
+          (sums_queued q.total q.epoch q.leased xs q.producer x k.sums),
+      c.self.invariant.1,
+    )

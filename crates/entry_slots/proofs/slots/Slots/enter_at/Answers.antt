@@ -12,19 +12,19 @@ pub invariant_of-self : goal.invariant_of-self
 invariant_of-self c =
     let i = c.self.inside in
     let w : Was i.charter c.args.self.now i.upgrades i.names i.stores i.plans.items i.states.items c.args.slot.now c.args.fact.now =
-    record { kept = c.self.invariant; view = c.self.view_is; homes = c.enter.ensures.homes; there = sym c.is_slot_of.ensures ∙ c.if-not-is_slot_of.false; of = c.requires.entry } in
+    record { kept = c.self.invariant; view = c.self.view_is; homes = c.enter.ensures.homes; there = sym c.has_slot.ensures ∙ c.if-not-has_slot.false; of = c.requires.entry } in
     kept_after c.enter.result i.charter c.args.self.now i.upgrades i.names i.stores c.enter.new.self i.plans.items i.states.items c.args.slot.now c.args.fact.now w (no_entity_step c.args.fact.now c.requires.plain) c.enter.ensures.script c.enter.ensures.ok c.enter.ensures.err
 
 pub returns-clause-ok : goal.returns-clause-ok
 returns-clause-ok c =
     let i = c.self.inside in
     let w : Was i.charter c.args.self.now i.upgrades i.names i.stores i.plans.items i.states.items c.args.slot.now c.args.fact.now =
-    record { kept = c.self.invariant; view = c.self.view_is; homes = c.enter.ensures.homes; there = sym c.is_slot_of.ensures ∙ c.if-not-is_slot_of.false; of = c.requires.entry } in
+    record { kept = c.self.invariant; view = c.self.view_is; homes = c.enter.ensures.homes; there = sym c.has_slot.ensures ∙ c.if-not-has_slot.false; of = c.requires.entry } in
     enters_after c.enter.result i.charter c.args.self.now i.upgrades i.names i.stores c.enter.new.self i.plans.items i.states.items c.args.slot.now c.args.fact.now w c.enter.ensures.ok
 
 pub returns-clause-err : goal.returns-clause-err
 returns-clause-err c =
     let i = c.self.inside in
     let w : Was i.charter c.args.self.now i.upgrades i.names i.stores i.plans.items i.states.items c.args.slot.now c.args.fact.now =
-    record { kept = c.self.invariant; view = c.self.view_is; homes = c.enter.ensures.homes; there = sym c.is_slot_of.ensures ∙ c.if-not-is_slot_of.false; of = c.requires.entry } in
+    record { kept = c.self.invariant; view = c.self.view_is; homes = c.enter.ensures.homes; there = sym c.has_slot.ensures ∙ c.if-not-has_slot.false; of = c.requires.entry } in
     stays_after c.enter.result i.charter c.args.self.now i.upgrades i.names i.stores c.enter.new.self i.plans.items i.states.items c.args.slot.now c.args.fact.now w c.enter.ensures.err

@@ -6,6 +6,7 @@ use Rattle.yard_model.specs.Words.{at}
 use Rattle.lease_table.specs.Belongs.{charter_of}
 use Rattle.lease_table.specs.Leasing.{MayAct, Answers}
 use Rattle.lease_table.proofs.Meant.{acquired, acquired_stays, claims, serves_is, free_there, may_act}
+use Rattle.lease_table.proofs.WholeLaws.{acquired_same, acquired_whole}
 use Rattle.lease_table.proofs.table_pass.TablePassLeases.acquire.Goals as goal
 
 pub acquire-requires-clause-slot : goal.acquire-requires-clause-slot
@@ -30,3 +31,15 @@ returns-clause-claim c = let p = c.args.self.now in
 pub returns-clause-stays : goal.returns-clause-stays
 returns-clause-stays c = let p = c.args.self.now in acquired_stays p.pass.table c.acquire.new.pass.table p.pass.view c.acquire.new.pass.view p.node c.args.who (place_of (p.pass.view.charter).config c.args.slot) c.acquire.result c.acquire.ensures.table
     (subst (λ (y : Script). Answers p.pass.view c.args.who (place_of y.config c.args.slot) c.acquire.result c.acquire.new.pass.view) (sym p.charter) c.acquire.ensures.answer)
+
+pub invariant_of-self : goal.invariant_of-self
+invariant_of-self c =
+    let p = c.args.self.now in
+    let k = place_of (charter_of p.table.now).config c.args.slot in
+    let same = acquired_same p.pass.view c.acquire.new.pass.view c.args.who k c.acquire.result c.acquire.ensures.answer in
+    record {
+      belongs = c.acquire.ensures.table ∙ p.belongs;
+      charter = same.0 ∙ p.charter;
+      one = same.1 ∙ p.one;
+      whole = acquired_whole p.pass.view c.acquire.new.pass.view c.args.who k c.acquire.result c.stands.ensures c.acquire.ensures.answer p.whole;
+    }

@@ -8,8 +8,11 @@ use Rattle.shard_lease.specs.Meaning.{Begins}
 use Rattle.shard_store.specs.Stores.{place_of, entries_of}
 use Rattle.lease_table.specs.Lists.{seen_at}
 use Rattle.lease_table.specs.Tells.{freed, published}
+use Rattle.lease_table.specs.declared.View.{View}
+use Rattle.lease_table.specs.Belongs.{charter_of}
 use Rattle.lease_table.specs.Leasing.{MayRelease}
 use Rattle.lease_table.proofs.Meant.{released, released_stays, serves_is, may_release}
+use Rattle.lease_table.proofs.WholeLaws.{released_whole}
 use Rattle.lease_table.proofs.table_pass.TablePassLeases.release.Goals as goal
 
 pub release-requires-clause-slot : goal.release-requires-clause-slot
@@ -32,3 +35,14 @@ returns-clause-stays c =
     released_stays p.pass.table c.release.new.pass.table p.pass.view c.release.new.pass.view p.node (place_of (p.pass.view.charter).config c.args.slot) l c.release.ensures.table
     (c.release.ensures.now ∙ ap (λ (y : Script). freed (published p.pass.view (place_of y.config c.args.slot) l) (place_of y.config c.args.slot)) (sym p.charter))
     (subst (λ (y : Script). Begins (seen_at p.pass.view.seen (place_of y.config c.args.slot)) l) (sym p.charter) c.release.ensures.seen)
+
+pub invariant_of-self : goal.invariant_of-self
+invariant_of-self c =
+    let p = c.args.self.now in
+    let l : List Fact = entries_of c.args.store ++ fact.Freed c.args.slot (epoch (entries_of c.args.store)) c.args.cause ∷ [] in
+    record {
+      belongs = c.release.ensures.table ∙ p.belongs;
+      charter = ap (λ (u : View). u.charter) c.release.ensures.now ∙ p.charter;
+      one = ap (λ (u : View). u.numbers) c.release.ensures.now ∙ p.one;
+      whole = released_whole p.pass.view c.release.new.pass.view (place_of (charter_of p.table.now).config c.args.slot) l c.release.ensures.now p.whole;
+    }

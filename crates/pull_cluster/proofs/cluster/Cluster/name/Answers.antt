@@ -16,7 +16,7 @@ pub bounds-sends-job-2 : goal.bounds-sends-job-2
 bounds-sends-job-2 c = subst (λ (l : List Sending). c.args.job < length l) (sym (c.sends.ensures ∙ ap (sends c.self.inside.charter) c.self.invariant.first_is)) (job_here c.self.inside.charter c.self.inside.story.told c.self.inside.queue c.self.inside.sent c.args.job c.self.invariant.queue_is (subst (λ (k : Cluster). c.args.job < length (jobs k.pulling.told)) (sym c.self.view_is) c.requires))
 
 pub offset_bounds-sends-job : goal.offset_bounds-sends-job
-offset_bounds-sends-job c = let lt : c.args.job < 200001 = job_few c.self.inside.charter c.self.inside.story.told c.self.inside.queue c.self.inside.sent c.args.job c.self.invariant.pulled_is c.self.invariant.queue_is (subst (λ (k : Cluster). c.args.job < length (jobs k.pulling.told)) (sym c.self.view_is) c.requires) in search (rules, lt)
+offset_bounds-sends-job c = let lt : c.args.job < 3000001 = job_few c.self.inside.charter c.self.inside.story.told c.self.inside.queue c.self.inside.sent c.args.job c.self.invariant.pulled_is c.self.invariant.queue_is (subst (λ (k : Cluster). c.args.job < length (jobs k.pulling.told)) (sym c.self.view_is) c.requires) in search (rules, lt)
 
 pub returns-clause-job : goal.returns-clause-job
 returns-clause-job c = subst (λ (k : Cluster). option_map (λ (j : Sending). j.entity) (slice_get (jobs k.pulling.told) c.args.job) ≡ Some c.index-sends-job.result.entity) c.self.view_is (entity_is c.self.inside.charter c.self.inside.story.told c.self.inside.queue c.self.inside.sent c.args.job c.sends.result.now c.index-sends-job.result c.self.invariant.queue_is (subst (λ (k : Cluster). c.args.job < length (jobs k.pulling.told)) (sym c.self.view_is) c.requires) (c.sends.ensures ∙ ap (sends c.self.inside.charter) c.self.invariant.first_is) c.index-sends-job.is) ∙ ap (λ (x : Sending). Some x.entity) c.index-sends-job.is

@@ -1,5 +1,5 @@
 use Rattle.std.proofs.Common.{refl, length}
-use Rattle.shard_entities.specs.Celled.{celled_at, celled}
+use Rattle.entity_cells.specs.Celled.{celled_at, celled}
 use Rattle.shard_entities.proofs.CountLaws.{count_some, goes}
 use Rattle.shard_entities.proofs.DropLaws.{cleared_stands, cleared_moved}
 use Rattle.shard_entities.proofs.RestlessLaws.{goes_on, place_there, all_there}

@@ -1,6 +1,6 @@
 use Rattle.std.proofs.Common.{ap, sym, ◌∙◌}
 use Rattle.yard_model.specs.Entities.{Cell}
-use Rattle.shard_entities.specs.Celled.{celled_at}
+use Rattle.entity_cells.specs.Celled.{celled_at}
 use Rattle.shard_entities.proofs.CountLaws.{drop_leaves, stays}
 use Rattle.shard_entities.proofs.DropLaws.{dropped_stands, dropped_moved}
 use Rattle.shard_entities.proofs.LodgedLaws.{cell_at, cell_read}

@@ -4,7 +4,7 @@ use Rattle.std.specs.Ordering.{nat_cmp}
 use Rattle.std.specs.Cmp.Lexicographic.{slice_cmp}
 use Rattle.yard_model.specs.declared.charter.Config.{Config}
 use Rattle.yard_model.specs.Script.{Script, names_in, setting}
-use Rattle.shard_entities.specs.Celled.{celled}
+use Rattle.entity_cells.specs.Celled.{celled}
 use Rattle.shard_entities.specs.Restless.{AreFresh}
 use Rattle.shard_entities.proofs.CountLaws.{kept_new}
 use Rattle.shard_entities.proofs.PlacesLaws.{lodged_new}

@@ -1,10 +1,11 @@
 use Rattle.std.proofs.Common.{refl}
 use Rattle.yard_model.specs.declared.packet.Body.TheVariants as body
 use Rattle.yard_model.specs.Move.{post}
-use Rattle.shard_entities.specs.Celled.{celled_at, celled_after}
+use Rattle.entity_cells.specs.Celled.{celled_at, celled_after}
 use Rattle.shard_entities.proofs.CountLaws.{request_leaves, stays}
 use Rattle.shard_entities.proofs.LodgedLaws.{cell_read, reach_inside, cell_moved, stands}
-use Rattle.shard_entities.proofs.MoveLaws.{of_request, keeps_request}
+use Rattle.shard_entities.proofs.MoveLaws.{of_request}
+use Rattle.entity_cells.proofs.Keeping.{keeps_request}
 use Rattle.shard_entities.proofs.RestlessLaws.{request_rests, rests_on}
 use Rattle.shard_entities.proofs.shards.Shards.post_request.Goals as goal
 

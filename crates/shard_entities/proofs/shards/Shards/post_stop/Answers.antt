@@ -1,11 +1,12 @@
 use Rattle.std.proofs.Common.{◌<◌, refl, subst, length-set, ap, sym, ◌∙◌, get_or-set_same}
 use Rattle.yard_model.specs.declared.packet.Body.TheVariants as body
 use Rattle.yard_model.specs.Move.{post}
-use Rattle.shard_entities.specs.Celled.{celled_at, celled_after, celled}
+use Rattle.entity_cells.specs.Celled.{celled_at, celled_after, celled}
 use Rattle.shard_entities.specs.Restless.{is_restless}
 use Rattle.shard_entities.proofs.CountLaws.{stays, stop_leaves}
 use Rattle.shard_entities.proofs.LodgedLaws.{cell_read, cell_moved, stands, within}
-use Rattle.shard_entities.proofs.MoveLaws.{of_stop_posted, keeps_stop_posted}
+use Rattle.shard_entities.proofs.MoveLaws.{of_stop_posted}
+use Rattle.entity_cells.proofs.Keeping.{keeps_stop_posted}
 use Rattle.shard_entities.proofs.RestlessLaws.{goes_on, rests, place_there, all_there}
 use Rattle.shard_entities.proofs.shards.Shards.post_stop.Goals as goal
 

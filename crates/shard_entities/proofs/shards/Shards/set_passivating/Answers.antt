@@ -1,9 +1,10 @@
 use Rattle.std.proofs.Common.{refl}
 use Rattle.yard_model.specs.Move.{passivates}
-use Rattle.shard_entities.specs.Celled.{celled_at, celled_after}
+use Rattle.entity_cells.specs.Celled.{celled_at, celled_after}
 use Rattle.shard_entities.proofs.CountLaws.{stays}
 use Rattle.shard_entities.proofs.LodgedLaws.{cell_read, cell_moved, stands}
-use Rattle.shard_entities.proofs.MoveLaws.{of_passivates, keeps_passivates}
+use Rattle.shard_entities.proofs.MoveLaws.{of_passivates}
+use Rattle.entity_cells.proofs.Keeping.{keeps_passivates}
 use Rattle.shard_entities.proofs.RestlessLaws.{rests_on}
 use Rattle.shard_entities.proofs.shards.Shards.set_passivating.Goals as goal
 

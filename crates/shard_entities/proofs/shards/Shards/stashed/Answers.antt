@@ -1,6 +1,6 @@
 use Rattle.std.proofs.Common.{◌≤◌, ap, sym, subst, length, ◌∙◌}
 use Rattle.yard_model.specs.Entities.{Cell}
-use Rattle.shard_entities.specs.Celled.{celled_at}
+use Rattle.entity_cells.specs.Celled.{celled_at}
 use Rattle.shard_entities.proofs.DropLaws.{stash_own}
 use Rattle.shard_entities.proofs.LodgedLaws.{cell_at, cell_read, window_is}
 use Rattle.shard_entities.proofs.shards.Shards.stashed.Goals as goal

@@ -1,7 +1,7 @@
 use Rattle.std.proofs.Common.{refl, sym, ◌∙◌}
 use Rattle.yard_model.specs.declared.fact.Fact.TheVariants as fact
 use Rattle.yard_model.specs.Move.{told}
-use Rattle.shard_entities.specs.Celled.{celled_at, celled_after}
+use Rattle.entity_cells.specs.Celled.{celled_at, celled_after}
 use Rattle.shard_entities.proofs.CountLaws.{comes, count_fits}
 use Rattle.shard_entities.proofs.LodgedLaws.{cell_read, window_is, pending_is, active_cell, cell_put, cell_moved_to}
 use Rattle.shard_entities.proofs.MoveLaws.{of_active}

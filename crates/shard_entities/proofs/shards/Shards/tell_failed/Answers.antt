@@ -1,10 +1,11 @@
 use Rattle.std.proofs.Common.{refl}
 use Rattle.yard_model.specs.declared.fact.Fact.TheVariants as fact
 use Rattle.yard_model.specs.Move.{told}
-use Rattle.shard_entities.specs.Celled.{celled_at, celled_after}
+use Rattle.entity_cells.specs.Celled.{celled_at, celled_after}
 use Rattle.shard_entities.proofs.CountLaws.{count_some, goes}
 use Rattle.shard_entities.proofs.LodgedLaws.{cell_read, cell_moved, stands}
-use Rattle.shard_entities.proofs.MoveLaws.{of_failed, keeps_failed}
+use Rattle.shard_entities.proofs.MoveLaws.{of_failed}
+use Rattle.entity_cells.proofs.Keeping.{keeps_failed}
 use Rattle.shard_entities.proofs.RestlessLaws.{goes_on, place_there, all_there}
 use Rattle.shard_entities.proofs.shards.Shards.tell_failed.Goals as goal
 

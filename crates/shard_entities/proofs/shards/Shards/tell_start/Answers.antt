@@ -1,10 +1,11 @@
 use Rattle.std.proofs.Common.{refl}
 use Rattle.yard_model.specs.declared.fact.Fact.TheVariants as fact
 use Rattle.yard_model.specs.Move.{told}
-use Rattle.shard_entities.specs.Celled.{celled_at, celled_after}
+use Rattle.entity_cells.specs.Celled.{celled_at, celled_after}
 use Rattle.shard_entities.proofs.CountLaws.{comes, count_fits}
 use Rattle.shard_entities.proofs.LodgedLaws.{cell_read, cell_moved, stands}
-use Rattle.shard_entities.proofs.MoveLaws.{of_start, keeps_start}
+use Rattle.shard_entities.proofs.MoveLaws.{of_start}
+use Rattle.entity_cells.proofs.Keeping.{keeps_start}
 use Rattle.shard_entities.proofs.RestlessLaws.{goes_on, place_there, all_there}
 use Rattle.shard_entities.proofs.shards.Shards.tell_start.Goals as goal
 

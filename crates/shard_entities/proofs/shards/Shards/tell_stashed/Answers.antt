@@ -1,7 +1,7 @@
 use Rattle.std.proofs.Common.{refl}
 use Rattle.yard_model.specs.declared.fact.Fact.TheVariants as fact
 use Rattle.yard_model.specs.Move.{told}
-use Rattle.shard_entities.specs.Celled.{celled_at, celled_after}
+use Rattle.entity_cells.specs.Celled.{celled_at, celled_after}
 use Rattle.shard_entities.proofs.CountLaws.{stays}
 use Rattle.shard_entities.proofs.LodgedLaws.{cell_read, stash_inside, cell_moved, cell_put, stashed_cell}
 use Rattle.shard_entities.proofs.MoveLaws.{of_stashed}

@@ -5,7 +5,7 @@ use Rattle.yard_model.specs.declared.fact.Fact.TheVariants as fact
 use Rattle.yard_model.specs.declared.state.State.{State}
 use Rattle.yard_model.specs.Behaviour.{apply, are_applicable, is_valid}
 use Rattle.yard_model.specs.Script.{Script, IsScript}
-use Rattle.shard_entities.specs.Celled.{celled_at}
+use Rattle.entity_cells.specs.Celled.{celled_at}
 use Rattle.shard_entities.proofs.CountLaws.{stays}
 use Rattle.shard_entities.proofs.EntryLaws.{applied_led, entry_wrote, entry_stands, entry_moved, put_set, state_led, wrote_cell, same_cells}
 use Rattle.shard_entities.proofs.LodgedLaws.{cell_read, placed, within}

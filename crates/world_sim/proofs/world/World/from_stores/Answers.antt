@@ -1,16 +1,16 @@
-use Rattle.std.proofs.Common.{subst}
-use Rattle.yard_model.specs.Script.{IsScript}
-use Rattle.world_sim.specs.declared.world.Origin.{Origin}
-use Rattle.world_sim.proofs.GivenLaws.{world_from, view_from}
+use Rattle.std.proofs.Common.{ap, sym, ◌∙◌, subst}
+use Rattle.std.specs.Prelude.{fold}
+use Rattle.yard_model.specs.Era.{opening_of}
+use Rattle.yard_model.specs.Script.{Script}
+use Rattle.yard_model.specs.World.{number_step}
+use Rattle.shard_store.specs.Stores.{lists_at}
+use Rattle.world_sim.specs.Given.{IsGiven}
 use Rattle.world_sim.proofs.world.World.from_stores.Goals as goal
 
-pub invariant_of-result : goal.invariant_of-result
-invariant_of-result g c =
-    let e = c.in_ok-yard.ensures in
-    let o : Origin = record { stores = c.of.result; version = c.version.result } in
-    world_from c.standing_is_kept.ensures c.in_ok-yard.yard c.args.charter.now _ o (g.B.Behaviour.version_of c.args.behaviour) c.args.stores c.of-2.ensures c.of.ensures c.requires.script c.version.ensures.version (subst IsScript e.script e.known) c.requires.given e.script e.version e.seen
+pub from_given-requires-clause-given : goal.from_given-requires-clause-given
+from_given-requires-clause-given g c = subst (λ (s : Script). IsGiven s (g.B.Behaviour.version_of c.args.behaviour) (lists_at s.config c.args.stores.places)) (sym c.in_ok-own.ensures) c.requires.given
 
-pub returns : goal.returns
-returns g c =
-    let o : Origin = record { stores = c.of.result; version = c.version.result } in
-    view_from c.args.charter.now _ o (g.B.Behaviour.version_of c.args.behaviour) c.args.stores c.of-2.ensures c.of.ensures c.requires.script c.version.ensures.version
+pub from_given-requires-clause-number : goal.from_given-requires-clause-number
+from_given-requires-clause-number g c = λ v.
+    c.greatest_number-number.ensures v
+    ∙ ap (λ (s : Script). fold number_step 0 (opening_of v (lists_at s.config c.args.stores.places))) (c.requires.script ∙ sym c.in_ok-own.ensures)

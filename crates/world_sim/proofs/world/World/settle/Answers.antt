@@ -27,7 +27,7 @@ invariant_of-self-in-Err g c = world_cut c.self.inside.script.value (given_in c.
 pub returns-in-Ok : goal.returns-in-Ok
 returns-in-Ok g c =
     subst (λ (p : Played). IfSome p.given (λ o. WasSettled p o c.args.out.now (record { script = c.self.inside.script.value; given = given_in c.self.inside.given; count = 1; fault = c.self.inside.fault }) c.settle.new.facts)) c.self.view_is
-    (settle_told c.stores_settle.ensures c.few_orders_fit.ensures c.given_may_settle.ensures c.self.inside.script.value (given_in c.self.inside.given) c.self.inside.yard c.settle.new.self c.self.inside.count c.self.inside.fault c.args.out.now c.settle.new.facts c.self.invariant (ap (λ (p : Played). p.count) c.self.view_is ∙ c.requires.first) (ap (λ (p : Played). p.fault) c.self.view_is ∙ c.requires.going) c.in-Ok.ensures)
+    (settle_told c.stores_settle.ensures c.given_may_settle.ensures c.self.inside.script.value (given_in c.self.inside.given) c.self.inside.yard c.settle.new.self c.self.inside.count c.self.inside.fault c.args.out.now c.settle.new.facts c.self.invariant (ap (λ (p : Played). p.count) c.self.view_is ∙ c.requires.first) (ap (λ (p : Played). p.fault) c.self.view_is ∙ c.requires.going) c.in-Ok.ensures)
 
 pub returns-in-Err : goal.returns-in-Err
 returns-in-Err g c =

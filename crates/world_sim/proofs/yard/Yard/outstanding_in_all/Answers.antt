@@ -2,8 +2,7 @@ use Rattle.std.proofs.Common.{◌≡◌, ◌-◌, ◌*◌, ◌≤◌, ap, ◌∙
 use Rattle.std.specs.Prelude.{slice_index_or}
 use Rattle.yard_model.specs.declared.charter.Config.{Config}
 use Rattle.world_sim.specs.Yard.{Yard}
-use Rattle.world_sim.proofs.LeftLaws.{counted_first, counted_on, counted_all}
-use Rattle.world_sim.proofs.QueueLaws.{few_slots}
+use Rattle.world_sim.proofs.LeftLaws.{counted_first, counted_on, counted_all, few_slots}
 use Rattle.world_sim.proofs.StoresLaws.{node_in}
 use Rattle.world_sim.proofs.yard.Yard.outstanding_in_all.Goals as goal
 
@@ -21,9 +20,9 @@ overflow_add-total g c =
     let n = c.args.self.now.script.config.producers in
     let count : c.config.result.now.producers ≡ n = ap (λ (x : Config). x.producers) c.config.ensures.value ∙ ap (λ (v : Yard). v.script.config.producers) c.self.view_is in
     let few : n ≤ 32 = (few_slots c.args.self.now.script c.requires.world.1.stands_is.sound.script_is).1 in
-    let total : c.loop-i.total ≤ 200000 * c.loop-i.i = c.loop-i.invariant.counted.few in
+    let total : c.loop-i.total ≤ 3000000 * c.loop-i.i = c.loop-i.invariant.counted.few in
     let one : c.outstanding-total.result ≤ slice_index_or c.args.self.now.ordered (c.in-Some.p - 1) 0 = c.outstanding-total.ensures.few in
-    let most : slice_index_or c.args.self.now.ordered (c.in-Some.p - 1) 0 ≤ 200000 = c.requires.ordered (c.in-Some.p - 1) in
+    let most : slice_index_or c.args.self.now.ordered (c.in-Some.p - 1) 0 ≤ 3000000 = c.requires.ordered (c.in-Some.p - 1) in
     omega (arith, count, few, total, one, most, c.loop-i-test.true)
 
 pub loop-i-preserved : goal.loop-i-preserved
@@ -31,7 +30,7 @@ loop-i-preserved g c =
     let n = c.args.self.now.script.config.producers in
     let count : c.config.result.now.producers ≡ n = ap (λ (x : Config). x.producers) c.config.ensures.value ∙ ap (λ (v : Yard). v.script.config.producers) c.self.view_is in
     let one : c.outstanding-total.result ≤ slice_index_or c.args.self.now.ordered (c.in-Some.p - 1) 0 = c.outstanding-total.ensures.few in
-    let most : slice_index_or c.args.self.now.ordered (c.in-Some.p - 1) 0 ≤ 200000 = c.requires.ordered (c.in-Some.p - 1) in
+    let most : slice_index_or c.args.self.now.ordered (c.in-Some.p - 1) 0 ≤ 3000000 = c.requires.ordered (c.in-Some.p - 1) in
     record { counted = counted_on c.args.self.now c.loop-i.i c.in-Some.p c.loop-i.total c.outstanding-total.result c.in-Some.ensures.value (omega (arith, count, c.loop-i-test.true)) (omega (arith, one, most)) c.outstanding-total.ensures.sent c.loop-i.invariant.counted }
 
 pub returns-clause-sent : goal.returns-clause-sent
@@ -44,5 +43,5 @@ pub returns-clause-few : goal.returns-clause-few
 returns-clause-few g c =
     let few : c.args.self.now.script.config.producers ≤ 32 = (few_slots c.args.self.now.script c.requires.world.1.stands_is.sound.script_is).1 in
     let within : c.loop-i.i ≤ c.args.self.now.script.config.producers = c.loop-i.invariant.counted.within in
-    let total : c.loop-i.total ≤ 200000 * c.loop-i.i = c.loop-i.invariant.counted.few in
+    let total : c.loop-i.total ≤ 3000000 * c.loop-i.i = c.loop-i.invariant.counted.few in
     omega (arith, few, within, total)

@@ -5,7 +5,7 @@ use Rattle.yard_model.specs.Words.{at}
 use Rattle.world_sim.specs.Queues.{waiting_at}
 use Rattle.world_sim.specs.Yard.{Yard, IsSoundAt}
 use Rattle.world_sim.proofs.GiveLaws.{up_inside}
-use Rattle.world_sim.proofs.ProduceLaws.{waiting_stepped, place_there, script_there, producer_there}
+use Rattle.world_sim.proofs.ProduceLaws.{waiting_stepped, place_there, producer_there}
 use Rattle.world_sim.proofs.yard.Yard.send_all_waiting.Goals as goal
 
 pub count_at-ordered-requires : goal.count_at-ordered-requires
@@ -13,9 +13,6 @@ count_at-ordered-requires g c = place_there _ c.requires.world.0 c.args.n c.args
 
 pub waiting-count-requires-clause-there : goal.waiting-count-requires-clause-there
 waiting-count-requires-clause-there g c = let s = subst (λ v. IsSoundAt c.args.n v c.requires.world.0) (sym c.self.view_is) c.requires.world.1 in up_inside c.self.inside.nodes.items c.args.n s.up
-
-pub waiting-count-requires-clause-script : goal.waiting-count-requires-clause-script
-waiting-count-requires-clause-script g c = script_there _ c.requires.world.0 c.args.n (subst (λ v. IsSoundAt c.args.n v c.requires.world.0) (sym c.self.view_is) c.requires.world.1)
 
 pub waiting-count-requires-clause-producer : goal.waiting-count-requires-clause-producer
 waiting-count-requires-clause-producer g c = producer_there _ c.requires.world.0 c.args.n c.args.p (subst (λ v. IsSoundAt c.args.n v c.requires.world.0) (sym c.self.view_is) c.requires.world.1) (ap (λ (v : Yard). is_producer v.script c.args.p) c.self.view_is ∙ c.requires.producer)

@@ -11,7 +11,7 @@ pub settle_bound-bound-requires-clause-world : goal.settle_bound-bound-requires-
 settle_bound-bound-requires-clause-world g c = (c.requires.world.0, subst (λ (v : Yard). IsSound v c.requires.world.0) (sym c.begin-from.ensures.same) c.requires.world.1.sound)
 
 pub settle_bound-bound-requires-clause-ordered : goal.settle_bound-bound-requires-clause-ordered
-settle_bound-bound-requires-clause-ordered g c = subst (λ (v : Yard). (k : ℕ) → slice_index_or v.ordered k 0 ≤ 200000) (sym c.begin-from.ensures.same) c.requires.ordered
+settle_bound-bound-requires-clause-ordered g c = subst (λ (v : Yard). (k : ℕ) → slice_index_or v.ordered k 0 ≤ 3000000) (sym c.begin-from.ensures.same) c.requires.ordered
 
 pub settle_by-requires-clause-world : goal.settle_by-requires-clause-world
 settle_by-requires-clause-world g c =

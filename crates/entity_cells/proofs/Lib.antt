@@ -1,0 +1,4 @@
+pub mod Keeping
+mod CellLaws
+mod StashLaws
+mod MadeLaws

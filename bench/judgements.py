@@ -266,7 +266,7 @@ def files():
     made["data/index"] = text_of(it.line() for it in cases)
     lines = list(hostile())
     made["data/hostile"] = text_of(lines)
-    made["stdout"] = text_of([f"known: {len(cases)} same", f"hostile: {len(lines)} same"])
+    made["stdout"] = text_of([f"known: {len(cases)} same", f"hostile: {len(lines)} same", "failing: 15 same"])
     return made, len(whole), len(cases) - len(whole), len(lines)
 
 

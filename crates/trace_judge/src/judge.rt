@@ -9,7 +9,7 @@ ghost use Rattle.yard_model.specs.Script.{names_in};
 ghost use Rattle.judge_laws.specs.Judged.{crossed, judged};
 ghost use Rattle.trace_judge.specs.Judging.{Passes, Sees, cell_after, noted, started, stopped};
 
-use crate::cells::{Cell, are_idle, is_elsewhere, new_cells, start, stop, stop_all};
+use crate::cells::{Cell, are_idle, new_cells, start, stop, stop_all};
 use entry_slots::Slots;
 use judge_laws::Breach;
 use std::alloc::{AllocError, Global};
@@ -115,13 +115,13 @@ impl Judge {
         }
     }
 
-    /// Whether the script brings the entity, this incarnation holds the lease of its shard, and it isn't live at
-    /// another.
+    /// Whether the script brings the entity, and this incarnation holds the lease of its shard. Whoever is live holds
+    /// it, so the entity isn't live at another then.
     fn may_start(&self, who: &Incarnation, entity: &EntityName) -> bool
         ensures { result ≡ crossed self.now.script self.now.trace (fact.Start who.now entity.now) }
     {
         match self.slots.place(entity) {
-            Some(place) => self.is_holder(who, entity) && !is_elsewhere(who, &self.cells[place]),
+            Some(_) => self.is_holder(who, entity),
             None => false,
         }
     }

@@ -1,5 +1,5 @@
 use Rattle.std.proofs.lemmas.Result.{err_from_is_err_and}
-Rattle.replay_run.specs.Replays.{replay_json}
+use Rattle.replay_run.specs.Replays.{replay_json}
 use Rattle.run_parts.specs.Writing.{Sunk}
 use Rattle.run_parts.proofs.WritingLaws.{none_taken}
 use Rattle.replay_run.proofs.json.write_json.Goals as goal
